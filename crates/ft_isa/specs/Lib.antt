@@ -1,0 +1,5 @@
+pub mod Words
+pub mod Registers
+pub mod Pending
+pub mod PlanText
+pub mod Reading

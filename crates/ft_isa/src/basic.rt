@@ -1,0 +1,17 @@
+//! Basic types, which a `mov` claims and a cell declares.
+
+/// What a basic type is built on.
+#[derive(Clone, Copy, Debug, PartialEq, Eq)]
+pub enum Base {
+    /// Any word.
+    Int,
+    /// The code address of a block of the code type with this number.
+    Code(u16),
+}
+
+/// A basic type: `ref` taken `refs` times, and then the base.
+#[derive(Clone, Copy, Debug, PartialEq, Eq)]
+pub struct Basic {
+    pub refs: u8,
+    pub base: Base,
+}

@@ -1,0 +1,16 @@
+//! The colours of the two computations.
+
+/// The colour of a computation: green leads, and blue repeats it (Perry, Mackey, Reis, Ligatti,
+/// August, Walker, "Fault-tolerant Typed Assembly Language", PLDI 2007).
+#[derive(Clone, Copy, Debug, PartialEq, Eq)]
+pub enum Colour {
+    Green,
+    Blue,
+}
+
+/// A word with its colour.
+#[derive(Clone, Copy, Debug, PartialEq, Eq)]
+pub struct Coloured {
+    pub colour: Colour,
+    pub word: u64,
+}

@@ -1,0 +1,35 @@
+//! Number texts: `0`, or a digit from 1 to 9 followed by digits, with a value below 2^64.
+ghost use Rattle.std.specs.Prelude.{◌≡◌, ℕ, Some, IfSome};
+ghost use Rattle.ft_isa.specs.PlanText.{IsNumberText};
+ghost use Rattle.ft_isa.specs.Reading.{with_digit};
+
+/// A number and one more digit; `None` where no number text begins so.
+pub(crate) fn with_digit(number: Option<u64>, byte: u8) -> Option<u64>
+    ensures { result ≡ with_digit number byte }
+{
+    let digit = match byte {
+        b'0'..=b'9' => u64::from(byte - b'0'),
+        _ => return None,
+    };
+    match number {
+        None => Some(digit),
+        Some(0) => None,
+        Some(n) => n.checked_mul(10)?.checked_add(digit),
+    }
+}
+
+/// The number of a number text: `0`, or a digit from 1 to 9 followed by digits, with a value below
+/// 2^64. `None` exactly where the text is none.
+pub fn read_number(text: &[u8]) -> Option<u64>
+    ensures some { IfSome result (IsNumberText text.now) }
+    ensures exact { (n : ℕ) → IsNumberText text.now n → result ≡ Some n }
+{
+    let mut number = None;
+    for byte in text {
+        let Some(next) = with_digit(number, *byte) else {
+            return None;
+        };
+        number = Some(next);
+    }
+    number
+}
