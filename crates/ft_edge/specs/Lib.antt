@@ -1,0 +1,12 @@
+pub mod Causes
+pub mod Puts
+pub mod Loads
+pub mod Streams
+pub mod FolderFaults
+pub mod Calls
+pub mod MemoryShelf
+pub mod MemorySource
+pub mod MemorySink
+pub mod Known
+pub mod Stored
+pub mod MemoryShelfView

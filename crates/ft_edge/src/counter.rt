@@ -1,0 +1,65 @@
+//! Calls numbered from 0, some of which are to fail.
+ghost use Rattle.std.specs.Prelude.{◌≡◌, ◌≤◌, OnOk, OnErr};
+
+use ft_isa::NoMemory;
+use std::alloc::Global;
+use std::marker::Model;
+
+/// The calls on an object in memory: which of them are to fail, how many there were, and how many of
+/// them failed. Both counts stand still at 2^64 - 1.
+#[derive(Drop)]
+pub(crate) struct Counter {
+    failing: Vec<u64>,
+    next: u64,
+    faults: u64,
+}
+
+impl Model for Counter {
+    ghost use Rattle.ft_edge.specs.Calls.{Calls};
+
+    ghost Value = { Calls };
+
+    ghost view = { λ s. record { failing = s.failing.items; next = s.next; faults = s.faults } };
+}
+
+impl Counter {
+    ghost use Rattle.ft_edge.specs.Calls.{no_calls, is_to_fail, with_failing, after_call, after_fault};
+
+    /// No call, and none that is to fail.
+    pub(crate) fn new(alloc: Global) -> Counter
+        ensures { result ≡ no_calls }
+    {
+        Counter {
+            failing: Vec::new(alloc),
+            next: 0,
+            faults: 0,
+        }
+    }
+
+    /// Adds a call that is to fail.
+    pub(crate) fn fail_at(&mut self, call: u64) -> Result<(), NoMemory>
+        ensures ok { OnOk result (self.new ≡ with_failing self.old call) }
+        ensures err { OnErr result (self.new ≡ self.old) }
+    {
+        self.failing.push(call).map_err(|_| NoMemory)?;
+        Ok(())
+    }
+
+    /// Numbers the next call, and tells whether it is to fail.
+    pub(crate) fn begin(&mut self) -> bool
+        ensures fails { result ≡ is_to_fail self.old }
+        ensures after { self.new ≡ after_call self.old }
+    {
+        let call = self.next;
+        self.next = call.saturating_add(1);
+        self.failing.contains(&call)
+    }
+
+    /// Counts that the call failed.
+    pub(crate) fn count_fault(&mut self)
+        ensures after { self.new ≡ after_fault self.old }
+        ensures count { self.old.faults ≤ self.new.faults }
+    {
+        self.faults = self.faults.saturating_add(1);
+    }
+}

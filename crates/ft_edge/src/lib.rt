@@ -1,0 +1,37 @@
+//! The outside: files on a shelf, a script to take and an output to put, each with a count of faults.
+//!
+//! The crate promises what a call does to the content where it is told, that a call fails only where
+//! the count rose, and what each implementation in memory answers exactly. Its definitions:
+//! `specs/Causes.antt` and `specs/Loads.antt` for the traits, `specs/Calls.antt` and the `Memory`
+//! files for the implementations in memory, `specs/Streams.antt` for those over the system.
+#![tactic(auto)]
+
+mod counter;
+mod failed;
+mod folder_shelf;
+mod mem_shelf;
+mod mem_sink;
+mod mem_source;
+mod null_sink;
+mod shelf;
+mod sink;
+mod source;
+mod stdin_source;
+mod stdout_sink;
+mod sure_source;
+mod system;
+#[cfg(test)]
+mod tests;
+
+pub use failed::Failed;
+pub use folder_shelf::FolderShelf;
+pub use mem_shelf::MemShelf;
+pub use mem_sink::MemSink;
+pub use mem_source::MemSource;
+pub use null_sink::NullSink;
+pub use shelf::{Load, LoadFault, Shelf};
+pub use sink::Sink;
+pub use source::Source;
+pub use stdin_source::StdinSource;
+pub use stdout_sink::StdoutSink;
+pub use sure_source::SureSource;

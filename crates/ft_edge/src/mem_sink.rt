@@ -1,0 +1,86 @@
+//! Bytes written to memory, with puts that are to fail.
+ghost use Rattle.std.specs.Prelude.{◌≡◌, ◌≤◌, Some, is_err, IfOk, OnOk, OnErr};
+
+use crate::counter::Counter;
+use crate::{Failed, Sink};
+use ft_isa::NoMemory;
+use std::alloc::Global;
+use std::marker::Model;
+
+/// Bytes written to memory, with puts that are to fail. It tells its bytes.
+#[derive(Drop)]
+pub struct MemSink {
+    written: Vec<u8>,
+    room: usize,
+    calls: Counter,
+}
+
+impl Model for MemSink {
+    ghost use Rattle.std.specs.Prelude.{◌≤◌, vec_len, vec_capacity};
+    ghost use Rattle.ft_edge.specs.MemorySink.{MemorySink};
+
+    ghost Value = { MemorySink };
+
+    ghost view = { λ s. record { written = s.written.items; room = s.room; calls = s.calls } };
+
+    ghost invariant = { λ s. (s.room ≤ vec_capacity s.written) × (vec_len s.written ≤ s.room) };
+}
+
+impl MemSink {
+    ghost use Rattle.ft_edge.specs.MemorySink.{empty_sink, with_failing_put};
+
+    /// A sink with room for this many bytes. The room is reserved here, so that no put takes memory.
+    pub fn new(alloc: Global, room: usize) -> Result<MemSink, NoMemory>
+        ensures { IfOk result (λ sink. sink ≡ empty_sink room) }
+    {
+        Ok(MemSink {
+            written: Vec::with_capacity(alloc, room)?,
+            room,
+            calls: Counter::new(alloc),
+        })
+    }
+
+    /// Adds a put that is to fail. Puts are numbered from 0, and every put from number 2^64 - 1 on has
+    /// that number.
+    pub fn fail_at(&mut self, call: u64) -> Result<(), NoMemory>
+        ensures ok { OnOk result (self.new ≡ with_failing_put self.old call) }
+        ensures err { OnErr result (self.new ≡ self.old) }
+    {
+        self.calls.fail_at(call)?;
+        Ok(())
+    }
+
+    /// The bytes that were written.
+    pub fn written(&self) -> &[u8]
+        ensures { result.now ≡ self.now.written }
+    {
+        self.written.as_slice()
+    }
+}
+
+impl Sink for MemSink {
+    ghost use Rattle.ft_edge.specs.MemorySink.{put_fails, after_put};
+
+    ghost written = { λ sink. Some sink.written };
+
+    ghost faults = { λ sink. sink.calls.faults };
+
+    ghost puts = { λ sink. Some sink.calls.next };
+
+    /// Adds the piece, where there is room for all of it.
+    fn put(&mut self, bytes: &[u8]) -> Result<(), Failed>
+        ensures count { self.old.calls.faults ≤ self.new.calls.faults }
+        ensures answer { is_err result ≡ put_fails self.old bytes.now }
+        ensures after { self.new ≡ after_put self.old bytes.now result }
+    {
+        let is_to_fail = self.calls.begin();
+        if is_to_fail || self.room - self.written.len() < bytes.len() {
+            self.calls.count_fault();
+            return Err(Failed);
+        }
+        match self.written.extend_from_slice(bytes) {
+            Ok(()) => Ok(()),
+            Err(_) => unreachable!(),
+        }
+    }
+}

@@ -1,0 +1,81 @@
+//! Bytes in memory to be taken, with takes that are to fail.
+ghost use Rattle.std.specs.Prelude.{◌≡◌, ◌<◌, ◌≤◌, length, min, take, Some, is_err, IfOk, OnOk, OnErr};
+
+use crate::counter::Counter;
+use crate::{Failed, Source};
+use ft_isa::NoMemory;
+use std::alloc::Global;
+use std::marker::Model;
+
+/// Bytes in memory to be taken, with takes that are to fail. It tells its bytes.
+#[derive(Drop)]
+pub struct MemSource {
+    bytes: Vec<u8>,
+    taken: usize,
+    calls: Counter,
+}
+
+impl Model for MemSource {
+    ghost use Rattle.std.specs.Prelude.{◌≤◌, drop, vec_len};
+    ghost use Rattle.ft_edge.specs.MemorySource.{MemorySource};
+
+    ghost Value = { MemorySource };
+
+    ghost view = { λ s. record { left = drop s.taken s.bytes.items; calls = s.calls } };
+
+    ghost invariant = { λ s. s.taken ≤ vec_len s.bytes };
+}
+
+impl MemSource {
+    ghost use Rattle.ft_edge.specs.MemorySource.{source_of_bytes, with_failing_take};
+
+    /// A source of these bytes.
+    pub fn new(alloc: Global, bytes: &[u8]) -> Result<MemSource, NoMemory>
+        ensures { IfOk result (λ source. source ≡ source_of_bytes bytes.now) }
+    {
+        Ok(MemSource {
+            bytes: Vec::from_slice(alloc, bytes)?,
+            taken: 0,
+            calls: Counter::new(alloc),
+        })
+    }
+
+    /// Adds a take that is to fail. Takes are numbered from 0, and every take from number 2^64 - 1 on
+    /// has that number.
+    pub fn fail_at(&mut self, call: u64) -> Result<(), NoMemory>
+        ensures ok { OnOk result (self.new ≡ with_failing_take self.old call) }
+        ensures err { OnErr result (self.new ≡ self.old) }
+    {
+        self.calls.fail_at(call)?;
+        Ok(())
+    }
+}
+
+impl Source for MemSource {
+    ghost use Rattle.ft_edge.specs.Calls.{is_to_fail};
+    ghost use Rattle.ft_edge.specs.MemorySource.{after_take};
+
+    ghost left = { λ source. Some source.left };
+
+    ghost faults = { λ source. source.calls.faults };
+
+    /// Takes as many bytes as there are left, or as many as the buffer holds.
+    fn take(&mut self, buf: &mut [u8]) -> Result<usize, Failed>
+        requires { 0 < length buf.old }
+        ensures count { self.old.calls.faults ≤ self.new.calls.faults }
+        ensures answer { is_err result ≡ is_to_fail self.old.calls }
+        ensures many { IfOk result (λ count. count ≡ min (length self.old.left) (length buf.new)) }
+        ensures bytes { IfOk result (λ count. take count buf.new ≡ take count self.old.left) }
+        ensures after { self.new ≡ after_take self.old result }
+    {
+        if self.calls.begin() {
+            self.calls.count_fault();
+            return Err(Failed);
+        }
+        let left = &self.bytes[self.taken..];
+        let count = left.len().min(buf.len());
+        buf[..count].copy_from_slice(&left[..count]);
+        self.taken += count;
+        Ok(count)
+    }
+}

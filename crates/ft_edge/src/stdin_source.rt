@@ -1,0 +1,61 @@
+//! Standard input.
+ghost use Rattle.std.specs.Prelude.{◌≡◌, ◌≤◌, None, OnOk, OnErr};
+ghost use Rattle.std.specs.Io.{ReadsAtMost};
+ghost use Rattle.std.specs.Io.KnownBytes.{ReadConsumes};
+ghost use Rattle.ft_edge.specs.Calls.{next_count};
+
+use crate::system::read_once;
+use crate::{Failed, Source};
+use std::io::Read;
+use std::marker::Model;
+
+/// Standard input. It does not tell its bytes, and its count of faults stands still at 2^64 - 1.
+#[derive(Drop)]
+pub struct StdinSource<R: Input> {
+    rt: R,
+    faults: u64,
+}
+
+impl<R: Input> Model for StdinSource<R> {
+    ghost use Rattle.std.specs.Prelude.{ℕ};
+
+    ghost Value = { ℕ };
+
+    ghost view = { λ s. s.faults };
+}
+
+/// Reads once, and counts a read that failed.
+fn take_from<F: Read>(file: &mut F, buf: &mut [u8], faults: &mut u64) -> Result<usize, Failed>
+    ensures bound { ReadsAtMost result buf.new }
+    ensures bytes { ReadConsumes (F.remaining file.old) (F.remaining file.new) result buf.new }
+    ensures count { faults.old ≤ faults.new }
+    ensures same_count { OnOk result (faults.new ≡ faults.old) }
+    ensures counted { OnErr result (faults.new ≡ next_count faults.old) }
+{
+    match read_once(file, buf) {
+        Ok(count) => Ok(count),
+        Err(_) => {
+            *faults = faults.saturating_add(1);
+            Err(Failed)
+        }
+    }
+}
+
+impl<R: Input> StdinSource<R> {
+    /// The standard input of the runtime.
+    pub fn new(rt: R) -> StdinSource<R>
+        ensures { result ≡ 0 }
+    {
+        StdinSource { rt, faults: 0 }
+    }
+}
+
+impl<R: Input> Source for StdinSource<R> {
+    ghost left = { λ _. None };
+
+    ghost faults = { λ faults. faults };
+
+    fn take(&mut self, buf: &mut [u8]) -> Result<usize, Failed> {
+        take_from(&mut self.rt.reader(), buf, &mut self.faults)
+    }
+}

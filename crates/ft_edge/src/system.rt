@@ -1,0 +1,36 @@
+//! Single reads and writes, begun again where a signal interrupted them.
+ghost use Rattle.std.specs.Io.{ReadsAtMost, WritesAtMost};
+ghost use Rattle.std.specs.Io.KnownBytes.{ReadConsumes, WriteAppends};
+
+use crate::Failed;
+use std::io::{ErrorKind, Read, Write};
+
+/// Reads once, at most as many bytes as the buffer holds.
+pub(crate) fn read_once<F: Read>(file: &mut F, buf: &mut [u8]) -> Result<usize, Failed>
+    ensures bound { ReadsAtMost result buf.new }
+    ensures bytes { ReadConsumes (F.remaining file.old) (F.remaining file.new) result buf.new }
+{
+    for _ in 0..u64::MAX {
+        match file.read(buf) {
+            Ok(count) => return Ok(count),
+            Err(error) if error.kind() == ErrorKind::Interrupted => {}
+            Err(_) => return Err(Failed),
+        }
+    }
+    Err(Failed)
+}
+
+/// Writes once, a prefix of the bytes.
+pub(crate) fn write_once<W: Write>(out: &mut W, bytes: &[u8]) -> Result<usize, Failed>
+    ensures bound { WritesAtMost result bytes.now }
+    ensures bytes { WriteAppends (W.contents out.old) (W.contents out.new) result bytes.now }
+{
+    for _ in 0..u64::MAX {
+        match out.write(bytes) {
+            Ok(count) => return Ok(count),
+            Err(error) if error.kind() == ErrorKind::Interrupted => {}
+            Err(_) => return Err(Failed),
+        }
+    }
+    Err(Failed)
+}
