@@ -1,0 +1,60 @@
+-- Pending stores by index, as the code goes over them.
+use Rattle.std.proofs.Common.{◌≡◌, ◌≢◌, ℕ, zero, suc, ◌+◌, ◌<◌, ◌≤◌, cond, List, [], ◌∷◌, ◌++◌, length, take, Option, Some, None, refl, ap, sym, ◌∙◌, arith, nat_eq, slice_index_or, slice_set, Bool, true, false}
+use Rattle.std.proofs.lemmas.List.{take_more}
+use Rattle.std.proofs.lemmas.Bool.{eq-eqb, ne_eqb}
+use Rattle.std.specs.Option.{option_or}
+use Rattle.ft_isa.specs.Pending.{Pending, newest_at, with_address, with_value}
+
+option_or-cond : (b : Bool) (v : ℕ) (o p : Option ℕ) → option_or (cond b (Some v) o) p ≡ cond b (Some v) (option_or o p)
+option_or-cond true v o p = refl
+option_or-cond false v o p = refl
+
+-- one more entry is the newest
+pub newest_at-append : (q : Pending) (e : ℕ × ℕ) (a : ℕ) → newest_at (q ++ e ∷ []) a ≡ cond (nat_eq e.0 a) (Some e.1) (newest_at q a)
+unfolding newest_at
+newest_at-append [] e a = refl
+newest_at-append (f ∷ q) e a =
+    let p = cond (nat_eq f.0 a) (Some f.1) None in
+    ap (λ o. option_or o p) (newest_at-append q e a) ∙ option_or-cond (nat_eq e.0 a) e.1 (newest_at q a) p
+
+-- one more entry of a queue that is gone over, oldest first
+newest_at-take : (q : Pending) (i a : ℕ) (d : ℕ × ℕ) → i < length q
+    → newest_at (take (i + 1) q) a ≡ cond (nat_eq (slice_index_or q i d).0 a) (Some (slice_index_or q i d).1) (newest_at (take i q) a)
+newest_at-take q i a d below = ap (λ t. newest_at t a) (take_more q i d below) ∙ newest_at-append (take i q) (slice_index_or q i d) a
+
+pub newest_at-take_here : (q : Pending) (i a : ℕ) (d : ℕ × ℕ) → i < length q → (slice_index_or q i d).0 ≡ a → Some (slice_index_or q i d).1 ≡ newest_at (take (i + 1) q) a
+newest_at-take_here q i a d below here =
+    let e = slice_index_or q i d in
+    sym (newest_at-take q i a d below ∙ ap (λ b. cond b (Some e.1) (newest_at (take i q) a)) (eq-eqb e.0 a here))
+
+pub newest_at-take_other : (q : Pending) (i a : ℕ) (d : ℕ × ℕ) → i < length q → (slice_index_or q i d).0 ≢ a → newest_at (take i q) a ≡ newest_at (take (i + 1) q) a
+newest_at-take_other q i a d below other =
+    let e = slice_index_or q i d in
+    sym (newest_at-take q i a d below ∙ ap (λ b. cond b (Some e.1) (newest_at (take i q) a)) (ne_eqb e.0 a other))
+
+-- another address in an entry that is there
+pub set-with_address : (q : Pending) (i v : ℕ) (e : ℕ × ℕ) → i < length q → e ≡ slice_index_or q i e → slice_set q i (v, e.1) ≡ with_address q i v
+unfolding with_address
+set-with_address [] i v e below is = absurd (omega arith)
+set-with_address (f ∷ q) zero v e below is = ap (λ (x : ℕ × ℕ). (v, x.1) ∷ q) is
+set-with_address (f ∷ q) (suc i) v e below is = ap (λ r. f ∷ r) (set-with_address q i v e (omega arith) is)
+
+-- another value in an entry that is there
+pub set-with_value : (q : Pending) (i v : ℕ) (e : ℕ × ℕ) → i < length q → e ≡ slice_index_or q i e → slice_set q i (e.0, v) ≡ with_value q i v
+unfolding with_value
+set-with_value [] i v e below is = absurd (omega arith)
+set-with_value (f ∷ q) zero v e below is = ap (λ (x : ℕ × ℕ). (x.0, v) ∷ q) is
+set-with_value (f ∷ q) (suc i) v e below is = ap (λ r. f ∷ r) (set-with_value q i v e (omega arith) is)
+
+-- where there is no such entry, nothing changes
+pub with_address-beyond : (q : Pending) (i v : ℕ) → length q ≤ i → with_address q i v ≡ q
+unfolding with_address
+with_address-beyond [] i v beyond = refl
+with_address-beyond (f ∷ q) zero v beyond = absurd (omega arith)
+with_address-beyond (f ∷ q) (suc i) v beyond = ap (λ r. f ∷ r) (with_address-beyond q i v (omega arith))
+
+pub with_value-beyond : (q : Pending) (i v : ℕ) → length q ≤ i → with_value q i v ≡ q
+unfolding with_value
+with_value-beyond [] i v beyond = refl
+with_value-beyond (f ∷ q) zero v beyond = absurd (omega arith)
+with_value-beyond (f ∷ q) (suc i) v beyond = ap (λ r. f ∷ r) (with_value-beyond q i v (omega arith))
