@@ -1,0 +1,14 @@
+pub mod Cases
+pub mod Words
+pub mod Spelled
+pub mod Equal
+pub mod Lists
+pub mod Counts
+pub mod Sums
+pub mod Rows
+pub mod Proper
+pub mod Coefficients
+pub mod Under
+pub mod NodeTrees
+pub mod Denote
+pub mod Lawful

@@ -1,0 +1,193 @@
+-- The order of forms is the order of their spellings, and so it is total.
+use Rattle.std.proofs.Common.{ℕ, ◌≡◌, List, [], ◌∷◌, ◌++◌, refl, sym, ap, ◌∙◌, append_assoc, arith}
+use Rattle.std.specs.Cmp.{IsTotalOrder}
+use Rattle.std.specs.Cmp.Lexicographic.{slice_cmp, on_texts}
+use Rattle.std.specs.Ordering.{nat_cmp, on, ordering_then}
+use Rattle.std.specs.declared.cmp.Ordering.{Ordering}
+use Rattle.std.specs.declared.cmp.Ordering.TheVariants.{Less, Equal, Greater}
+use Rattle.std.proofs.lemmas.Bool.Decides.{nat_tests}
+use base.Stored.{Coded, coded_ℕ, coded_list, coded_via}
+use Rattle.std.proofs.lemmas.Cmp.{tied_itself, nat_list_cmp_total}
+use Rattle.std.proofs.lemmas.List.{append-nil}
+use Rattle.ft_static.specs.Form.{Form, integer_form, memory_form, factors, terms, updates, Atom, Monomial, Polynomial, Updates, variable_atom, ltu_atom, eq_atom, sel_atom, product_atom, sum_atom, one, times, nought, plus, unchanged, update}
+use Rattle.ft_static.specs.FormOrder.{cmp_atom, cmp_monomial, cmp_polynomial, cmp_updates}
+
+abbrev mutual
+  -- an atom as a list of numbers
+  pub spell_atom : Atom → List ℕ
+  spell_atom (variable_atom i) = 0 ∷ (i ∷ [])
+  spell_atom (ltu_atom p q) = 1 ∷ (spell_polynomial p ++ spell_polynomial q)
+  spell_atom (eq_atom p q) = 2 ∷ (spell_polynomial p ++ spell_polynomial q)
+  spell_atom (sel_atom u p) = 3 ∷ (spell_updates u ++ spell_polynomial p)
+  spell_atom (product_atom p q) = 4 ∷ (spell_polynomial p ++ spell_polynomial q)
+  spell_atom (sum_atom p q) = 5 ∷ (spell_polynomial p ++ spell_polynomial q)
+
+  -- a monomial
+  pub spell_monomial : Monomial → List ℕ
+  spell_monomial one = 0 ∷ []
+  spell_monomial (times a m) = 1 ∷ (factors m ∷ (spell_atom a ++ spell_monomial m))
+
+  -- a polynomial
+  pub spell_polynomial : Polynomial → List ℕ
+  spell_polynomial nought = 0 ∷ []
+  spell_polynomial (plus m c p) = 1 ∷ (terms p ∷ (spell_monomial m ++ (c ∷ spell_polynomial p)))
+
+  -- a memory form
+  pub spell_updates : Updates → List ℕ
+  spell_updates unchanged = 0 ∷ []
+  spell_updates (update p v u) = 1 ∷ (updates u ∷ (spell_polynomial p ++ (spell_polynomial v ++ spell_updates u)))
+
+-- three comparisons in a row
+pub then_assoc : (a b c : Ordering) → ordering_then (ordering_then a b) c ≡ ordering_then a (ordering_then b c)
+then_assoc Less b c = refl
+then_assoc Equal b c = refl
+then_assoc Greater b c = refl
+
+-- lists of numbers, by the first that differ
+abbrev lex : List ℕ → List ℕ → Ordering
+lex = slice_cmp nat_cmp
+
+mutual
+  -- spelled atoms with lists after them compare as the atoms and then the lists
+  pub lex_atom : (a b : Atom) (xs ys : List ℕ) → lex (spell_atom a ++ xs) (spell_atom b ++ ys) ≡ ordering_then (cmp_atom a b) (lex xs ys)
+  lex_atom (variable_atom i) (variable_atom j) xs ys = refl
+  lex_atom (ltu_atom p q) (ltu_atom r s) xs ys = simp (append_assoc, lex_polynomial p r, lex_polynomial q s, then_assoc)
+  lex_atom (eq_atom p q) (eq_atom r s) xs ys = simp (append_assoc, lex_polynomial p r, lex_polynomial q s, then_assoc)
+  lex_atom (sel_atom u q) (sel_atom w s) xs ys = simp (append_assoc, lex_updates u w, lex_polynomial q s, then_assoc)
+  lex_atom (product_atom p q) (product_atom r s) xs ys = simp (append_assoc, lex_polynomial p r, lex_polynomial q s, then_assoc)
+  lex_atom (sum_atom p q) (sum_atom r s) xs ys = simp (append_assoc, lex_polynomial p r, lex_polynomial q s, then_assoc)
+  lex_atom a b xs ys = refl
+
+  -- so do monomials
+  pub lex_monomial : (a b : Monomial) (xs ys : List ℕ) → lex (spell_monomial a ++ xs) (spell_monomial b ++ ys) ≡ ordering_then (cmp_monomial a b) (lex xs ys)
+  lex_monomial (times a m) (times b n) xs ys = simp (append_assoc, lex_atom a b, lex_monomial m n, then_assoc)
+  lex_monomial one one xs ys = refl
+  lex_monomial one (times b n) xs ys = refl
+  lex_monomial (times a m) one xs ys = refl
+
+  -- and polynomials
+  pub lex_polynomial : (a b : Polynomial) (xs ys : List ℕ) → lex (spell_polynomial a ++ xs) (spell_polynomial b ++ ys) ≡ ordering_then (cmp_polynomial a b) (lex xs ys)
+  lex_polynomial (plus m c p) (plus n d q) xs ys = simp (append_assoc, lex_monomial m n, lex_polynomial p q, then_assoc)
+  lex_polynomial nought nought xs ys = refl
+  lex_polynomial nought (plus n d q) xs ys = refl
+  lex_polynomial (plus m c p) nought xs ys = refl
+
+  -- and memory forms
+  pub lex_updates : (a b : Updates) (xs ys : List ℕ) → lex (spell_updates a ++ xs) (spell_updates b ++ ys) ≡ ordering_then (cmp_updates a b) (lex xs ys)
+  lex_updates (update p v u) (update r w x) xs ys = simp (append_assoc, lex_polynomial p r, lex_polynomial v w, lex_updates u x, then_assoc)
+  lex_updates unchanged unchanged xs ys = refl
+  lex_updates unchanged (update r w x) xs ys = refl
+  lex_updates (update p v u) unchanged xs ys = refl
+
+-- a comparison that ties decides nothing
+then_equal : (o : Ordering) → ordering_then o Equal ≡ o
+then_equal Less = refl
+then_equal Equal = refl
+then_equal Greater = refl
+
+-- polynomials compare as their spellings
+pub polynomial_spelled : (a b : Polynomial) → cmp_polynomial a b ≡ lex (spell_polynomial a) (spell_polynomial b)
+polynomial_spelled a b = simp (append-nil, then_equal) at (sym (lex_polynomial a b [] []))
+
+-- monomials compare as their spellings
+pub monomial_spelled : (a b : Monomial) → cmp_monomial a b ≡ lex (spell_monomial a) (spell_monomial b)
+monomial_spelled a b = simp (append-nil, then_equal) at (sym (lex_monomial a b [] []))
+
+-- atoms compare as their spellings
+pub atom_spelled : (a b : Atom) → cmp_atom a b ≡ lex (spell_atom a) (spell_atom b)
+atom_spelled a b = simp (append-nil, then_equal) at (sym (lex_atom a b [] []))
+
+-- memory forms compare as their spellings
+pub updates_spelled : (a b : Updates) → cmp_updates a b ≡ lex (spell_updates a) (spell_updates b)
+updates_spelled a b = simp (append-nil, then_equal) at (sym (lex_updates a b [] []))
+
+-- an order that agrees with a total one
+agreeing : {K : Type 0} (R S : K → K → Ordering) → ((x y : K) → R x y ≡ S x y) → IsTotalOrder S → IsTotalOrder R
+agreeing R S e t = record {
+  antisymm = λ x y. rw (e x y, e y x) (t.antisymm x y);
+  trans = λ x y z h k. rw (e x z) (t.trans x y z (sym (e x y) ∙ h) (sym (e y z) ∙ k));
+  congr = λ x y z h. rw (e x z, e y z) (t.congr x y z (sym (e x y) ∙ h));
+}
+
+-- the order of atoms is total
+pub cmp_atom_total : IsTotalOrder cmp_atom
+cmp_atom_total = agreeing cmp_atom (on spell_atom lex) atom_spelled (on_texts spell_atom)
+
+-- that of monomials
+pub cmp_monomial_total : IsTotalOrder cmp_monomial
+cmp_monomial_total = agreeing cmp_monomial (on spell_monomial lex) monomial_spelled (on_texts spell_monomial)
+
+-- that of polynomials
+pub cmp_polynomial_total : IsTotalOrder cmp_polynomial
+cmp_polynomial_total = agreeing cmp_polynomial (on spell_polynomial lex) polynomial_spelled (on_texts spell_polynomial)
+
+-- that of memory forms
+pub cmp_updates_total : IsTotalOrder cmp_updates
+cmp_updates_total = agreeing cmp_updates (on spell_updates lex) updates_spelled (on_texts spell_updates)
+
+-- `Equal` means equality
+nat_cmp_equal : (i j : ℕ) → nat_cmp i j ≡ Equal → i ≡ j
+nat_cmp_equal i j e = grind (arith, nat_tests)
+
+-- two comparisons that tie
+then_both : (a b : Ordering) → ordering_then a b ≡ Equal → (a ≡ Equal) × (b ≡ Equal)
+then_both Less b e = cc
+then_both Equal b e = (refl, e)
+then_both Greater b e = cc
+
+mutual
+  -- tied atoms are the same
+  pub atom_equal : (a b : Atom) → cmp_atom a b ≡ Equal → a ≡ b
+  atom_equal (variable_atom i) (variable_atom j) e = ap variable_atom (nat_cmp_equal i j e)
+  atom_equal (ltu_atom p q) (ltu_atom r s) e = let h = then_both _ _ e in let x = polynomial_equal p r h.0 in let y = polynomial_equal q s h.1 in cc
+  atom_equal (eq_atom p q) (eq_atom r s) e = let h = then_both _ _ e in let x = polynomial_equal p r h.0 in let y = polynomial_equal q s h.1 in cc
+  atom_equal (sel_atom u q) (sel_atom w s) e = let h = then_both _ _ e in let x = updates_equal u w h.0 in let y = polynomial_equal q s h.1 in cc
+  atom_equal (product_atom p q) (product_atom r s) e = let h = then_both _ _ e in let x = polynomial_equal p r h.0 in let y = polynomial_equal q s h.1 in cc
+  atom_equal (sum_atom p q) (sum_atom r s) e = let h = then_both _ _ e in let x = polynomial_equal p r h.0 in let y = polynomial_equal q s h.1 in cc
+  atom_equal a b e = cc
+
+  -- tied monomials are the same
+  pub monomial_equal : (a b : Monomial) → cmp_monomial a b ≡ Equal → a ≡ b
+  monomial_equal one one e = refl
+  monomial_equal one (times b n) e = cc
+  monomial_equal (times a m) one e = cc
+  monomial_equal (times a m) (times b n) e = let h = then_both _ _ e in let k = then_both _ _ h.1 in let x = atom_equal a b k.0 in let y = monomial_equal m n k.1 in cc
+
+  -- tied polynomials are the same
+  pub polynomial_equal : (a b : Polynomial) → cmp_polynomial a b ≡ Equal → a ≡ b
+  polynomial_equal nought nought e = refl
+  polynomial_equal nought (plus n d q) e = cc
+  polynomial_equal (plus m c p) nought e = cc
+  polynomial_equal (plus m c p) (plus n d q) e = let h = then_both _ _ e in let k = then_both _ _ h.1 in let l = then_both _ _ k.1 in let x = monomial_equal m n k.0 in let z = nat_cmp_equal c d l.0 in let y = polynomial_equal p q l.1 in cc
+
+  -- tied memory forms are the same
+  pub updates_equal : (a b : Updates) → cmp_updates a b ≡ Equal → a ≡ b
+  updates_equal unchanged unchanged e = refl
+  updates_equal unchanged (update r w x) e = cc
+  updates_equal (update p v u) unchanged e = cc
+  updates_equal (update p v u) (update r w x) e = let h = then_both _ _ e in let k = then_both _ _ h.1 in let l = then_both _ _ k.1 in let i = polynomial_equal p r k.0 in let j = polynomial_equal v w l.0 in let y = updates_equal u x l.1 in cc
+
+-- a form is told apart by its spelling
+spelled_alike : (xs ys : List ℕ) → xs ≡ ys → lex xs ys ≡ Equal
+spelled_alike xs ys e = rw e (tied_itself nat_list_cmp_total ys)
+
+-- a form of either sort as a list of numbers
+pub spell_form : Form → List ℕ
+spell_form (integer_form p) = 0 ∷ spell_polynomial p
+spell_form (memory_form u) = 1 ∷ spell_updates u
+
+-- no two forms have one spelling
+spell_form-injective : (f g : Form) → spell_form f ≡ spell_form g → f ≡ g
+unfolding spell_form
+spell_form-injective (integer_form p) (integer_form q) e =
+    let h : spell_polynomial p ≡ spell_polynomial q = cc in
+    ap integer_form (polynomial_equal p q (polynomial_spelled p q ∙ spelled_alike (spell_polynomial p) (spell_polynomial q) h))
+spell_form-injective (integer_form p) (memory_form u) e = cc
+spell_form-injective (memory_form u) (integer_form p) e = cc
+spell_form-injective (memory_form u) (memory_form v) e =
+    let h : spell_updates u ≡ spell_updates v = cc in
+    ap memory_form (updates_equal u v (updates_spelled u v ∙ spelled_alike (spell_updates u) (spell_updates v) h))
+
+-- forms as codes
+pub form_code : Coded Form
+form_code = coded_via (coded_list coded_ℕ) spell_form spell_form-injective

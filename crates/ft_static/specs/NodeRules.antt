@@ -1,0 +1,42 @@
+-- The rules that numbered nodes obey.
+use Rattle.std.specs.Prelude.{◌≡◌, ℕ, ◌<◌, ◌≤◌, Bool, true, false, List, length, Some, slice_get}
+use Rattle.ft_isa.specs.Words.{IsWord}
+use Rattle.ft_static.specs.declared.node.Node.{Node}
+use Rattle.ft_static.specs.declared.node.Shape.{Shape}
+use Rattle.ft_static.specs.declared.node.Shape.TheVariants.{Word, Var, Op, Sel, Memory, Upd}
+
+-- whether a node stands for a memory; the others stand for integers
+abbrev pub is_memory : Shape → Bool
+is_memory (Word w) = false
+is_memory (Var i) = false
+is_memory (Op op a b) = false
+is_memory (Sel memory at) = false
+is_memory Memory = true
+is_memory (Upd memory at value) = true
+
+-- node m may be named where a node of this sort is wanted, below number n and within this scope
+pub record MayName (nodes : List Node) (n scope : ℕ) (memory : Bool) (m : ℕ) : Type 0 where
+  pub lower : m < n
+  pub node : Node
+  pub found : slice_get nodes m ≡ Some node
+  pub sort : is_memory node.shape ≡ memory
+  pub scope_within : node.scope ≤ scope
+
+-- what is asked of the shape of node n
+abbrev pub IsShape : List Node → ℕ → ℕ → Shape → Type 0
+IsShape nodes n scope (Word w) = IsWord w
+IsShape nodes n scope (Var i) = i < scope
+IsShape nodes n scope (Op op a b) = MayName nodes n scope false a × MayName nodes n scope false b
+IsShape nodes n scope (Sel memory at) = MayName nodes n scope true memory × MayName nodes n scope false at
+IsShape nodes n scope Memory = Unit {0}
+IsShape nodes n scope (Upd memory at value) = MayName nodes n scope true memory × MayName nodes n scope false at × MayName nodes n scope false value
+
+-- node n obeys the rules: its scope is at most 128, and its parts are lower nodes of their sorts, within its scope
+pub record IsNode (nodes : List Node) (n : ℕ) (node : Node) : Type 0 where
+  pub scope : node.scope ≤ 128
+  pub shape : IsShape nodes n node.scope node.shape
+
+-- each node obeys the rules, and there are at most 1,048,576
+pub record AreNodes (nodes : List Node) : Type 0 where
+  pub few : length nodes ≤ 1048576
+  pub each : (n : ℕ) (node : Node) → slice_get nodes n ≡ Some node → IsNode nodes n node
