@@ -1,0 +1,7 @@
+pub mod Objects
+pub mod State
+pub mod Step
+pub mod StepTable
+pub mod Strike
+pub mod Run
+pub mod Texts

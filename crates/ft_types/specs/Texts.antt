@@ -1,0 +1,20 @@
+-- The lines of a run's outputs.
+use Rattle.std.specs.Prelude.{ℕ, ◌-◌, List, [], slice_get}
+use Rattle.std.specs.List.{flat_map}
+use Rattle.std.specs.Option.{option_map, unwrap_or}
+use Rattle.ft_isa.specs.Words.{cell_address, line}
+use Rattle.ft_isa.specs.declared.output.Output.{Output}
+use Rattle.ft_types.specs.declared.object.Object.{Object}
+use Rattle.ft_types.specs.Objects.{name_of}
+
+-- the name of the cell at an address, which is a cell's: an output goes to cells alone
+abbrev pub name_at : Object → ℕ → List ℕ
+name_at o a = unwrap_or (option_map name_of (slice_get o.cells (a - cell_address 0))) []
+
+-- the line of an output: the cell's name and the value
+abbrev pub line_at : Object → Output → List ℕ
+line_at o output = line (name_at o output.addr) output.value
+
+-- a line for each output
+abbrev pub lines : Object → List Output → List ℕ
+lines o outputs = flat_map (line_at o) outputs
