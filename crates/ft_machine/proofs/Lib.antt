@@ -1,0 +1,6 @@
+pub mod Maps
+pub mod Tabulated
+pub mod Rows
+pub mod Steps
+pub mod Runs
+pub mod Driven

@@ -1,0 +1,65 @@
+-- What driving a machine answers and writes.
+use Rattle.std.specs.Prelude.{◌≡◌, ℕ, ◌≤◌, List, length, Option, Some, None}
+use Rattle.std.specs.Io.KnownBytes.{append_known}
+use Rattle.ft_edge.specs.Causes.{Rose, AddsPrefix}
+use Rattle.ft_edge.specs.Puts.{puts_after}
+use Rattle.ft_isa.specs.declared.plan.Strike.{Strike}
+use Rattle.ft_isa.specs.declared.plan.Wild.{Wild}
+use Rattle.ft_types.specs.declared.object.Object.{Object}
+use Rattle.ft_types.specs.State.{State}
+use Rattle.ft_types.specs.Run.{state_after, outputs_after}
+use Rattle.ft_types.specs.declared.status.Status.{Status}
+use Rattle.ft_types.specs.declared.status.Status.TheVariants as status
+use Rattle.ft_machine.specs.declared.run.RunEnd.{RunEnd}
+use Rattle.ft_machine.specs.declared.run.RunEnd.TheVariants.{Done, Detected, OutOfSteps, WriteFault}
+
+-- a run that ended so has this status
+abbrev pub EndsAs : RunEnd → Status → Type 0
+EndsAs Done s = s ≡ status.Done
+EndsAs Detected s = s ≡ status.Detected
+EndsAs OutOfSteps s = s ≡ status.Running
+EndsAs WriteFault s = Unit {0}
+
+-- the text was added to what was written, or after a failed put a prefix of it
+abbrev pub Writes : RunEnd → Option (List ℕ) → Option (List ℕ) → List ℕ → Type 0
+Writes Done old new text = new ≡ append_known old text
+Writes Detected old new text = new ≡ append_known old text
+Writes OutOfSteps old new text = new ≡ append_known old text
+Writes WriteFault old new text = AddsPrefix old new text
+
+-- only a count that rose excuses a failed put, and where no put failed the count stays
+abbrev pub IsExcused : RunEnd → ℕ → ℕ → Type 0
+IsExcused Done before now = now ≡ before
+IsExcused Detected before now = now ≡ before
+IsExcused OutOfSteps before now = now ≡ before
+IsExcused WriteFault before now = Rose before now
+
+-- the machine is in the run's state after k steps, and a put was made for each output up to there
+pub record HasTaken (o : Object) (strike : Option Strike) (wild : List Wild) (k : ℕ) (state : State) (before now : Option ℕ) : Type 0 where
+  pub state_is : state ≡ state_after o strike wild k
+  pub puts : now ≡ puts_after (length (outputs_after o strike wild k)) before
+
+-- where a run stops: after n steps, or where a put failed, which is the last one made
+abbrev pub Stops : RunEnd → (ℕ → Type 0) → ℕ → Type 0
+Stops Done At n = At n
+Stops Detected At n = At n
+Stops OutOfSteps At n = At n
+Stops WriteFault At n = (k : ℕ) × ((k ≤ n) × At k)
+
+-- what one turn of a run answers: nothing where the machine runs on
+abbrev pub TurnEnds : Option RunEnd → Status → Type 0
+TurnEnds None s = s ≡ status.Running
+TurnEnds (Some OutOfSteps) s = ⊥
+TurnEnds (Some Done) s = s ≡ status.Done
+TurnEnds (Some Detected) s = s ≡ status.Detected
+TurnEnds (Some WriteFault) s = Unit {0}
+
+-- what one turn of a run writes
+abbrev pub TurnWrites : Option RunEnd → Option (List ℕ) → Option (List ℕ) → List ℕ → Type 0
+TurnWrites None old new text = new ≡ append_known old text
+TurnWrites (Some e) old new text = Writes e old new text
+
+-- a turn that ends at a failed put is excused as the run is
+abbrev pub TurnIsExcused : Option RunEnd → ℕ → ℕ → Type 0
+TurnIsExcused None before now = now ≡ before
+TurnIsExcused (Some e) before now = IsExcused e before now

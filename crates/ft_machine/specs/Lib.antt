@@ -1,0 +1,3 @@
+pub mod Inside
+pub mod Answers
+pub mod Drives

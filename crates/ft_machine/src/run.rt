@@ -1,0 +1,125 @@
+//! Whole runs under a plan, with a line for each output.
+ghost use Rattle.std.specs.Prelude.{◌≡◌, ◌<◌, ◌≤◌, ◌+◌, length, OnOk, OnErr};
+ghost use Rattle.std.specs.Option.{option_to_list};
+ghost use Rattle.std.specs.Io.KnownBytes.{append_known};
+ghost use Rattle.ft_edge.specs.Causes.{Rose, AddsPrefix};
+ghost use Rattle.ft_edge.specs.Puts.{one_more, puts_after};
+ghost use Rattle.ft_types.specs.Objects.{IsRunnable};
+ghost use Rattle.ft_types.specs.State.{start, HasCells};
+ghost use Rattle.ft_types.specs.Step.{step};
+ghost use Rattle.ft_types.specs.Strike.{struck_before};
+ghost use Rattle.ft_types.specs.Run.{outputs_after, status_after};
+ghost use Rattle.ft_types.specs.Texts.{line_at, lines};
+ghost use Rattle.ft_machine.specs.Drives.{EndsAs, Writes, IsExcused, HasTaken, Stops, TurnEnds, TurnWrites, TurnIsExcused};
+
+use crate::first::CELL_BASE;
+use crate::machine::{Machine, Stepped};
+use crate::wild::WildLeft;
+use ft_edge::{Failed, Sink};
+use ft_isa::{LINE_ROOM, Output, Plan, Strike, write_line};
+use ft_types::{Program, Status};
+
+/// How a run ended.
+#[derive(Clone, Copy, Debug, PartialEq, Eq)]
+pub enum RunEnd {
+    /// The machine came to its end.
+    Done,
+    /// The machine noticed a fault.
+    Detected,
+    /// The machine still runs after the last step.
+    OutOfSteps,
+    /// A line could not be written.
+    WriteFault,
+}
+
+/// Puts the line of an output.
+fn put_line<P: Program, K: Sink>(program: &P, output: Output, out: &mut K) -> Result<(), Failed>
+    requires runnable { IsRunnable (P.object program.now) }
+    requires low { CELL_BASE ≤ output.addr }
+    requires high { output.addr < CELL_BASE + length (P.object program.now).cells }
+    ensures puts { K.puts out.new ≡ one_more (K.puts out.old) }
+    ensures count { K.faults out.old ≤ K.faults out.new }
+    ensures same_count { OnOk result (K.faults out.new ≡ K.faults out.old) }
+    ensures ok { OnOk result (K.written out.new
+        ≡ append_known (K.written out.old) (line_at (P.object program.now) output)) }
+    ensures err { OnErr result (AddsPrefix (K.written out.old) (K.written out.new)
+        (line_at (P.object program.now) output)) }
+    ensures cause { OnErr result (Rose (K.faults out.old) (K.faults out.new)) }
+{
+    let name = program.name((output.addr - CELL_BASE) as u32);
+    let mut line = [0u8; LINE_ROOM];
+    let end = write_line(&mut line, name, output.value);
+    out.put(&line[..end])
+}
+
+/// Strikes before step `k`, where the plan strikes there.
+fn strike_before(machine: &mut Machine, strike: Option<Strike>, k: u64)
+    ensures { machine.new ≡ struck_before strike k machine.old }
+{
+    if let Some(strike) = strike {
+        if strike.step == k {
+            let _ = machine.strike(strike.site, strike.value);
+        }
+    }
+}
+
+/// Takes one step of a running machine and puts its output, if it has one. Answers how the run ended,
+/// if it did.
+#[tactic(auto, unfolding(ft_edge::specs::Puts::puts_after))]
+fn turn<P: Program, K: Sink>(
+    machine: &mut Machine,
+    program: &P,
+    wild: &mut WildLeft,
+    out: &mut K,
+) -> Option<RunEnd>
+    requires runnable { IsRunnable (P.object program.now) }
+    requires running { machine.old.status ≡ Status.Running }
+    requires cells { HasCells (length (P.object program.now).cells) machine.old }
+    ensures state { machine.new ≡ (step (P.object program.now) machine.old wild.old).state }
+    ensures wild { wild.new ≡ (step (P.object program.now) machine.old wild.old).wild }
+    ensures ends { TurnEnds result (step (P.object program.now) machine.old wild.old).state.status }
+    ensures writes { TurnWrites result (K.written out.old) (K.written out.new) (lines (P.object program.now)
+        (option_to_list (step (P.object program.now) machine.old wild.old).output)) }
+    ensures puts { K.puts out.new ≡ puts_after (length (option_to_list (step (P.object program.now) machine.old wild.old).output)) (K.puts out.old) }
+    ensures count { K.faults out.old ≤ K.faults out.new }
+    ensures cause { TurnIsExcused result (K.faults out.old) (K.faults out.new) }
+{
+    match machine.step(program, wild) {
+        Stepped::Quiet => None,
+        Stepped::Commit(output) => match put_line(program, output, out) {
+            Ok(()) => None,
+            Err(_) => Some(RunEnd::WriteFault),
+        },
+        Stepped::Done => Some(RunEnd::Done),
+        Stepped::Detected => Some(RunEnd::Detected),
+    }
+}
+
+/// Runs a machine from its start under a plan, for at most `steps` steps, and puts a line for each
+/// output. `WriteFault` comes only where a put failed, and nothing is put after it.
+pub fn drive<P: Program, K: Sink>(
+    machine: &mut Machine,
+    program: &P,
+    plan: Plan,
+    steps: u64,
+    out: &mut K,
+) -> RunEnd
+    requires runnable { IsRunnable (P.object program.now) }
+    requires start { machine.old ≡ start (P.object program.now) }
+    ensures ends { EndsAs result (status_after (P.object program.now) plan.entry.strike plan.entry.wild.now steps) }
+    ensures writes { Writes result (K.written out.old) (K.written out.new)
+        (lines (P.object program.now) (outputs_after (P.object program.now) plan.entry.strike plan.entry.wild.now steps)) }
+    ensures stops { Stops result (λ k. HasTaken (P.object program.now) plan.entry.strike plan.entry.wild.now k
+        machine.new (K.puts out.old) (K.puts out.new)) steps }
+    ensures count { K.faults out.old ≤ K.faults out.new }
+    ensures cause { IsExcused result (K.faults out.old) (K.faults out.new) }
+{
+    let mut wild = WildLeft::new(plan.wild);
+    for k in 0..steps {
+        strike_before(machine, plan.strike, k);
+        if let Some(end) = turn(machine, program, &mut wild, out) {
+            return end;
+        }
+    }
+    RunEnd::OutOfSteps
+}

@@ -1,0 +1,51 @@
+//! The answers to wild loads.
+ghost use Rattle.std.specs.Prelude.{◌≡◌, drop, length};
+ghost use Rattle.ft_machine.specs.Answers.{next_answer};
+
+use ft_isa::Wild;
+use std::marker::Model;
+
+/// The answers to wild loads that are still to come: a list.
+#[derive(Drop)]
+pub struct WildLeft<'w> {
+    rest: &'w [Wild],
+}
+
+impl<'w> Model for WildLeft<'w> {
+    ghost use Rattle.std.specs.Prelude.{List};
+    ghost use Rattle.ft_isa.specs.declared.plan.Wild.{Wild};
+
+    ghost Value = { List Wild };
+
+    ghost view = { λ w. w.rest.now };
+}
+
+impl<'w> WildLeft<'w> {
+    /// All the answers of a plan, in turn.
+    pub fn new(all: &'w [Wild]) -> WildLeft<'w>
+        ensures { result ≡ all.now }
+    {
+        WildLeft { rest: all }
+    }
+
+    /// Takes the next answer; `Stop` where none is left.
+    pub fn next(&mut self) -> Wild
+        ensures answer { result ≡ next_answer self.old }
+        ensures taken { self.new ≡ drop 1 self.old }
+    {
+        match self.rest {
+            [first, rest @ ..] => {
+                self.rest = rest;
+                *first
+            }
+            [] => Wild::Stop,
+        }
+    }
+
+    /// How many answers are left.
+    pub fn left(&self) -> usize
+        ensures { result ≡ length self.now }
+    {
+        self.rest.len()
+    }
+}
