@@ -20,8 +20,6 @@ mod stdin_source;
 mod stdout_sink;
 mod sure_source;
 mod system;
-#[cfg(test)]
-mod tests;
 
 pub use failed::Failed;
 pub use folder_shelf::FolderShelf;

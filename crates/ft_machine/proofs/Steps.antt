@@ -108,7 +108,7 @@ advance_is_proper : (o : Object) (f : Option Instr) (s : State) (w : List Wild) 
 advance_is_proper o None s w = proper_if s (s.pc_green == s.pc_blue) (fetch (instr_at o s.pc_green) s w) (detected s w) (λ _. fetch_is_proper (instr_at o s.pc_green) s w) (detected_is_proper s w)
 advance_is_proper o (Some i) s w = execute_is_proper i s w
 
-step_at_is_proper : (o : Object) (v : Status) (s : State) (w : List Wild) → IsProper s (step_at o v s w)
+pub step_at_is_proper : (o : Object) (v : Status) (s : State) (w : List Wild) → IsProper s (step_at o v s w)
 step_at_is_proper o status.Running s w = advance_is_proper o s.fetched s w
 step_at_is_proper o status.Done s w = quiet_is_proper s s w refl
 step_at_is_proper o status.Detected s w = quiet_is_proper s s w refl

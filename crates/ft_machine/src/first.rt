@@ -1,7 +1,8 @@
 //! Registers and cells before the first step.
 ghost use Rattle.std.specs.Prelude.{◌≡◌, IfOk, length};
 ghost use Rattle.ft_types.specs.State.{tabulate, green_zero};
-ghost use Rattle.ft_types.specs.Objects.{IsRunnable, init_of};
+ghost use Rattle.ft_types.specs.Objects.{init_of, entry_address};
+ghost use Rattle.ft_types.specs.Spellable.{IsSpellable};
 ghost use Rattle.ft_isa.specs.Words.{cell_address};
 
 use crate::slots::Slots;
@@ -11,6 +12,14 @@ use std::alloc::Global;
 
 /// The address of the first cell.
 pub const CELL_BASE: u64 = 1_048_576;
+
+/// The code address at which a run begins: instruction i is at 1 + i.
+pub fn entry_address<P: Program>(program: &P) -> u64
+    requires { IsSpellable (P.object program.now) }
+    ensures { result ≡ entry_address (P.object program.now) }
+{
+    1 + program.block(program.entry()).start as u64
+}
 
 /// The registers before the first step: green 0 in each.
 pub fn first_registers(alloc: Global) -> Result<Slots<Coloured>, NoMemory>
@@ -28,8 +37,9 @@ pub fn first_registers(alloc: Global) -> Result<Slots<Coloured>, NoMemory>
 }
 
 /// The cells before the first step: the initial words, from the first cell's address on.
+#[tactic(auto, using(ft_types::proofs::Counted::spellable_counted))]
 pub fn first_cells<P: Program>(alloc: Global, program: &P) -> Result<Slots<u64>, NoMemory>
-    requires { IsRunnable (P.object program.now) }
+    requires { IsSpellable (P.object program.now) }
     ensures { IfOk result (λ m. m
         ≡ tabulate (length (P.object program.now).cells) cell_address (init_of (P.object program.now))) }
 {

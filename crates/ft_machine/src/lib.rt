@@ -16,6 +16,3 @@ pub use ft_types::Status;
 pub use machine::{Machine, Stepped};
 pub use run::{RunEnd, drive};
 pub use wild::WildLeft;
-
-#[cfg(test)]
-mod tests;

@@ -1,14 +1,16 @@
 //! The machine.
-ghost use Rattle.std.specs.Prelude.{◌≡◌, IfOk, IsTrue, None, Some, ◌<◌, length};
+ghost use Rattle.std.specs.Prelude.{◌≡◌, ℕ, IfOk, IsTrue, true, None, Some, ◌<◌, length};
 ghost use Rattle.ft_isa.specs.Words.{apply, cell_address};
 ghost use Rattle.ft_isa.specs.Pending.{is_oldest};
-ghost use Rattle.ft_types.specs.Objects.{IsRunnable, instr_at};
-ghost use Rattle.ft_types.specs.State.{start, held, cell_at, is_cell, word, colour};
+ghost use Rattle.ft_types.specs.Objects.{instr_at};
+ghost use Rattle.ft_types.specs.Spellable.{IsSpellable};
+ghost use Rattle.ft_types.specs.State.{start, held, cell_at, is_cell, word, colour, HasCells};
 ghost use Rattle.ft_types.specs.Step.{step, advance, execute, detected, writes, goes_on, transfers, put, found, load, wild_load, store_green, store_blue, commit, commits, jump_green, jump_blue, pass};
 ghost use Rattle.ft_types.specs.Strike.{is_there, struck_state, with_word};
 ghost use Rattle.ft_machine.specs.Answers.{Takes, TakesQuietly};
+ghost use Rattle.ft_isa.specs.declared.output.Output as outputs;
 
-use crate::first::{CELL_BASE, first_cells, first_registers};
+use crate::first::{CELL_BASE, entry_address, first_cells, first_registers};
 use crate::slots::Slots;
 use crate::wild::WildLeft;
 use ft_isa::{Colour, Coloured, Instr, NoMemory, Op, Output, Reg, Site, Subst, Wild, apply};
@@ -65,17 +67,19 @@ impl Model for Machine {
 impl Machine {
     /// The machine before the first step of a program.
     pub fn new<P: Program>(alloc: Global, program: &P) -> Result<Machine, NoMemory>
-        requires { IsRunnable (P.object program.now) }
-        ensures { IfOk result (λ m. m ≡ start (P.object program.now)) }
+        requires { IsSpellable (P.object program.now) }
+        ensures start { IfOk result (λ m. m ≡ start (P.object program.now)) }
+        ensures cells { IfOk result (λ m. HasCells (length (P.object program.now).cells) m) }
     {
         let registers = first_registers(alloc)?;
         let cells = first_cells(alloc, program)?;
         let queue = StoreQueue::new(alloc)?;
+        let entry = entry_address(program);
         Ok(Machine {
             registers,
             d: 0,
-            pc_green: 1,
-            pc_blue: 1,
+            pc_green: entry,
+            pc_blue: entry,
             queue,
             cells,
             fetched: None,
@@ -149,6 +153,7 @@ impl Machine {
     pub fn strike(&mut self, site: Site, value: u64) -> bool
         ensures there { result ≡ is_there self.old site }
         ensures struck { self.new ≡ struck_state self.old site value }
+        ensures cells { (n : ℕ) → HasCells n self.old → HasCells n self.new }
     {
         match self.status {
             Status::Running => self.put_word(site, value),
@@ -194,8 +199,12 @@ impl Machine {
 
     /// Takes one step. A machine that has stopped stays as it is, and answers the same again.
     pub fn step<P: Program>(&mut self, program: &P, wild: &mut WildLeft) -> Stepped
-        requires { IsRunnable (P.object program.now) }
-        ensures { Takes (step (P.object program.now) self.old wild.old) self.new wild.new result }
+        requires { IsSpellable (P.object program.now) }
+        ensures takes { Takes (step (P.object program.now) self.old wild.old) self.new wild.new result }
+
+        // The cells keep their addresses, and a pair that is committed goes to one of them.
+        ensures cells { (n : ℕ) → HasCells n self.old → HasCells n self.new }
+        ensures commits { (output : outputs.Output) → result ≡ Stepped.Commit output → is_cell self.old.cells output.addr ≡ true }
     {
         match self.status {
             Status::Running => self.advance(program, wild),
@@ -206,7 +215,7 @@ impl Machine {
 
     /// Fetches an instruction, or does the one that is fetched.
     fn advance<P: Program>(&mut self, program: &P, wild: &mut WildLeft) -> Stepped
-        requires runnable { IsRunnable (P.object program.now) }
+        requires spellable { IsSpellable (P.object program.now) }
         requires running { self.old.status ≡ Status.Running }
         ensures { Takes (advance (P.object program.now) self.old.fetched self.old wild.old) self.new wild.new result }
     {
@@ -217,7 +226,7 @@ impl Machine {
     }
 
     fn fetch<P: Program>(&mut self, program: &P) -> Stepped
-        requires runnable { IsRunnable (P.object program.now) }
+        requires spellable { IsSpellable (P.object program.now) }
         requires running { self.old.status ≡ Status.Running }
         ensures { TakesQuietly (advance (P.object program.now) None self.old) self.new result }
     {
@@ -460,8 +469,9 @@ impl Machine {
 }
 
 /// The instruction at a code address, if one is there.
+#[tactic(auto, using(ft_types::proofs::Counted::spellable_counted))]
 fn instr_at<P: Program>(program: &P, pc: u64) -> Option<Instr>
-    requires { IsRunnable (P.object program.now) }
+    requires { IsSpellable (P.object program.now) }
     ensures { result ≡ instr_at (P.object program.now) pc }
 {
     if pc == 0 || pc > program.counts().instrs as u64 {

@@ -4,7 +4,7 @@ ghost use Rattle.std.specs.Option.{option_to_list};
 ghost use Rattle.std.specs.Io.KnownBytes.{append_known};
 ghost use Rattle.ft_edge.specs.Causes.{Rose, AddsPrefix};
 ghost use Rattle.ft_edge.specs.Puts.{one_more, puts_after};
-ghost use Rattle.ft_types.specs.Objects.{IsRunnable};
+ghost use Rattle.ft_types.specs.Spellable.{IsSpellable};
 ghost use Rattle.ft_types.specs.State.{start, HasCells};
 ghost use Rattle.ft_types.specs.Step.{step};
 ghost use Rattle.ft_types.specs.Strike.{struck_before};
@@ -34,7 +34,7 @@ pub enum RunEnd {
 
 /// Puts the line of an output.
 fn put_line<P: Program, K: Sink>(program: &P, output: Output, out: &mut K) -> Result<(), Failed>
-    requires runnable { IsRunnable (P.object program.now) }
+    requires spellable { IsSpellable (P.object program.now) }
     requires low { CELL_BASE ≤ output.addr }
     requires high { output.addr < CELL_BASE + length (P.object program.now).cells }
     ensures puts { K.puts out.new ≡ one_more (K.puts out.old) }
@@ -72,7 +72,7 @@ fn turn<P: Program, K: Sink>(
     wild: &mut WildLeft,
     out: &mut K,
 ) -> Option<RunEnd>
-    requires runnable { IsRunnable (P.object program.now) }
+    requires spellable { IsSpellable (P.object program.now) }
     requires running { machine.old.status ≡ Status.Running }
     requires cells { HasCells (length (P.object program.now).cells) machine.old }
     ensures state { machine.new ≡ (step (P.object program.now) machine.old wild.old).state }
@@ -104,7 +104,7 @@ pub fn drive<P: Program, K: Sink>(
     steps: u64,
     out: &mut K,
 ) -> RunEnd
-    requires runnable { IsRunnable (P.object program.now) }
+    requires spellable { IsSpellable (P.object program.now) }
     requires start { machine.old ≡ start (P.object program.now) }
     ensures ends { EndsAs result (status_after (P.object program.now) plan.entry.strike plan.entry.wild.now steps) }
     ensures writes { Writes result (K.written out.old) (K.written out.new)
