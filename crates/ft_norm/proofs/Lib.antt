@@ -1,0 +1,10 @@
+pub mod Lists
+pub mod Forms
+pub mod Compare
+pub mod Sums
+pub mod Products
+pub mod Limits
+pub mod Walking
+pub mod Places
+pub mod Same
+pub mod Nodes

@@ -1,0 +1,92 @@
+-- Places of an interner's list, seen from its entries.
+use Rattle.std.proofs.Common.{ℕ, suc, ◌≡◌, ◌<◌, List, [], ◌∷◌, ◌++◌, length, refl, sym, ap, ◌∙◌, arith, Option, Some, Result, Ok, Err, slice_get, inl, inr}
+use Rattle.std.specs.Prelude.{IfOk}
+use Rattle.std.specs.Option.{unwrap_or}
+use Rattle.std.proofs.lemmas.Option.{slice_get_within}
+use Rattle.ft_static.specs.Form.{Form as Normal, Polynomial, Updates, integer_form, memory_form, nought, polynomial_of, updates_of}
+use Rattle.ft_norm.specs.declared.form.Form.{Form}
+use Rattle.ft_norm.specs.declared.entry.Entry.{Entry}
+use Rattle.ft_norm.specs.Held.{held, polynomial_at, updates_at, polynomial, polynomials, updates_held, IsInteger, IsMemory, IsHeld, AreIntegers, Keeps}
+use Rattle.ft_norm.specs.Entries.{entry_form, forms_of}
+use Rattle.ft_norm.proofs.Lists.{slice_get-append, slice_get-push}
+use Rattle.ft_norm.proofs.Forms.{length-forms_of, forms_onto-push}
+
+-- a place of the list is that of an entry
+pub within : (es xs : List Entry) (fs : List Normal) (i : ℕ) (x : Normal) → forms_of es ≡ fs → xs ≡ es → slice_get fs i ≡ Some x → i < length xs
+within es xs fs i x v e h =
+    let a = slice_get_within fs i x h in
+    let b = ap length v in
+    let c = length-forms_of es in
+    let d = ap length e in
+    omega arith
+
+-- there are as many
+pub as_many : (es xs : List Entry) (fs : List Normal) → forms_of es ≡ fs → xs ≡ es → length xs ≡ length fs
+as_many es xs fs v e = ap length e ∙ (sym (length-forms_of es) ∙ ap length v)
+
+-- the forms after one more entry
+pub grown : (es xs : List Entry) (fs : List Normal) (e : Entry) → forms_of es ≡ fs → xs ≡ es ++ e ∷ [] → forms_of xs ≡ fs ++ entry_form fs e ∷ []
+grown es xs fs e v h = ap forms_of h ∙ (forms_onto-push [] es e ∙ ap (λ gs. gs ++ entry_form gs e ∷ []) v)
+
+-- the new form
+pub found_push : (fs gs : List Normal) (x : Normal) (i : ℕ) → gs ≡ fs ++ x ∷ [] → i ≡ length fs → slice_get gs i ≡ Some x
+found_push fs gs x i e l = ap (λ (hs : List Normal). slice_get hs i) e ∙ slice_get-push fs x i l
+
+-- what a call made
+pub made : {E : Type 0} (r : Result Form E) (gs : List Normal) (x y : Normal) → x ≡ y → IfOk r (λ f. held gs f ≡ Some x) → IfOk r (λ f. held gs f ≡ Some y)
+made (Ok f) gs x y e h = h ∙ ap Some e
+made (Err d) gs x y e h = tt
+
+-- the polynomial in a place
+pub polynomial_found : (gs : List Normal) (i : ℕ) (p : Polynomial) → slice_get gs i ≡ Some (integer_form p) → polynomial_at gs i ≡ p
+polynomial_found gs i p h = ap (λ (o : Option Normal). polynomial_of (unwrap_or o (integer_form nought))) h
+
+-- the updates in a place
+pub updates_found : (gs : List Normal) (i : ℕ) (u : Updates) → slice_get gs i ≡ Some (memory_form u) → updates_at gs i ≡ u
+updates_found gs i u h = ap (λ (o : Option Normal). updates_of (unwrap_or o (integer_form nought))) h
+
+-- a form that is an integer's
+pub integer_from : (gs : List Normal) (f : Form) (p : Polynomial) → held gs f ≡ Some (integer_form p) → IsInteger gs f
+integer_from gs f p h = record { found = h ∙ ap (λ q. Some (integer_form q)) (sym (polynomial_found gs f.0 p h)) }
+
+-- one that is a memory's
+pub memory_from : (gs : List Normal) (f : Form) (u : Updates) → held gs f ≡ Some (memory_form u) → IsMemory gs f
+memory_from gs f u h = record { found = h ∙ ap (λ w. Some (memory_form w)) (sym (updates_found gs f.0 u h)) }
+
+-- where each form stays, so do sorts and parts
+keeps_from : (fs gs : List Normal) → ((f : Form) (x : Normal) → held fs f ≡ Some x → held gs f ≡ Some x) → Keeps fs gs
+keeps_from fs gs k = record {
+  forms_stay = k;
+  integers_stay = λ (f : Form) h. integer_from gs f (polynomial fs f) (k f (integer_form (polynomial fs f)) h.found);
+  memories_stay = λ (f : Form) h. memory_from gs f (updates_held fs f) (k f (memory_form (updates_held fs f)) h.found);
+  polynomials_stay = λ (f : Form) h. polynomial_found gs f.0 (polynomial fs f) (k f (integer_form (polynomial fs f)) h.found);
+  updates_stay = λ (f : Form) h. updates_found gs f.0 (updates_held fs f) (k f (memory_form (updates_held fs f)) h.found);
+}
+
+-- one more form keeps what was there
+pub keeps_push : (fs gs : List Normal) (x : Normal) → gs ≡ fs ++ x ∷ [] → Keeps fs gs
+keeps_push fs gs x e = keeps_from fs gs (λ (f : Form) (y : Normal) h. ap (λ (hs : List Normal). slice_get hs f.0) e ∙ (slice_get-append fs (x ∷ []) f.0 (slice_get_within fs f.0 y h) ∙ h))
+
+-- nothing changed
+pub keeps_itself : (fs gs : List Normal) → gs ≡ fs → Keeps fs gs
+keeps_itself fs gs e = keeps_from fs gs (λ (f : Form) (y : Normal) h. ap (λ (hs : List Normal). slice_get hs f.0) e ∙ h)
+
+-- one call after another
+pub keeps_both : (fs gs hs : List Normal) → Keeps fs gs → Keeps gs hs → Keeps fs hs
+keeps_both fs gs hs j k = keeps_from fs hs (λ (f : Form) (x : Normal) h. k.forms_stay f x (j.forms_stay f x h))
+
+-- integers stay
+pub integers_kept : (fs gs : List Normal) (xs : List Form) → Keeps fs gs → AreIntegers fs xs → AreIntegers gs xs
+integers_kept fs gs xs k a = λ (i : ℕ) (f : Form) h. k.integers_stay f (a i f h)
+
+-- with their polynomials
+pub polynomials_kept : (fs gs : List Normal) (xs : List Form) → Keeps fs gs → AreIntegers fs xs → polynomials gs xs ≡ polynomials fs xs
+polynomials_kept fs gs [] k a = refl
+polynomials_kept fs gs (x ∷ xs) k a = rw (k.polynomials_stay x (a 0 x refl), polynomials_kept fs gs xs k (λ i f h. a (suc i) f h)) refl
+
+-- a form of either sort is in a place
+pub held_within : (es xs : List Entry) (fs : List Normal) (f : Form) → forms_of es ≡ fs → xs ≡ es → IsHeld fs f → f.0 < length xs
+held_within es xs fs f v e h = elim h [
+  | inl a ↦ within es xs fs f.0 (integer_form (polynomial fs f)) v e a.found
+  | inr a ↦ within es xs fs f.0 (memory_form (updates_held fs f)) v e a.found
+]
