@@ -10,12 +10,12 @@ use Rattle.ft_isa.specs.declared.colour.Colour.TheVariants.{Green}
 use Rattle.ft_isa.specs.declared.colour.Coloured.{Coloured}
 use Rattle.ft_isa.specs.declared.reg.Reg.{Reg}
 use Rattle.ft_isa.specs.declared.instr.Instr.{Instr}
-use Rattle.ft_isa.specs.Words.{code_address, cell_address}
+use Rattle.ft_isa.specs.Words.{cell_address}
 use Rattle.ft_isa.specs.Pending.{Pending}
 use Rattle.ft_types.specs.declared.status.Status.{Status}
 use Rattle.ft_types.specs.declared.status.Status.TheVariants.{Running}
 use Rattle.ft_types.specs.declared.object.Object.{Object}
-use Rattle.ft_types.specs.Objects.{init_of}
+use Rattle.ft_types.specs.Objects.{init_of, entry_address}
 
 -- what the registers hold, by number
 abbrev pub Registers : Type 0
@@ -88,8 +88,8 @@ abbrev pub start : Object → State
 start o = record {
   registers = tabulate 64 (λ r. r) (λ _. green_zero);
   d = 0;
-  pc_green = code_address 0;
-  pc_blue = code_address 0;
+  pc_green = entry_address o;
+  pc_blue = entry_address o;
   queue = [];
   cells = tabulate (length o.cells) cell_address (init_of o);
   fetched = None;

@@ -1,19 +1,23 @@
-//! Objects, programs, and the machine as definitions.
+//! Objects, programs, and the machine and the typing of code as definitions.
 //!
-//! The crate promises that an object tells its parts as they stand in its tables, and that the
-//! machine's step is the table of steps (`specs/StepTable.antt`). It defines objects
-//! (`specs/Objects.antt`), the machine's states, steps, strikes and runs (`State`, `Step`, `Strike`
-//! and `Run` there) and the lines of a run's outputs (`specs/Texts.antt`).
+//! The crate promises that an object tells its parts as they stand in its tables, that the machine's
+//! step is the table of steps (`specs/StepTable.antt`), and that an object is accepted exactly where
+//! it has no refusal. It defines objects (`Objects`, `Spellable` in `specs/`), states, steps, strikes
+//! and runs (`State`, `Step`, `Strike`, `Run`), and the typing rows (`TypingRow`, `Accepted`).
 #![tactic(auto)]
 
+mod examples;
 mod laws;
 mod object;
 mod program;
 mod status;
 mod table;
 
-pub use laws::{steps_are_the_table, stopped_machines_stay};
-pub use object::{Cell, CellHead, Counts, Object};
+pub use examples::{examples_of_acceptance, examples_of_refusal};
+pub use laws::{
+    acceptance_is_no_refusal, steps_are_the_table, stopped_machines_stay, types_are_tested,
+};
+pub use object::{Block, Cell, CellHead, CodeType, Counts, Object, RegType, TypeHead};
 pub use program::Program;
 pub use status::Status;
 pub use table::Table;

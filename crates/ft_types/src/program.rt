@@ -1,51 +1,139 @@
 //! Programs: objects, however they are kept.
-ghost use Rattle.std.specs.Prelude.{◌≡◌, ◌<◌, Some, length, slice_get};
+ghost use Rattle.std.specs.Prelude.{◌≡◌, ◌<◌, ◌^◌, Some, length, slice_get};
 ghost use Rattle.std.specs.Option.{option_map};
 
-use crate::object::{CellHead, Counts, Object};
+use crate::object::{Block, CellHead, Counts, Object, RegType, TypeHead};
 use ft_isa::Instr;
+use ft_static::{Node, Nodes};
 
 /// An object, however it is kept. Its meaning is one `Object`, and each call tells a part of it.
-pub trait Program {
-    ghost use Rattle.ft_types.specs.Objects.{IsCounted, head_of, name_of};
+pub trait Program: Nodes {
+    ghost use Rattle.ft_types.specs.Objects.{IsCounted, cell_head_of, name_of, type_head_of, reg_rows, queue_rows};
     ghost use Rattle.ft_types.specs.declared.object.Object.{Object};
 
     ghost object: { Self → Object };
 
-    /// How many cells and instructions there are.
+    /// How many there are of each kind of part.
     fn counts(&self) -> Counts
         requires { IsCounted (object self.now) }
         ensures cells { result.cells ≡ length (object self.now).cells }
-        ensures instrs { result.instrs ≡ length (object self.now).instrs };
+        ensures types { result.types ≡ length (object self.now).types }
+        ensures blocks { result.blocks ≡ length (object self.now).blocks }
+        ensures instrs { result.instrs ≡ length (object self.now).instrs }
+        ensures substs { result.substs ≡ length (object self.now).substs };
+
+    /// The number of the block in which a run begins.
+    fn entry(&self) -> u32
+        ensures { result ≡ (object self.now).entry };
 
     /// Instruction `i`.
     fn instr(&self, i: u32) -> Instr
         requires { i < length (object self.now).instrs }
         ensures { slice_get (object self.now).instrs i ≡ Some result };
 
+    /// Block `b`.
+    fn block(&self, b: u32) -> Block
+        requires { b < length (object self.now).blocks }
+        ensures { slice_get (object self.now).blocks b ≡ Some result };
+
+    /// Code type `t` without its rows.
+    fn code_type(&self, t: u32) -> TypeHead
+        requires counted { IsCounted (object self.now) }
+        requires there { t < length (object self.now).types }
+        ensures { option_map type_head_of (slice_get (object self.now).types t) ≡ Some result };
+
+    /// Register row `j` of code type `t`, counted from 0 in the type.
+    fn reg_row(&self, t: u32, j: u32) -> RegType
+        requires there { t < length (object self.now).types }
+        requires row { j < length (reg_rows (object self.now) t) }
+        ensures { slice_get (reg_rows (object self.now) t) j ≡ Some result };
+
+    /// Queue row `j` of code type `t`, counted from 0 in the type: the nodes of an address and a value.
+    fn queue_row(&self, t: u32, j: u32) -> (u32, u32)
+        requires there { t < length (object self.now).types }
+        requires row { j < length (queue_rows (object self.now) t) }
+        ensures { slice_get (queue_rows (object self.now) t) j ≡ Some result };
+
+    /// Substitution row `n`: a node.
+    fn subst_row(&self, n: u32) -> u32
+        requires { n < length (object self.now).substs }
+        ensures { slice_get (object self.now).substs n ≡ Some result };
+
     /// The basic type and the initial word of cell `k`.
     fn cell(&self, k: u32) -> CellHead
         requires { k < length (object self.now).cells }
-        ensures { option_map head_of (slice_get (object self.now).cells k) ≡ Some result };
+        ensures { option_map cell_head_of (slice_get (object self.now).cells k) ≡ Some result };
 
     /// The name of cell `k`.
     fn name(&self, k: u32) -> &[u8]
         requires { k < length (object self.now).cells }
         ensures { option_map name_of (slice_get (object self.now).cells k) ≡ Some result.now };
+
+    /// A program's nodes are its object's.
+    ghost nodes_are: { (p : Self) → Self.nodes p ≡ (object p).nodes };
+}
+
+impl Nodes for Object {
+    ghost nodes = { λ o. o.nodes };
+
+    fn node_count(&self) -> u32 {
+        self.nodes.len() as u32
+    }
+
+    fn node(&self, n: u32) -> Node {
+        *self.nodes.at(n as usize)
+    }
 }
 
 impl Program for Object {
+    ghost use Rattle.std.specs.Prelude.{refl};
+
     ghost object = { λ o. o };
+
+    ghost nodes_are = { λ o. refl };
 
     fn counts(&self) -> Counts {
         Counts {
             cells: self.cells.len() as u32,
+            types: self.types.len() as u32,
+            blocks: self.blocks.len() as u32,
             instrs: self.instrs.len() as u32,
+            substs: self.substs.len() as u32,
         }
+    }
+
+    fn entry(&self) -> u32 {
+        self.entry
     }
 
     fn instr(&self, i: u32) -> Instr {
         *self.instrs.at(i as usize)
+    }
+
+    fn block(&self, b: u32) -> Block {
+        *self.blocks.at(b as usize)
+    }
+
+    fn code_type(&self, t: u32) -> TypeHead {
+        let code_type = self.types.at(t as usize);
+        TypeHead {
+            ints: code_type.ints,
+            regs: code_type.regs.len() as u32,
+            queue: code_type.queue.len() as u32,
+            memory: code_type.memory,
+        }
+    }
+
+    fn reg_row(&self, t: u32, j: u32) -> RegType {
+        *self.types.at(t as usize).regs.at(j as usize)
+    }
+
+    fn queue_row(&self, t: u32, j: u32) -> (u32, u32) {
+        *self.types.at(t as usize).queue.at(j as usize)
+    }
+
+    fn subst_row(&self, n: u32) -> u32 {
+        *self.substs.at(n as usize)
     }
 
     fn cell(&self, k: u32) -> CellHead {

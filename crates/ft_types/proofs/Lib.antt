@@ -1,0 +1,4 @@
+pub mod Maps
+pub mod TypedWords
+pub mod Acceptance
+pub mod Counted
