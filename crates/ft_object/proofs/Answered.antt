@@ -1,0 +1,22 @@
+-- What decoding answers, from what was read.
+use Rattle.std.proofs.Common.{◌≡◌, ℕ, List, Result, Ok, Err, sym, ◌∙◌, subst}
+use Rattle.std.specs.Prelude.{IfOk}
+use Rattle.ft_types.specs.declared.object.Object.{Object}
+use Rattle.ft_object.specs.declared.decode_error.DecodeError.{DecodeError}
+use Rattle.ft_object.specs.declared.decode_error.DecodeError.TheVariants as whys
+use Rattle.ft_object.specs.Judged.{Judges, Gives}
+use Rattle.ft_object.specs.Broken.{broken, object_of}
+use Rattle.ft_object.specs.Format.{AreBytes, Spells}
+use Rattle.ft_object.proofs.ReadWhole.{read_spells}
+use Rattle.ft_object.proofs.Write.{spells_unbroken, spells_read}
+
+-- what is given is spelled
+pub spelled : (bytes : List ℕ) (r : Result Object DecodeError) → AreBytes bytes → Judges r (broken bytes) → IfOk r (λ o. o ≡ object_of bytes) → IfOk r (Spells bytes)
+spelled bytes (Ok o) b judged read = subst (Spells bytes) (sym read) (read_spells bytes b judged)
+spelled bytes (Err e) b judged read = tt
+
+-- what is spelled is given, unless memory runs out
+pub given : (bytes : List ℕ) (r : Result Object DecodeError) (o : Object) → Judges r (broken bytes) → IfOk r (λ x. x ≡ object_of bytes) → Spells bytes o → Gives r o
+given bytes (Ok x) o judged read h = read ∙ spells_read bytes o h
+given bytes (Err (whys.Object e)) o judged read h = let n = spells_unbroken bytes o h in absurd (cc)
+given bytes (Err whys.NoMemory) o judged read h = tt

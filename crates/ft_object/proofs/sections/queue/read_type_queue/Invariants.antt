@@ -1,0 +1,14 @@
+use Rattle.std.proofs.Common.{◌≡◌, ◌+◌, ◌-◌, ◌*◌, ◌^◌, ◌≤◌, ◌++◌, length, drop, map}
+use Rattle.ft_object.specs.Layout.{rows, pair_layout}
+use Rattle.ft_object.specs.Values.{pair_of}
+use Rattle.ft_object.specs.Broken.{type_queue_broken}
+use Rattle.ft_object.proofs.sections.queue.read_type_queue.Given as goal
+
+abbrev pub invariant-loop : goal.invariant-loop
+invariant-loop l = record {
+  there : 8 * (l.count - l.counter) ≤ length l.rest;
+  places : l.place + 8 * (l.count - l.counter) ≤ 2 ^ 27;
+  rest : l.rest ≡ drop (8 * l.counter) l.bytes;
+  broken : type_queue_broken l.nodes l.ints l.place (rows pair_layout (l.count - l.counter) l.rest) ≡ type_queue_broken l.nodes l.ints l.at (rows pair_layout l.count l.bytes);
+  read : l.queue.items ++ map pair_of (rows pair_layout (l.count - l.counter) l.rest) ≡ l.fn.queue.items ++ map pair_of (rows pair_layout l.count l.bytes);
+}

@@ -1,0 +1,13 @@
+use Rattle.std.proofs.Common.{◌≡◌, ◌+◌, ◌-◌, ◌*◌, ◌^◌, ◌≤◌, ◌++◌, length, map}
+use Rattle.ft_object.specs.Layout.{rows, subst_layout}
+use Rattle.ft_object.specs.Values.{subst_of}
+use Rattle.ft_object.specs.Broken.{subst_rows_broken}
+use Rattle.ft_object.proofs.sections.substs.read_rows.Given as goal
+
+abbrev pub invariant-loop : goal.invariant-loop
+invariant-loop l = record {
+  there : 4 * (l.count - l.counter) ≤ length l.rest;
+  places : l.place + 4 * (l.count - l.counter) ≤ 2 ^ 27;
+  broken : subst_rows_broken l.nodes l.place (rows subst_layout (l.count - l.counter) l.rest) ≡ subst_rows_broken l.nodes l.at (rows subst_layout l.count l.bytes);
+  read : l.substs.items ++ map subst_of (rows subst_layout (l.count - l.counter) l.rest) ≡ map subst_of (rows subst_layout l.count l.bytes);
+}

@@ -1,0 +1,27 @@
+-- What a reader answers, against the rules.
+use Rattle.std.specs.Prelude.{◌≡◌, Option, None, Some, Result, Ok, Err}
+use Rattle.ft_object.specs.declared.object_error.ObjectError.{ObjectError}
+use Rattle.ft_object.specs.declared.decode_error.DecodeError.{DecodeError}
+use Rattle.ft_object.specs.declared.decode_error.DecodeError.TheVariants.{Object, NoMemory}
+
+-- the first rule that is broken, unless memory runs out
+abbrev pub IsError : DecodeError → Option ObjectError → Type 0
+IsError (Object e) broken = broken ≡ Some e
+IsError NoMemory broken = Unit {0}
+
+-- no rule is broken, or an error tells the first that is
+abbrev pub Judges : {X : Type 0} → Result X DecodeError → Option ObjectError → Type 0
+Judges (Ok x) broken = broken ≡ None
+Judges (Err e) broken = IsError e broken
+
+-- an error is want of memory
+abbrev pub OnlyMemory : {X : Type 0} → Result X DecodeError → Type 0
+OnlyMemory (Ok x) = Unit {0}
+OnlyMemory (Err (Object e)) = ⊥
+OnlyMemory (Err NoMemory) = Unit {0}
+
+-- this is what was read, unless memory ran out
+abbrev pub Gives : {X : Type 0} → Result X DecodeError → X → Type 0
+Gives (Ok x) y = x ≡ y
+Gives (Err (Object e)) y = ⊥
+Gives (Err NoMemory) y = Unit {0}

@@ -1,0 +1,6 @@
+-- What is put at the end of bytes.
+use Rattle.std.specs.Prelude.{◌≡◌, ℕ, List, ◌++◌}
+
+-- the new bytes are the old ones with this piece at their end
+pub record Puts (old new piece : List ℕ) : Type 0 where
+  pub added : new ≡ old ++ piece

@@ -1,0 +1,14 @@
+//! Why an object was not read.
+use crate::object_error::ObjectError;
+use thiserror::Error;
+
+/// Why an object was not read.
+#[derive(Clone, Copy, Debug, PartialEq, Eq, Error)]
+pub enum DecodeError {
+    /// The bytes spell no object.
+    #[error("{0}")]
+    Object(ObjectError),
+    /// There was no memory left.
+    #[error("out of memory")]
+    NoMemory,
+}
