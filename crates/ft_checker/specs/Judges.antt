@@ -1,0 +1,44 @@
+-- What the answers of the checker say of an object.
+use Rattle.std.specs.Prelude.{◌≡◌, ℕ, Bool, true, false, Option, Some, None, Result, Ok, Err}
+use Rattle.ft_types.specs.Accepted.{Refusal, IsAccepted}
+use Rattle.ft_types.specs.Spellable.{IsSpellable}
+use Rattle.ft_types.specs.declared.object.Object.{Object}
+use Rattle.ft_types.specs.Accepted as refusals
+use Rattle.ft_types.specs.Premise.{Premise}
+use Rattle.ft_rules.specs.declared.why.RuleError.{RuleError}
+use Rattle.ft_rules.specs.declared.why.RuleError.TheVariants as rule
+use Rattle.ft_rules.specs.Answers.{premise_of}
+use Rattle.ft_checker.specs.declared.error.CheckError.{CheckError}
+use Rattle.ft_checker.specs.declared.error.CheckError.TheVariants.{EntryType, CellType, Refused, NoMemory}
+
+-- what an error says: which refusal it is; want of memory says nothing
+abbrev pub IsRefusalOf : Option Refusal → CheckError → Type 0
+IsRefusalOf x EntryType = x ≡ Some refusals.EntryType
+IsRefusalOf x (CellType k) = x ≡ Some (refusals.CellType k)
+IsRefusalOf x (Refused b i why) = x ≡ Some (refusals.Refused b i (premise_of why))
+IsRefusalOf x NoMemory = Unit {0}
+
+-- what an answer says: nothing is refused, or this is
+abbrev pub Judges : {A : Type 0} → Option Refusal → Result A CheckError → Type 0
+Judges x (Ok a) = x ≡ None
+Judges x (Err e) = IsRefusalOf x e
+
+-- what an error of an instruction says of what the walk of its block gives from there, at instruction k, on
+abbrev pub StopsAt : Option (ℕ × Premise) → ℕ → RuleError → Type 0
+StopsAt x k (rule.Refused why) = x ≡ Some (k, premise_of why)
+StopsAt x k rule.NoMemory = Unit {0}
+
+-- what it says whether the block has ended: the walk refuses nothing, or it goes on
+abbrev pub HasEnded : Option (ℕ × Premise) → Option (ℕ × Premise) → Bool → Type 0
+HasEnded x later true = x ≡ None
+HasEnded x later false = x ≡ later
+
+-- what the answer of one turn of a block says of what the walk of the block gives from instruction k on
+abbrev pub Turns : Option (ℕ × Premise) → ℕ → Option (ℕ × Premise) → Result Bool RuleError → Type 0
+Turns x k later (Ok ended) = HasEnded x later ended
+Turns x k later (Err e) = StopsAt x k e
+
+-- what a checked program keeps: its object obeys the rules of its tables, and is accepted
+pub record IsChecked (o : Object) : Type 0 where
+  pub spellable : IsSpellable o
+  pub accepted : IsAccepted o

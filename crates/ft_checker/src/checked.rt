@@ -1,0 +1,34 @@
+//! Checked programs.
+ghost use Rattle.std.specs.Prelude.{◌≡◌};
+ghost use Rattle.ft_checker.specs.Judges.{IsChecked};
+
+use ft_types::Program;
+use std::marker::Model;
+
+/// A program that is accepted. Only `check` makes one.
+#[derive(Drop)]
+pub struct Checked<'a, P: Program> {
+    pub(crate) program: &'a P,
+}
+
+impl<'a, P: Program> Model for Checked<'a, P> {
+    ghost use Rattle.ft_checker.specs.Judges.{IsChecked};
+
+    ghost Value = { P };
+
+    ghost coded = { P.code };
+
+    ghost view = { λ s. s.program.now };
+
+    ghost invariant = { λ s. IsChecked (P.object s.program.now) };
+}
+
+impl<'a, P: Program> Checked<'a, P> {
+    /// The program.
+    pub fn program(&self) -> &'a P
+        ensures same { result.now ≡ self.now }
+        ensures checked { IsChecked (P.object result.now) }
+    {
+        self.program
+    }
+}

@@ -1,0 +1,30 @@
+//! Why an object is not accepted.
+use ft_isa::NoMemory as WantOfMemory;
+use ft_rules::Why;
+use thiserror::Error;
+
+/// Why an object is not accepted: a run may not begin with its entry block's code type; the initial
+/// word of a cell, the lowest such one, hasn't the cell's basic type; the first failing premise of an
+/// instruction, by its block and its index in the block, counted from 0. Or there is no memory left.
+#[derive(Clone, Copy, Debug, PartialEq, Eq, Error)]
+pub enum CheckError {
+    #[error("a run may not begin with the entry block's code type")]
+    EntryType,
+    #[error("the initial word of cell {cell} has another type")]
+    CellType { cell: u32 },
+    #[error("instruction {index} of block {block}: {why}")]
+    Refused { block: u32, index: u32, why: Why },
+    #[error("out of memory")]
+    NoMemory,
+}
+
+impl From<WantOfMemory> for CheckError {
+    ghost use Rattle.std.specs.Prelude.{◌≡◌};
+    ghost use Rattle.ft_checker.specs.declared.error.CheckError.TheVariants.{NoMemory};
+
+    ghost from_gives = { λ _ e. e ≡ NoMemory };
+
+    fn from(_error: WantOfMemory) -> CheckError {
+        CheckError::NoMemory
+    }
+}

@@ -1,0 +1,70 @@
+-- What the answers of the rules say of a typing row.
+use Rattle.std.specs.Prelude.{◌≡◌, ℕ, List, Result, Ok, Err, OnErr, Some, slice_get}
+use Rattle.ft_isa.specs.declared.instr.Instr.{Instr}
+use Rattle.ft_static.specs.Form.{Form as Normal}
+use Rattle.ft_types.specs.declared.object.Object.{Object}
+use Rattle.ft_types.specs.Premise as premise
+use Rattle.ft_types.specs.Premise.{Premise}
+use Rattle.ft_types.specs.TypingRow.{Outcome, Goes, Ends, Fails}
+use Rattle.ft_rules.specs.declared.why.Why.{Why}
+use Rattle.ft_rules.specs.declared.why.Why.TheVariants.{Untyped, Colour, BasicType, NotRef, NotCode, StateOfD, QueueFull, QueueEmpty, Addresses, Values, Conditions, Targets, RegisterUnlike, QueueUnlike, MemoryUnlike, Annotation, BlockEnd}
+use Rattle.ft_rules.specs.declared.why.RuleError.{RuleError}
+use Rattle.ft_rules.specs.declared.why.RuleError.TheVariants.{Refused, NoMemory}
+use Rattle.ft_rules.specs.declared.why.Next.{Next}
+use Rattle.ft_rules.specs.declared.why.Next.TheVariants as next
+use Rattle.ft_rules.specs.declared.context.Context.{Context}
+use Rattle.ft_norm.specs.Held.{Keeps}
+use Rattle.ft_rules.specs.Contexts.{context_in, HoldsForms, NamesTypes}
+
+-- the premise of a refusal
+abbrev pub premise_of : Why → Premise
+premise_of Untyped = premise.Untyped
+premise_of Colour = premise.Colour
+premise_of BasicType = premise.BasicType
+premise_of NotRef = premise.NotRef
+premise_of NotCode = premise.NotCode
+premise_of StateOfD = premise.StateOfD
+premise_of QueueFull = premise.QueueFull
+premise_of QueueEmpty = premise.QueueEmpty
+premise_of Addresses = premise.Addresses
+premise_of Values = premise.Values
+premise_of Conditions = premise.Conditions
+premise_of Targets = premise.Targets
+premise_of RegisterUnlike = premise.RegisterUnlike
+premise_of QueueUnlike = premise.QueueUnlike
+premise_of MemoryUnlike = premise.MemoryUnlike
+premise_of Annotation = premise.Annotation
+premise_of BlockEnd = premise.BlockEnd
+
+-- what an error says of what a row gives: a refusal names the first failing premise; want of memory says nothing
+abbrev pub IsRefusal : Outcome → RuleError → Type 0
+IsRefusal x (Refused why) = x ≡ Fails (premise_of why)
+IsRefusal x NoMemory = Unit {0}
+
+-- what an answer of one premise says of what a row gives: what comes after it, or a refusal
+abbrev pub Passes : {A : Type 0} → Outcome → (A → Outcome) → Result A RuleError → Type 0
+Passes x after (Ok a) = x ≡ after a
+Passes x after (Err e) = IsRefusal x e
+
+-- what the answer of a whole row says of it, where this is the context afterwards
+abbrev pub GoesOn : Outcome → List Normal → Context → Next → Type 0
+GoesOn x fs c next.On = x ≡ Goes (context_in fs c)
+GoesOn x fs c next.Ends = x ≡ Ends
+
+abbrev pub Answers : Outcome → List Normal → Context → Result Next RuleError → Type 0
+Answers x fs c (Ok n) = GoesOn x fs c n
+Answers x fs c (Err e) = IsRefusal x e
+
+-- an instruction is one of an object's
+pub record IsInstrOf (o : Object) (i : Instr) : Type 0 where
+  pub index : ℕ
+  pub found : slice_get o.instrs index ≡ Some i
+
+-- what a row does: it answers so, from the context before and the one afterwards; an error leaves the context; what
+-- was held is held; the context's forms are held, and its code types are the object's
+pub record Does (x : Outcome) (o : Object) (fs gs : List Normal) (c d : Context) (r : Result Next RuleError) : Type 0 where
+  pub row : Answers x gs d r
+  pub before : OnErr r (d ≡ c)
+  pub kept : Keeps fs gs
+  pub held : HoldsForms gs d
+  pub types : NamesTypes o d

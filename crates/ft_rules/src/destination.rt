@@ -1,0 +1,18 @@
+//! What is known of the destination register.
+use ft_norm::Form;
+
+/// What a context says of d: it is 0; it is a code address of a code type, of this form; or it is so
+/// where the tested form denotes 0, and 0 otherwise.
+#[derive(Clone, Copy, Debug)]
+pub enum StateD {
+    Zero,
+    Code {
+        code_type: u16,
+        form: Form,
+    },
+    Conditional {
+        test: Form,
+        code_type: u16,
+        form: Form,
+    },
+}

@@ -1,0 +1,144 @@
+//! The premises that need no form to be made: each is a word of the typing rows.
+ghost use Rattle.std.specs.Prelude.{◌≡◌, ◌<◌, IfOk, IsTrue, OnOk, List, ℕ, drop, length};
+ghost use Rattle.ft_static.specs.Form.{Form as Normal, Polynomial};
+ghost use Rattle.ft_static.specs.FormOrder.{same_polynomial, same_updates};
+ghost use Rattle.ft_norm.specs.Held.{IsInteger, IsMemory, polynomial, updates_held};
+ghost use Rattle.ft_types.specs.Context.{FormPair, Typed, typed};
+ghost use Rattle.ft_types.specs.Spellable.{IsBase};
+ghost use Rattle.ft_types.specs.TypingRow.{Outcome, for_code, for_conditional, for_oldest, for_ref, for_target, for_typed, for_zero, need};
+ghost use Rattle.ft_types.specs.declared.object.Object.{Object};
+ghost use Rattle.ft_rules.specs.Answers.{Passes, premise_of};
+ghost use Rattle.ft_rules.specs.Contexts.{DNamesType, HoldsD, HoldsForms, NamesTypes, context_in, d_in, pair_in, typed_in};
+
+use crate::context::Context;
+use crate::destination::StateD;
+use crate::register::RegForm;
+use crate::why::{RuleError, Why};
+use ft_isa::{Base, Basic, Reg};
+use ft_norm::{Form, Interner};
+
+/// A premise that is a test.
+#[tactic(auto, unfolding(ft_types::specs::TypingRow::need))]
+pub fn need(why: Why, holds: bool) -> Result<(), RuleError>
+    ensures passes { (next : Outcome) → Passes (need (premise_of why) holds next) (λ _. next) result }
+    ensures holds { OnOk result (IsTrue holds) }
+{
+    if holds {
+        Ok(())
+    } else {
+        Err(RuleError::Refused(why))
+    }
+}
+
+/// What is known of a register that is read.
+#[tactic(auto, unfolding(ft_types::specs::TypingRow::for_typed))]
+pub fn typed(context: &Context, r: Reg) -> Result<RegForm, RuleError>
+    ensures passes { (fs : List Normal) (next : Typed → Outcome) → Passes (for_typed (typed (context_in fs context.now) r.number) next) (λ s. next (typed_in fs s)) result }
+    ensures held { (fs : List Normal) → HoldsForms fs context.now → IfOk result (λ s. IsInteger fs s.form) }
+    ensures types { (o : Object) → NamesTypes o context.now → IfOk result (λ s. IsBase (length o.types) s.basic.base) }
+{
+    match context.reg(r) {
+        Some(known) => Ok(known),
+        None => Err(RuleError::Refused(Why::Untyped)),
+    }
+}
+
+/// The basic type to which a `ref` refers.
+#[tactic(auto, unfolding(ft_types::specs::TypingRow::for_ref_over))]
+pub fn referred(basic: Basic) -> Result<Basic, RuleError>
+    ensures passes { (next : Basic → Outcome) → Passes (for_ref basic next) next result }
+    ensures base { IfOk result (λ b. b.base ≡ basic.base) }
+{
+    if basic.refs == 0 {
+        return Err(RuleError::Refused(Why::NotRef));
+    }
+    Ok(Basic {
+        refs: basic.refs - 1,
+        base: basic.base,
+    })
+}
+
+/// The code type of which a word is an address.
+#[tactic(auto, unfolding(ft_types::specs::TypingRow::for_code_over))]
+pub fn code_type(basic: Basic) -> Result<u16, RuleError>
+    ensures passes { (next : ℕ → Outcome) → Passes (for_code basic next) next result }
+    ensures named { (types : ℕ) → IsBase types basic.base → IfOk result (λ t. t < types) }
+{
+    if basic.refs != 0 {
+        return Err(RuleError::Refused(Why::NotCode));
+    }
+    match basic.base {
+        Base::Int => Err(RuleError::Refused(Why::NotCode)),
+        Base::Code(t) => Ok(t),
+    }
+}
+
+/// Nothing, where d is 0.
+#[tactic(auto, unfolding(ft_types::specs::TypingRow::for_zero))]
+pub fn zero(d: StateD) -> Result<(), RuleError>
+    ensures { (fs : List Normal) (next : Outcome) → Passes (for_zero (d_in fs d) next) (λ _. next) result }
+{
+    match d {
+        StateD::Zero => Ok(()),
+        _ => Err(RuleError::Refused(Why::StateOfD)),
+    }
+}
+
+/// The code type and the form of d, where d is a target.
+#[tactic(auto, unfolding(ft_types::specs::TypingRow::for_target))]
+pub fn target(d: StateD) -> Result<(u16, Form), RuleError>
+    ensures passes { (fs : List Normal) (next : ℕ → Polynomial → Outcome) → Passes (for_target (d_in fs d) next) (λ x. next x.0 (polynomial fs x.1)) result }
+    ensures held { (fs : List Normal) → HoldsD fs d → IfOk result (λ x. IsInteger fs x.1) }
+{
+    match d {
+        StateD::Code { code_type, form } => Ok((code_type, form)),
+        _ => Err(RuleError::Refused(Why::StateOfD)),
+    }
+}
+
+/// The test, the code type and the form of d, where d is a target or 0 by a test.
+#[tactic(auto, unfolding(ft_types::specs::TypingRow::for_conditional))]
+pub fn conditional(d: StateD) -> Result<(Form, u16, Form), RuleError>
+    ensures passes { (fs : List Normal) (next : Polynomial → ℕ → Polynomial → Outcome) → Passes (for_conditional (d_in fs d) next) (λ x. next (polynomial fs x.0) x.1 (polynomial fs x.2)) result }
+    ensures held { (fs : List Normal) → HoldsD fs d → IfOk result (λ x. IsInteger fs x.0 × IsInteger fs x.2) }
+{
+    match d {
+        StateD::Conditional {
+            test,
+            code_type,
+            form,
+        } => Ok((test, code_type, form)),
+        _ => Err(RuleError::Refused(Why::StateOfD)),
+    }
+}
+
+/// The oldest pair of the static queue.
+#[tactic(auto, unfolding(ft_types::specs::TypingRow::for_oldest))]
+pub fn oldest(context: &Context) -> Result<(Form, Form), RuleError>
+    ensures passes { (fs : List Normal) (next : FormPair → List FormPair → Outcome) → Passes (for_oldest (context_in fs context.now).queue next) (λ e. next (pair_in fs e) (drop 1 (context_in fs context.now).queue)) result }
+    ensures held { (fs : List Normal) → HoldsForms fs context.now → IfOk result (λ e. IsInteger fs e.0 × IsInteger fs e.1) }
+    ensures some { IfOk result (λ _. 0 < length context.now.queue) }
+{
+    if context.queue.len() == 0 {
+        return Err(RuleError::Refused(Why::QueueEmpty));
+    }
+    Ok(context.queue.at(0))
+}
+
+/// Whether two integers have the same form.
+pub fn same_integers(forms: &Interner, a: Form, b: Form) -> bool
+    requires first { IsInteger forms.now a }
+    requires second { IsInteger forms.now b }
+    ensures { result ≡ same_polynomial (polynomial forms.now a) (polynomial forms.now b) }
+{
+    forms.same(a, b)
+}
+
+/// Whether two memories have the same form.
+pub fn same_memories(forms: &Interner, a: Form, b: Form) -> bool
+    requires first { IsMemory forms.now a }
+    requires second { IsMemory forms.now b }
+    ensures { result ≡ same_updates (updates_held forms.now a) (updates_held forms.now b) }
+{
+    forms.same(a, b)
+}
