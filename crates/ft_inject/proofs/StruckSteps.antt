@@ -1,0 +1,66 @@
+-- A run that is struck once: its beginning, and a step of it.
+use Rattle.std.proofs.Common.{◌≡◌, ℕ, ◌+◌, ◌<◌, if◌then◌else◌, List, None, Some, refl, sym, ap, ◌∙◌, subst, arith, eq-eqb, ne_eqb}
+use Rattle.ft_isa.specs.declared.plan.Site.{Site}
+use Rattle.ft_isa.specs.declared.plan.Strike.{Strike}
+use Rattle.ft_isa.specs.declared.plan.Wild.{Wild}
+use Rattle.ft_types.specs.State.{State}
+use Rattle.ft_types.specs.Step.{step}
+use Rattle.ft_types.specs.Strike.{struck_state}
+use Rattle.ft_types.specs.Run.{Ran, run-add_one, state_after}
+use Rattle.ft_inject.specs.Alike.{IsAlikeOrDetected, colour_of_site}
+use Rattle.ft_inject.specs.Runs.{CleanRun, IsClean, StruckRun, struck_now, IsStruckRun}
+use Rattle.ft_inject.proofs.Whole.{accepted_fits}
+use Rattle.ft_inject.proofs.Masking.{before, stays_alike}
+
+-- after a step since the strike, the state in which the next step is taken is that after the steps taken
+pub struck_later : (r : StruckRun) → r.strike.step < r.taken → struck_now r ≡ state_after r.object (Some r.strike) r.wild r.taken
+struck_later r lt =
+    let s = state_after r.object (Some r.strike) r.wild r.taken in
+    ap (λ b. if b then struck_state s r.strike.site r.strike.value else s) (ne_eqb r.strike.step r.taken (λ e. omega (arith, e)))
+
+-- the strike of a run without a fault
+pub struck_begins : (r : CleanRun) (s t : State) (site : Site) (v : ℕ) (w : List Wild) → IsClean r s → t ≡ struck_state s site v
+    → IsStruckRun (record { object = r.object; strike = record { step = r.taken; site = site; value = v }; wild = w; taken = r.taken }) t w
+struck_begins r s t site v w h e =
+    let x : Strike = record { step = r.taken; site = site; value = v } in
+    let there = state_after r.object (Some x) w r.taken in
+    let same = before r.object x w r.taken (omega arith) in
+    record {
+      spellable = h.spellable;
+      accepted = h.accepted;
+      struck = omega arith;
+      state =
+          e
+          ∙ ap (λ u. struck_state u site v) (h.state w ∙ ap (λ (y : Ran). y.state) same)
+          ∙ sym (ap (λ b. if b then struck_state there site v else there) (eq-eqb r.taken r.taken refl));
+      left_is = sym (accepted_fits r.object w r.taken h.spellable h.accepted).wild ∙ ap (λ (y : Ran). y.wild) same;
+    }
+
+-- the run after one more step
+pub struck_next : (r : StruckRun) (s t : State) (left left' : List Wild) → IsStruckRun r s left → t ≡ (step r.object s left).state → left' ≡ (step r.object s left).wild → IsStruckRun (record r { taken = r.taken + 1 }) t left'
+struck_next r s t left left' h es el =
+    let next = run-add_one r.object (Some r.strike) r.wild r.taken in
+    let le = h.struck in
+    record {
+      spellable = h.spellable;
+      accepted = h.accepted;
+      struck = omega (arith, le);
+      state =
+          es
+          ∙ ap (λ u. (step r.object u left).state) h.state
+          ∙ ap (λ l. (step r.object (struck_now r) l).state) h.left_is
+          ∙ sym (ap (λ (y : Ran). y.state) next)
+          ∙ sym (struck_later (record r { taken = r.taken + 1 }) (omega (arith, le)));
+      left_is =
+          el
+          ∙ ap (λ u. (step r.object u left).wild) h.state
+          ∙ ap (λ l. (step r.object (struck_now r) l).wild) h.left_is
+          ∙ sym (ap (λ (y : Ran). y.wild) next);
+    }
+
+-- the struck run is alike to the run without the fault, or detected
+pub struck_alike : (r : StruckRun) (s : State) (left : List Wild) → IsStruckRun r s left → r.strike.step < r.taken
+    → IsAlikeOrDetected (colour_of_site (state_after r.object None r.wild r.strike.step) r.strike.site) (state_after r.object None r.wild r.taken) s
+struck_alike r s left h lt =
+    subst (λ (u : State). IsAlikeOrDetected (colour_of_site (state_after r.object None r.wild r.strike.step) r.strike.site) (state_after r.object None r.wild r.taken) u)
+    (sym (h.state ∙ struck_later r lt)) (stays_alike r.object r.strike r.wild r.taken h.spellable h.accepted lt)

@@ -1,0 +1,4 @@
+pub mod TypedState
+pub mod Soundness
+pub mod Alike
+pub mod Runs

@@ -1,0 +1,13 @@
+//! What a strike of a run does.
+use crate::clean::Clean;
+use crate::struck::Struck;
+use ft_types::Program;
+
+/// What a strike of a run does: the run is struck, or nothing is there to strike.
+#[derive(Drop)]
+pub enum Hit<'a, 'w, P: Program> {
+    /// The run that was struck.
+    Struck(Struck<'a, 'w, P>),
+    /// The run as it was.
+    Idle(Clean<'a, P>),
+}

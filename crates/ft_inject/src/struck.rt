@@ -1,0 +1,67 @@
+//! Runs that were struck once.
+ghost use Rattle.std.specs.Prelude.{◌≡◌, ◌+◌, ◌<◌, ◌^◌, None, Some};
+ghost use Rattle.ft_types.specs.Run.{state_after, wild_after};
+ghost use Rattle.ft_types.specs.Step.{step};
+ghost use Rattle.ft_machine.specs.Answers.{told};
+ghost use Rattle.ft_inject.specs.Alike.{IsAlikeOrDetected, colour_of_site};
+ghost use Rattle.ft_inject.specs.Runs.{struck_now};
+
+use ft_isa::{Strike, Wild};
+use ft_machine::{Machine, Stepped, WildLeft};
+use ft_types::Program;
+use std::marker::Model;
+
+/// The run of an accepted program that was struck once. It has no call that strikes again. Contracts
+/// see it as the program's object, the strike, the answers to wild loads and the number of steps that
+/// were taken.
+#[derive(Drop)]
+pub struct Struck<'a, 'w, P: Program> {
+    pub(crate) program: &'a P,
+    pub(crate) machine: Machine,
+    pub(crate) taken: u64,
+    pub(crate) strike: Strike,
+    pub(crate) wild: &'w [Wild],
+    pub(crate) left: WildLeft<'w>,
+}
+
+impl<'a, 'w, P: Program> Model for Struck<'a, 'w, P> {
+    ghost use Rattle.ft_inject.specs.Runs.{StruckRun, IsStruckRun};
+
+    ghost Value = { StruckRun };
+
+    ghost view = { λ s. record { object = P.object s.program.now; strike = s.strike; wild = s.wild.now; taken = s.taken } };
+
+    ghost invariant = { λ s. IsStruckRun (record { object = P.object s.program.now; strike = s.strike; wild = s.wild.now; taken = s.taken }) s.machine s.left };
+}
+
+impl<'a, 'w, P: Program> Struck<'a, 'w, P> {
+    /// Takes one step. A run that has stopped stays as it is.
+    pub fn step(&mut self) -> Stepped
+        requires { self.old.taken < 2 ^ 63 }
+        ensures taken { self.new ≡ record self.old { taken = self.old.taken + 1 } }
+        ensures answer { result ≡ told (step self.old.object (struck_now self.old) (wild_after self.old.object (Some self.old.strike) self.old.wild self.old.taken)) }
+    {
+        let stepped = self.machine.step(self.program, &mut self.left);
+        self.taken += 1;
+        stepped
+    }
+
+    /// The machine: after the strike and before the next step where none was taken since, and else
+    /// after the steps that were taken.
+    pub fn machine(&self) -> &Machine
+        ensures now { result.now ≡ struck_now self.now }
+        ensures after { self.now.strike.step < self.now.taken → result.now ≡ state_after self.now.object (Some self.now.strike) self.now.wild self.now.taken }
+        ensures alike { self.now.strike.step < self.now.taken →
+            IsAlikeOrDetected (colour_of_site (state_after self.now.object None self.now.wild self.now.strike.step) self.now.strike.site)
+            (state_after self.now.object None self.now.wild self.now.taken) result.now }
+    {
+        &self.machine
+    }
+
+    /// How many steps were taken, those before the strike among them.
+    pub fn taken(&self) -> u64
+        ensures { result ≡ self.now.taken }
+    {
+        self.taken
+    }
+}
