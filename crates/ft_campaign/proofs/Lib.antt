@@ -1,0 +1,6 @@
+pub mod Ends
+pub mod Equal
+pub mod Faults
+pub mod Judged
+pub mod Puts
+pub mod Texts

@@ -1,0 +1,76 @@
+-- What a campaign answers and writes.
+use Rattle.std.specs.Prelude.{◌≡◌, ℕ, ◌+◌, ◌*◌, ◌<◌, List, ◌∷◌, ◌++◌, length, Option}
+use Rattle.std.specs.List.{concat}
+use Rattle.std.specs.Io.KnownBytes.{append_known}
+use Rattle.ft_edge.specs.Causes.{Rose, AddsPrefix}
+use Rattle.ft_edge.specs.Puts.{puts_after}
+use Rattle.ft_isa.specs.declared.plan.Strike.{Strike}
+use Rattle.ft_isa.specs.declared.plan.Wild.{Wild}
+use Rattle.ft_types.specs.declared.object.Object.{Object}
+use Rattle.ft_campaign.specs.declared.campaign_end.CampaignEnd.{CampaignEnd}
+use Rattle.ft_campaign.specs.declared.campaign_end.CampaignEnd.TheVariants.{Finished, TooMuch, WriteFault, NoMemory}
+use Rattle.ft_campaign.specs.declared.totals.Totals.{Totals}
+use Rattle.ft_campaign.specs.declared.verdict.Verdict.{Verdict}
+use Rattle.ft_campaign.specs.Verdicts.{AreVerdicts}
+use Rattle.ft_campaign.specs.Texts.{totals_of, campaign_lines}
+
+-- all lines were added, by one put each
+pub record PutsLines (lines : List (List ℕ)) (old new : Option (List ℕ)) (before now : Option ℕ) : Type 0 where
+  pub written : new ≡ append_known old (concat lines)
+  pub puts : now ≡ puts_after (length lines) before
+
+-- the put of a line failed: the lines before it were added and a prefix of its own, a prefix of the whole text, and it
+-- was the last put
+pub record BreaksOff (lines : List (List ℕ)) (old new : Option (List ℕ)) (before now : Option ℕ) : Type 0 where
+  pub done : List (List ℕ)
+  pub line : List ℕ
+  pub rest : List (List ℕ)
+  pub whole : lines ≡ done ++ line ∷ rest
+  pub written : AddsPrefix (append_known old (concat done)) new line
+  pub text : AddsPrefix old new (concat lines)
+  pub puts : now ≡ puts_after (length done + 1) before
+
+-- nothing was added, and no put was made
+pub record PutsNothing (old new : Option (List ℕ)) (before now : Option ℕ) : Type 0 where
+  pub written : new ≡ old
+  pub puts : now ≡ before
+
+-- a campaign came to its end: each fault has its verdict, the totals count them, and all lines were added
+pub record Finishes (totals : Totals) (o : Object) (faults : List Strike) (w : List Wild) (n : ℕ) (old new : Option (List ℕ)) (before now : Option ℕ) : Type 0 where
+  pub found : List Verdict
+  pub verdicts : AreVerdicts o faults w n found
+  pub totals_are : totals ≡ totals_of found
+  pub lines : PutsLines (campaign_lines faults found) old new before now
+
+-- a put of a campaign's lines failed
+pub record Stops (o : Object) (faults : List Strike) (w : List Wild) (n : ℕ) (old new : Option (List ℕ)) (before now : Option ℕ) : Type 0 where
+  pub found : List Verdict
+  pub verdicts : AreVerdicts o faults w n found
+  pub lines : BreaksOff (campaign_lines faults found) old new before now
+
+-- a campaign is refused: the number of faults times n is above 1,000,000,000
+pub record IsTooMuch (product : ℕ) (faults : List Strike) (n : ℕ) (old new : Option (List ℕ)) (before now : Option ℕ) : Type 0 where
+  pub product_is : product ≡ length faults * n
+  pub above : 1000000000 < product
+  pub nothing : PutsNothing old new before now
+
+-- how a campaign ended
+abbrev pub EndsAs : CampaignEnd → Object → List Strike → List Wild → ℕ → Option (List ℕ) → Option (List ℕ) → Option ℕ → Option ℕ → Type 0
+EndsAs (Finished totals) o faults w n old new before now = Finishes totals o faults w n old new before now
+EndsAs (TooMuch product) o faults w n old new before now = IsTooMuch product faults n old new before now
+EndsAs WriteFault o faults w n old new before now = Stops o faults w n old new before now
+EndsAs NoMemory o faults w n old new before now = PutsNothing old new before now
+
+-- only a count that rose excuses a failed put, and where no put failed the count stays
+abbrev pub IsExcused : CampaignEnd → ℕ → ℕ → Type 0
+IsExcused (Finished totals) before now = now ≡ before
+IsExcused (TooMuch product) before now = now ≡ before
+IsExcused WriteFault before now = Rose before now
+IsExcused NoMemory before now = now ≡ before
+
+-- no verdict was corrupt
+abbrev pub IsUncorrupted : CampaignEnd → Type 0
+IsUncorrupted (Finished totals) = totals.corrupt ≡ 0
+IsUncorrupted (TooMuch product) = Unit {0}
+IsUncorrupted WriteFault = Unit {0}
+IsUncorrupted NoMemory = Unit {0}

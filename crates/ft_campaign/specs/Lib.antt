@@ -1,0 +1,5 @@
+pub mod FaultList
+pub mod Verdicts
+pub mod Texts
+pub mod Campaigns
+pub mod Outcomes

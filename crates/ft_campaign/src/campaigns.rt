@@ -1,0 +1,80 @@
+//! Campaigns.
+ghost use Rattle.std.specs.Prelude.{◌≡◌, ◌<◌, ◌≤◌, ◌+◌, ◌*◌, length};
+ghost use Rattle.ft_types.specs.Spellable.{IsSpellable};
+ghost use Rattle.ft_campaign.specs.Campaigns.{EndsAs, IsExcused, IsUncorrupted};
+
+use crate::campaign_end::CampaignEnd;
+use crate::judge::find_verdicts;
+use crate::report::report;
+use crate::totals::totals_of;
+use ft_checker::Checked;
+use ft_edge::Sink;
+use ft_isa::{Strike, Wild};
+use ft_steps::Steps;
+use ft_types::Program;
+use std::alloc::Global;
+use std::sync::ledger::Ledger;
+
+/// The most that the number of faults times the number of steps may be.
+const PRODUCT_LIMIT: u64 = 1_000_000_000;
+
+/// Takes the run of a program without a fault and its run under each fault, each for at most `n` steps
+/// and with the same answers to wild loads. Puts a line of the verdict of each fault, in the list's
+/// order, and then a line of the totals. All verdicts are found before the first put. `steps` counts
+/// the machine's steps. `TooMuch` comes exactly where the number of faults times `n` is above
+/// 1,000,000,000; it and `NoMemory` put nothing. `WriteFault` comes only where a put failed, and
+/// nothing is put after it.
+pub fn survey<P: Program, K: Sink, L: Ledger>(
+    alloc: Global,
+    program: &P,
+    faults: &[Strike],
+    wild: &[Wild],
+    n: u64,
+    out: &mut K,
+    steps: &mut Steps<L>,
+) -> CampaignEnd
+    requires spellable { IsSpellable (P.object program.now) }
+    requires faults { length faults.now ≤ 65536 }
+    requires n { n ≤ 1000000 }
+    ensures ends { EndsAs result (P.object program.now) faults.now wild.now n (K.written out.old) (K.written out.new) (K.puts out.old) (K.puts out.new) }
+    ensures too_much { 1000000000 < length faults.now * n → result ≡ CampaignEnd.TooMuch (length faults.now * n) }
+    ensures count { K.faults out.old ≤ K.faults out.new }
+    ensures cause { IsExcused result (K.faults out.old) (K.faults out.new) }
+    ensures steps { steps.new ≤ steps.old + (length faults.now + 1) * n }
+{
+    let product = faults.len() as u64 * n;
+    if product > PRODUCT_LIMIT {
+        return CampaignEnd::TooMuch { product };
+    }
+    let verdicts = match find_verdicts(alloc, program, faults, wild, n, steps) {
+        Ok(verdicts) => verdicts,
+        Err(_) => return CampaignEnd::NoMemory,
+    };
+    let totals = totals_of(verdicts.as_slice());
+    match report(faults, verdicts.as_slice(), totals, out) {
+        Ok(()) => CampaignEnd::Finished(totals),
+        Err(_) => CampaignEnd::WriteFault,
+    }
+}
+
+/// As `survey`, on an accepted program: no verdict is `Corrupt`.
+pub fn campaign<'a, P: Program, K: Sink, L: Ledger>(
+    alloc: Global,
+    checked: &Checked<'a, P>,
+    faults: &[Strike],
+    wild: &[Wild],
+    n: u64,
+    out: &mut K,
+    steps: &mut Steps<L>,
+) -> CampaignEnd
+    requires faults { length faults.now ≤ 65536 }
+    requires n { n ≤ 1000000 }
+    ensures ends { EndsAs result (P.object checked.now) faults.now wild.now n (K.written out.old) (K.written out.new) (K.puts out.old) (K.puts out.new) }
+    ensures uncorrupted { IsUncorrupted result }
+    ensures too_much { 1000000000 < length faults.now * n → result ≡ CampaignEnd.TooMuch (length faults.now * n) }
+    ensures count { K.faults out.old ≤ K.faults out.new }
+    ensures cause { IsExcused result (K.faults out.old) (K.faults out.new) }
+    ensures steps { steps.new ≤ steps.old + (length faults.now + 1) * n }
+{
+    survey(alloc, checked.program(), faults, wild, n, out, steps)
+}

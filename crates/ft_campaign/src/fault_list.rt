@@ -1,0 +1,89 @@
+//! The text of a fault list.
+ghost use Rattle.std.specs.Prelude.{◌≡◌, ◌≢◌, ◌<◌, ◌≤◌, ◌⊎◌, [], ◌∷◌, List, length, position, ◌==◌, IfOk, IfErr, MatchResult, MatchOption};
+ghost use Rattle.ft_isa.specs.declared.plan.Strike.{Strike as Fault};
+ghost use Rattle.ft_campaign.specs.FaultList.{lines_of, IsFaultList, IsListError};
+
+use ft_isa::{Strike, read_strike};
+use std::alloc::Global;
+use thiserror::Error;
+
+/// Why a text is no fault list.
+#[derive(Clone, Copy, Debug, PartialEq, Eq, Error)]
+pub enum ListError {
+    /// The line with this number, counted from 1, is no strike's text.
+    #[error("line {number} is no strike")]
+    Line { number: u32 },
+    /// The text has more than 4,194,304 bytes or more than 65,536 lines.
+    #[error("too many faults")]
+    TooMany,
+    /// There was no memory left.
+    #[error("out of memory")]
+    NoMemory,
+}
+
+/// The most bytes of a fault list.
+const BYTE_LIMIT: usize = 4_194_304;
+
+/// The most lines of a fault list.
+const LINE_LIMIT: usize = 65_536;
+
+/// The place of the first line feed.
+fn first_feed(text: &[u8]) -> Option<usize>
+    ensures { result ≡ position (λ byte. byte == 10) text.now }
+{
+    text.iter().position(|byte| *byte == b'\n')
+}
+
+/// The first line of a text, and the text after it; `None` where the text is empty.
+fn first_line(text: &[u8]) -> Option<(&[u8], &[u8])>
+    ensures { MatchOption result (text.now ≡ []) (λ p. (lines_of text.now ≡ p.0.now ∷ lines_of p.1.now) × (length p.1.now < length text.now)) }
+{
+    if text.is_empty() {
+        return None;
+    }
+    match first_feed(text) {
+        Some(at) => Some((&text[..at], &text[at + 1..])),
+        None => Some((text, &[])),
+    }
+}
+
+/// Reads the lines of a text of at most `BYTE_LIMIT` bytes.
+fn read_lines(alloc: Global, bytes: &[u8]) -> Result<Vec<Strike>, ListError>
+    requires { length bytes.now ≤ BYTE_LIMIT }
+    ensures ok { IfOk result (λ faults. IsFaultList bytes.now faults.items) }
+    ensures err { IfErr result (IsListError bytes.now) }
+{
+    let mut faults = Vec::new(alloc);
+    let mut rest = bytes;
+    while let Some((line, after)) = first_line(rest) {
+        if faults.len() == LINE_LIMIT {
+            return Err(ListError::TooMany);
+        }
+        let Ok(strike) = read_strike(line) else {
+            return Err(ListError::Line {
+                number: faults.len() as u32 + 1,
+            });
+        };
+        faults.push(strike).map_err(|_| ListError::NoMemory)?;
+        rest = after;
+    }
+    Ok(faults)
+}
+
+/// Reads a fault list: a text of lines, each the text of a strike, `K:SITE:V`, with a line feed at its
+/// end; the last line may lack it. The empty text is the empty list. `TooMany` comes first where there
+/// are more than 4,194,304 bytes; then `Line` for the first of the first 65,536 lines that is no
+/// strike's text; then `TooMany` where there are more lines.
+pub fn read_faults(alloc: Global, bytes: &[u8]) -> Result<Vec<Strike>, ListError>
+    ensures ok { IfOk result (λ faults. IsFaultList bytes.now faults.items) }
+    ensures err { IfErr result (IsListError bytes.now) }
+
+    // A fault list is read as its faults, and a text that is refused as its refusal.
+    ensures exact { (faults : List Fault) → IsFaultList bytes.now faults → MatchResult result (λ read. read.items ≡ faults) (λ e. e ≡ ListError.NoMemory) }
+    ensures exact_err { (error : ListError) → error ≢ ListError.NoMemory → IsListError bytes.now error → MatchResult result (λ read. ⊥) (λ e. (e ≡ error) ⊎ (e ≡ ListError.NoMemory)) }
+{
+    if bytes.len() > BYTE_LIMIT {
+        return Err(ListError::TooMany);
+    }
+    read_lines(alloc, bytes)
+}

@@ -1,0 +1,25 @@
+//! Campaigns: the verdict of each fault of a list on a program.
+//!
+//! The crate promises that a fault list is read exactly, that a campaign finds each fault's verdict by
+//! its definition and writes the lines of the verdicts and of their totals, and that a fault of an
+//! accepted program is never corrupt. Its definitions: `specs/FaultList.antt`, `specs/Verdicts.antt`,
+//! `specs/Texts.antt`, `specs/Campaigns.antt`.
+#![tactic(auto)]
+
+mod campaign_end;
+mod campaigns;
+mod fault_list;
+mod judge;
+mod laws;
+mod lines;
+mod outcome;
+mod report;
+mod totals;
+mod verdict;
+
+pub use campaign_end::CampaignEnd;
+pub use campaigns::{campaign, survey};
+pub use fault_list::{ListError, read_faults};
+pub use laws::{faults_of_accepted_objects_are_not_corrupt, verdicts_are_one};
+pub use totals::Totals;
+pub use verdict::Verdict;

@@ -1,0 +1,17 @@
+//! Verdicts on faults.
+
+/// What a fault did to a run, against the run without it.
+#[derive(Clone, Copy, Debug, PartialEq, Eq)]
+pub enum Verdict {
+    /// Nothing was struck.
+    Idle,
+    /// Outputs and status are those of the run without it.
+    Masked,
+    /// The run stopped at the fault, and its outputs begin those of the run without it.
+    Detected {
+        /// The number of the step that detected it, counted from 0.
+        at: u64,
+    },
+    /// Anything else.
+    Corrupt,
+}
