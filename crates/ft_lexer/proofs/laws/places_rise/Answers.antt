@@ -1,0 +1,5 @@
+use Rattle.ft_lexer.proofs.Places.{placed}
+use Rattle.ft_lexer.proofs.laws.places_rise.Goals as goal
+
+pub returns : goal.returns
+returns c = placed

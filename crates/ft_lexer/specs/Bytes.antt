@@ -1,0 +1,45 @@
+-- What bytes are, which words are reserved, and which bytes are tokens alone.
+use Rattle.std.specs.Prelude.{ℕ, ◌==◌, ◌&&◌, ◌||◌, Bool, List, nat_le, if◌then◌else◌, Option, Some, None, codes}
+use Rattle.std.specs.Str.{bytes_eq}
+use Rattle.ft_lexer.specs.declared.kind.Kind.{Kind}
+use Rattle.ft_lexer.specs.declared.kind.Kind.TheVariants as kinds
+
+-- space, tab, carriage return and line feed separate tokens
+abbrev pub is_blank : ℕ → Bool
+is_blank b = b == 32 || b == 9 || b == 13 || b == 10
+
+-- `0` to `9`
+abbrev pub is_digit : ℕ → Bool
+is_digit b = nat_le 48 b && nat_le b 57
+
+-- `a` to `z`, `A` to `Z` and `_`, with which names begin
+abbrev pub is_letter : ℕ → Bool
+is_letter b = (nat_le 97 b && nat_le b 122) || (nat_le 65 b && nat_le b 90) || b == 95
+
+-- with which names go on
+abbrev pub is_name_byte : ℕ → Bool
+is_name_byte b = is_letter b || is_digit b
+
+-- the kind of a word: reserved, or a name
+unfoldable pub word_kind : List ℕ → Kind
+word_kind t =
+    if bytes_eq t (codes "cell") then kinds.Cell
+    else (if bytes_eq t (codes "var") then kinds.Var
+    else (if bytes_eq t (codes "while") then kinds.While
+    else (if bytes_eq t (codes "if") then kinds.If
+    else (if bytes_eq t (codes "else") then kinds.Else
+    else kinds.Name))))
+
+-- the kind of the token that is this byte alone; `=` begins one or two tokens, and stands apart
+unfoldable pub sign_kind : ℕ → Option Kind
+sign_kind b =
+    if b == 59 then Some kinds.Semi
+    else (if b == 40 then Some kinds.LParen
+    else (if b == 41 then Some kinds.RParen
+    else (if b == 123 then Some kinds.LBrace
+    else (if b == 125 then Some kinds.RBrace
+    else (if b == 43 then Some kinds.Plus
+    else (if b == 45 then Some kinds.Minus
+    else (if b == 42 then Some kinds.Star
+    else (if b == 60 then Some kinds.Less
+    else None))))))))

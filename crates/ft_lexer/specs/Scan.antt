@@ -1,0 +1,106 @@
+-- What a text is cut into: its tokens with their places, up to the first fault.
+use Rattle.std.specs.Prelude.{ℕ, ◌+◌, ◌^◌, ◌==◌, Bool, true, false, List, [], ◌∷◌, ◌++◌, length, nat_lt, nat_le, if◌then◌else◌, Option, Some, None, Result, Ok, Err}
+use Rattle.ft_lexer.specs.declared.kind.Kind.{Kind}
+use Rattle.ft_lexer.specs.declared.kind.Kind.TheVariants as kinds
+use Rattle.ft_lexer.specs.declared.token.Token.{Token}
+use Rattle.ft_lexer.specs.declared.lex_error.LexError.{LexError}
+use Rattle.ft_lexer.specs.declared.lex_error.LexError.TheVariants as faults
+use Rattle.ft_lexer.specs.Numeral.{numeral}
+use Rattle.ft_lexer.specs.Bytes.{is_blank, is_digit, is_letter, is_name_byte, word_kind, sign_kind}
+
+-- a token as plain data: its kind, its bytes and the place of the first
+pub record Lexeme : Type 0 where
+  pub kind : Kind
+  pub text : List ℕ
+  pub at : ℕ
+
+abbrev pub lexeme : Token → Lexeme
+lexeme t = record { kind = t.kind; text = t.text.now; at = t.at }
+
+-- what is told of a text from some place on: nothing more, the first fault, or a token and what is told after it
+pub data Scan : Type 0 where
+  over : Scan
+  fault : LexError → Scan
+  token : Lexeme → Scan → Scan
+
+-- what the bytes so far have begun, where it began and its bytes: a gap, a comment, a name, a number or a `=`
+pub data Mode : Type 0 where
+  gap : Mode
+  comment : Mode
+  name : ℕ → List ℕ → Mode
+  number : ℕ → List ℕ → Mode
+  equals : ℕ → Mode
+
+-- a number of 2^64 or more is a fault at its first digit
+abbrev pub number_token : Bool → ℕ → List ℕ → Scan → Scan
+number_token true start t rest = token (record { kind = kinds.Number; text = t; at = start }) rest
+number_token false start t rest = fault (faults.Number start)
+
+-- what has begun ends here
+abbrev pub ends : Mode → Scan → Scan
+ends gap rest = rest
+ends comment rest = rest
+ends (name start t) rest = token (record { kind = word_kind t; text = t; at = start }) rest
+ends (number start t) rest = number_token (nat_lt (numeral 0 t) (2 ^ 64)) start t rest
+ends (equals start) rest = token (record { kind = kinds.Assign; text = 61 ∷ []; at = start }) rest
+
+-- a byte that begins no token is a fault
+abbrev pub sign_at : Option Kind → ℕ → ℕ → Scan → Scan
+sign_at (Some k) at b rest = token (record { kind = k; text = b ∷ []; at = at }) rest
+sign_at None at b rest = fault (faults.Byte at)
+
+-- what the byte b begins
+abbrev pub begins : ℕ → ℕ → (Mode → Scan) → Scan
+begins at b after =
+    if is_blank b then after gap
+    else (if b == 35 then after comment
+    else (if is_letter b then after (name at (b ∷ []))
+    else (if is_digit b then after (number at (b ∷ []))
+    else (if b == 61 then after (equals at)
+    else sign_at (sign_kind b) at b (after gap)))))
+
+-- in a name: it ends, goes on, or would be longer than 32 bytes, which is a fault at the 33rd
+abbrev pub in_name : Bool → Bool → ℕ → Scan → Scan → Scan
+in_name false long at more end = end
+in_name true false at more end = more
+in_name true true at more end = fault (faults.Byte at)
+
+-- the byte b goes on with what has begun, or ends it and begins something else
+abbrev pub reads : Mode → ℕ → ℕ → (Mode → Scan) → Scan → Scan
+reads gap at b after other = other
+reads comment at b after other = if b == 10 then after gap else after comment
+reads (name start t) at b after other = in_name (is_name_byte b) (nat_le 32 (length t)) at (after (name start (t ++ b ∷ []))) (ends (name start t) other)
+reads (number start t) at b after other = if is_digit b then after (number start (t ++ b ∷ [])) else ends (number start t) other
+reads (equals start) at b after other = if b == 61 then token (record { kind = kinds.EqEq; text = 61 ∷ 61 ∷ []; at = start }) (after gap) else ends (equals start) other
+
+-- the scan of these bytes, the first of them at this place
+abbrev pub scan_from : Mode → ℕ → List ℕ → Scan
+scan_from m at [] = ends m over
+scan_from m at (b ∷ bs) = reads m at b (λ n. scan_from n (at + 1) bs) (begins at b (λ n. scan_from n (at + 1) bs))
+
+-- the scan of a text
+abbrev pub scan : List ℕ → Scan
+scan text = scan_from gap 0 text
+
+-- what a call told, before what is told after it
+abbrev pub told : Option (Result Token LexError) → Scan → Scan
+told None rest = over
+told (Some (Err e)) rest = fault e
+told (Some (Ok t)) rest = token (lexeme t) rest
+
+-- a token before others
+abbrev pub with_token : Lexeme → Result (List Lexeme) LexError → Result (List Lexeme) LexError
+with_token t (Ok ts) = Ok (t ∷ ts)
+with_token t (Err e) = Err e
+
+-- all tokens of a scan, or its fault
+abbrev pub all_of : Scan → Result (List Lexeme) LexError
+all_of over = Ok []
+all_of (fault e) = Err e
+all_of (token t rest) = with_token t (all_of rest)
+
+-- how many tokens and faults a scan tells
+abbrev pub size : Scan → ℕ
+size over = 0
+size (fault e) = 1
+size (token t rest) = size rest + 1

@@ -1,0 +1,83 @@
+//! What single bytes and reserved words are.
+ghost use Rattle.std.specs.Prelude.{◌≡◌, ◌≢◌};
+ghost use Rattle.ft_lexer.specs.Bytes.{is_blank, is_digit, is_letter, is_name_byte, word_kind, sign_kind};
+ghost use Rattle.ft_lexer.specs.declared.kind.Kind.TheVariants as kinds;
+
+use crate::kind::Kind;
+
+/// Whether the byte separates tokens.
+pub fn is_blank(b: u8) -> bool
+    ensures { result ≡ is_blank b }
+{
+    b == b' ' || b == b'\t' || b == b'\r' || b == b'\n'
+}
+
+/// Whether the byte is a digit.
+pub fn is_digit(b: u8) -> bool
+    ensures { result ≡ is_digit b }
+{
+    b'0' <= b && b <= b'9'
+}
+
+/// Whether a name can begin with the byte.
+pub fn is_letter(b: u8) -> bool
+    ensures { result ≡ is_letter b }
+{
+    b'a' <= b && b <= b'z' || b'A' <= b && b <= b'Z' || b == b'_'
+}
+
+/// Whether a name can go on with the byte.
+pub fn is_name_byte(b: u8) -> bool
+    ensures { result ≡ is_name_byte b }
+{
+    is_letter(b) || is_digit(b)
+}
+
+/// The kind of a word: a reserved one, or a name.
+#[tactic(auto, unfolding(crate::specs::Bytes::word_kind))]
+pub fn word_kind(text: &[u8]) -> Kind
+    ensures value { result ≡ word_kind text.now }
+    ensures no_number { result ≢ kinds.Number }
+{
+    if text == b"cell".as_slice() {
+        Kind::Cell
+    } else if text == b"var".as_slice() {
+        Kind::Var
+    } else if text == b"while".as_slice() {
+        Kind::While
+    } else if text == b"if".as_slice() {
+        Kind::If
+    } else if text == b"else".as_slice() {
+        Kind::Else
+    } else {
+        Kind::Name
+    }
+}
+
+/// The kind of the token that is this one byte; `=`, which may have two, apart
+#[tactic(auto, unfolding(crate::specs::Bytes::sign_kind))]
+pub fn sign_kind(b: u8) -> Option<Kind>
+    ensures { result ≡ sign_kind b }
+{
+    if b == b';' {
+        Some(Kind::Semi)
+    } else if b == b'(' {
+        Some(Kind::LParen)
+    } else if b == b')' {
+        Some(Kind::RParen)
+    } else if b == b'{' {
+        Some(Kind::LBrace)
+    } else if b == b'}' {
+        Some(Kind::RBrace)
+    } else if b == b'+' {
+        Some(Kind::Plus)
+    } else if b == b'-' {
+        Some(Kind::Minus)
+    } else if b == b'*' {
+        Some(Kind::Star)
+    } else if b == b'<' {
+        Some(Kind::Less)
+    } else {
+        None
+    }
+}

@@ -1,0 +1,13 @@
+//! Why a text is cut into no tokens.
+use thiserror::Error;
+
+/// The first fault of a text.
+#[derive(Clone, Copy, Debug, PartialEq, Eq, Error)]
+pub enum LexError {
+    /// The byte at `at`, counted from 0, begins no token, or is the 33rd of a name.
+    #[error("no token at byte {at}")]
+    Byte { at: usize },
+    /// The digits from byte `at` on spell 2^64 or more.
+    #[error("too large a number at byte {at}")]
+    Number { at: usize },
+}

@@ -1,0 +1,174 @@
+//! The lexer.
+ghost use Rattle.std.specs.Prelude.{◌≡◌, ◌+◌, ◌^◌, ◌<◌, ◌≤◌, length, IfNone, IfSome, OnErr, Some};
+ghost use Rattle.ft_lexer.specs.Bytes.{is_letter, is_digit};
+ghost use Rattle.ft_lexer.specs.Scan.{scan, scan_from, comment, over, told};
+
+use crate::bytes::{is_blank, is_digit, is_letter, sign_kind, word_kind};
+use crate::kind::Kind;
+use crate::lex_error::LexError;
+use crate::runs::{NAME_LIMIT, fits, name_len, number_len};
+use crate::token::Token;
+
+/// The rest of a source text, of which the tokens are still to be told.
+///
+/// A lexer takes no memory, and its tokens are slices of the text.
+#[derive(Drop)]
+pub struct Lexer<'a> {
+    rest: &'a [u8],
+    at: usize,
+    ghost in_range: { at + length rest.now < 2 ^ 64 },
+}
+
+impl<'a> Lexer<'a> {
+    ghost use Rattle.ft_lexer.specs.Left.{left, BeginsToken, BeginsWith, BeginsWithout};
+
+    /// A lexer at the start of the text.
+    pub fn new(text: &'a [u8]) -> Lexer<'a>
+        ensures tells { left result ≡ scan text.now }
+    {
+        Lexer { rest: text, at: 0 }
+    }
+
+    /// Passes a comment, but for its line feed.
+    fn pass_comment(&mut self)
+        ensures same { scan_from comment self.old.at self.old.rest.now ≡ left self.new }
+        ensures shorter { length self.new.rest.now ≤ length self.old.rest.now }
+    {
+        while let [b, rest @ ..] = self.rest
+            && *b != b'\n'
+        {
+            self.rest = rest;
+            self.at += 1;
+        }
+    }
+
+    /// Passes blanks and comments.
+    fn pass_gap(&mut self)
+        ensures same { left self.old ≡ left self.new }
+        ensures token { BeginsToken self.new.rest.now }
+    {
+        while let [b, rest @ ..] = self.rest {
+            if is_blank(*b) {
+                self.rest = rest;
+                self.at += 1;
+            } else if *b == b'#' {
+                self.rest = rest;
+                self.at += 1;
+                self.pass_comment();
+            } else {
+                break;
+            }
+        }
+    }
+
+    /// Takes a name or a reserved word.
+    fn word(&mut self) -> Result<Token<'a>, LexError>
+        requires letter { BeginsWith is_letter self.old.rest.now }
+        requires token { BeginsToken self.old.rest.now }
+        ensures told { left self.old ≡ told (Some result) (left self.new) }
+        ensures err { OnErr result (left self.new ≡ over) }
+    {
+        let text = self.rest;
+        let Some(n) = name_len(text) else {
+            let at = self.at + NAME_LIMIT;
+            self.rest = &[];
+            return Err(LexError::Byte { at });
+        };
+        let rest = &text[n..];
+        let at = self.at;
+        self.rest = rest;
+        self.at += n;
+        let text = &text[..n];
+        Ok(Token {
+            kind: word_kind(text),
+            text,
+            at,
+        })
+    }
+
+    /// Takes a number.
+    fn number(&mut self) -> Result<Token<'a>, LexError>
+        requires digit { BeginsWith is_digit self.old.rest.now }
+        requires token { BeginsToken self.old.rest.now }
+        ensures told { left self.old ≡ told (Some result) (left self.new) }
+        ensures err { OnErr result (left self.new ≡ over) }
+    {
+        let text = self.rest;
+        let n = number_len(text);
+        let at = self.at;
+        let rest = &text[n..];
+        let text = &text[..n];
+        if !fits(text) {
+            self.rest = &[];
+            return Err(LexError::Number { at });
+        }
+        self.rest = rest;
+        self.at += n;
+        Ok(Token {
+            kind: Kind::Number,
+            text,
+            at,
+        })
+    }
+
+    /// Takes one of the other tokens.
+    fn sign(&mut self) -> Result<Token<'a>, LexError>
+        requires some { 0 < length self.old.rest.now }
+        requires no_letter { BeginsWithout is_letter self.old.rest.now }
+        requires no_digit { BeginsWithout is_digit self.old.rest.now }
+        requires token { BeginsToken self.old.rest.now }
+        ensures told { left self.old ≡ told (Some result) (left self.new) }
+        ensures err { OnErr result (left self.new ≡ over) }
+    {
+        let all = self.rest;
+        let at = self.at;
+        if all[0] == b'=' {
+            if all.len() > 1 && all[1] == b'=' {
+                self.rest = &all[2..];
+                self.at += 2;
+                return Ok(Token {
+                    kind: Kind::EqEq,
+                    text: &all[..2],
+                    at,
+                });
+            }
+            self.rest = &all[1..];
+            self.at += 1;
+            return Ok(Token {
+                kind: Kind::Assign,
+                text: &all[..1],
+                at,
+            });
+        }
+        let Some(kind) = sign_kind(all[0]) else {
+            self.rest = &[];
+            return Err(LexError::Byte { at });
+        };
+        self.rest = &all[1..];
+        self.at += 1;
+        Ok(Token {
+            kind,
+            text: &all[..1],
+            at,
+        })
+    }
+
+    /// The next token, or the fault of the text; `None` at the end and, for ever, after either.
+    pub fn next(&mut self) -> Option<Result<Token<'a>, LexError>>
+        ensures tells { left self.old ≡ told result (left self.new) }
+        ensures end { IfNone result (left self.new ≡ over) }
+        ensures fault { IfSome result (λ r. OnErr r (left self.new ≡ over)) }
+    {
+        self.pass_gap();
+        let [b, ..] = self.rest else {
+            return None;
+        };
+        if is_letter(*b) {
+            Some(self.word())
+        } else if is_digit(*b) {
+            Some(self.number())
+        } else {
+            Some(self.sign())
+        }
+    }
+}

@@ -1,0 +1,23 @@
+//! Source texts, cut into tokens.
+//!
+//! The crate promises that a lexer tells exactly the scan of its text: tokens in turn, each the slice
+//! of the text at its place, then the first fault or the end, and then nothing for ever. It takes no
+//! memory. Its definitions: `specs/Bytes.antt`, `specs/Scan.antt`, `specs/Placed.antt`.
+#![tactic(auto)]
+
+mod bytes;
+mod kind;
+mod laws;
+mod lex_error;
+mod lexer;
+mod runs;
+mod token;
+
+pub use kind::Kind;
+pub use laws::places_rise;
+pub use lex_error::LexError;
+pub use lexer::Lexer;
+pub use token::Token;
+
+#[cfg(test)]
+mod tests;

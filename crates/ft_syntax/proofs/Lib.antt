@@ -1,0 +1,10 @@
+pub mod PlainForms
+pub mod DeclaredLists
+pub mod Followed
+pub mod Complete
+pub mod Reached
+pub mod Judged
+pub mod Only
+pub mod TokenLists
+pub mod Sizes
+pub mod Answers

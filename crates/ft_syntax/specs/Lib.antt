@@ -1,0 +1,9 @@
+pub mod Plain
+pub mod Syntax
+pub mod Grammar
+pub mod Limits
+pub mod Refusal
+pub mod Size
+pub mod TreeOf
+pub mod Machine
+pub mod View

@@ -1,0 +1,16 @@
+//! Operators as they are written.
+
+/// A binary operator.
+#[derive(Clone, Copy, PartialEq, Eq)]
+pub enum Operator {
+    /// `==`
+    Equal,
+    /// `<`
+    Less,
+    /// `+`
+    Plus,
+    /// `-`
+    Minus,
+    /// `*`
+    Star,
+}

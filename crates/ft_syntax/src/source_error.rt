@@ -1,0 +1,42 @@
+//! Why a source is refused.
+use thiserror::Error;
+
+/// The first refusal of a source, in the order of the variants; places count bytes from 0. Want of
+/// memory may come in the place of any.
+#[derive(Clone, Copy, Debug, PartialEq, Eq, Error)]
+pub enum SourceError {
+    /// The text has more than 1,048,576 bytes.
+    #[error("more than 1048576 bytes")]
+    TooLong,
+    /// The byte at `at` begins no token, or is the 33rd of a name.
+    #[error("no token at byte {at}")]
+    Byte { at: usize },
+    /// The number of which the first digit stands at `at` is 2^64 or more.
+    #[error("too large a number at byte {at}")]
+    Number { at: usize },
+    /// No program is possible after the token at `at`; the text's length where it only lacks something.
+    #[error("no program from byte {at} on")]
+    Syntax { at: usize },
+    /// The token at `at` opens a 101st bracket or brace, or is the 201st operator of one assignment or
+    /// test.
+    #[error("too deep at byte {at}")]
+    Deep { at: usize },
+    /// The name declared at `at` was declared before.
+    #[error("declared twice at byte {at}")]
+    Twice { at: usize },
+    /// The name at `at` in a statement isn't declared.
+    #[error("unknown name at byte {at}")]
+    Unknown { at: usize },
+    /// There are `count` cells, more than 1,024.
+    #[error("{count} cells")]
+    Cells { count: u64 },
+    /// The program needs `need` pairs of registers, more than 32.
+    #[error("{need} pairs of registers")]
+    Registers { need: u64 },
+    /// The program's weight is `weight`, more than 65,536.
+    #[error("weight {weight}")]
+    Weight { weight: u64 },
+    /// There was no memory left.
+    #[error("out of memory")]
+    NoMemory,
+}

@@ -1,0 +1,8 @@
+//! Names where they stand.
+
+/// A name: the slice of the source that it is, and the place of its first byte, counted from 0.
+#[derive(Clone, Copy, Debug)]
+pub struct Spot<'a> {
+    pub text: &'a [u8],
+    pub at: usize,
+}
