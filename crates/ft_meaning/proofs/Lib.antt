@@ -1,0 +1,4 @@
+pub mod Longer
+pub mod Sinks
+pub mod Loops
+pub mod Composed

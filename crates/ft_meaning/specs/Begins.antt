@@ -1,0 +1,7 @@
+-- One list of outputs begins another.
+use Rattle.std.specs.Prelude.{◌≡◌, List, ◌++◌}
+use Rattle.ft_isa.specs.declared.output.Output.{Output}
+
+-- the one begins the other
+abbrev pub Begins : List Output → List Output → Type 0
+Begins a b = (rest : List Output) × (a ++ rest ≡ b)

@@ -1,0 +1,7 @@
+pub mod Meaning
+pub mod Lines
+pub mod Ends
+pub mod Begins
+pub mod Fibonacci
+pub mod Room
+pub mod Runs

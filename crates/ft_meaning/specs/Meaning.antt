@@ -1,0 +1,95 @@
+-- What a program means, with a budget of loop turns over the whole run.
+use Rattle.std.specs.Prelude.{ℕ, zero, suc, ◌+◌, List, [], ◌∷◌, ◌++◌, slice_index, slice_set, replicate}
+use Rattle.ft_isa.specs.Words.{apply, cell_address}
+use Rattle.ft_isa.specs.declared.output.Output.{Output}
+use Rattle.ft_syntax.specs.Plain.{Expression, literal, name, operation, StatementList, none, assign, loop, choose}
+use Rattle.ft_syntax.specs.Size.{expression_nodes}
+use Rattle.ft_scope.specs.declared.slot.Slot.{Slot}
+use Rattle.ft_scope.specs.declared.slot.Slot.TheVariants.{Cell, Var}
+use Rattle.ft_scope.specs.Resolved.{Program}
+
+-- where a run is: the words of variables and cells, the outputs so far, the turns that are left and the work done
+pub record State : Type 0 where
+  pub vars : List ℕ
+  pub cells : List ℕ
+  pub out : List Output
+  pub left : ℕ
+  pub work : ℕ
+
+-- a run ended, or was cut for want of turns
+pub data Outcome : Type 0 where
+  Ended : State → Outcome
+  Cut : State → Outcome
+
+-- where it ended or was cut
+abbrev pub state_of : Outcome → State
+state_of (Ended s) = s
+state_of (Cut s) = s
+
+-- the outputs, in order
+abbrev pub outputs : Outcome → List Output
+outputs r = (state_of r).out
+
+-- the work: 1 for each assignment and each test that was run, and 1 for each expression node that was evaluated
+abbrev pub work : Outcome → ℕ
+work r = (state_of r).work
+
+-- the word of a cell or a variable
+abbrev pub slot_value : Slot → List ℕ → List ℕ → ℕ
+slot_value (Var x) vars cells = slice_index vars x
+slot_value (Cell k) vars cells = slice_index cells k
+
+-- the word of an expression, by the words of the variables and the cells
+abbrev pub value : Expression Slot → List ℕ → List ℕ → ℕ
+value (literal w) vars cells = w
+value (name s) vars cells = slot_value s vars cells
+value (operation o a b) vars cells = apply o (value a vars cells) (value b vars cells)
+
+-- after an expression was evaluated for an assignment or a test
+abbrev pub evaluated : Expression Slot → State → State
+evaluated e s = record s { work = s.work + (expression_nodes e + 1) }
+
+-- after a word was assigned; an assignment to a cell is an output, also where the word is the old one
+abbrev pub assigned : Slot → ℕ → State → State
+assigned (Var x) v s = record s { vars = slice_set s.vars x v }
+assigned (Cell k) v s = record s { cells = slice_set s.cells k v; out = s.out ++ record { addr = cell_address k; value = v } ∷ [] }
+
+-- with so many turns left
+abbrev pub with_left : ℕ → State → State
+with_left l s = record s { left = l }
+
+-- what comes next, where the run was not cut
+abbrev pub then_do : Outcome → (State → Outcome) → Outcome
+then_do (Ended s) go = go s
+then_do (Cut s) go = Cut s
+
+-- the first where a test is 0, and else the second
+abbrev pub at_zero : {A : Type 0} → ℕ → A → A → A
+at_zero zero a b = a
+at_zero (suc n) a b = b
+
+-- takes a turn, or is cut where none is left
+abbrev pub with_turn : ℕ → State → (State → Outcome) → Outcome
+with_turn zero s go = Cut s
+with_turn (suc l) s go = go (with_left l s)
+
+-- a loop; the number, which is at least that of the turns left, only bounds the recursion
+abbrev pub loops : ℕ → Expression Slot → (State → Outcome) → State → Outcome
+loops zero e body s = at_zero (value e s.vars s.cells) (Ended (evaluated e s)) (Cut (evaluated e s))
+loops (suc n) e body s =
+    at_zero (value e s.vars s.cells) (Ended (evaluated e s)) (with_turn s.left (evaluated e s) (λ s1. then_do (body s1) (loops n e body)))
+
+-- statements
+abbrev pub run : StatementList Slot → State → Outcome
+run none s = Ended s
+run (assign to e rest) s = run rest (assigned to (value e s.vars s.cells) (evaluated e s))
+run (loop e body rest) s = then_do (loops s.left e (run body) s) (run rest)
+run (choose e if_so if_not rest) s = then_do (at_zero (value e s.vars s.cells) (run if_not (evaluated e s)) (run if_so (evaluated e s))) (run rest)
+
+-- at the start variables are 0 and cells have their initial words
+abbrev pub start : Program → ℕ → State
+start p t = record { vars = replicate p.vars 0; cells = p.inits; out = []; left = t; work = 0 }
+
+-- what a program means with t turns
+abbrev pub meaning : Program → ℕ → Outcome
+meaning p t = run p.body (start p t)

@@ -1,0 +1,19 @@
+//! Laws of the definitions, each the contract of a function that does nothing.
+ghost use Rattle.std.specs.Prelude.{◌≡◌, ℕ, ◌+◌, [], ◌∷◌};
+ghost use Rattle.ft_scope.specs.Resolved.{Program};
+ghost use Rattle.ft_meaning.specs.Meaning.{State, Ended, Cut, with_left, outputs, work, meaning};
+ghost use Rattle.ft_meaning.specs.Begins.{Begins};
+ghost use Rattle.ft_meaning.specs.Fibonacci.{fibonacci, puts_out};
+
+/// With more turns an ended meaning is the same, but for the turns that are left over, and the outputs
+/// of a cut one begin the outputs.
+pub fn more_turns_extend_a_meaning()
+    ensures ended { (p : Program) (t more : ℕ) (s : State) → meaning p t ≡ Ended s → meaning p (t + more) ≡ Ended (with_left (s.left + more) s) }
+    ensures cut { (p : Program) (t more : ℕ) (s : State) → meaning p t ≡ Cut s → Begins s.out (outputs (meaning p (t + more))) }
+{}
+
+/// The Fibonacci program of the documents puts out ten numbers, with the work 186.
+pub fn fibonacci_numbers_are_meant()
+    ensures out { outputs (meaning fibonacci 10) ≡ puts_out (0 ∷ 1 ∷ 1 ∷ 2 ∷ 3 ∷ 5 ∷ 8 ∷ 13 ∷ 21 ∷ 34 ∷ []) }
+    ensures work { work (meaning fibonacci 10) ≡ 186 }
+{}

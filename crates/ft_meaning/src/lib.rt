@@ -1,0 +1,17 @@
+//! What a program means, with a budget of loop turns.
+//!
+//! The crate promises that `mean` puts one line for each output of the program's meaning and tells
+//! whether it ended or was cut for want of turns, and that more turns leave an ended meaning as it is
+//! and only extend a cut one. Its definitions: `specs/Meaning.antt`, `specs/Lines.antt`,
+//! `specs/Ends.antt`.
+#![tactic(auto)]
+
+mod laws;
+mod mean_end;
+mod output_line;
+mod run;
+mod whole;
+
+pub use laws::{fibonacci_numbers_are_meant, more_turns_extend_a_meaning};
+pub use mean_end::MeanEnd;
+pub use whole::mean;

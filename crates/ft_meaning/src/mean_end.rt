@@ -1,0 +1,14 @@
+//! How a program's meaning ended.
+
+/// How a program's meaning ended.
+#[derive(Clone, Copy, Debug, PartialEq, Eq)]
+pub enum MeanEnd {
+    /// The program ended.
+    Ended,
+    /// A loop's test was not 0 with no turn left.
+    Cut,
+    /// A line could not be written.
+    WriteFault,
+    /// There was no memory for the words or for a line; nothing was written.
+    NoMemory,
+}

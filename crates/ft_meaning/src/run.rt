@@ -1,0 +1,189 @@
+//! A run of a program, which puts its outputs as they come.
+ghost use Rattle.std.specs.Prelude.{◌≡◌, ◌<◌, ◌≤◌, length, map};
+ghost use Rattle.ft_syntax.specs.Plain.{none, plain_expression, plain_statement, plain_list};
+ghost use Rattle.ft_scope.specs.Size.{same_slot, SlotFits, ExpressionFits, StatementsFit};
+ghost use Rattle.ft_scope.specs.declared.slot.Slot.TheVariants.{Cell};
+ghost use Rattle.ft_meaning.specs.Meaning.{value, assigned, loops, run, Ended};
+ghost use Rattle.ft_meaning.specs.Runs.{sink_of, Keeps, Ready, RunsTo, Excused};
+
+use crate::output_line::put_line;
+use ft_edge::Sink;
+use ft_isa::apply;
+use ft_scope::Slot;
+use ft_syntax::{Expr, Stmt};
+
+/// Why a run stopped before its end.
+#[derive(Clone, Copy)]
+pub enum Stop {
+    /// A loop's test was not 0 with no turn left.
+    Cut,
+    /// A line could not be written.
+    WriteFault,
+}
+
+/// The words of variables and cells, the turns that are left, and room for a line.
+#[derive(Drop)]
+pub struct Run {
+    pub vars: Vec<u64>,
+    pub cells: Vec<u64>,
+    pub left: u64,
+    pub line: Vec<u8>,
+}
+
+/// An expression's word, by the words of the variables and the cells.
+fn word_of(e: &Expr<Slot>, vars: &[u64], cells: &[u64]) -> u64
+    requires { ExpressionFits (length cells.now) (length vars.now) (plain_expression same_slot e.now) }
+    ensures { result ≡ value (plain_expression same_slot e.now) vars.now cells.now }
+{
+    match e {
+        Expr::Literal(word) => *word,
+        Expr::Name(Slot::Var(x)) => vars[usize::from(*x)],
+        Expr::Name(Slot::Cell(k)) => cells[*k as usize],
+        Expr::Op { op, a, b } => {
+            let x = word_of(a, vars, cells);
+            let y = word_of(b, vars, cells);
+            apply(*op, x, y)
+        }
+    }
+}
+
+impl Run {
+    /// An expression's word.
+    fn word(&self, e: &Expr<Slot>) -> u64
+        requires { ExpressionFits (length self.now.cells.items) (length self.now.vars.items) (plain_expression same_slot e.now) }
+        ensures { result ≡ value (plain_expression same_slot e.now) self.now.vars.items self.now.cells.items }
+    {
+        word_of(e, &self.vars, &self.cells)
+    }
+
+    /// Assigns a word to a cell, and puts it.
+    fn assign_cell<K: Sink>(
+        &mut self,
+        names: &[&[u8]],
+        k: u32,
+        word: u64,
+        out: &mut K,
+    ) -> Result<(), Stop>
+        requires fits { k < length self.old.cells.items }
+        requires ready { Ready (map (λ n. n.now) names.now) self.old }
+        ensures runs { RunsTo (λ s. Ended (assigned (Cell k) word s)) (map (λ n. n.now) names.now) self.old self.new (sink_of (K.written out.old) (K.puts out.old)) (sink_of (K.written out.new) (K.puts out.new)) result }
+        ensures keeps { Keeps self.old self.new }
+        ensures count { K.faults out.old ≤ K.faults out.new }
+        ensures cause { Excused result (K.faults out.old) (K.faults out.new) }
+    {
+        let k = k as usize;
+        match put_line(names[k], word, &mut self.line, out) {
+            Ok(()) => {}
+            Err(_) => return Err(Stop::WriteFault),
+        }
+        self.cells[k] = word;
+        Ok(())
+    }
+
+    /// Assigns a word, and puts a cell's.
+    fn assign<K: Sink>(
+        &mut self,
+        names: &[&[u8]],
+        to: Slot,
+        word: u64,
+        out: &mut K,
+    ) -> Result<(), Stop>
+        requires fits { SlotFits (length self.old.cells.items) (length self.old.vars.items) to }
+        requires ready { Ready (map (λ n. n.now) names.now) self.old }
+        ensures runs { RunsTo (λ s. Ended (assigned to word s)) (map (λ n. n.now) names.now) self.old self.new (sink_of (K.written out.old) (K.puts out.old)) (sink_of (K.written out.new) (K.puts out.new)) result }
+        ensures keeps { Keeps self.old self.new }
+        ensures count { K.faults out.old ≤ K.faults out.new }
+        ensures cause { Excused result (K.faults out.old) (K.faults out.new) }
+    {
+        match to {
+            Slot::Cell(k) => self.assign_cell(names, k, word, out),
+            Slot::Var(x) => {
+                self.vars[usize::from(x)] = word;
+                Ok(())
+            }
+        }
+    }
+
+    /// Runs statements.
+    #[cycle(run)]
+    pub fn statements<K: Sink>(
+        &mut self,
+        names: &[&[u8]],
+        all: &[Stmt<Slot>],
+        out: &mut K,
+    ) -> Result<(), Stop>
+        requires fits { StatementsFit (length self.old.cells.items) (length self.old.vars.items) (plain_list same_slot all.now) }
+        requires ready { Ready (map (λ n. n.now) names.now) self.old }
+        ensures runs { RunsTo (run (plain_list same_slot all.now)) (map (λ n. n.now) names.now) self.old self.new (sink_of (K.written out.old) (K.puts out.old)) (sink_of (K.written out.new) (K.puts out.new)) result }
+        ensures keeps { Keeps self.old self.new }
+        ensures count { K.faults out.old ≤ K.faults out.new }
+        ensures cause { Excused result (K.faults out.old) (K.faults out.new) }
+    {
+        for s in all {
+            if let Err(stop) = self.statement(names, s, out) {
+                return Err(stop);
+            }
+        }
+        Ok(())
+    }
+
+    /// Runs a statement.
+    #[cycle(run)]
+    fn statement<K: Sink>(
+        &mut self,
+        names: &[&[u8]],
+        s: &Stmt<Slot>,
+        out: &mut K,
+    ) -> Result<(), Stop>
+        requires fits { StatementsFit (length self.old.cells.items) (length self.old.vars.items) (plain_statement same_slot s.now none) }
+        requires ready { Ready (map (λ n. n.now) names.now) self.old }
+        ensures runs { RunsTo (run (plain_statement same_slot s.now none)) (map (λ n. n.now) names.now) self.old self.new (sink_of (K.written out.old) (K.puts out.old)) (sink_of (K.written out.new) (K.puts out.new)) result }
+        ensures keeps { Keeps self.old self.new }
+        ensures count { K.faults out.old ≤ K.faults out.new }
+        ensures cause { Excused result (K.faults out.old) (K.faults out.new) }
+    {
+        match s {
+            Stmt::Assign { to, value } => {
+                let word = self.word(value);
+                self.assign(names, *to, word, out)
+            }
+            Stmt::While { test, body } => self.repeat(names, body, test, out),
+            Stmt::If { test, yes, no } => {
+                if self.word(test) != 0 {
+                    self.statements(names, yes, out)
+                } else {
+                    self.statements(names, no, out)
+                }
+            }
+        }
+    }
+
+    /// Runs a loop.
+    #[cycle(run)]
+    fn repeat<K: Sink>(
+        &mut self,
+        names: &[&[u8]],
+        body: &[Stmt<Slot>],
+        test: &Expr<Slot>,
+        out: &mut K,
+    ) -> Result<(), Stop>
+        requires test { ExpressionFits (length self.old.cells.items) (length self.old.vars.items) (plain_expression same_slot test.now) }
+        requires body { StatementsFit (length self.old.cells.items) (length self.old.vars.items) (plain_list same_slot body.now) }
+        requires ready { Ready (map (λ n. n.now) names.now) self.old }
+        ensures runs { RunsTo (loops self.old.left (plain_expression same_slot test.now) (run (plain_list same_slot body.now))) (map (λ n. n.now) names.now) self.old self.new (sink_of (K.written out.old) (K.puts out.old)) (sink_of (K.written out.new) (K.puts out.new)) result }
+        ensures keeps { Keeps self.old self.new }
+        ensures count { K.faults out.old ≤ K.faults out.new }
+        ensures cause { Excused result (K.faults out.old) (K.faults out.new) }
+    {
+        while self.word(test) != 0 {
+            if self.left == 0 {
+                return Err(Stop::Cut);
+            }
+            self.left -= 1;
+            if let Err(stop) = self.statements(names, body, out) {
+                return Err(stop);
+            }
+        }
+        Ok(())
+    }
+}

@@ -1,0 +1,56 @@
+//! A program's meaning.
+ghost use Rattle.std.specs.Prelude.{◌≡◌, ◌≤◌, map, replicate, IfOk};
+ghost use Rattle.ft_scope.specs.ProgramOf.{program_of};
+ghost use Rattle.ft_meaning.specs.Meaning.{meaning, outputs};
+ghost use Rattle.ft_meaning.specs.Lines.{lines};
+ghost use Rattle.ft_meaning.specs.Ends.{EndsAs, Writes, Puts, IsExcused};
+ghost use Rattle.ft_meaning.specs.Runs.{Ready};
+
+use crate::mean_end::MeanEnd;
+use crate::output_line::{VALUE_ROOM, longest};
+use crate::run::{Run, Stop};
+use ft_edge::Sink;
+use ft_isa::NoMemory;
+use ft_scope::Prog;
+use std::alloc::Global;
+
+/// A run of a program at its start, with so many turns.
+fn start(alloc: Global, prog: &Prog<'_>, turns: u64) -> Result<Run, NoMemory>
+    ensures vars { IfOk result (λ r. r.vars.items ≡ replicate prog.now.vars 0) }
+    ensures cells { IfOk result (λ r. r.cells.items ≡ prog.now.inits.items) }
+    ensures left { IfOk result (λ r. r.left ≡ turns) }
+    ensures ready { IfOk result (Ready (map (λ n. n.now) prog.now.names.items)) }
+{
+    let Some(room) = longest(&prog.names).checked_add(VALUE_ROOM) else {
+        return Err(NoMemory);
+    };
+    Ok(Run {
+        vars: Vec::from_elem(alloc, 0, usize::from(prog.vars))?,
+        cells: Vec::from_slice(alloc, &prog.inits)?,
+        left: turns,
+        line: Vec::from_elem(alloc, 0, room)?,
+    })
+}
+
+/// Gives a program's meaning with this many loop turns over the whole run: puts a line for each output,
+/// and tells how the meaning ended. `Cut` comes exactly where a loop's test is not 0 with no turn left;
+/// `WriteFault` only where a put failed, after which nothing is put; `NoMemory` before the first put.
+///
+/// It takes time in proportion to the work, and calls itself no deeper than statements and operators
+/// nest in the source.
+pub fn mean<K: Sink>(alloc: Global, prog: &Prog<'_>, turns: u64, out: &mut K) -> MeanEnd
+    ensures ends { EndsAs result (meaning (program_of prog.now) turns) }
+    ensures writes { Writes result (K.written out.old) (K.written out.new) (lines (program_of prog.now).names (outputs (meaning (program_of prog.now) turns))) }
+    ensures puts { Puts result (program_of prog.now).names (outputs (meaning (program_of prog.now) turns)) (K.written out.old) (K.written out.new) (K.puts out.old) (K.puts out.new) }
+    ensures count { K.faults out.old ≤ K.faults out.new }
+    ensures cause { IsExcused result (K.faults out.old) (K.faults out.new) }
+{
+    let Ok(mut state) = start(alloc, prog, turns) else {
+        return MeanEnd::NoMemory;
+    };
+    match state.statements(&prog.names, &prog.body, out) {
+        Ok(()) => MeanEnd::Ended,
+        Err(Stop::Cut) => MeanEnd::Cut,
+        Err(Stop::WriteFault) => MeanEnd::WriteFault,
+    }
+}

@@ -1,0 +1,9 @@
+pub mod Fits
+pub mod Forms
+pub mod Measures
+pub mod Found
+pub mod DeclaredNames
+pub mod Renames
+pub mod Narrowed
+pub mod Outcomes
+pub mod Resolves

@@ -1,0 +1,40 @@
+-- What the table of names holds.
+use Rattle.std.specs.Prelude.{◌≡◌, ℕ, List, map, Option, Some, min, is_some, true}
+use Rattle.std.specs.Option.{option_map}
+use Rattle.std.specs.Str.{bytes_eq}
+use Rattle.indexmap.specs.IndexMap.{get_by}
+use Rattle.ft_syntax.specs.Syntax.{Declared}
+use Rattle.ft_syntax.specs.declared.source_error.SourceError.{SourceError}
+use Rattle.ft_syntax.specs.declared.source_error.SourceError.TheVariants.{Twice, NoMemory}
+use Rattle.ft_scope.specs.declared.slot.Slot.{Slot}
+use Rattle.ft_scope.specs.declared.slot.Slot.TheVariants.{Cell, Var}
+use Rattle.ft_scope.specs.declared.names.Names.{Names}
+use Rattle.ft_scope.specs.Scope.{find, cell_names, cell_words, variable_count}
+
+-- a slot as the table has it: the number of a variable is at most 255
+abbrev pub narrow : Slot → Slot
+narrow (Cell k) = Cell k
+narrow (Var x) = Var (min x 255)
+
+-- what the table has for a text
+unfoldable pub look : Names → List ℕ → Option Slot
+look n text = get_by (λ k. bytes_eq text k.now) n.slots
+
+-- the table holds these declarations
+pub record Holds (n : Names) (ds : List Declared) : Type 0 where
+  pub slots : (text : List ℕ) → look n text ≡ option_map narrow (find ds text)
+  pub cells : map (λ r. r.now) n.cells.items ≡ cell_names ds
+  pub inits : n.inits.items ≡ cell_words ds
+  pub vars : n.vars ≡ variable_count ds
+
+-- a declaration fails at the place of its name, where that was declared before; want of memory says nothing
+abbrev pub DeclareFails : SourceError → ℕ → Option Slot → Type 0
+DeclareFails (Twice at) place before = (at ≡ place) × (is_some before ≡ true)
+DeclareFails NoMemory place before = Unit {0}
+DeclareFails _ place before = ⊥
+
+-- declarations fail at the first name that was declared before; want of memory says nothing
+abbrev pub TwiceFails : SourceError → Option ℕ → Type 0
+TwiceFails (Twice at) first = first ≡ Some at
+TwiceFails NoMemory first = Unit {0}
+TwiceFails _ first = ⊥

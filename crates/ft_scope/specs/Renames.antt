@@ -1,0 +1,16 @@
+-- What a step of the renaming answers.
+use Rattle.std.specs.Prelude.{◌≡◌, ℕ, List, Option, Some, Result, Err}
+use Rattle.ft_syntax.specs.declared.source_error.SourceError.{SourceError}
+use Rattle.ft_syntax.specs.declared.source_error.SourceError.TheVariants.{Unknown, NoMemory}
+use Rattle.ft_scope.specs.declared.slot.Slot.{Slot}
+use Rattle.ft_scope.specs.Size.{SlotFits}
+
+-- an error of the code against a result of the definition; want of memory says nothing
+abbrev pub Fails : {A : Type 0} → SourceError → Result A ℕ → Type 0
+Fails (Unknown at) r = r ≡ Err at
+Fails NoMemory r = Unit {0}
+Fails _ r = ⊥
+
+-- what is found is one of c cells or v variables
+abbrev pub AllFit : (List ℕ → Option Slot) → ℕ → ℕ → Type 0
+AllFit look c v = (text : List ℕ) (s : Slot) → look text ≡ Some s → SlotFits c v s
