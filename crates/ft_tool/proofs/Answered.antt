@@ -1,22 +1,32 @@
 -- What the parts of a command conclude.
-use Rattle.std.proofs.Common.{◌≡◌, ℕ, ◌<◌, List, [], length, Option, Some, None, inl, inr, refl, sym, ap, subst, arith}
+use Rattle.std.proofs.Common.{◌≡◌, false, nat_le, ℕ, zero, suc, ◌<◌, List, [], ◌∷◌, length, Option, Some, None, Ok, Err, inl, inr, refl, sym, ap, ◌∙◌, subst, arith}
 use Rattle.std.specs.Prelude.{IfSome}
+use Rattle.std.proofs.lemmas.Bool.{lt-leb}
 use Rattle.std.specs.Io.KnownBytes.{append_known}
 use Rattle.ft_edge.specs.Causes.{AddsPrefix}
 use Rattle.ft_edge.specs.Loads.{Files, IsLonger}
 use Rattle.ft_isa.specs.declared.plan.Wild.{Wild}
-use Rattle.ft_types.specs.declared.object.Object.{Object}
+use Rattle.ft_types.specs.declared.object.Object as objects
 use Rattle.ft_types.specs.declared.status.Status.{Status}
 use Rattle.ft_types.specs.Run.{run, status_after, outputs_after}
 use Rattle.ft_types.specs.Texts.{lines}
-use Rattle.ft_tool.specs.declared.top.Ending.{Ending}
-use Rattle.ft_tool.specs.declared.top.Ending.TheVariants.{Done, Detected, Usage, LoadFault, WriteFault, NoMemory, NotBuilt, OutOfSteps}
-use Rattle.ft_tool.specs.Spelling.{spelling, spelled_header}
-use Rattle.ft_tool.specs.Plain.{Spells}
-use Rattle.ft_tool.specs.Commands.{Trial}
-use Rattle.ft_tool.specs.Answers.{Answer, not_built, ran, status_of_run, TrialAnswer, IsFile, Concludes, BreaksOff}
+use Rattle.ft_object.specs.Broken.{broken}
+use Rattle.ft_object.specs.declared.object_error.ObjectError.TheVariants.{Length}
+use Rattle.ft_command.specs.Options.{Word}
+use Rattle.ft_command.specs.Commands.{Run}
+use Rattle.ft_tool.specs.declared.load.ObjectFault.{ObjectFault}
+use Rattle.ft_tool.specs.declared.load.ObjectFault.TheVariants.{Refused, Failed, NoMemory as no_memory}
+use Rattle.ft_tool.specs.declared.ending.Ending.{Ending}
+use Rattle.ft_tool.specs.declared.ending.Ending.TheVariants.{Done, Detected, Usage, LoadFault, WriteFault, NoMemory, Source, Object, NotAccepted, OutOfSteps, Corrupt, FaultList}
+use Rattle.ft_types.specs.Accepted.{Refusal, refusal}
+use Rattle.ft_checker.specs.declared.error.CheckError.{CheckError}
+use Rattle.ft_checker.specs.declared.error.CheckError.TheVariants as checks
+use Rattle.ft_checker.specs.Judges.{IsRefusalOf}
+use Rattle.ft_tool.specs.Texts.{check_line}
+use Rattle.ft_tool.specs.Replies.{Answer}
+use Rattle.ft_tool.specs.Answers.{ran, tried, judged, checked, run_unless, run_checked, status_of_run, OverFile, Concludes, BreaksOff}
+use Rattle.ft_tool.specs.Files.{LoadsObject, IsRefusedBy, IsNotAccepted}
 use Rattle.ft_tool.specs.Endings.{Ends}
-use Rattle.ft_tool.proofs.Whole.{length-spelling}
 
 -- an ending says the same of an answer that is known less well
 pub Ends-map : (e : Ending) (P Q : Answer → Type 0) (old new : Option (List ℕ)) (before now : ℕ) (L M : Type 0) → ((a : Answer) → P a → Q a) → (L → M) → Ends e P old new before now L → Ends e Q old new before now M
@@ -26,37 +36,78 @@ Ends-map Usage P Q old new before now L M f g h = record { answer = h.answer; is
 Ends-map LoadFault P Q old new before now L M f g h = (h.0, g h.1)
 Ends-map WriteFault P Q old new before now L M f g h = (h.0, record { answer = h.1.answer; is = f h.1.answer h.1.is; written = h.1.written })
 Ends-map NoMemory P Q old new before now L M f g h = h
-Ends-map NotBuilt P Q old new before now L M f g h = record { answer = h.answer; is = f h.answer h.is; written = h.written; status_is = h.status_is }
+Ends-map Source P Q old new before now L M f g h = record { answer = h.answer; is = f h.answer h.is; written = h.written; status_is = h.status_is }
+Ends-map Object P Q old new before now L M f g h = record { answer = h.answer; is = f h.answer h.is; written = h.written; status_is = h.status_is }
+Ends-map NotAccepted P Q old new before now L M f g h = record { answer = h.answer; is = f h.answer h.is; written = h.written; status_is = h.status_is }
 Ends-map OutOfSteps P Q old new before now L M f g h = record { answer = h.answer; is = f h.answer h.is; written = h.written; status_is = h.status_is }
+Ends-map Corrupt P Q old new before now L M f g h = record { answer = h.answer; is = f h.answer h.is; written = h.written; status_is = h.status_is }
+Ends-map FaultList P Q old new before now L M f g h = record { answer = h.answer; is = f h.answer h.is; written = h.written; status_is = h.status_is }
 
 -- a run whose lines were written
-pub concludes : (t : Trial) (bytes : List ℕ) (o : Object) (w : List Wild) (v : Status) (old new : Option (List ℕ)) → Spells bytes o → w ≡ t.wild → status_after o t.strike w t.steps ≡ v
-    → new ≡ append_known old (lines o (outputs_after o t.strike w t.steps)) → Concludes (TrialAnswer t bytes) (status_of_run v) old new
-concludes t bytes o w v old new spells is status written = record {
-  answer = ran o (run o t.strike t.wild t.steps);
-  is = inl (o, (spells, refl));
-  written = subst (λ ws. new ≡ append_known old (lines o (outputs_after o t.strike ws t.steps))) is written;
-  status_is = ap status_of_run (sym (subst (λ ws. status_after o t.strike ws t.steps ≡ v) is status));
+pub concludes : (r : Run) (o : objects.Object) (w : List Wild) (v : Status) (old new : Option (List ℕ)) → w ≡ r.wild → status_after o r.strike w r.steps ≡ v
+    → new ≡ append_known old (lines o (outputs_after o r.strike w r.steps)) → Concludes (λ a. a ≡ tried r o) (status_of_run v) old new
+concludes r o w v old new is status written = record {
+  answer = ran o (run o r.strike r.wild r.steps);
+  is = refl;
+  written = subst (λ ws. new ≡ append_known old (lines o (outputs_after o r.strike ws r.steps))) is written;
+  status_is = ap status_of_run (sym (subst (λ ws. status_after o r.strike ws r.steps ≡ v) is status));
 }
 
 -- a run of whose lines a front was written
-pub breaks_off : (t : Trial) (bytes : List ℕ) (o : Object) (w : List Wild) (old new : Option (List ℕ)) → Spells bytes o → w ≡ t.wild
-    → AddsPrefix old new (lines o (outputs_after o t.strike w t.steps)) → BreaksOff (TrialAnswer t bytes) old new
-breaks_off t bytes o w old new spells is written = record {
-  answer = ran o (run o t.strike t.wild t.steps);
-  is = inl (o, (spells, refl));
-  written = subst (λ ws. AddsPrefix old new (lines o (outputs_after o t.strike ws t.steps))) is written;
+pub breaks_off : (r : Run) (o : objects.Object) (w : List Wild) (old new : Option (List ℕ)) → w ≡ r.wild
+    → AddsPrefix old new (lines o (outputs_after o r.strike w r.steps)) → BreaksOff (λ a. a ≡ tried r o) old new
+breaks_off r o w old new is written = record {
+  answer = ran o (run o r.strike r.wild r.steps);
+  is = refl;
+  written = subst (λ ws. AddsPrefix old new (lines o (outputs_after o r.strike ws r.steps))) is written;
 }
 
--- no object is spelled in more bytes than a file may have
-pub too_long : (bytes : List ℕ) → 67108864 < length bytes → (o : Object) → ¬ (Spells bytes o)
-too_long bytes long o h = absurd (omega (arith, long, ap length h.spelled, length-spelling o h.plain))
+-- the line of a refusal, whole or a front of it
+pub refusal_concludes : (Is : Answer → Type 0) (r : Refusal) (old new : Option (List ℕ)) (line : List ℕ) → Is (judged (Some r)) → line ≡ check_line r → new ≡ append_known old line → Concludes Is 8 old new
+refusal_concludes Is r old new line is e written = record { answer = judged (Some r); is = is; written = written ∙ ap (append_known old) e; status_is = refl }
 
-nothing_spelled : (o : Object) → ¬ (Spells [] o)
-unfolding spelling spelled_header
-nothing_spelled o h = let e = h.spelled in absurd cc
+pub refusal_breaks_off : (Is : Answer → Type 0) (r : Refusal) (old new : Option (List ℕ)) (line : List ℕ) → Is (judged (Some r)) → line ≡ check_line r → AddsPrefix old new line → BreaksOff Is old new
+refusal_breaks_off Is r old new line is e written = record { answer = judged (Some r); is = is; written = subst (AddsPrefix old new) e written }
 
--- where a file is too long its bytes spell no object; where the shelf does not tell them they may be any that do not
-pub too_long_file : (t : Trial) (files : Option Files) → IfSome files (λ fs. IsLonger fs t.object 67108864) → (a : Answer) → a ≡ not_built → (bytes : List ℕ) × (IsFile files t.object bytes × TrialAnswer t bytes a)
-too_long_file t None told a is = ([], (tt, inr (nothing_spelled, is)))
-too_long_file t (Some files) told a is = (told.bytes, (told.found, inr (too_long told.bytes told.longer, is)))
+-- an object that is accepted is run, and one that is refused is not
+pub run_accepted : (r : Run) (o : objects.Object) → refusal o ≡ None → run_checked r o ≡ tried r o
+run_accepted r o h = ap (λ x. run_unless x r o) h
+
+-- the answer of a check that is refused
+pub checked_refused : (e : CheckError) (o : objects.Object) → IsRefusalOf (refusal o) e → (a : Answer) → IsNotAccepted e a → a ≡ checked o
+checked_refused checks.EntryType o h a is = is ∙ sym (ap judged h)
+checked_refused (checks.CellType k) o h a is = is ∙ sym (ap judged h)
+checked_refused (checks.Refused b i why) o h a is = is ∙ sym (ap judged h)
+checked_refused checks.NoMemory o h a is = absurd is
+
+-- the answer of a run whose object is refused
+pub run_refused : (e : CheckError) (r : Run) (o : objects.Object) → IsRefusalOf (refusal o) e → (a : Answer) → IsNotAccepted e a → a ≡ run_checked r o
+run_refused checks.EntryType r o h a is = is ∙ sym (ap (λ x. run_unless x r o) h)
+run_refused (checks.CellType k) r o h a is = is ∙ sym (ap (λ x. run_unless x r o) h)
+run_refused (checks.Refused b i why) r o h a is = is ∙ sym (ap (λ x. run_unless x r o) h)
+run_refused checks.NoMemory r o h a is = absurd is
+
+-- there are lists longer than any number
+pub longer_bytes : (n : ℕ) → (bytes : List ℕ) × (n < length bytes)
+longer_bytes zero = (0 ∷ [], omega arith)
+longer_bytes (suc n) = let h = longer_bytes n in (0 ∷ h.0, omega (arith, h.1))
+
+-- bytes beyond the limit are refused by their length
+pub too_long : (bytes : List ℕ) → 67108864 < length bytes → broken bytes ≡ Some (Length 67108864)
+unfolding broken
+too_long bytes long = let beyond : nat_le (length bytes) 67108864 ≡ false = lt-leb (length bytes) 67108864 long in rw beyond refl
+
+-- a file beyond the limit is refused by its length; where the shelf does not tell it, its bytes may be any such
+pub too_long_file : (files : Option Files) (name : Word) → IfSome files (λ fs. IsLonger fs name 67108864) → LoadsObject files name (Err (Refused (Length 67108864)))
+too_long_file None name told = let h = longer_bytes 67108864 in (h.0, (tt, too_long h.0 h.1))
+too_long_file (Some files) name told = (told.bytes, (told.found, too_long told.bytes told.longer))
+
+-- the answer over an object that a file's bytes spell is one over the file
+pub over_object : (over : objects.Object → Answer) (files : Option Files) (name : Word) (o : objects.Object) → LoadsObject files name (Ok o) → (a : Answer) → a ≡ over o → OverFile over name files a
+over_object over files name o h a is = (h.0, (h.1.0, inl (o, (h.1.1, is))))
+
+-- the answer to a file's bytes that are refused is one over the file
+pub over_fault : (over : objects.Object → Answer) (files : Option Files) (name : Word) (e : ObjectFault) → LoadsObject files name (Err e) → (a : Answer) → IsRefusedBy e a → OverFile over name files a
+over_fault over files name (Refused e) h a is = (h.0, (h.1.0, inr (e, (h.1.1, is))))
+over_fault over files name Failed h a is = absurd is
+over_fault over files name no_memory h a is = absurd is

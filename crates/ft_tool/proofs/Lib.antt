@@ -1,13 +1,3 @@
-pub mod Many
-pub mod Joined
-pub mod Tests
-pub mod Fields
-pub mod Steps
-pub mod Instrs
-pub mod Cells
-pub mod Distinct
-pub mod Lengths
-pub mod Header
-pub mod Whole
-pub mod Options
-pub mod Answered
+mod Answered
+mod Meant
+mod Tried

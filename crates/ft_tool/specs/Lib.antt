@@ -1,7 +1,7 @@
-pub mod Commands
-pub mod Spelling
-pub mod Plain
+pub mod Texts
+pub mod Replies
+pub mod Lists
+pub mod Sources
 pub mod Answers
-pub mod Asked
+pub mod Files
 pub mod Endings
-pub mod Reading

@@ -1,12 +1,16 @@
-//! The tool: words in, a text and a status out.
+//! The tool: what a command line does over files, a script and an output.
 //!
-//! The crate promises that `tool` writes and answers what the command does that the words ask for:
-//! `specs/Commands.antt` says what words ask for, `specs/Answers.antt` what each command writes and
-//! its status, `specs/Spelling.antt` and `specs/Plain.antt` which bytes spell an object.
+//! The crate promises that `tool` writes and answers what the words ask for, a row for each command in
+//! `specs/Answers.antt`; the words' table stands in `ft_command`. The lines of refusals stand in
+//! `specs/Texts.antt`.
 #![tactic(auto)]
 
-mod command;
-mod plain;
+mod campaigns;
+mod ending;
+mod load;
+mod objects;
+mod refused;
+mod sources;
 mod top;
 
 pub use top::tool;

@@ -1,104 +1,105 @@
 //! The top call.
-ghost use Rattle.std.specs.Prelude.{◌≡◌, ◌≢◌, map, string_bytes, Some, IsTrue};
+ghost use Rattle.std.specs.Prelude.{◌≡◌, ◌≢◌, ◌≤◌, map, string_bytes, IsTrue};
 ghost use Rattle.ft_edge.specs.Causes.{Rose};
-ghost use Rattle.ft_tool.specs.Commands.{Asks, Usage, Tries};
-ghost use Rattle.ft_tool.specs.Asked.{trial_view};
-ghost use Rattle.ft_tool.specs.Answers.{usage, not_built, TrialAnswer, Answers, IsAnswer, Concludes, BreaksOff, FailedToLoad, is_status};
-ghost use Rattle.ft_tool.specs.Endings.{Ends, Puts};
 ghost use Rattle.ft_edge.specs.Puts.{one_more};
+ghost use Rattle.ft_command.specs.Commands.{Asks, Usage, Checks, Runs, Tries, Strikes, Surveys};
+ghost use Rattle.ft_command.specs.Asked.{run_view, campaign_view};
+ghost use Rattle.ft_tool.specs.Answers.{Answers, IsAnswer, Concludes, BreaksOff, FailsIn, FailedToLoad, is_status};
+ghost use Rattle.ft_tool.specs.Endings.{Ends, Puts};
 
-use crate::command::{Command, Trial, command_of};
-use crate::plain::{ReadError, plain_object};
-use ft_edge::{Load, LoadFault, Shelf, Sink, Source};
-use ft_isa::Plan;
-use ft_machine::{Machine, RunEnd, drive};
+use crate::campaigns::{strike_object, survey_object};
+use crate::ending::{Ending, put_usage, refuse_object};
+use crate::load::load_object;
+use crate::objects::{check_object, run_object, try_object};
+use crate::sources::mean_file;
+use ft_command::{Campaign, Command, Run, command_of};
+use ft_edge::{Shelf, Sink, Source};
 use std::alloc::Global;
 
-/// The most bytes of a file that are read as an object.
-const OBJECT_LIMIT: usize = 67_108_864;
-
-/// How a command ended.
-#[derive(Clone, Copy, Debug, PartialEq, Eq)]
-enum Ending {
-    Done,
-    Detected,
-    Usage,
-    LoadFault,
-    WriteFault,
-    NoMemory,
-    NotBuilt,
-    OutOfSteps,
-}
-
-/// Puts the line of words that are no command.
-fn put_usage<K: Sink>(out: &mut K) -> Ending
-    ensures ends { Ends result (λ a. a ≡ usage) (K.written out.old) (K.written out.new) (K.faults out.old) (K.faults out.new) ⊥ }
-    ensures puts { Puts result (K.puts out.old) (K.puts out.new) }
-    ensures one_put { K.puts out.new ≡ one_more (K.puts out.old) }
-    ensures faults { result ≢ Ending.WriteFault → K.faults out.new ≡ K.faults out.old }
-{
-    match out.put(b"usage\n") {
-        Ok(()) => Ending::Usage,
-        Err(_) => Ending::WriteFault,
-    }
-}
-
-/// Puts the line of an object that is not built.
-fn put_not_built<K: Sink>(out: &mut K) -> Ending
-    ensures ends { Ends result (λ a. a ≡ not_built) (K.written out.old) (K.written out.new) (K.faults out.old) (K.faults out.new) ⊥ }
-    ensures puts { Puts result (K.puts out.old) (K.puts out.new) }
-    ensures one_put { K.puts out.new ≡ one_more (K.puts out.old) }
-    ensures faults { result ≢ Ending.WriteFault → K.faults out.new ≡ K.faults out.old }
-{
-    match out.put(b"not built\n") {
-        Ok(()) => Ending::NotBuilt,
-        Err(_) => Ending::WriteFault,
-    }
-}
-
-/// Runs the object that the bytes spell.
-fn try_bytes<K: Sink>(alloc: Global, bytes: &[u8], trial: &Trial, out: &mut K) -> Ending
-    ensures ends { Ends result (TrialAnswer (trial_view trial.now) bytes.now)
-        (K.written out.old) (K.written out.new) (K.faults out.old) (K.faults out.new) ⊥ }
-    ensures puts { Puts result (K.puts out.old) (K.puts out.new) }
-    ensures faults { result ≢ Ending.WriteFault → K.faults out.new ≡ K.faults out.old }
-{
-    let object = match plain_object(alloc, bytes) {
-        Ok(object) => object,
-        Err(ReadError::NotPlain) => return put_not_built(out),
-        Err(ReadError::NoMemory) => return Ending::NoMemory,
-    };
-    let mut machine = match Machine::new(alloc, &object) {
-        Ok(machine) => machine,
-        Err(_) => return Ending::NoMemory,
-    };
-    let plan = Plan {
-        strike: trial.strike,
-        wild: trial.wild.as_slice(),
-    };
-    match drive(&mut machine, &object, plan, trial.steps, out) {
-        RunEnd::Done => Ending::Done,
-        RunEnd::Detected => Ending::Detected,
-        RunEnd::OutOfSteps => Ending::OutOfSteps,
-        RunEnd::WriteFault => Ending::WriteFault,
-    }
-}
-
-/// Loads an object and runs it.
-fn try_file<F: Shelf, K: Sink>(alloc: Global, trial: &Trial, shelf: &mut F, out: &mut K) -> Ending
-    ensures ends { Ends result (Answers (Tries (trial_view trial.now)) (F.files shelf.old))
+/// Loads an object and checks it.
+fn check_file<F: Shelf, K: Sink>(alloc: Global, name: &str, shelf: &mut F, out: &mut K) -> Ending
+    ensures ends { Ends result (Answers (Checks name.now) (F.files shelf.old))
         (K.written out.old) (K.written out.new) (K.faults out.old) (K.faults out.new)
-        (Rose (F.faults shelf.old) (F.faults shelf.new) × (F.failed_name shelf.new ≡ Some trial.now.object.now)) }
+        (FailsIn (Checks name.now) (F.files shelf.old) (F.faults shelf.old) (F.faults shelf.new) (F.failed_name shelf.new)) }
     ensures puts { Puts result (K.puts out.old) (K.puts out.new) }
     ensures faults { result ≢ Ending.WriteFault → K.faults out.new ≡ K.faults out.old }
     ensures load_faults { result ≢ Ending.LoadFault → (F.faults shelf.new ≡ F.faults shelf.old) × (F.failed_name shelf.new ≡ F.failed_name shelf.old) }
 {
-    let mut bytes = Vec::new(alloc);
-    match shelf.load(trial.object, OBJECT_LIMIT, &mut bytes) {
-        Ok(Load::Whole) => try_bytes(alloc, bytes.as_slice(), trial, out),
-        Ok(Load::TooLong) => put_not_built(out),
-        Err(LoadFault::Failed) => Ending::LoadFault,
-        Err(LoadFault::NoMemory) => Ending::NoMemory,
+    match load_object(alloc, name, shelf) {
+        Ok(object) => check_object(alloc, &object, out),
+        Err(fault) => refuse_object(fault, out),
+    }
+}
+
+/// Loads an object and runs it, if it is accepted.
+fn run_file<F: Shelf, K: Sink>(alloc: Global, run: &Run, shelf: &mut F, out: &mut K) -> Ending
+    ensures ends { Ends result (Answers (Runs (run_view run.now)) (F.files shelf.old))
+        (K.written out.old) (K.written out.new) (K.faults out.old) (K.faults out.new)
+        (FailsIn (Runs (run_view run.now)) (F.files shelf.old) (F.faults shelf.old) (F.faults shelf.new) (F.failed_name shelf.new)) }
+    ensures puts { Puts result (K.puts out.old) (K.puts out.new) }
+    ensures faults { result ≢ Ending.WriteFault → K.faults out.new ≡ K.faults out.old }
+    ensures load_faults { result ≢ Ending.LoadFault → (F.faults shelf.new ≡ F.faults shelf.old) × (F.failed_name shelf.new ≡ F.failed_name shelf.old) }
+{
+    match load_object(alloc, run.object, shelf) {
+        Ok(object) => run_object(alloc, &object, run, out),
+        Err(fault) => refuse_object(fault, out),
+    }
+}
+
+/// Loads an object and runs it without checking it.
+fn try_file<F: Shelf, K: Sink>(alloc: Global, run: &Run, shelf: &mut F, out: &mut K) -> Ending
+    ensures ends { Ends result (Answers (Tries (run_view run.now)) (F.files shelf.old))
+        (K.written out.old) (K.written out.new) (K.faults out.old) (K.faults out.new)
+        (FailsIn (Tries (run_view run.now)) (F.files shelf.old) (F.faults shelf.old) (F.faults shelf.new) (F.failed_name shelf.new)) }
+    ensures puts { Puts result (K.puts out.old) (K.puts out.new) }
+    ensures faults { result ≢ Ending.WriteFault → K.faults out.new ≡ K.faults out.old }
+    ensures load_faults { result ≢ Ending.LoadFault → (F.faults shelf.new ≡ F.faults shelf.old) × (F.failed_name shelf.new ≡ F.failed_name shelf.old) }
+{
+    match load_object(alloc, run.object, shelf) {
+        Ok(object) => try_object(alloc, &object, run, out),
+        Err(fault) => refuse_object(fault, out),
+    }
+}
+
+/// Loads an object, checks it, and tries a fault list on it.
+fn strike_file<F: Shelf, K: Sink>(
+    alloc: Global,
+    asked: &Campaign,
+    shelf: &mut F,
+    out: &mut K,
+) -> Ending
+    requires { asked.now.steps ≤ 1000000 }
+    ensures ends { Ends result (Answers (Strikes (campaign_view asked.now)) (F.files shelf.old))
+        (K.written out.old) (K.written out.new) (K.faults out.old) (K.faults out.new)
+        (FailsIn (Strikes (campaign_view asked.now)) (F.files shelf.old) (F.faults shelf.old) (F.faults shelf.new) (F.failed_name shelf.new)) }
+    ensures puts { Puts result (K.puts out.old) (K.puts out.new) }
+    ensures faults { result ≢ Ending.WriteFault → K.faults out.new ≡ K.faults out.old }
+    ensures load_faults { result ≢ Ending.LoadFault → (F.faults shelf.new ≡ F.faults shelf.old) × (F.failed_name shelf.new ≡ F.failed_name shelf.old) }
+{
+    match load_object(alloc, asked.object, shelf) {
+        Ok(object) => strike_object(alloc, &object, asked, shelf, out),
+        Err(fault) => refuse_object(fault, out),
+    }
+}
+
+/// Loads an object and tries a fault list on it without checking it.
+fn survey_file<F: Shelf, K: Sink>(
+    alloc: Global,
+    asked: &Campaign,
+    shelf: &mut F,
+    out: &mut K,
+) -> Ending
+    requires { asked.now.steps ≤ 1000000 }
+    ensures ends { Ends result (Answers (Surveys (campaign_view asked.now)) (F.files shelf.old))
+        (K.written out.old) (K.written out.new) (K.faults out.old) (K.faults out.new)
+        (FailsIn (Surveys (campaign_view asked.now)) (F.files shelf.old) (F.faults shelf.old) (F.faults shelf.new) (F.failed_name shelf.new)) }
+    ensures puts { Puts result (K.puts out.old) (K.puts out.new) }
+    ensures faults { result ≢ Ending.WriteFault → K.faults out.new ≡ K.faults out.old }
+    ensures load_faults { result ≢ Ending.LoadFault → (F.faults shelf.new ≡ F.faults shelf.old) × (F.failed_name shelf.new ≡ F.failed_name shelf.old) }
+{
+    match load_object(alloc, asked.object, shelf) {
+        Ok(object) => survey_object(alloc, &object, asked, shelf, out),
+        Err(fault) => refuse_object(fault, out),
     }
 }
 
@@ -111,7 +112,7 @@ fn carry_out<F: Shelf, K: Sink>(
 ) -> Ending
     ensures ends { Ends result (IsAnswer (map string_bytes words.now) (F.files shelf.old))
         (K.written out.old) (K.written out.new) (K.faults out.old) (K.faults out.new)
-        (FailedToLoad (map string_bytes words.now) (F.faults shelf.old) (F.faults shelf.new) (F.failed_name shelf.new)) }
+        (FailedToLoad (map string_bytes words.now) (F.files shelf.old) (F.faults shelf.old) (F.faults shelf.new) (F.failed_name shelf.new)) }
     ensures usage { result ≡ Ending.Usage → Asks (map string_bytes words.now) Usage }
     ensures puts { Puts result (K.puts out.old) (K.puts out.new) }
     ensures faults { result ≢ Ending.WriteFault → K.faults out.new ≡ K.faults out.old }
@@ -119,7 +120,12 @@ fn carry_out<F: Shelf, K: Sink>(
 {
     match command_of(alloc, words) {
         Ok(Command::Usage) => put_usage(out),
-        Ok(Command::Trial(trial)) => try_file(alloc, &trial, shelf, out),
+        Ok(Command::Check(name)) => check_file(alloc, name, shelf, out),
+        Ok(Command::Run(run)) => run_file(alloc, &run, shelf, out),
+        Ok(Command::Trial(run)) => try_file(alloc, &run, shelf, out),
+        Ok(Command::Campaign(asked)) => strike_file(alloc, &asked, shelf, out),
+        Ok(Command::Survey(asked)) => survey_file(alloc, &asked, shelf, out),
+        Ok(Command::Mean(asked)) => mean_file(alloc, &asked, shelf, out),
         Err(_) => Ending::NoMemory,
     }
 }
@@ -141,7 +147,7 @@ pub fn tool<F: Shelf, I: Source, K: Sink>(
     ensures usage { result ≡ 2 → Asks (map string_bytes words.now) Usage }
 
     // A load of the command's own file failed, and nothing was written.
-    ensures load_fault { result ≡ 3 → FailedToLoad (map string_bytes words.now)
+    ensures load_fault { result ≡ 3 → FailedToLoad (map string_bytes words.now) (F.files shelf.old)
         (F.faults shelf.old) (F.faults shelf.new) (F.failed_name shelf.new) }
     ensures load_fault_writes_nothing { result ≡ 3 → K.written out.new ≡ K.written out.old }
 
@@ -156,7 +162,10 @@ pub fn tool<F: Shelf, I: Source, K: Sink>(
     // No put failed where the answer is another. A line of its own is one put.
     ensures write_faults { result ≢ 4 → K.faults out.new ≡ K.faults out.old }
     ensures usage_is_one_put { result ≡ 2 → K.puts out.new ≡ one_more (K.puts out.old) }
-    ensures not_built_is_one_put { result ≡ 7 → K.puts out.new ≡ one_more (K.puts out.old) }
+    ensures refused_source_is_one_put { result ≡ 6 → K.puts out.new ≡ one_more (K.puts out.old) }
+    ensures refusal_is_one_put { result ≡ 7 → K.puts out.new ≡ one_more (K.puts out.old) }
+    ensures refused_check_is_one_put { result ≡ 8 → K.puts out.new ≡ one_more (K.puts out.old) }
+    ensures refused_list_is_one_put { result ≡ 11 → K.puts out.new ≡ one_more (K.puts out.old) }
     ensures load_fault_puts_nothing { result ≡ 3 → K.puts out.new ≡ K.puts out.old }
     ensures no_memory_puts_nothing { result ≡ 5 → K.puts out.new ≡ K.puts out.old }
 
@@ -171,7 +180,11 @@ pub fn tool<F: Shelf, I: Source, K: Sink>(
         Ending::LoadFault => 3,
         Ending::WriteFault => 4,
         Ending::NoMemory => 5,
-        Ending::NotBuilt => 7,
+        Ending::Source => 6,
+        Ending::Object => 7,
+        Ending::NotAccepted => 8,
         Ending::OutOfSteps => 9,
+        Ending::Corrupt => 10,
+        Ending::FaultList => 11,
     }
 }

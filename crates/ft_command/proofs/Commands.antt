@@ -1,0 +1,116 @@
+-- Commands by their first words.
+use Rattle.std.proofs.Common.{◌≡◌, List, [], ◌∷◌, refl, sym, ap, ◌∙◌, subst, slice_index, slice_index_or, drop, if◌then◌else◌, ◌==◌, Option, Some, None}
+use Rattle.std.specs.Option.{option_map, unwrap_or}
+use Rattle.ft_command.specs.declared.verb.Verb.{Verb}
+use Rattle.ft_command.specs.declared.verb.Verb.TheVariants as verb
+use Rattle.ft_command.specs.Options.{Word, Given, none_given, GivesAll}
+use Rattle.ft_command.specs.Commands.{name_of, allowed_of, request_of, Request, Usage, Checks, Runs, Tries, Strikes, Surveys, Means, AreCommand, Asks}
+
+-- the command that a name is of, by its letters
+verb_by : Word → Verb
+verb_by w =
+    if slice_index w 1 == 104 then verb.Check
+    else if slice_index w 0 == 114 then verb.Run
+    else if slice_index w 0 == 116 then verb.Trial
+    else if slice_index w 0 == 99 then verb.Campaign
+    else if slice_index w 0 == 115 then verb.Survey
+    else verb.Mean
+
+verb_by-name_of : (v : Verb) → verb_by (name_of v) ≡ v
+unfolding verb_by
+verb_by-name_of verb.Check = refl
+verb_by-name_of verb.Run = refl
+verb_by-name_of verb.Trial = refl
+verb_by-name_of verb.Campaign = refl
+verb_by-name_of verb.Survey = refl
+verb_by-name_of verb.Mean = refl
+
+-- commands with one name are one
+same_verb : (u v : Verb) → name_of u ≡ name_of v → u ≡ v
+same_verb u v e = sym (verb_by-name_of u) ∙ ap verb_by e ∙ verb_by-name_of v
+
+heads : (a b x y : Word) (xs ys : List Word) → a ∷ x ∷ xs ≡ b ∷ y ∷ ys → a ≡ b
+heads a b x y xs ys e = ap (λ ws. slice_index_or ws 0 []) e
+
+seconds : (a b x y : Word) (xs ys : List Word) → a ∷ x ∷ xs ≡ b ∷ y ∷ ys → x ≡ y
+seconds a b x y xs ys e = ap (λ ws. slice_index_or ws 1 []) e
+
+rests : (a b x y : Word) (xs ys : List Word) → a ∷ x ∷ xs ≡ b ∷ y ∷ ys → xs ≡ ys
+rests a b x y xs ys e = ap (λ ws. drop 2 ws) e
+
+-- what a command that the words are asks for, once their verb and what their options give are known
+asked_for : (words options : List Word) (v : Verb) (operand : Word) (given : Given) (other : Request) → words ≡ name_of v ∷ operand ∷ options
+    → ((g : Given) → GivesAll (allowed_of v) options none_given g → g ≡ given) → AreCommand words other → request_of v operand given ≡ Some other
+asked_for words options v operand given other split only h =
+    let same = sym h.words_are ∙ split in
+    let verbs : h.verb ≡ v = same_verb h.verb v (heads _ _ _ _ _ _ same) in
+    let gives : GivesAll (allowed_of v) h.options none_given h.given = subst (λ u. GivesAll (allowed_of u) h.options none_given h.given) verbs h.gives in
+    let given_is : h.given ≡ given = only h.given (subst (λ ws. GivesAll (allowed_of v) ws none_given h.given) (rests _ _ _ _ _ _ same) gives) in
+    sym (ap (λ u. request_of u h.operand h.given) verbs ∙ ap (λ x. request_of v x h.given) (seconds _ _ _ _ _ _ same) ∙ ap (request_of v operand) given_is) ∙ h.request_is
+
+-- no list of faults asks for the line on usage
+no_usage_of : (f : Word → Request) (x : Option Word) → ((w : Word) → Some (f w) ≡ Some Usage → ⊥) → option_map f x ≡ Some Usage → ⊥
+no_usage_of f None h e = absurd (cc)
+no_usage_of f (Some w) h e = h w e
+
+-- no command asks for the line on usage
+no_usage : (v : Verb) (operand : Word) (given : Given) → request_of v operand given ≡ Some Usage → ⊥
+no_usage verb.Check operand given e = absurd (cc)
+no_usage verb.Run operand given e = absurd (cc)
+no_usage verb.Trial operand given e = absurd (cc)
+no_usage verb.Campaign operand given e = no_usage_of _ given.faults (λ w h. cc) e
+no_usage verb.Survey operand given e = no_usage_of _ given.faults (λ w h. cc) e
+no_usage verb.Mean operand given e = absurd (cc)
+
+-- what a command asks for, the words ask for
+pub asks : (words : List Word) (request : Request) → AreCommand words request → Asks words request
+asks words Usage h = absurd (no_usage h.verb h.operand h.given h.request_is)
+asks words (Checks object) h = h
+asks words (Runs run) h = h
+asks words (Tries run) h = h
+asks words (Strikes campaign) h = h
+asks words (Surveys campaign) h = h
+asks words (Means meaning) h = h
+
+-- what words ask for but usage, they are a command for
+pub by_command : (words : List Word) (request other : Request) → AreCommand words request → Asks words other → AreCommand words other
+by_command words request Usage asked usage = absurd (usage request asked)
+by_command words request (Checks object) asked h = h
+by_command words request (Runs run) asked h = h
+by_command words request (Tries run) asked h = h
+by_command words request (Strikes campaign) asked h = h
+by_command words request (Surveys campaign) asked h = h
+by_command words request (Means meaning) asked h = h
+
+-- words that are a command ask for nothing else
+pub asks_only : (words options : List Word) (v : Verb) (operand : Word) (given : Given) (request : Request) → words ≡ name_of v ∷ operand ∷ options
+    → ((g : Given) → GivesAll (allowed_of v) options none_given g → g ≡ given) → request_of v operand given ≡ Some request → AreCommand words request
+    → (other : Request) → Asks words other → other ≡ request
+asks_only words options v operand given request split only is asked other h =
+    let found = asked_for words options v operand given other split only (by_command words request other asked h) in
+    ap (λ x. unwrap_or x request) (sym found ∙ is)
+
+-- words whose options ask for nothing are no command
+pub asks_nothing : (words options : List Word) (v : Verb) (operand : Word) (given : Given) → words ≡ name_of v ∷ operand ∷ options
+    → ((g : Given) → GivesAll (allowed_of v) options none_given g → g ≡ given) → request_of v operand given ≡ None → (request : Request) → AreCommand words request → ⊥
+asks_nothing words options v operand given split only none request h =
+    let found = asked_for words options v operand given request split only h in
+    let e = sym none ∙ found in cc
+
+-- words of which the options give nothing are no command
+pub no_command : (words options : List Word) (v : Verb) (operand : Word) → words ≡ name_of v ∷ operand ∷ options → ((g : Given) → GivesAll (allowed_of v) options none_given g → ⊥) → (request : Request) → AreCommand words request → ⊥
+no_command words options v operand split none request h =
+    let same = sym h.words_are ∙ split in
+    let verbs : h.verb ≡ v = same_verb h.verb v (heads _ _ _ _ _ _ same) in
+    let gives : GivesAll (allowed_of v) h.options none_given h.given = subst (λ u. GivesAll (allowed_of u) h.options none_given h.given) verbs h.gives in
+    none h.given (subst (λ ws. GivesAll (allowed_of v) ws none_given h.given) (rests _ _ _ _ _ _ same) gives)
+
+-- what words that are no command ask for
+pub usage_only : (words : List Word) → ((request : Request) → AreCommand words request → ⊥) → (other : Request) → Asks words other → other ≡ Usage
+usage_only words none Usage h = refl
+usage_only words none (Checks object) h = absurd (none (Checks object) h)
+usage_only words none (Runs run) h = absurd (none (Runs run) h)
+usage_only words none (Tries run) h = absurd (none (Tries run) h)
+usage_only words none (Strikes campaign) h = absurd (none (Strikes campaign) h)
+usage_only words none (Surveys campaign) h = absurd (none (Surveys campaign) h)
+usage_only words none (Means meaning) h = absurd (none (Means meaning) h)

@@ -1,0 +1,39 @@
+-- What the words asked for, without where its parts lie in memory.
+use Rattle.std.specs.Prelude.{Option}
+use Rattle.std.specs.Option.{option_map}
+use Rattle.ft_command.specs.declared.options.Options.{Options}
+use Rattle.ft_command.specs.declared.command.Run as declared_run
+use Rattle.ft_command.specs.declared.command.Campaign as declared_campaign
+use Rattle.ft_command.specs.declared.command.Meaning as declared_meaning
+use Rattle.ft_command.specs.declared.command.Command as declared_command
+use Rattle.ft_command.specs.declared.command.Command.TheVariants as commands
+use Rattle.ft_command.specs.Options.{Given}
+use Rattle.ft_command.specs.Commands.{Run, Campaign, Meaning, Request, Usage, Checks, Runs, Tries, Strikes, Surveys, Means}
+
+-- the options that the code has taken so far
+abbrev pub given_of : Options → Given
+given_of o = record { steps = o.steps; turns = o.turns; strike = o.strike; wild = option_map (λ v. v.items) o.wild; faults = option_map (λ w. w.now) o.faults }
+
+-- the run, the campaign and the meaning that the code carries out
+abbrev pub run_view : declared_run.Run → Run
+run_view t = record { object = t.object.now; steps = t.steps; strike = t.strike; wild = t.wild.items }
+
+abbrev pub campaign_view : declared_campaign.Campaign → Campaign
+campaign_view t = record { object = t.object.now; faults = t.faults.now; steps = t.steps; wild = t.wild.items }
+
+abbrev pub meaning_view : declared_meaning.Meaning → Meaning
+meaning_view t = record { source = t.source.now; turns = t.turns }
+
+-- the request that the code has read
+abbrev pub asked : declared_command.Command → Request
+asked commands.Usage = Usage
+asked (commands.Check object) = Checks object.now
+asked (commands.Run run) = Runs (run_view run)
+asked (commands.Trial run) = Tries (run_view run)
+asked (commands.Campaign campaign) = Strikes (campaign_view campaign)
+asked (commands.Survey campaign) = Surveys (campaign_view campaign)
+asked (commands.Mean meaning) = Means (meaning_view meaning)
+
+-- the request that the code has read, or the wish for usage where there is none
+abbrev pub asked_or_usage : Option declared_command.Command → Option Request
+asked_or_usage c = option_map asked c

@@ -1,0 +1,140 @@
+-- What words ask for: the table of commands.
+use Rattle.std.specs.Prelude.{◌≡◌, ℕ, ◌≤◌, true, false, List, [], ◌∷◌, Option, Some, None, codes}
+use Rattle.std.specs.Option.{unwrap_or, option_map}
+use Rattle.ft_isa.specs.declared.plan.Strike.{Strike}
+use Rattle.ft_isa.specs.declared.plan.Wild.{Wild}
+use Rattle.ft_command.specs.declared.allowed.Allowed.{Allowed}
+use Rattle.ft_command.specs.declared.verb.Verb.{Verb}
+use Rattle.ft_command.specs.declared.verb.Verb.TheVariants as verb
+use Rattle.ft_command.specs.Options.{Word, Given, none_given, GivesAll}
+
+-- the first word of a command
+abbrev pub name_of : Verb → Word
+name_of verb.Check = codes "check"
+name_of verb.Run = codes "run"
+name_of verb.Trial = codes "trial"
+name_of verb.Campaign = codes "campaign"
+name_of verb.Survey = codes "survey"
+name_of verb.Mean = codes "mean"
+
+-- no options
+abbrev pub no_options : Allowed
+no_options = record { steps = None; turns = None; fault = false; wild = false; faults = false }
+
+-- the options of a run: `--steps` up to 1,000,000,000, `--fault` and `--wild`
+abbrev pub run_options : Allowed
+run_options = record no_options { steps = Some 1000000000; fault = true; wild = true }
+
+-- the options of a campaign: `--faults`, `--steps` up to 1,000,000, and `--wild`
+abbrev pub campaign_options : Allowed
+campaign_options = record no_options { steps = Some 1000000; wild = true; faults = true }
+
+-- the options of a meaning: `--turns` up to 1,000,000,000
+abbrev pub meaning_options : Allowed
+meaning_options = record no_options { turns = Some 1000000000 }
+
+-- the options that a command takes
+abbrev pub allowed_of : Verb → Allowed
+allowed_of verb.Check = no_options
+allowed_of verb.Run = run_options
+allowed_of verb.Trial = run_options
+allowed_of verb.Campaign = campaign_options
+allowed_of verb.Survey = campaign_options
+allowed_of verb.Mean = meaning_options
+
+-- the run of an object, for at most so many steps, under a plan
+pub record Run : Type 0 where
+  pub object : Word
+  pub steps : ℕ
+  pub strike : Option Strike
+  pub wild : List Wild
+
+-- an option that is not given has its default: 1,000,000 steps, no strike, no answers
+abbrev pub run_of : Word → Given → Run
+run_of object given = record {
+  object = object;
+  steps = unwrap_or given.steps 1000000;
+  strike = given.strike;
+  wild = unwrap_or given.wild [];
+}
+
+-- the runs of an object, each for at most so many steps, under the faults of a list, with the same answers to wild loads
+pub record Campaign : Type 0 where
+  pub object : Word
+  pub faults : Word
+  pub steps : ℕ
+  pub wild : List Wild
+
+-- a campaign over the faults of a file; the other options have their defaults: 1,000,000 steps, no answers
+abbrev pub campaign_of : Word → Given → Word → Campaign
+campaign_of object given faults = record {
+  object = object;
+  faults = faults;
+  steps = unwrap_or given.steps 1000000;
+  wild = unwrap_or given.wild [];
+}
+
+-- the meaning of a source, for at most so many turns
+pub record Meaning : Type 0 where
+  pub source : Word
+  pub turns : ℕ
+
+-- an option that is not given has its default: 1,000,000 turns
+abbrev pub meaning_of : Word → Given → Meaning
+meaning_of source given = record { source = source; turns = unwrap_or given.turns 1000000 }
+
+-- what words ask for
+pub data Request : Type 0 where
+  -- the line on usage
+  Usage : Request
+  -- the check of an object
+  Checks : Word → Request
+  -- the run of an object that is accepted
+  Runs : Run → Request
+  -- the run of an object that is not checked
+  Tries : Run → Request
+  -- a campaign on an object that is accepted
+  Strikes : Campaign → Request
+  -- a campaign on an object that is not checked
+  Surveys : Campaign → Request
+  -- the meaning of a source
+  Means : Meaning → Request
+
+-- what a command asks for, with its operand and its options; campaigns need their list
+abbrev pub request_of : Verb → Word → Given → Option Request
+request_of verb.Check operand given = Some (Checks operand)
+request_of verb.Run operand given = Some (Runs (run_of operand given))
+request_of verb.Trial operand given = Some (Tries (run_of operand given))
+request_of verb.Campaign operand given = option_map (λ faults. Strikes (campaign_of operand given faults)) given.faults
+request_of verb.Survey operand given = option_map (λ faults. Surveys (campaign_of operand given faults)) given.faults
+request_of verb.Mean operand given = Some (Means (meaning_of operand given))
+
+-- the words are a command, its operand, and options that it takes, and ask for this
+pub record AreCommand (words : List Word) (request : Request) : Type 0 where
+  pub verb : Verb
+  pub operand : Word
+  pub options : List Word
+  pub given : Given
+  pub words_are : words ≡ name_of verb ∷ operand ∷ options
+  pub gives : GivesAll (allowed_of verb) options none_given given
+  pub request_is : request_of verb operand given ≡ Some request
+
+-- the words ask for this: for the line on usage exactly where they are no command
+abbrev pub Asks : List Word → Request → Type 0
+Asks words Usage = (request : Request) → ¬ (AreCommand words request)
+Asks words (Checks object) = AreCommand words (Checks object)
+Asks words (Runs run) = AreCommand words (Runs run)
+Asks words (Tries run) = AreCommand words (Tries run)
+Asks words (Strikes campaign) = AreCommand words (Strikes campaign)
+Asks words (Surveys campaign) = AreCommand words (Surveys campaign)
+Asks words (Means meaning) = AreCommand words (Means meaning)
+
+-- each run of a campaign takes at most 1,000,000 steps
+abbrev pub HasFewSteps : Request → Type 0
+HasFewSteps Usage = Unit {0}
+HasFewSteps (Checks object) = Unit {0}
+HasFewSteps (Runs run) = Unit {0}
+HasFewSteps (Tries run) = Unit {0}
+HasFewSteps (Strikes campaign) = campaign.steps ≤ 1000000
+HasFewSteps (Surveys campaign) = campaign.steps ≤ 1000000
+HasFewSteps (Means meaning) = Unit {0}

@@ -1,0 +1,151 @@
+//! What the words of a command line ask for.
+ghost use Rattle.std.specs.Prelude.{◌≡◌, map, string_bytes, IfOk};
+ghost use Rattle.ft_command.specs.Commands.{Asks, Request, HasFewSteps, run_of, campaign_of, meaning_of, request_of};
+ghost use Rattle.ft_command.specs.Asked.{given_of, run_view, campaign_view, meaning_view, asked, asked_or_usage};
+
+use crate::options::{OptionError, Options, read_options};
+use crate::verb::Verb;
+use ft_isa::{NoMemory, Strike, Wild};
+use std::alloc::Global;
+
+/// How many steps a run takes at the most where `--steps` is not given.
+const STEPS: u64 = 1_000_000;
+
+/// How many turns a meaning takes at the most where `--turns` is not given.
+const TURNS: u64 = 1_000_000;
+
+/// A command with its operand and options.
+#[derive(Drop)]
+pub enum Command<'w> {
+    /// The words are no command.
+    Usage,
+    /// Checks the object of this file.
+    Check(&'w str),
+    /// Checks an object and runs it.
+    Run(Run<'w>),
+    /// Runs an object without checking it.
+    Trial(Run<'w>),
+    /// Checks an object and tries a list of faults on it.
+    Campaign(Campaign<'w>),
+    /// Tries a list of faults on an object without checking it.
+    Survey(Campaign<'w>),
+    /// Gives the meaning of a source.
+    Mean(Meaning<'w>),
+}
+
+/// The run of an object: the file's name, how many steps at the most, and the plan.
+#[derive(Drop)]
+pub struct Run<'w> {
+    pub object: &'w str,
+    pub steps: u64,
+    pub strike: Option<Strike>,
+    pub wild: Vec<Wild>,
+}
+
+/// The runs of an object under the faults of a list: the files' names, how many steps at the most in
+/// each run, and the answers to wild loads.
+#[derive(Drop)]
+pub struct Campaign<'w> {
+    pub object: &'w str,
+    pub faults: &'w str,
+    pub steps: u64,
+    pub wild: Vec<Wild>,
+}
+
+/// The meaning of a source: the file's name, and how many turns of its loops at the most.
+#[derive(Drop)]
+pub struct Meaning<'w> {
+    pub source: &'w str,
+    pub turns: u64,
+}
+
+/// The run that an operand and options ask for.
+fn run_of<'w>(alloc: Global, object: &'w str, options: Options<'w>) -> Run<'w>
+    ensures { run_view result ≡ run_of object.now (given_of options.entry) }
+{
+    Run {
+        object,
+        steps: options.steps.unwrap_or(STEPS),
+        strike: options.strike,
+        wild: options.wild.unwrap_or(Vec::new(alloc)),
+    }
+}
+
+/// The campaign that an operand, the name of a fault list, and options ask for.
+fn campaign_of<'w>(
+    alloc: Global,
+    object: &'w str,
+    options: Options<'w>,
+    faults: &'w str,
+) -> Campaign<'w>
+    ensures { campaign_view result ≡ campaign_of object.now (given_of options.entry) faults.now }
+{
+    Campaign {
+        object,
+        faults,
+        steps: options.steps.unwrap_or(STEPS),
+        wild: options.wild.unwrap_or(Vec::new(alloc)),
+    }
+}
+
+/// The meaning that an operand and options ask for.
+fn meaning_of<'w>(source: &'w str, options: Options<'w>) -> Meaning<'w>
+    ensures { meaning_view result ≡ meaning_of source.now (given_of options.entry) }
+{
+    Meaning {
+        source,
+        turns: options.turns.unwrap_or(TURNS),
+    }
+}
+
+/// The command of a verb with its operand and options, if it has the options that it needs.
+fn command_from<'w>(
+    alloc: Global,
+    verb: Verb,
+    operand: &'w str,
+    options: Options<'w>,
+) -> Option<Command<'w>>
+    ensures { asked_or_usage result ≡ request_of verb operand.now (given_of options.entry) }
+{
+    let command = match verb {
+        Verb::Check => Command::Check(operand),
+        Verb::Run => Command::Run(run_of(alloc, operand, options)),
+        Verb::Trial => Command::Trial(run_of(alloc, operand, options)),
+        Verb::Campaign => {
+            let Some(faults) = options.faults else {
+                return None;
+            };
+            Command::Campaign(campaign_of(alloc, operand, options, faults))
+        }
+        Verb::Survey => {
+            let Some(faults) = options.faults else {
+                return None;
+            };
+            Command::Survey(campaign_of(alloc, operand, options, faults))
+        }
+        Verb::Mean => Command::Mean(meaning_of(operand, options)),
+    };
+    Some(command)
+}
+
+/// The command that the words ask for, or the wish for usage.
+pub fn command_of(alloc: Global, words: &[String]) -> Result<Command<'_>, NoMemory>
+    ensures ok { IfOk result (λ command. Asks (map string_bytes words.now) (asked command)) }
+    ensures few_steps { IfOk result (λ command. HasFewSteps (asked command)) }
+    ensures only { IfOk result (λ command. (other : Request) → Asks (map string_bytes words.now) other → other ≡ asked command) }
+{
+    let [first, operand, rest @ ..] = words else {
+        return Ok(Command::Usage);
+    };
+    let Some(verb) = Verb::read(first.as_str()) else {
+        return Ok(Command::Usage);
+    };
+    match read_options(alloc, verb.allowed(), rest) {
+        Ok(options) => match command_from(alloc, verb, operand.as_str(), options) {
+            Some(command) => Ok(command),
+            None => Ok(Command::Usage),
+        },
+        Err(OptionError::Refused) => Ok(Command::Usage),
+        Err(OptionError::NoMemory) => Err(NoMemory),
+    }
+}

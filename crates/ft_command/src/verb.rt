@@ -1,0 +1,93 @@
+//! The first word of a command.
+ghost use Rattle.std.specs.Prelude.{◌≡◌, Some, IfSome};
+ghost use Rattle.ft_command.specs.Commands.{name_of, allowed_of};
+
+use crate::allowed::Allowed;
+
+/// The most steps that a run may be given.
+const RUN_STEPS: u64 = 1_000_000_000;
+
+/// The most steps that each run of a campaign may be given.
+const CAMPAIGN_STEPS: u64 = 1_000_000;
+
+/// The most turns that a meaning may be given.
+const TURNS: u64 = 1_000_000_000;
+
+/// No options.
+const NONE: Allowed = Allowed {
+    steps: None,
+    turns: None,
+    fault: false,
+    wild: false,
+    faults: false,
+};
+
+/// A command by its first word.
+#[derive(Clone, Copy, Debug, PartialEq, Eq)]
+pub enum Verb {
+    /// `check`: checks an object.
+    Check,
+    /// `run`: checks an object and runs it.
+    Run,
+    /// `trial`: runs an object without checking it.
+    Trial,
+    /// `campaign`: checks an object and tries a list of faults on it.
+    Campaign,
+    /// `survey`: tries a list of faults on an object without checking it.
+    Survey,
+    /// `mean`: gives the meaning of a source.
+    Mean,
+}
+
+impl Verb {
+    /// The command of this name.
+    pub(crate) fn read(word: &str) -> Option<Verb>
+        ensures some { IfSome result (λ verb. word.now ≡ name_of verb) }
+        ensures exact { (verb : _) → word.now ≡ name_of verb → result ≡ Some verb }
+    {
+        if word == "check" {
+            return Some(Verb::Check);
+        }
+        if word == "run" {
+            return Some(Verb::Run);
+        }
+        if word == "trial" {
+            return Some(Verb::Trial);
+        }
+        if word == "campaign" {
+            return Some(Verb::Campaign);
+        }
+        if word == "survey" {
+            return Some(Verb::Survey);
+        }
+        if word == "mean" {
+            return Some(Verb::Mean);
+        }
+        None
+    }
+
+    /// The options that the command takes.
+    pub(crate) fn allowed(self) -> Allowed
+        ensures { result ≡ allowed_of self }
+    {
+        match self {
+            Verb::Check => NONE,
+            Verb::Run | Verb::Trial => Allowed {
+                steps: Some(RUN_STEPS),
+                fault: true,
+                wild: true,
+                ..NONE
+            },
+            Verb::Campaign | Verb::Survey => Allowed {
+                steps: Some(CAMPAIGN_STEPS),
+                wild: true,
+                faults: true,
+                ..NONE
+            },
+            Verb::Mean => Allowed {
+                turns: Some(TURNS),
+                ..NONE
+            },
+        }
+    }
+}

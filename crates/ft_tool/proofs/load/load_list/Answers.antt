@@ -1,0 +1,10 @@
+use Rattle.std.proofs.Common.{Ok, Vec, Global, subst}
+use Rattle.ft_edge.specs.Loads.{Loads}
+use Rattle.ft_isa.specs.declared.plan.Strike.{Strike}
+use Rattle.ft_tool.proofs.Tried.{too_long_list}
+use Rattle.ft_tool.proofs.load.load_list.Goals as goal
+
+pub returns-in-Ok-TooLong-clause-loads : goal.returns-in-Ok-TooLong-clause-loads
+returns-in-Ok-TooLong-clause-loads g c =
+    let told = (subst (λ x. Loads (g.F.Shelf.files c.args.shelf.now) c.args.name.now 4194304 c.load.new.into.items (Ok x)) c.in-Ok-TooLong.field-0-is c.in-Ok-TooLong.ensures.loads).1 in
+    too_long_list {V = Vec Strike Global} (λ v. v.items) (g.F.Shelf.files c.args.shelf.now) c.args.name.now told

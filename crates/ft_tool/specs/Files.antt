@@ -1,0 +1,72 @@
+-- What loading a command's file gives.
+use Rattle.std.specs.Prelude.{◌≡◌, ℕ, List, Option, Some, Result, Ok, Err}
+use Rattle.ft_edge.specs.Causes.{Rose}
+use Rattle.ft_edge.specs.Loads.{Files}
+use Rattle.ft_types.specs.declared.object.Object.{Object}
+use Rattle.ft_object.specs.Format.{Spells}
+use Rattle.ft_object.specs.Broken.{broken}
+use Rattle.ft_command.specs.Options.{Word}
+use Rattle.ft_types.specs.Accepted as accepted
+use Rattle.ft_rules.specs.Answers.{premise_of}
+use Rattle.ft_checker.specs.declared.error.CheckError.{CheckError}
+use Rattle.ft_checker.specs.declared.error.CheckError.TheVariants as checks
+use Rattle.ft_tool.specs.Replies.{Answer, IsFile}
+use Rattle.ft_tool.specs.Answers.{refused, judged}
+use Rattle.ft_isa.specs.declared.plan.Strike.{Strike}
+use Rattle.ft_campaign.specs.declared.fault_list.ListError.TheVariants as lists
+use Rattle.ft_campaign.specs.FaultList.{IsFaultList, IsListError}
+use Rattle.ft_tool.specs.Lists.{IsListAnswer}
+use Rattle.ft_tool.specs.declared.load.ListFault.{ListFault}
+use Rattle.ft_tool.specs.declared.load.ListFault.TheVariants as list_faults
+use Rattle.ft_tool.specs.declared.load.ObjectFault.{ObjectFault}
+use Rattle.ft_tool.specs.declared.load.ObjectFault.TheVariants.{Refused, Failed, NoMemory}
+
+-- the file's bytes spell the object, or break a rule of the format first
+abbrev pub LoadsObject : Option Files → Word → Result Object ObjectFault → Type 0
+LoadsObject files name (Ok o) = (bytes : List ℕ) × (IsFile files name bytes × Spells bytes o)
+LoadsObject files name (Err (Refused e)) = (bytes : List ℕ) × (IsFile files name bytes × (broken bytes ≡ Some e))
+LoadsObject files name (Err Failed) = Unit {0}
+LoadsObject files name (Err NoMemory) = Unit {0}
+
+-- a load that failed shows in the count and left its name; any other answer leaves both as they were
+abbrev pub LoadCause : ℕ → ℕ → Option (List ℕ) → Option (List ℕ) → Word → Result Object ObjectFault → Type 0
+LoadCause before now failed failed' name (Ok o) = (now ≡ before) × (failed' ≡ failed)
+LoadCause before now failed failed' name (Err (Refused e)) = (now ≡ before) × (failed' ≡ failed)
+LoadCause before now failed failed' name (Err Failed) = Rose before now × (failed' ≡ Some name)
+LoadCause before now failed failed' name (Err NoMemory) = (now ≡ before) × (failed' ≡ failed)
+
+-- the answer of a command whose object's bytes are refused
+abbrev pub IsRefusedBy : ObjectFault → Answer → Type 0
+IsRefusedBy (Refused e) a = a ≡ refused e
+IsRefusedBy Failed a = ⊥
+IsRefusedBy NoMemory a = ⊥
+
+-- the answer of a command whose object is not accepted
+abbrev pub IsNotAccepted : CheckError → Answer → Type 0
+IsNotAccepted checks.EntryType a = a ≡ judged (Some accepted.EntryType)
+IsNotAccepted (checks.CellType k) a = a ≡ judged (Some (accepted.CellType k))
+IsNotAccepted (checks.Refused b i why) a = a ≡ judged (Some (accepted.Refused b i (premise_of why)))
+IsNotAccepted checks.NoMemory a = ⊥
+
+-- the file's bytes are the text of these faults, or are no fault list
+abbrev pub LoadsList : {V : Type 0} → (V → List Strike) → Option Files → Word → Result V ListFault → Type 0
+LoadsList faults_of files name (Ok v) = (list : List ℕ) × (IsFile files name list × IsFaultList list (faults_of v))
+LoadsList faults_of files name (Err (list_faults.Line number)) = (list : List ℕ) × (IsFile files name list × IsListError list (lists.Line number))
+LoadsList faults_of files name (Err list_faults.TooMany) = (list : List ℕ) × (IsFile files name list × IsListError list lists.TooMany)
+LoadsList faults_of files name (Err list_faults.Failed) = Unit {0}
+LoadsList faults_of files name (Err list_faults.NoMemory) = Unit {0}
+
+-- a load of a list that failed shows in the count and left its name; any other answer leaves both as they were
+abbrev pub ListCause : {V : Type 0} → ℕ → ℕ → Option (List ℕ) → Option (List ℕ) → Word → Result V ListFault → Type 0
+ListCause before now failed failed' name (Ok v) = (now ≡ before) × (failed' ≡ failed)
+ListCause before now failed failed' name (Err (list_faults.Line number)) = (now ≡ before) × (failed' ≡ failed)
+ListCause before now failed failed' name (Err list_faults.TooMany) = (now ≡ before) × (failed' ≡ failed)
+ListCause before now failed failed' name (Err list_faults.Failed) = Rose before now × (failed' ≡ Some name)
+ListCause before now failed failed' name (Err list_faults.NoMemory) = (now ≡ before) × (failed' ≡ failed)
+
+-- the answer of a command whose list is refused
+abbrev pub IsListRefusedBy : ListFault → Answer → Type 0
+IsListRefusedBy (list_faults.Line number) a = IsListAnswer (lists.Line number) a
+IsListRefusedBy list_faults.TooMany a = IsListAnswer lists.TooMany a
+IsListRefusedBy list_faults.Failed a = ⊥
+IsListRefusedBy list_faults.NoMemory a = ⊥

@@ -1,0 +1,46 @@
+-- What a campaign answers over an object and a fault list.
+use Rattle.std.specs.Prelude.{◌≡◌, ℕ, ◌*◌, ◌<◌, ◌≤◌, ◌==◌, if◌then◌else◌, List, length, count_by}
+use Rattle.std.specs.List.{concat}
+use Rattle.ft_isa.specs.declared.plan.Strike.{Strike}
+use Rattle.ft_types.specs.declared.object.Object.{Object}
+use Rattle.ft_campaign.specs.declared.fault_list.ListError.{ListError}
+use Rattle.ft_campaign.specs.declared.fault_list.ListError.TheVariants as lists
+use Rattle.ft_campaign.specs.declared.verdict.Verdict.{Verdict}
+use Rattle.ft_campaign.specs.FaultList.{IsFaultList, IsListError}
+use Rattle.ft_campaign.specs.Verdicts.{AreVerdicts}
+use Rattle.ft_campaign.specs.Texts.{is_corrupt, campaign_lines}
+use Rattle.ft_command.specs.Commands.{Campaign}
+use Rattle.ft_tool.specs.Texts.{list_line}
+use Rattle.ft_tool.specs.Replies.{Answer}
+
+-- the status of a survey: 10 where some verdict is corrupt
+abbrev pub survey_status : List Verdict → ℕ
+survey_status vs = if count_by is_corrupt vs == 0 then 0 else 10
+
+-- the status of a campaign on an accepted object, of which no verdict is corrupt
+abbrev pub campaign_status : List Verdict → ℕ
+campaign_status vs = 0
+
+-- the answer to a text that is no fault list
+abbrev pub IsListAnswer : ListError → Answer → Type 0
+IsListAnswer (lists.Line number) a = a ≡ record { text = list_line 1 number; status = 11 }
+IsListAnswer lists.TooMany a = a ≡ record { text = list_line 2 65536; status = 11 }
+IsListAnswer lists.NoMemory a = ⊥
+
+-- the text is no fault list
+pub record IsRefusedList (list : List ℕ) (a : Answer) : Type 0 where
+  pub error : ListError
+  pub refused : IsListError list error
+  pub answer : IsListAnswer error a
+
+-- the answer of a campaign over these faults: where their number times the number of steps is above 1,000,000,000, a
+-- refusal, and else the lines of the faults' verdicts
+pub data OverFaults (status_of : List Verdict → ℕ) (c : Campaign) (o : Object) (faults : List Strike) (a : Answer) : Type 0 where
+  too_much : 1000000000 < length faults * c.steps → a ≡ record { text = list_line 3 (length faults * c.steps); status = 11 } → OverFaults status_of c o faults a
+  tried : length faults * c.steps ≤ 1000000000 → (verdicts : List Verdict) → AreVerdicts o faults c.wild c.steps verdicts
+      → a ≡ record { text = concat (campaign_lines faults verdicts); status = status_of verdicts } → OverFaults status_of c o faults a
+
+-- the answer of a campaign over the text of a list
+pub data OverList (status_of : List Verdict → ℕ) (c : Campaign) (o : Object) (list : List ℕ) (a : Answer) : Type 0 where
+  refused_list : IsRefusedList list a → OverList status_of c o list a
+  listed : (faults : List Strike) → IsFaultList list faults → OverFaults status_of c o faults a → OverList status_of c o list a

@@ -1,0 +1,205 @@
+//! What commands do with an object and a fault list.
+ghost use Rattle.std.specs.Prelude.{◌≡◌, ◌≢◌, ◌≤◌, ◌<◌, ◌*◌, length, Some, None};
+ghost use Rattle.ft_edge.specs.Causes.{Rose};
+ghost use Rattle.ft_command.specs.Asked.{campaign_view};
+ghost use Rattle.ft_types.specs.Accepted.{refusal};
+ghost use Rattle.ft_types.specs.Spellable.{IsSpellable};
+ghost use Rattle.ft_campaign.specs.Campaigns.{EndsAs as CampaignEnds, IsExcused, IsUncorrupted};
+ghost use Rattle.ft_tool.specs.Answers.{OverListFile, OverChecked};
+ghost use Rattle.ft_tool.specs.Lists.{campaign_status, survey_status, OverFaults};
+ghost use Rattle.ft_tool.specs.Endings.{Ends, Puts};
+
+use crate::ending::{Ending, put_list_line, refuse_check, refuse_list};
+use crate::load::load_list;
+use ft_campaign::{CampaignEnd, campaign, survey};
+use ft_checker::{Checked, check};
+use ft_command::Campaign;
+use ft_edge::{Shelf, Sink};
+use ft_isa::Strike;
+use ft_steps::Steps;
+use ft_types::Object;
+use std::alloc::Global;
+use std::marker::Brand;
+use std::sync::ledger::{Blank, Ledger};
+
+/// A campaign on an object that is not checked, with a counter of its own.
+fn survey_counted<K: Sink, L: Ledger>(
+    alloc: Global,
+    object: &Object,
+    faults: &[Strike],
+    asked: &Campaign,
+    out: &mut K,
+    blank: Blank,
+) -> CampaignEnd
+    requires name { blank.name ≡ L.name }
+    requires parts { blank.parts ≡ L.parts }
+    requires some { 0 < L.parts }
+    requires spellable { IsSpellable object.now }
+    requires faults { length faults.now ≤ 65536 }
+    requires steps { asked.now.steps ≤ 1000000 }
+    ensures ends { CampaignEnds result object.now faults.now asked.now.wild.items asked.now.steps (K.written out.old) (K.written out.new) (K.puts out.old) (K.puts out.new) }
+    ensures too_much { 1000000000 < length faults.now * asked.now.steps → result ≡ CampaignEnd.TooMuch (length faults.now * asked.now.steps) }
+    ensures cause { IsExcused result (K.faults out.old) (K.faults out.new) }
+{
+    let mut steps = Steps::<L>::new(blank);
+    survey(
+        alloc,
+        object,
+        faults,
+        asked.wild.as_slice(),
+        asked.steps,
+        out,
+        &mut steps,
+    )
+}
+
+/// A campaign on an object that is accepted, with a counter of its own.
+fn campaign_counted<K: Sink, L: Ledger>(
+    alloc: Global,
+    checked: &Checked<Object>,
+    faults: &[Strike],
+    asked: &Campaign,
+    out: &mut K,
+    blank: Blank,
+) -> CampaignEnd
+    requires name { blank.name ≡ L.name }
+    requires parts { blank.parts ≡ L.parts }
+    requires some { 0 < L.parts }
+    requires faults { length faults.now ≤ 65536 }
+    requires steps { asked.now.steps ≤ 1000000 }
+    ensures ends { CampaignEnds result checked.now faults.now asked.now.wild.items asked.now.steps (K.written out.old) (K.written out.new) (K.puts out.old) (K.puts out.new) }
+    ensures too_much { 1000000000 < length faults.now * asked.now.steps → result ≡ CampaignEnd.TooMuch (length faults.now * asked.now.steps) }
+    ensures cause { IsExcused result (K.faults out.old) (K.faults out.new) }
+{
+    let mut steps = Steps::<L>::new(blank);
+    campaign(
+        alloc,
+        checked,
+        faults,
+        asked.wild.as_slice(),
+        asked.steps,
+        out,
+        &mut steps,
+    )
+}
+
+/// The verdicts of faults on an object that is not checked.
+fn survey_faults<K: Sink>(
+    alloc: Global,
+    object: &Object,
+    faults: &[Strike],
+    asked: &Campaign,
+    out: &mut K,
+) -> Ending
+    requires spellable { IsSpellable object.now }
+    requires faults { length faults.now ≤ 65536 }
+    requires steps { asked.now.steps ≤ 1000000 }
+    ensures ends { Ends result (OverFaults survey_status (campaign_view asked.now) object.now faults.now)
+        (K.written out.old) (K.written out.new) (K.faults out.old) (K.faults out.new) ⊥ }
+    ensures puts { Puts result (K.puts out.old) (K.puts out.new) }
+    ensures faults { result ≢ Ending.WriteFault → K.faults out.new ≡ K.faults out.old }
+{
+    match survey_counted::<K, Brand>(alloc, object, faults, asked, out, Blank::new(1)) {
+        CampaignEnd::Finished(totals) => {
+            if totals.corrupt == 0 {
+                Ending::Done
+            } else {
+                Ending::Corrupt
+            }
+        }
+        CampaignEnd::TooMuch { product } => put_list_line(3, product, out),
+        CampaignEnd::WriteFault => Ending::WriteFault,
+        CampaignEnd::NoMemory => Ending::NoMemory,
+    }
+}
+
+/// The verdicts of faults on an object that is accepted, of which none is corrupt.
+fn campaign_faults<K: Sink>(
+    alloc: Global,
+    checked: &Checked<Object>,
+    faults: &[Strike],
+    asked: &Campaign,
+    out: &mut K,
+) -> Ending
+    requires faults { length faults.now ≤ 65536 }
+    requires steps { asked.now.steps ≤ 1000000 }
+    ensures ends { Ends result (OverFaults campaign_status (campaign_view asked.now) checked.now faults.now)
+        (K.written out.old) (K.written out.new) (K.faults out.old) (K.faults out.new) ⊥ }
+    ensures puts { Puts result (K.puts out.old) (K.puts out.new) }
+    ensures faults { result ≢ Ending.WriteFault → K.faults out.new ≡ K.faults out.old }
+{
+    match campaign_counted::<K, Brand>(alloc, checked, faults, asked, out, Blank::new(1)) {
+        CampaignEnd::Finished(_) => Ending::Done,
+        CampaignEnd::TooMuch { product } => put_list_line(3, product, out),
+        CampaignEnd::WriteFault => Ending::WriteFault,
+        CampaignEnd::NoMemory => Ending::NoMemory,
+    }
+}
+
+/// Loads a fault list and tries it on an object that is not checked.
+pub(crate) fn survey_object<F: Shelf, K: Sink>(
+    alloc: Global,
+    object: &Object,
+    asked: &Campaign,
+    shelf: &mut F,
+    out: &mut K,
+) -> Ending
+    requires spellable { IsSpellable object.now }
+    requires steps { asked.now.steps ≤ 1000000 }
+    ensures ends { Ends result (OverListFile survey_status (campaign_view asked.now) (F.files shelf.old) object.now)
+        (K.written out.old) (K.written out.new) (K.faults out.old) (K.faults out.new)
+        (Rose (F.faults shelf.old) (F.faults shelf.new) × (F.failed_name shelf.new ≡ Some asked.now.faults.now)) }
+    ensures puts { Puts result (K.puts out.old) (K.puts out.new) }
+    ensures faults { result ≢ Ending.WriteFault → K.faults out.new ≡ K.faults out.old }
+    ensures load_faults { result ≢ Ending.LoadFault → (F.faults shelf.new ≡ F.faults shelf.old) × (F.failed_name shelf.new ≡ F.failed_name shelf.old) }
+{
+    match load_list(alloc, asked.faults, shelf) {
+        Ok(faults) => survey_faults(alloc, object, faults.as_slice(), asked, out),
+        Err(fault) => refuse_list(fault, out),
+    }
+}
+
+/// Loads a fault list and tries it on an object that is accepted.
+fn strike_checked<F: Shelf, K: Sink>(
+    alloc: Global,
+    checked: &Checked<Object>,
+    asked: &Campaign,
+    shelf: &mut F,
+    out: &mut K,
+) -> Ending
+    requires steps { asked.now.steps ≤ 1000000 }
+    ensures ends { Ends result (OverListFile campaign_status (campaign_view asked.now) (F.files shelf.old) checked.now)
+        (K.written out.old) (K.written out.new) (K.faults out.old) (K.faults out.new)
+        (Rose (F.faults shelf.old) (F.faults shelf.new) × (F.failed_name shelf.new ≡ Some asked.now.faults.now)) }
+    ensures puts { Puts result (K.puts out.old) (K.puts out.new) }
+    ensures faults { result ≢ Ending.WriteFault → K.faults out.new ≡ K.faults out.old }
+    ensures load_faults { result ≢ Ending.LoadFault → (F.faults shelf.new ≡ F.faults shelf.old) × (F.failed_name shelf.new ≡ F.failed_name shelf.old) }
+{
+    match load_list(alloc, asked.faults, shelf) {
+        Ok(faults) => campaign_faults(alloc, checked, faults.as_slice(), asked, out),
+        Err(fault) => refuse_list(fault, out),
+    }
+}
+
+/// Checks an object, and tries a fault list on it where it is accepted.
+pub(crate) fn strike_object<F: Shelf, K: Sink>(
+    alloc: Global,
+    object: &Object,
+    asked: &Campaign,
+    shelf: &mut F,
+    out: &mut K,
+) -> Ending
+    requires spellable { IsSpellable object.now }
+    requires steps { asked.now.steps ≤ 1000000 }
+    ensures ends { Ends result (OverChecked (refusal object.now) (campaign_view asked.now) (F.files shelf.old) object.now)
+        (K.written out.old) (K.written out.new) (K.faults out.old) (K.faults out.new)
+        (Rose (F.faults shelf.old) (F.faults shelf.new) × (F.failed_name shelf.new ≡ Some asked.now.faults.now) × (refusal object.now ≡ None)) }
+    ensures puts { Puts result (K.puts out.old) (K.puts out.new) }
+    ensures faults { result ≢ Ending.WriteFault → K.faults out.new ≡ K.faults out.old }
+    ensures load_faults { result ≢ Ending.LoadFault → (F.faults shelf.new ≡ F.faults shelf.old) × (F.failed_name shelf.new ≡ F.failed_name shelf.old) }
+{
+    match check(alloc, object) {
+        Ok(checked) => strike_checked(alloc, &checked, asked, shelf, out),
+        Err(error) => refuse_check(error, out),
+    }
+}

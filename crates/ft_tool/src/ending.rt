@@ -1,0 +1,133 @@
+//! How commands end.
+ghost use Rattle.std.specs.Prelude.{◌≡◌, ◌≢◌};
+ghost use Rattle.ft_edge.specs.Puts.{one_more};
+ghost use Rattle.ft_tool.specs.Answers.{usage};
+ghost use Rattle.ft_tool.specs.Files.{IsRefusedBy, IsNotAccepted, IsListRefusedBy};
+ghost use Rattle.ft_tool.specs.Texts.{list_line};
+ghost use Rattle.ft_tool.specs.Sources.{IsSourceRefused};
+ghost use Rattle.ft_tool.specs.Endings.{Ends, Puts};
+
+use crate::load::{ListFault, ObjectFault};
+use crate::refused::{cell_line, entry_line, list_line, object_line, place_line, source_line};
+use ft_checker::CheckError;
+use ft_edge::Sink;
+use ft_syntax::SourceError;
+
+/// How a command ended.
+#[derive(Clone, Copy, Debug, PartialEq, Eq)]
+pub(crate) enum Ending {
+    /// The command did what it is for.
+    Done,
+    /// The machine noticed a fault.
+    Detected,
+    /// The words are no command.
+    Usage,
+    /// A file could not be read.
+    LoadFault,
+    /// A line could not be written.
+    WriteFault,
+    /// There was no memory left.
+    NoMemory,
+    /// The text is refused as a source.
+    Source,
+    /// The bytes spell no object.
+    Object,
+    /// The object is not accepted.
+    NotAccepted,
+    /// The machine still runs after the last step.
+    OutOfSteps,
+    /// Some verdict is corrupt.
+    Corrupt,
+    /// The fault list is refused, or the campaign over it.
+    FaultList,
+}
+
+/// Puts the line of words that are no command.
+pub(crate) fn put_usage<K: Sink>(out: &mut K) -> Ending
+    ensures ends { Ends result (λ a. a ≡ usage) (K.written out.old) (K.written out.new) (K.faults out.old) (K.faults out.new) ⊥ }
+    ensures puts { Puts result (K.puts out.old) (K.puts out.new) }
+    ensures one_put { K.puts out.new ≡ one_more (K.puts out.old) }
+    ensures faults { result ≢ Ending.WriteFault → K.faults out.new ≡ K.faults out.old }
+{
+    match out.put(b"usage\n") {
+        Ok(()) => Ending::Usage,
+        Err(_) => Ending::WriteFault,
+    }
+}
+
+/// Ends a command that has no object, with the line of the refusal where its bytes are refused.
+pub(crate) fn refuse_object<K: Sink>(fault: ObjectFault, out: &mut K) -> Ending
+    ensures ends { Ends result (IsRefusedBy fault) (K.written out.old) (K.written out.new) (K.faults out.old) (K.faults out.new) (fault ≡ ObjectFault.Failed) }
+    ensures puts { Puts result (K.puts out.old) (K.puts out.new) }
+    ensures faults { result ≢ Ending.WriteFault → K.faults out.new ≡ K.faults out.old }
+    ensures failed { result ≢ Ending.LoadFault → fault ≢ ObjectFault.Failed }
+{
+    match fault {
+        ObjectFault::Refused(error) => match out.put(object_line(error).as_bytes()) {
+            Ok(()) => Ending::Object,
+            Err(_) => Ending::WriteFault,
+        },
+        ObjectFault::Failed => Ending::LoadFault,
+        ObjectFault::NoMemory => Ending::NoMemory,
+    }
+}
+
+/// Ends a command whose object is not accepted, with the line of the refusal.
+pub(crate) fn refuse_check<K: Sink>(error: CheckError, out: &mut K) -> Ending
+    ensures ends { Ends result (IsNotAccepted error) (K.written out.old) (K.written out.new) (K.faults out.old) (K.faults out.new) ⊥ }
+    ensures puts { Puts result (K.puts out.old) (K.puts out.new) }
+    ensures faults { result ≢ Ending.WriteFault → K.faults out.new ≡ K.faults out.old }
+{
+    let line = match error {
+        CheckError::EntryType => entry_line(),
+        CheckError::CellType { cell } => cell_line(cell),
+        CheckError::Refused { block, index, why } => place_line(block, index, why),
+        CheckError::NoMemory => return Ending::NoMemory,
+    };
+    match out.put(line.as_bytes()) {
+        Ok(()) => Ending::NotAccepted,
+        Err(_) => Ending::WriteFault,
+    }
+}
+
+/// Puts the line of a list or of a campaign that is refused.
+pub(crate) fn put_list_line<K: Sink>(number: u64, told: u64, out: &mut K) -> Ending
+    ensures ends { Ends result (λ a. a ≡ record { text = list_line number told; status = 11 }) (K.written out.old) (K.written out.new) (K.faults out.old) (K.faults out.new) ⊥ }
+    ensures puts { Puts result (K.puts out.old) (K.puts out.new) }
+    ensures faults { result ≢ Ending.WriteFault → K.faults out.new ≡ K.faults out.old }
+{
+    match out.put(list_line(number, told).as_bytes()) {
+        Ok(()) => Ending::FaultList,
+        Err(_) => Ending::WriteFault,
+    }
+}
+
+/// Ends a command that has no fault list, with the line of the refusal where its text is refused.
+pub(crate) fn refuse_list<K: Sink>(fault: ListFault, out: &mut K) -> Ending
+    ensures ends { Ends result (IsListRefusedBy fault) (K.written out.old) (K.written out.new) (K.faults out.old) (K.faults out.new) (fault ≡ ListFault.Failed) }
+    ensures puts { Puts result (K.puts out.old) (K.puts out.new) }
+    ensures faults { result ≢ Ending.WriteFault → K.faults out.new ≡ K.faults out.old }
+    ensures failed { result ≢ Ending.LoadFault → fault ≢ ListFault.Failed }
+{
+    match fault {
+        ListFault::Line(number) => put_list_line(1, number as u64, out),
+        ListFault::TooMany => put_list_line(2, 65_536, out),
+        ListFault::Failed => Ending::LoadFault,
+        ListFault::NoMemory => Ending::NoMemory,
+    }
+}
+
+/// Ends a command whose source is refused, with the line of the refusal.
+pub(crate) fn refuse_source<K: Sink>(error: SourceError, out: &mut K) -> Ending
+    ensures ends { Ends result (IsSourceRefused error) (K.written out.old) (K.written out.new) (K.faults out.old) (K.faults out.new) ⊥ }
+    ensures puts { Puts result (K.puts out.old) (K.puts out.new) }
+    ensures faults { result ≢ Ending.WriteFault → K.faults out.new ≡ K.faults out.old }
+{
+    if let SourceError::NoMemory = error {
+        return Ending::NoMemory;
+    }
+    match out.put(source_line(error).as_bytes()) {
+        Ok(()) => Ending::Source,
+        Err(_) => Ending::WriteFault,
+    }
+}

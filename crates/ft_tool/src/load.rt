@@ -1,0 +1,95 @@
+//! What a command's files hold.
+ghost use Rattle.std.specs.Prelude.{◌≡◌};
+ghost use Rattle.ft_tool.specs.Files.{LoadsObject, LoadCause, LoadsList, ListCause};
+
+use ft_campaign::{ListError, read_faults};
+use ft_edge::{Load, LoadFault, Shelf};
+use ft_isa::Strike;
+use ft_object::{DecodeError, ObjectError, decode};
+use ft_types::Object;
+use std::alloc::Global;
+use thiserror::Error;
+
+/// The most bytes of a file that are read as an object.
+const OBJECT_LIMIT: usize = 67_108_864;
+
+/// The most bytes of a file that are read as a fault list.
+const LIST_LIMIT: usize = 4_194_304;
+
+/// Why there is no object.
+#[derive(Clone, Copy, Debug, PartialEq, Eq, Error)]
+pub(crate) enum ObjectFault {
+    /// The file's bytes spell no object.
+    #[error("{0}")]
+    Refused(ObjectError),
+    /// The file could not be read.
+    #[error("the file could not be read")]
+    Failed,
+    /// There was no memory left.
+    #[error("out of memory")]
+    NoMemory,
+}
+
+/// Loads the file of a name and decodes it.
+pub(crate) fn load_object<F: Shelf>(
+    alloc: Global,
+    name: &str,
+    shelf: &mut F,
+) -> Result<Object, ObjectFault>
+    ensures loads { LoadsObject (F.files shelf.old) name.now result }
+    ensures files { F.files shelf.new ≡ F.files shelf.old }
+    ensures cause { LoadCause (F.faults shelf.old) (F.faults shelf.new) (F.failed_name shelf.old) (F.failed_name shelf.new) name.now result }
+{
+    let mut bytes = Vec::new(alloc);
+    match shelf.load(name, OBJECT_LIMIT, &mut bytes) {
+        Ok(Load::Whole) => match decode(alloc, bytes.as_slice()) {
+            Ok(object) => Ok(object),
+            Err(DecodeError::Object(error)) => Err(ObjectFault::Refused(error)),
+            Err(DecodeError::NoMemory) => Err(ObjectFault::NoMemory),
+        },
+        Ok(Load::TooLong) => Err(ObjectFault::Refused(ObjectError::Length { at: OBJECT_LIMIT })),
+        Err(LoadFault::Failed) => Err(ObjectFault::Failed),
+        Err(LoadFault::NoMemory) => Err(ObjectFault::NoMemory),
+    }
+}
+
+/// Why there is no fault list.
+#[derive(Clone, Copy, Debug, PartialEq, Eq, Error)]
+pub(crate) enum ListFault {
+    /// The line with this number, counted from 1, is no strike's text.
+    #[error("line {0} is no strike")]
+    Line(u32),
+    /// The file has more than 4,194,304 bytes or more than 65,536 lines.
+    #[error("too many faults")]
+    TooMany,
+    /// The file could not be read.
+    #[error("the file could not be read")]
+    Failed,
+    /// There was no memory left.
+    #[error("out of memory")]
+    NoMemory,
+}
+
+/// Loads the file of a name and reads it as a fault list.
+pub(crate) fn load_list<F: Shelf>(
+    alloc: Global,
+    name: &str,
+    shelf: &mut F,
+) -> Result<Vec<Strike>, ListFault>
+    ensures loads { LoadsList (λ v. v.items) (F.files shelf.old) name.now result }
+    ensures cause { ListCause (F.faults shelf.old) (F.faults shelf.new) (F.failed_name shelf.old) (F.failed_name shelf.new) name.now result }
+    ensures files { F.files shelf.new ≡ F.files shelf.old }
+{
+    let mut bytes = Vec::new(alloc);
+    match shelf.load(name, LIST_LIMIT, &mut bytes) {
+        Ok(Load::Whole) => match read_faults(alloc, bytes.as_slice()) {
+            Ok(faults) => Ok(faults),
+            Err(ListError::Line { number }) => Err(ListFault::Line(number)),
+            Err(ListError::TooMany) => Err(ListFault::TooMany),
+            Err(ListError::NoMemory) => Err(ListFault::NoMemory),
+        },
+        Ok(Load::TooLong) => Err(ListFault::TooMany),
+        Err(LoadFault::Failed) => Err(ListFault::Failed),
+        Err(LoadFault::NoMemory) => Err(ListFault::NoMemory),
+    }
+}

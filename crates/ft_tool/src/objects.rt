@@ -1,0 +1,84 @@
+//! What commands do with an object.
+ghost use Rattle.std.specs.Prelude.{◌≡◌, ◌≢◌};
+ghost use Rattle.ft_command.specs.Asked.{run_view};
+ghost use Rattle.ft_types.specs.Spellable.{IsSpellable};
+ghost use Rattle.ft_tool.specs.Answers.{checked, tried, run_checked};
+ghost use Rattle.ft_tool.specs.Endings.{Ends, Puts};
+
+use crate::ending::{Ending, refuse_check};
+use ft_checker::check;
+use ft_command::Run;
+use ft_edge::Sink;
+use ft_inject::Clean;
+use ft_isa::Plan;
+use ft_machine::{Machine, RunEnd, drive};
+use ft_types::Object;
+use std::alloc::Global;
+
+/// Checks an object.
+pub(crate) fn check_object<K: Sink>(alloc: Global, object: &Object, out: &mut K) -> Ending
+    requires { IsSpellable object.now }
+    ensures ends { Ends result (λ a. a ≡ checked object.now)
+        (K.written out.old) (K.written out.new) (K.faults out.old) (K.faults out.new) ⊥ }
+    ensures puts { Puts result (K.puts out.old) (K.puts out.new) }
+    ensures faults { result ≢ Ending.WriteFault → K.faults out.new ≡ K.faults out.old }
+{
+    match check(alloc, object) {
+        Ok(_) => match out.put(b"accepted\n") {
+            Ok(()) => Ending::Done,
+            Err(_) => Ending::WriteFault,
+        },
+        Err(error) => refuse_check(error, out),
+    }
+}
+
+/// Runs an object that is accepted.
+pub(crate) fn run_object<K: Sink>(alloc: Global, object: &Object, run: &Run, out: &mut K) -> Ending
+    requires { IsSpellable object.now }
+    ensures ends { Ends result (λ a. a ≡ run_checked (run_view run.now) object.now)
+        (K.written out.old) (K.written out.new) (K.faults out.old) (K.faults out.new) ⊥ }
+    ensures puts { Puts result (K.puts out.old) (K.puts out.new) }
+    ensures faults { result ≢ Ending.WriteFault → K.faults out.new ≡ K.faults out.old }
+{
+    let checked = match check(alloc, object) {
+        Ok(checked) => checked,
+        Err(error) => return refuse_check(error, out),
+    };
+    let Ok(clean) = Clean::start(alloc, &checked) else {
+        return Ending::NoMemory;
+    };
+    let plan = Plan {
+        strike: run.strike,
+        wild: run.wild.as_slice(),
+    };
+    match ft_inject::run(clean, plan, run.steps, out) {
+        RunEnd::Done => Ending::Done,
+        RunEnd::Detected => Ending::Detected,
+        RunEnd::OutOfSteps => Ending::OutOfSteps,
+        RunEnd::WriteFault => Ending::WriteFault,
+    }
+}
+
+/// Runs an object without checking it.
+pub(crate) fn try_object<K: Sink>(alloc: Global, object: &Object, run: &Run, out: &mut K) -> Ending
+    requires { IsSpellable object.now }
+    ensures ends { Ends result (λ a. a ≡ tried (run_view run.now) object.now)
+        (K.written out.old) (K.written out.new) (K.faults out.old) (K.faults out.new) ⊥ }
+    ensures puts { Puts result (K.puts out.old) (K.puts out.new) }
+    ensures faults { result ≢ Ending.WriteFault → K.faults out.new ≡ K.faults out.old }
+{
+    let mut machine = match Machine::new(alloc, object) {
+        Ok(machine) => machine,
+        Err(_) => return Ending::NoMemory,
+    };
+    let plan = Plan {
+        strike: run.strike,
+        wild: run.wild.as_slice(),
+    };
+    match drive(&mut machine, object, plan, run.steps, out) {
+        RunEnd::Done => Ending::Done,
+        RunEnd::Detected => Ending::Detected,
+        RunEnd::OutOfSteps => Ending::OutOfSteps,
+        RunEnd::WriteFault => Ending::WriteFault,
+    }
+}
