@@ -1,54 +1,8 @@
-use crate::objects::{A, A2, L, N, Q, X, X2};
+use crate::objects::A;
+use crate::rows::{check_rows, status_of, worked_objects};
 use ft_edge::{MemShelf, MemSink, SureSource};
 use std::process::Abort;
 use std::test::Fail;
-
-/// Words, the text that is written, and the status.
-type Row = (&'static str, &'static str, u8);
-
-fn worked_objects(rt: &impl AllocGlobal) -> Result<MemShelf, Fail> {
-    let mut shelf = MemShelf::new(rt.alloc());
-    shelf.add("A", A)?;
-    shelf.add("A2", A2)?;
-    shelf.add("Q", Q)?;
-    shelf.add("X", X)?;
-    shelf.add("X2", X2)?;
-    shelf.add("L", L)?;
-    shelf.add("N", N)?;
-    Ok(shelf)
-}
-
-fn split_words(rt: &impl AllocGlobal, text: &str) -> Result<Vec<String>, Fail> {
-    let mut words = Vec::new(rt.alloc());
-    for word in text.split(' ') {
-        words.push(String::from_str(rt.alloc(), word)?)?;
-    }
-    Ok(words)
-}
-
-/// Runs the tool on the words, and tells the status.
-fn status_of(
-    rt: &impl AllocGlobal,
-    words: &str,
-    shelf: &mut MemShelf,
-    sink: &mut MemSink,
-) -> Result<u8, Fail> {
-    let words = split_words(rt, words)?;
-    let mut script = SureSource::new(&[]);
-    Ok(ft_tool::tool(rt.alloc(), words.as_slice(), shelf, &mut script, sink))
-}
-
-fn check_rows(rt: &(impl AllocGlobal + Abort), rows: &[Row]) -> Result<(), Fail> {
-    let mut shelf = worked_objects(rt)?;
-    for row in rows {
-        let (words, text, status) = *row;
-        let mut sink = MemSink::new(rt.alloc(), 100)?;
-        let got = status_of(rt, words, &mut shelf, &mut sink)?;
-        assert_eq!(rt; got, status, "status of {words}");
-        assert_eq!(rt; sink.written(), text.as_bytes(), "text of {words}");
-    }
-    Ok(())
-}
 
 #[test]
 fn runs_of_worked_objects(rt: HostRuntime) -> Result<(), Fail> {
@@ -76,6 +30,20 @@ fn runs_of_worked_objects(rt: HostRuntime) -> Result<(), Fail> {
             ("trial L", "out 5\n", 0),
             ("trial L --steps 16", "out 5\n", 0),
             ("trial L --steps 15", "out 5\n", 9),
+            ("trial J", "out 5\n", 0),
+            ("trial J --steps 22", "out 5\n", 0),
+            ("trial J --steps 21", "out 5\n", 9),
+            ("trial K", "", 0),
+            ("trial twice --steps 5", "", 9),
+            ("trial twice --steps 6", "", 1),
+            ("trial over --steps 10", "", 0),
+            ("trial loop", "", 9),
+            ("trial taken --steps 22", "out 8\n", 0),
+            ("trial passed --steps 14", "", 0),
+            ("trial green --steps 11", "", 9),
+            ("trial green --steps 12", "", 1),
+            ("trial blue --steps 11", "", 9),
+            ("trial blue --steps 12", "", 1),
         ],
     )
 }
@@ -120,9 +88,17 @@ fn words_that_are_no_command(rt: HostRuntime) -> Result<(), Fail> {
         &[
             ("", "usage\n", 2),
             ("run", "usage\n", 2),
-            ("run A", "usage\n", 2),
             ("run A --steps 5 --steps 6", "usage\n", 2),
+            ("run A --steps 1000000001", "usage\n", 2),
+            ("run A --faults A", "usage\n", 2),
+            ("check A --steps 5", "usage\n", 2),
+            ("check A A", "usage\n", 2),
             ("campaign A", "usage\n", 2),
+            ("campaign A --faults", "usage\n", 2),
+            ("campaign A --faults A --faults A", "usage\n", 2),
+            ("campaign A --faults A --steps 1000001", "usage\n", 2),
+            ("campaign A --faults A --fault 4:r1:6", "usage\n", 2),
+            ("survey A --steps 14", "usage\n", 2),
             ("demo 0", "usage\n", 2),
             ("--help", "usage\n", 2),
             ("trial", "usage\n", 2),
@@ -201,68 +177,40 @@ fn no_words_at_all(rt: HostRuntime) -> Result<(), Fail> {
     Ok(())
 }
 
-/// The status of the trial of these bytes. Status 7 comes with the line `not built`, and no other does.
-fn trial_of(rt: &(impl AllocGlobal + Abort), bytes: &[u8]) -> Result<u8, Fail> {
+/// The line and the status of the trial of these bytes.
+fn check_trial(rt: &(impl AllocGlobal + Abort), bytes: &[u8], text: &str) -> Result<(), Fail> {
     let mut shelf = MemShelf::new(rt.alloc());
     shelf.add("bytes", bytes)?;
     let mut sink = MemSink::new(rt.alloc(), 100)?;
     let status = status_of(rt, "trial bytes", &mut shelf, &mut sink)?;
-    assert_eq!(rt; sink.written() == b"not built\n".as_slice(), status == 7);
-    Ok(status)
-}
-
-/// Whether any byte may stand here in `A`: in the cell's word, in the word of a `mov`, or late in the
-/// name.
-fn is_free(at: usize) -> bool {
-    matches!(at, 56..=63 | 112..=119 | 128..=135 | 144..=151 | 160..=167 | 217 | 218)
-}
-
-#[test]
-fn bytes_that_are_not_plain(rt: HostRuntime) -> Result<(), Fail> {
-    let mut bytes = A.to_vec(rt.alloc())?;
-    for at in 0..bytes.len() {
-        bytes[at] ^= 0x40;
-        assert_eq!(rt;
-            trial_of(&rt, bytes.as_slice())? == 7,
-            !is_free(at),
-            "altered at {at}"
-        );
-        bytes[at] ^= 0x40;
-        assert_eq!(rt; trial_of(&rt, &bytes[..at])?, 7, "a prefix of {at} bytes");
-    }
-    bytes.push(0)?;
-    assert_eq!(rt; trial_of(&rt, bytes.as_slice())?, 7, "one byte more");
+    assert_eq!(rt; status, 7, "for {text}");
+    assert_eq!(rt; sink.written(), text.as_bytes());
     Ok(())
 }
 
 #[test]
-fn fields_that_are_not_plain(rt: HostRuntime) -> Result<(), Fail> {
-    let rows = [
-        (0, 0x55), // magic
-        (15, 2), // two nodes
-        (23, 1), // a register row
-        (39, 1), // a substitution row
-        (47, 1), // another entry block
-        (51, 2), // the name ends before the name bytes
-        (52, 9), // refs above 8
-        (53, 2), // no base
-        (55, 1), // padding of `int`
-        (67, 1), // padding of a node
-        (99, 1), // a block that does not start at 0
-        (104, 8), // no kind of instruction
-        (105, 64), // no register
-        (106, 1), // padding of a `mov`
-        (107, 2), // no colour
-        (111, 1), // padding of `int` in a `mov`
-        (172, 1), // padding of a store
-        (215, 1), // padding of `halt`
-        (216, 0x30), // a digit at the start of a name
-    ];
-    for (at, byte) in rows {
+fn altered_objects(rt: HostRuntime) -> Result<(), Fail> {
+    for n in 0..A.len() {
+        let text = format!(in rt.alloc(); "object 2 {n}\n")?;
+        check_trial(&rt, &A[..n], text.as_str())?;
+    }
+    let mut longer = A.to_vec(rt.alloc())?;
+    longer.push(0)?;
+    check_trial(&rt, longer.as_slice(), "object 2 219\n")?;
+    for (at, byte, text) in [
+        (0, 0x55, "object 1 0\n"),
+        (7, 0x02, "object 1 0\n"),
+        (10, 0x04, "object 3 8\n"), // 1,025 cells
+        (67, 0x01, "object 4 67\n"),
+        (104, 0x08, "object 5 104\n"),
+        (64, 0x02, "object 6 68\n"), // a node that refers to itself
+        (99, 0x01, "object 7 96\n"),
+        (216, 0x30, "object 8 216\n"),
+        (47, 0x01, "object 9 44\n"),
+    ] {
         let mut bytes = A.to_vec(rt.alloc())?;
-        assert!(rt; at < bytes.len());
         bytes[at] = byte;
-        assert_eq!(rt; trial_of(&rt, bytes.as_slice())?, 7, "{byte} at {at}");
+        check_trial(&rt, bytes.as_slice(), text)?;
     }
     Ok(())
 }
