@@ -31,17 +31,36 @@ expect 'a masked fault' 0 'out 5\n' trial "$top/examples/five.obj" --fault 10:r1
 expect 'a detected fault' 1 '' trial "$top/examples/five.obj" --fault 4:r1:6
 expect 'a wild load that is answered' 0 'out 5\n' trial "$top/examples/reload.obj" --fault 2:r0:7 --wild 5
 expect 'a run that is cut' 9 '' trial "$top/examples/five.obj" --steps 11
+expect 'an object that is accepted' 0 'accepted\n' check "$top/examples/five.obj"
+expect 'an object that is not accepted' 8 'check block 0 index 3 premise 2\n' check "$top/examples/mixed.obj"
+expect 'a run of an accepted object' 0 'out 5\n' run "$top/examples/five.obj"
+expect 'a run that is detected' 1 '' run "$top/examples/five.obj" --fault 4:r1:6
+expect 'no run of an object that is not accepted' 8 'check block 0 index 3 premise 2\n' run "$top/examples/mixed.obj"
+expect 'a campaign' 0 '4:r1:6 detected 11\n10:r1:6 masked\n0:pcg:3 detected 0\n9:qv0:6 idle\nfaults 4 masked 1 detected 2 idle 1 corrupt 0\n' \
+  campaign "$top/examples/five.obj" --faults "$top/examples/five.faults" --steps 14
+expect 'a survey' 10 '4:r1:6 corrupt\nfaults 1 masked 0 detected 0 idle 0 corrupt 1\n' \
+  survey "$top/examples/mixed.obj" --faults "$top/examples/mixed.faults" --steps 14
+expect 'a missing fault list' 3 '' campaign "$top/examples/five.obj" --faults "$work/missing"
+expect 'a fault list that is not' 11 'list 1 1\n' campaign "$top/examples/five.obj" --faults "$top/examples/five.obj"
+expect 'a meaning' 0 'out 0\nout 1\nout 1\nout 2\nout 3\nout 5\nout 8\nout 13\nout 21\nout 34\n' mean "$top/examples/fibonacci.src"
+expect 'another meaning' 0 'out 15\n' mean "$top/examples/sum.src"
+expect 'a meaning that is cut' 9 'out 1\nout 2\nout 3\n' mean "$top/examples/endless.src" --turns 3
+expect 'a source that is refused' 6 'source 7 20\n' mean "$top/examples/unknown.src"
+head -c 1048577 /dev/zero >long.src
+expect 'a source above the limit' 6 'source 1 1048576\n' mean long.src
+head -c 1048576 /dev/zero >longest.src
+expect 'a source at the limit' 6 'source 2 0\n' mean longest.src
 expect 'no words' 2 'usage\n'
 expect 'a word that is no text' 2 'usage\n' trial $'\xff'
 expect 'a missing file' 3 '' trial "$work/missing"
 expect 'a folder' 3 '' trial "$work"
 expect 'a name with a line feed' 3 '' trial $'a\nb'
 : >empty
-expect 'an empty file' 7 'not built\n' trial empty
+expect 'an empty file' 7 'object 2 0\n' trial empty
 head -c 67108865 /dev/zero >long
-expect 'a file above the limit' 7 'not built\n' trial long
+expect 'a file above the limit' 7 'object 2 67108864\n' trial long
 head -c 67108864 /dev/zero >longest
-expect 'a file at the limit' 7 'not built\n' trial longest
+expect 'a file at the limit' 7 'object 1 0\n' trial longest
 cp "$top/examples/five.obj" ./-x
 expect 'a relative name' 0 'out 5\n' trial -x
 
