@@ -160,43 +160,57 @@ fn no_fault_corrupts_an_accepted_object(rt: HostRuntime) -> Result<(), Fail> {
     check_rows(&rt, &[("survey A --faults missing", "", 3)])
 }
 
+/// A campaign of four faults.
+const CAMPAIGN: &str = "campaign A --steps 14 --faults list";
+
+/// The worked objects, and a list of four faults.
+fn objects_and_list(rt: &impl AllocGlobal) -> Result<MemShelf, Fail> {
+    let mut shelf = worked_objects(rt)?;
+    shelf.add("list", b"4:r1:6\n10:r1:6\n0:pcg:3\n9:qv0:6\n")?;
+    Ok(shelf)
+}
+
 #[test]
-fn loads_and_puts_of_a_campaign_that_fail(rt: HostRuntime) -> Result<(), Fail> {
-    let lines: [&str; 5] = [
-        "4:r1:6 detected 11\n",
-        "10:r1:6 masked\n",
-        "0:pcg:3 detected 0\n",
-        "9:qv0:6 idle\n",
-        "faults 4 masked 1 detected 2 idle 1 corrupt 0\n",
-    ];
-    let words = "campaign A --steps 14 --faults list";
-    for load in 0..2 {
-        let mut shelf = worked_objects(&rt)?;
-        shelf.add("list", b"4:r1:6\n10:r1:6\n0:pcg:3\n9:qv0:6\n")?;
+fn loads_of_a_campaign_that_fail(rt: HostRuntime) -> Result<(), Fail> {
+    for (words, load, text, status) in [
+        (CAMPAIGN, 0, "", 3),
+        (CAMPAIGN, 1, "", 3),
+        (
+            "campaign A2 --faults list",
+            1,
+            "check block 0 index 3 premise 2\n",
+            8,
+        ),
+    ] {
+        let mut shelf = objects_and_list(&rt)?;
         shelf.fail_at(load)?;
         let mut sink = MemSink::new(rt.alloc(), 300)?;
-        assert_eq!(rt; status_of(&rt, words, &mut shelf, &mut sink)?, 3);
-        assert_eq!(rt; sink.written(), b"".as_slice());
+        assert_eq!(rt; status_of(&rt, words, &mut shelf, &mut sink)?, status);
+        assert_eq!(rt; sink.written(), text.as_bytes());
     }
-    let mut written = String::new(rt.alloc());
-    for (call, line) in lines.iter().enumerate() {
-        let mut shelf = worked_objects(&rt)?;
-        shelf.add("list", b"4:r1:6\n10:r1:6\n0:pcg:3\n9:qv0:6\n")?;
-        let mut sink = MemSink::new(rt.alloc(), 300)?;
-        sink.fail_at(call as u64)?;
-        assert_eq!(rt;
-            status_of(&rt, words, &mut shelf, &mut sink)?,
+    Ok(())
+}
+
+#[test]
+fn puts_of_a_campaign_that_fail(rt: HostRuntime) -> Result<(), Fail> {
+    for (call, text) in [
+        (0, ""),
+        (1, "4:r1:6 detected 11\n"),
+        (2, "4:r1:6 detected 11\n10:r1:6 masked\n"),
+        (
+            3,
+            "4:r1:6 detected 11\n10:r1:6 masked\n0:pcg:3 detected 0\n",
+        ),
+        (
             4,
-            "at put {call}"
-        );
-        assert_eq!(rt; sink.written(), written.as_bytes());
-        written.push_str(line)?;
+            "4:r1:6 detected 11\n10:r1:6 masked\n0:pcg:3 detected 0\n9:qv0:6 idle\n",
+        ),
+    ] {
+        let mut shelf = objects_and_list(&rt)?;
+        let mut sink = MemSink::new(rt.alloc(), 300)?;
+        sink.fail_at(call)?;
+        assert_eq!(rt; status_of(&rt, CAMPAIGN, &mut shelf, &mut sink)?, 4);
+        assert_eq!(rt; sink.written(), text.as_bytes());
     }
-    let mut shelf: MemShelf = worked_objects(&rt)?;
-    shelf.add("list", b"4:r1:6\n")?;
-    shelf.fail_at(1)?;
-    let mut sink = MemSink::new(rt.alloc(), 300)?;
-    let got = status_of(&rt, "campaign A2 --faults list", &mut shelf, &mut sink)?;
-    assert_eq!(rt; got, 8);
     Ok(())
 }
