@@ -12,7 +12,7 @@ use ft_machine::{RunEnd, drive};
 use ft_types::Program;
 
 /// Runs an accepted program from its start under a plan, for at most `steps` steps, and puts a line for
-/// each output. `WriteFault` comes only where a put failed, and nothing is put after it.
+/// each output. `WriteFault` comes only where a put failed.
 pub fn run<'a, P: Program, K: Sink>(
     start: Clean<'a, P>,
     plan: Plan,
