@@ -1,3 +1,4 @@
 pub mod Commands
 pub mod Sessions
 pub mod Ends
+pub mod Reads
