@@ -1,1 +1,7 @@
 pub mod Spaces
+pub mod Blocks
+pub mod Shown
+pub mod Held
+pub mod Advanced
+pub mod Gone
+pub mod Listed

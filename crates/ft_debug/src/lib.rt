@@ -6,8 +6,16 @@
 //! `specs/Ends.antt`.
 #![tactic(auto)]
 
+mod answers;
+mod break_places;
+mod code_places;
 mod command;
 mod debug_end;
+mod debugger;
+mod history;
+mod lines;
+mod moment;
+mod put;
 mod reading;
 mod register;
 mod words;
