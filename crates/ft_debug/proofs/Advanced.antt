@@ -11,15 +11,15 @@ use Rattle.ft_types.specs.declared.object.Object.{Object}
 use Rattle.ft_types.specs.declared.status.Status.{Status}
 use Rattle.ft_types.specs.declared.status.Status.TheVariants as status
 use Rattle.ft_types.specs.State.{State}
-use Rattle.ft_types.specs.Step.{Stepping, step}
+use Rattle.ft_types.specs.Step.{step}
 use Rattle.ft_types.specs.Strike.{is_running}
 use Rattle.ft_types.specs.Texts.{line_at}
 use Rattle.ft_machine.specs.declared.machine.Stepped.{Stepped}
-use Rattle.ft_machine.specs.Answers.{told, told_output, Takes}
+use Rattle.ft_machine.specs.Answers.{told_output, Takes}
 use Rattle.ft_debug.specs.declared.moment.Moment.{Moment}
 use Rattle.ft_debug.specs.declared.debugger.Debugger.{Debugger}
 use Rattle.ft_debug.specs.Kept.{IsFull}
-use Rattle.ft_debug.specs.Sessions.{Session, Reply, present, stays, after_lines, further, step_lines, takes_step, walks}
+use Rattle.ft_debug.specs.Sessions.{Session, Reply, present, stays, after_lines, further, step_lines, walks}
 use Rattle.ft_debug.specs.Inside.{Holds, Puts, Does, committed_lines, advances}
 use Rattle.ft_debug.proofs.Held.{holds_further}
 
@@ -103,10 +103,13 @@ walked_more o halts n k d e f old mid new a b c l g walked does = λ w s h.
     let t = x.0 in
     let y = does w t x.2 in
     let next : n - k - 1 ≡ n - (k + 1) = omega arith in (
-      further t, x.1 ++ step_lines o (present o w t), y.0, puts_then x.1 (step_lines o (present o w t)) old mid new a b c x.3 y.1,
+      further t,
+      x.1 ++ step_lines o (present o w t),
+      y.0,
+      puts_then x.1 (step_lines o (present o w t)) old mid new a b c x.3 y.1,
       x.4 ∙ ap (after_lines x.1) (walk_takes o w halts (n - k) t (omega arith) (goes_on_there o w halts t e true x.2 g))
-      ∙ ap (λ m. after_lines x.1 (after_lines (step_lines o (present o w t)) (walks o w halts m (further t)))) next
-      ∙ ap (λ ls. record { session = (walks o w halts (n - (k + 1)) (further t)).session; lines = ls }) (sym (append_assoc x.1 (step_lines o (present o w t)) (walks o w halts (n - (k + 1)) (further t)).lines)),
+          ∙ ap (λ m. after_lines x.1 (after_lines (step_lines o (present o w t)) (walks o w halts m (further t)))) next
+          ∙ ap (λ ls. record { session = (walks o w halts (n - (k + 1)) (further t)).session; lines = ls }) (sym (append_assoc x.1 (step_lines o (present o w t)) (walks o w halts (n - (k + 1)) (further t)).lines)),
     )
 
 ended : (o : Object) (w : List Wild) (e : Debugger) (t : Session) (ls : List (List ℕ)) (r : Reply) (old new : Option (List ℕ)) (a b : Option ℕ) → Holds o w t e → PutsLines ls old new a b → r ≡ after_lines ls (stays t) → Holds o w r.session e × PutsLines r.lines old new a b

@@ -1,5 +1,5 @@
 -- Walks that stop at break places, and what each command's reply is.
-use Rattle.std.proofs.Common.{◌≡◌, ℕ, zero, suc, ◌+◌, ◌-◌, ◌<◌, ◌≤◌, Bool, true, false, List, [], ◌∷◌, ◌++◌, Option, Result, Ok, Err, refl, ap, sym, ◌∙◌, subst, append-nil, arith}
+use Rattle.std.proofs.Common.{◌≡◌, ℕ, zero, suc, ◌-◌, ◌<◌, ◌≤◌, Bool, true, false, List, [], ◌∷◌, Option, Result, Ok, Err, refl, ap, sym, ◌∙◌, subst, arith}
 use Rattle.std.specs.Prelude.{if◌then◌else◌, nat_lt, codes}
 use Rattle.std.proofs.lemmas.Bool.{lt-ltb}
 use Rattle.std.proofs.lemmas.Bool.Decides.{nat_tests}
@@ -9,7 +9,6 @@ use Rattle.ft_isa.specs.declared.plan.Wild.{Wild}
 use Rattle.ft_text.specs.Puts.{PutsLines, BreaksOff}
 use Rattle.ft_text.proofs.PutLines.{puts_none, puts_then, breaks_then, breaks_before}
 use Rattle.ft_types.specs.declared.object.Object.{Object}
-use Rattle.ft_types.specs.State.{State}
 use Rattle.ft_types.specs.Strike.{is_running, is_there}
 use Rattle.ft_debug.specs.declared.moment.Moment.{Moment}
 use Rattle.ft_debug.specs.declared.debugger.Debugger.{Debugger}
@@ -118,7 +117,7 @@ pub zaps : (o : Object) (d e : Debugger) (site : Site) (value : ℕ) (b : Bool) 
 zaps o d e site value b r old new a c there holds p =
     says_line (λ w. strikes o w site value) o d e (if b then codes "zapped\n" else codes "nothing there\n") (λ w s. (strikes o w site value s).session) r old new a c (λ w s h. (
       zap_line (is_there (present o w s).state site) (with_strike site value s) s (codes "zapped\n") (codes "nothing there\n")
-      ∙ ap (λ t. says (if t then codes "zapped\n" else codes "nothing there\n") (strikes o w site value s).session) (there_is o w s d site b h there),
+          ∙ ap (λ t. says (if t then codes "zapped\n" else codes "nothing there\n") (strikes o w site value s).session) (there_is o w s d site b h there),
       holds w s h,
     )) p
 

@@ -1,6 +1,6 @@
 -- What the debugger holds, after each of its acts.
-use Rattle.std.proofs.Common.{◌≡◌, ℕ, zero, suc, ◌+◌, ◌-◌, ◌<◌, ◌≤◌, Bool, true, false, min, max, List, [], ◌∷◌, ◌++◌, length, take, drop, Some, None, refl, ap, sym, ◌∙◌, subst, arith, inl, inr, ⊎_elim, ◌⊎◌}
-use Rattle.std.specs.Prelude.{filter, slice_get, if◌then◌else◌, All, codes}
+use Rattle.std.proofs.Common.{◌≡◌, ℕ, zero, suc, ◌+◌, ◌-◌, ◌<◌, ◌≤◌, Bool, true, false, min, List, [], ◌∷◌, ◌++◌, length, take, drop, Some, refl, ap, sym, ◌∙◌, subst, arith, ⊎_elim}
+use Rattle.std.specs.Prelude.{slice_get, if◌then◌else◌, All, codes}
 use Rattle.std.specs.List.{AllByRecursion}
 use Rattle.std.proofs.lemmas.Bool.{cases_lt}
 use Rattle.std.proofs.lemmas.List.{length-drop}
@@ -12,15 +12,15 @@ use Rattle.ft_isa.specs.declared.plan.Strike.{Strike}
 use Rattle.ft_isa.specs.declared.plan.Wild.{Wild}
 use Rattle.ft_types.specs.declared.object.Object.{Object}
 use Rattle.ft_types.specs.State.{State, start, HasCells}
-use Rattle.ft_types.specs.Step.{Stepping, step}
+use Rattle.ft_types.specs.Step.{step}
 use Rattle.ft_types.specs.Strike.{is_there, struck_state, with_word}
 use Rattle.ft_debug.specs.declared.moment.Moment.{Moment}
 use Rattle.ft_debug.specs.declared.debugger.Debugger.{Debugger}
 use Rattle.ft_debug.specs.declared.history.History.{History}
 use Rattle.ft_debug.specs.Kept.{IsFull, HasMomentCells, HasCellsOf}
-use Rattle.ft_debug.specs.Sessions.{Session, Shown, Reply, first_session, shown, present, further, earlier, with_strike, says, strikes}
+use Rattle.ft_debug.specs.Sessions.{Session, Shown, first_session, shown, present, further, earlier, with_strike, says, strikes}
 use Rattle.ft_debug.specs.Inside.{moment_of, moment_at, IsMadeBy, Ready, Holds}
-use Rattle.ft_debug.proofs.Shown.{shown-zero, shown_next, shown_before, shown_struck, shown_filtered, is_by, made_filtered, made_later, made_push}
+use Rattle.ft_debug.proofs.Shown.{shown-zero, shown_next, shown_before, shown_struck, shown_filtered, made_filtered, made_later, made_push}
 
 -- THE RING
 

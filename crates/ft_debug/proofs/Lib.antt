@@ -5,3 +5,4 @@ pub mod Held
 pub mod Advanced
 pub mod Gone
 pub mod Listed
+pub mod Replied

@@ -1,6 +1,6 @@
 -- Cells by name, and entries of the store queue.
-use Rattle.std.proofs.Common.{◌≡◌, ℕ, zero, suc, ◌+◌, ◌<◌, ◌≤◌, Bool, true, false, cond, List, [], ◌∷◌, ◌++◌, length, map, take, drop, get_or, Option, Some, None, Result, Ok, Err, nat_lt, refl, ap, sym, ◌∙◌, subst, ⊎_elim, arith}
-use Rattle.std.specs.Prelude.{position, slice_get, bytes_eq, IsErr, IsTrue, ◌↔◌}
+use Rattle.std.proofs.Common.{◌≡◌, ℕ, suc, ◌+◌, ◌<◌, ◌≤◌, Bool, true, false, cond, List, [], ◌∷◌, ◌++◌, length, map, take, drop, get_or, Option, Some, None, Result, Ok, Err, nat_lt, refl, ap, sym, ◌∙◌, subst, ⊎_elim, arith}
+use Rattle.std.specs.Prelude.{slice_get, IsErr}
 use Rattle.std.specs.List.{position_or_len}
 use Rattle.std.specs.Option.{option_map}
 use Rattle.std.proofs.Math.Seq.{split_at}
@@ -10,12 +10,12 @@ use Rattle.std.proofs.lemmas.Slice.Eq.{bytes_eq-Decides}
 use Rattle.std.proofs.lemmas.List.{take_more, take_all, map-append}
 use Rattle.std.proofs.lemmas.List.Elements.{All-get_or}
 use Rattle.std.proofs.lemmas.List.Sums.{position_or_len_is}
-use Rattle.std.proofs.lemmas.Option.{get_or_from_slice_get, slice_get_within, slice_get_cases}
+use Rattle.std.proofs.lemmas.Option.{get_or_from_slice_get, slice_get_within}
 use Rattle.ft_edge.specs.declared.failed.Failed.{Failed}
 use Rattle.ft_isa.specs.Pending.{Pending}
 use Rattle.ft_isa.specs.declared.basic.Base.TheVariants.{Int}
 use Rattle.ft_text.specs.Puts.{PutsLines, BreaksOff}
-use Rattle.ft_text.proofs.PutLines.{puts_none, puts_then, breaks_then, breaks_before}
+use Rattle.ft_text.proofs.PutLines.{puts_then, breaks_then, breaks_before}
 use Rattle.ft_types.specs.declared.object.Object.{Object}
 use Rattle.ft_types.specs.declared.object.Cell.{Cell}
 use Rattle.ft_types.specs.Objects.{name_of}

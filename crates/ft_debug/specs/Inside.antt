@@ -16,7 +16,7 @@ use Rattle.ft_debug.specs.declared.moment.Moment.{Moment}
 use Rattle.ft_debug.specs.declared.debugger.Debugger.{Debugger}
 use Rattle.ft_debug.specs.Commands.{Command, Step, Go, IsCount}
 use Rattle.ft_debug.specs.Kept.{HasMomentCells, IsFull}
-use Rattle.ft_debug.specs.Sessions.{Session, Shown, Reply, shown, present, stays, after_lines, further, step_lines, never, is_at_break}
+use Rattle.ft_debug.specs.Sessions.{Session, Shown, Reply, shown, present, further, step_lines, never, is_at_break}
 
 -- the moment of what is shown
 abbrev pub moment_of : ℕ → Shown → Moment

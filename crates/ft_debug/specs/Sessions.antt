@@ -1,7 +1,7 @@
 -- Sessions of debugging: what is shown at each position, and what each command does and puts.
 use Rattle.std.specs.Prelude.{ℕ, zero, suc, ◌+◌, ◌-◌, max, Bool, false, ◌&&◌, ◌==◌, nat_lt, nat_le, if◌then◌else◌, List, [], ◌∷◌, ◌++◌, length, map, filter, count_by, position, bytes_eq, Option, Some, None, is_none, decimal, codes}
 use Rattle.std.specs.List.{list_any}
-use Rattle.std.specs.Option.{option_to_list, option_map, unwrap_or}
+use Rattle.std.specs.Option.{option_to_list, unwrap_or}
 use Rattle.ft_isa.specs.Words.{code_address, cell_address, line}
 use Rattle.ft_isa.specs.Pending.{Pending}
 use Rattle.ft_isa.specs.declared.colour.Colour.{Colour}

@@ -184,11 +184,7 @@ impl<'w> Debugger<'w> {
     }
 
     /// Shows the pending stores.
-    fn answer_queue<P: Program, K: Sink>(
-        &self,
-        program: &P,
-        out: &mut K,
-    ) -> Result<(), Failed>
+    fn answer_queue<P: Program, K: Sink>(&self, program: &P, out: &mut K) -> Result<(), Failed>
         ensures does { Does (λ w. reply (P.object program.now) w commands.Queue) (P.object program.now) self.now self.now result (K.written out.old) (K.written out.new) (K.puts out.old) (K.puts out.new) }
         ensures count { K.faults out.old ≤ K.faults out.new }
         ensures cause { Excused result (K.faults out.old) (K.faults out.new) }

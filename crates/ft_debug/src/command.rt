@@ -12,10 +12,7 @@ pub enum Command<'s> {
     /// Goes back so many steps.
     Back(u64),
     /// Strikes a site.
-    Zap {
-        site: Site,
-        value: u64,
-    },
+    Zap { site: Site, value: u64 },
     /// Shows a register.
     Reg(Register),
     /// Shows the pending stores.
@@ -25,10 +22,7 @@ pub enum Command<'s> {
     /// Shows where the machine is.
     Where,
     /// Sets a break place: an instruction of a block.
-    Break {
-        block: u64,
-        index: u64,
-    },
+    Break { block: u64, index: u64 },
     /// Any other line.
     Bad,
 }

@@ -169,11 +169,7 @@ impl<'w> Debugger<'w> {
 }
 
 /// Puts what a step committed, if it committed something.
-fn put_output<P: Program, K: Sink>(
-    program: &P,
-    stepped: Stepped,
-    out: &mut K,
-) -> Result<(), Failed>
+fn put_output<P: Program, K: Sink>(program: &P, stepped: Stepped, out: &mut K) -> Result<(), Failed>
     requires spellable { IsSpellable (P.object program.now) }
     requires low { (output : outputs.Output) → stepped ≡ Stepped.Commit output → 1048576 ≤ output.addr }
     requires high { (output : outputs.Output) → stepped ≡ Stepped.Commit output → output.addr < 1048576 + length (P.object program.now).cells }

@@ -18,6 +18,9 @@ mod moment;
 mod put;
 mod reading;
 mod register;
+mod script;
+mod sessions;
 mod words;
 
 pub use debug_end::DebugEnd;
+pub use sessions::session;

@@ -134,7 +134,10 @@ pub fn where_line<P: Program>(program: &P, moment: &Moment<'_>) -> Line
     requires { IsSpellable (P.object program.now) }
     ensures { result ≡ where_line (P.object program.now) moment.now.position moment.now.machine }
 {
-    let (green, blue) = (moment.machine.pc(Colour::Green), moment.machine.pc(Colour::Blue));
+    let (green, blue) = (
+        moment.machine.pc(Colour::Green),
+        moment.machine.pc(Colour::Blue),
+    );
     let mut line = begin_at(moment);
     line.piece(b" pcg ");
     line.number(green);

@@ -9,7 +9,9 @@ ghost use Rattle.ft_debug.specs.declared.register.Register as register;
 
 use crate::command::Command;
 use crate::register::Register;
-use crate::words::{after, is_line_word, is_same, read_count, read_register, read_site, split_word};
+use crate::words::{
+    after, is_line_word, is_same, read_count, read_register, read_site, split_word,
+};
 use ft_isa::{Site, read_number};
 
 /// A number of steps after a piece.
@@ -62,11 +64,7 @@ fn read_cell(line: &[u8]) -> Option<&[u8]>
     let Some(name) = after(line, b"cell ") else {
         return None;
     };
-    if is_line_word(name) {
-        Some(name)
-    } else {
-        None
-    }
+    if is_line_word(name) { Some(name) } else { None }
 }
 
 /// The block and the instruction of a break place.

@@ -1,4 +1,4 @@
-use Rattle.std.proofs.Common.{◌≡◌, true, false, sym, ◌∙◌, arith}
+use Rattle.std.proofs.Common.{sym, ◌∙◌, arith}
 use Rattle.std.proofs.lemmas.Bool.{true≢false}
 use Rattle.ft_debug.proofs.Listed.{found_name, short_name, other_name, no_name}
 use Rattle.ft_debug.proofs.answers.named_cell.Goals as goal

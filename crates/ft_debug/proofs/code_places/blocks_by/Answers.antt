@@ -1,4 +1,4 @@
-use Rattle.std.proofs.Common.{◌≡◌, true, false, ◌∙◌, arith}
+use Rattle.std.proofs.Common.{◌∙◌, arith}
 use Rattle.std.proofs.lemmas.Bool.{le-leb}
 use Rattle.ft_debug.specs.Sessions.{begins_by}
 use Rattle.ft_debug.proofs.Blocks.{counted_yes, counted_no}

@@ -1,4 +1,4 @@
-use Rattle.std.proofs.Common.{◌≡◌, ◌++◌, ℕ, List, decimal, codes, sym, ◌∙◌}
+use Rattle.std.proofs.Common.{◌++◌, decimal, codes, sym, ◌∙◌}
 use Rattle.std.proofs.lemmas.List.{append_cancel_left}
 use Rattle.ft_debug.proofs.Spaces.{decimal_no_space, no_number}
 use Rattle.ft_debug.proofs.reading.read_break.Goals as goal

@@ -1,4 +1,4 @@
-use Rattle.std.proofs.Common.{◌≡◌, ◌<◌, ℕ, List, Some, None, true, false, length, sym, ◌∙◌, arith}
+use Rattle.std.proofs.Common.{◌≡◌, ℕ, List, Some, None, sym, ◌∙◌, arith}
 use Rattle.std.specs.Prelude.{position}
 use Rattle.ft_debug.specs.Commands.{IsLineWord}
 use Rattle.ft_debug.proofs.Spaces.{is_space, no_space_found, found_no_space}

@@ -1,4 +1,4 @@
-use Rattle.std.proofs.Common.{◌≡◌, ◌++◌, ◌<◌, ℕ, List, Some, decimal, sym, ◌∙◌, arith}
+use Rattle.std.proofs.Common.{◌≡◌, Some, decimal, sym, ◌∙◌, arith}
 use Rattle.std.proofs.lemmas.List.{append_cancel_left}
 use Rattle.ft_debug.proofs.Spaces.{no_number}
 use Rattle.ft_debug.proofs.words.read_place.Goals as goal

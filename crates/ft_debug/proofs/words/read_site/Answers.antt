@@ -1,4 +1,4 @@
-use Rattle.std.proofs.Common.{◌≡◌, ◌≢◌, ◌<◌, ◌++◌, ℕ, List, decimal, codes}
+use Rattle.std.proofs.Common.{◌≢◌, ◌<◌, ◌++◌, ℕ, List, decimal, codes}
 use Rattle.ft_isa.specs.PlanText.{IsSite, site_text}
 use Rattle.ft_isa.specs.declared.plan.Site.{Site}
 use Rattle.ft_isa.specs.declared.plan.Site.TheVariants as sites

@@ -1,5 +1,4 @@
 use Rattle.std.proofs.Common.{refl}
-use Rattle.ft_debug.proofs.Held.{same_cells}
 use Rattle.ft_debug.proofs.Advanced.{does_advance}
 use Rattle.ft_debug.proofs.debugger.Debugger.advance.Goals as goal
 

@@ -1,6 +1,6 @@
 use Rattle.std.proofs.Common.{◌≡◌, ◌&&◌, not, true, false, refl, ap, sym, ◌∙◌, arith}
 use Rattle.ft_types.specs.Strike.{is_running}
-use Rattle.ft_debug.specs.Inside.{halting, advances}
+use Rattle.ft_debug.specs.Inside.{halting}
 use Rattle.ft_debug.specs.Sessions.{walks}
 use Rattle.ft_debug.proofs.Advanced.{walked_none, walked_more, walk_halts, walk_ends, walk_breaks, does_err}
 use Rattle.ft_debug.proofs.debugger.Debugger.walk.Goals as goal

@@ -1,4 +1,4 @@
-use Rattle.std.proofs.Common.{◌≡◌, ℕ, ◌-◌, List, ◌∷◌, length, take, ap, ◌∙◌}
+use Rattle.std.proofs.Common.{◌≡◌, ◌-◌, ◌∷◌, length, take, ap, ◌∙◌}
 use Rattle.circular_buffer.specs.Buffer.{Buffer, buffer}
 use Rattle.ft_debug.proofs.history.History.take_back.Goals as goal
 
