@@ -1,13 +1,13 @@
 //! Runs of an accepted object that are struck once.
 ghost use Rattle.std.specs.Prelude.{◌≡◌, Some};
 
-use crate::objects::A;
 use ft_checker::check;
 use ft_inject::{Clean, Hit, Struck};
 use ft_isa::{Colour, Site};
 use ft_machine::Stepped;
 use ft_object::decode;
 use ft_types::Program;
+use ft_worked_objects::A;
 use std::test::Fail;
 
 /// The run that was struck, if one was.

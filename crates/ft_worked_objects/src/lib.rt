@@ -1,4 +1,8 @@
 //! Worked objects as bytes, made by another implementation of the format.
+//!
+//! The crate holds constants alone, which the crates of rows share: objects that the checker accepts, and
+//! objects that it refuses, each with what it does.
+#![tactic(auto)]
 
 /// Stores 5, green and blue, and halts.
 pub const A: &[u8] =
