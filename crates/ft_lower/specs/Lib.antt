@@ -1,0 +1,4 @@
+pub mod Flow
+pub mod Size
+pub mod Well
+pub mod Lowers
