@@ -6,8 +6,13 @@
 //! flows), `specs/Lowers.antt` (what the flow of a program is).
 #![tactic(auto)]
 
+mod counting;
+mod cutting;
+mod emission;
 mod flow;
+mod lowering;
 mod step3;
 
 pub use flow::Flow;
+pub use lowering::lower;
 pub use step3::Step3;
