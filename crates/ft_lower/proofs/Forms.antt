@@ -1,15 +1,15 @@
 -- The steps and blocks of statements in a row, and of the statements of the code.
-use Rattle.std.proofs.Common.{◌≡◌, ℕ, ◌+◌, ◌<◌, ◌≤◌, List, [], ◌∷◌, ◌++◌, max, length, drop, get_or, sym, ap, ◌∙◌, arith, append_assoc}
-use Rattle.std.proofs.lemmas.List.{drop_all}
+use Rattle.std.proofs.Common.{◌≡◌, ℕ, zero, suc, ◌+◌, ◌<◌, ◌≤◌, List, [], ◌∷◌, ◌++◌, max, length, drop, get_or, sym, ap, ◌∙◌, arith, append_assoc}
+use Rattle.std.proofs.lemmas.List.{append-nil, drop_all}
 use Rattle.ft_syntax.specs.Plain.{Expression, StatementList, none, assign, loop, choose, follow, plain_statement, plain_list}
 use Rattle.ft_syntax.specs.declared.stmt.Stmt.{Stmt}
-use Rattle.ft_syntax.proofs.PlainForms.{assign_form, while_form, if_form, statement_first, list_empty, list_drop}
+use Rattle.ft_syntax.proofs.PlainForms.{assign_form, while_form, if_form, statement_first, list_empty, list_first, list_drop}
 use Rattle.ft_scope.specs.declared.slot.Slot.{Slot}
 use Rattle.ft_scope.specs.Size.{same_slot, most_need}
 use Rattle.ft_scope.proofs.Measures.{need_follow}
 use Rattle.ft_lower.specs.declared.step3.Step3.{Step3}
 use Rattle.ft_lower.specs.declared.step3.Step3.TheVariants.{Exit, Go}
-use Rattle.ft_lower.specs.Lowered.{block_count, expression_steps, write, statement_steps}
+use Rattle.ft_lower.specs.Lowered.{block_count, body_counts, expression_steps, write, statement_steps}
 
 pub ruleset forms = (assign_form, while_form, if_form)
 
@@ -23,6 +23,26 @@ count_follow none b = omega arith
 count_follow (assign to e rest) b = count_follow rest b
 count_follow (loop e body rest) b = omega (arith, count_follow rest b)
 count_follow (choose e if_so if_not rest) b = omega (arith, count_follow rest b)
+
+-- the last of two lists of statements puts its numbers onto the stack first
+pub counts_follow : (a b : StatementList Slot) → body_counts (follow a b) ≡ body_counts b ++ body_counts a
+counts_follow none b = sym (append-nil (body_counts b))
+counts_follow (assign to e rest) b = counts_follow rest b
+counts_follow (loop e body rest) b =
+    let own = body_counts body ++ block_count body ∷ [] in
+    ap (λ z. z ++ own) (counts_follow rest b) ∙ append_assoc (body_counts b) (body_counts rest) own
+counts_follow (choose e x y rest) b =
+    let own = body_counts y ++ (body_counts x ++ block_count y ∷ block_count x ∷ []) in
+    ap (λ z. z ++ own) (counts_follow rest b) ∙ append_assoc (body_counts b) (body_counts rest) own
+
+-- the last statements begin no more blocks than all
+pub count_drop : (xs : List (Stmt Slot)) (i : ℕ) → block_count (plain_list same_slot (drop i xs)) ≤ block_count (plain_list same_slot xs)
+count_drop xs zero = omega arith
+count_drop [] (suc i) = omega arith
+count_drop (x ∷ xs) (suc i) =
+    let all = plain_list same_slot xs in
+    let is = ap block_count (list_first same_slot x xs ∙ statement_first same_slot x all) ∙ count_follow (plain_statement same_slot x none) all in
+    omega (arith, count_drop xs i, is)
 
 -- the steps of statements in a row are those of each
 pub steps_follow : (n b c : ℕ) (x y : StatementList Slot) → c ≡ b + block_count x → statement_steps n b (follow x y) ≡ statement_steps n b x ++ statement_steps n c y
@@ -54,6 +74,9 @@ module _ (xs : List (Stmt Slot)) (i : ℕ) (s : Stmt Slot) (lt : i < length xs) 
 
   pub count_left : block_count (plain_list same_slot (drop i xs)) ≡ block_count (plain_statement same_slot s none) + block_count (plain_list same_slot (drop (i + 1) xs))
   count_left = ap block_count left ∙ count_follow (plain_statement same_slot s none) (plain_list same_slot (drop (i + 1) xs))
+
+  pub counts_left : body_counts (plain_list same_slot (drop i xs)) ≡ body_counts (plain_list same_slot (drop (i + 1) xs)) ++ body_counts (plain_statement same_slot s none)
+  counts_left = ap body_counts left ∙ counts_follow (plain_statement same_slot s none) (plain_list same_slot (drop (i + 1) xs))
 
   pub need_left : most_need (plain_list same_slot (drop i xs)) ≡ max (most_need (plain_statement same_slot s none)) (most_need (plain_list same_slot (drop (i + 1) xs)))
   need_left = ap most_need left ∙ need_follow (plain_statement same_slot s none) (plain_list same_slot (drop (i + 1) xs))

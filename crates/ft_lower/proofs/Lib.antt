@@ -4,6 +4,7 @@ pub mod Expressions
 pub mod Statements
 pub mod Whole
 pub mod Forms
+pub mod Counts
 pub mod Sizes
 pub mod Pairs
 pub mod WellFormed

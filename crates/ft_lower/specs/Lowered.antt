@@ -1,5 +1,5 @@
 -- The steps of a program in a row, and the blocks that they are.
-use Rattle.std.specs.Prelude.{ℕ, zero, suc, ◌+◌, true, false, List, [], ◌∷◌, ◌++◌}
+use Rattle.std.specs.Prelude.{◌≡◌, ℕ, zero, suc, ◌+◌, true, false, List, [], ◌∷◌, ◌++◌}
 use Rattle.ft_syntax.specs.Plain.{Expression, literal, name, operation, StatementList, none, assign, loop, choose}
 use Rattle.ft_scope.specs.declared.slot.Slot.{Slot}
 use Rattle.ft_scope.specs.declared.slot.Slot.TheVariants.{Cell, Var}
@@ -31,6 +31,19 @@ block_count none = 0
 block_count (assign to e rest) = block_count rest
 block_count (loop e body rest) = 2 + block_count body + block_count rest
 block_count (choose e if_so if_not rest) = 2 + block_count if_so + block_count if_not + block_count rest
+
+-- how many blocks the bodies of loops and the sides of choices begin: a stack, from which the numbers come in
+-- the order in which the statements are lowered
+abbrev pub body_counts : StatementList Slot → List ℕ
+body_counts none = []
+body_counts (assign to e rest) = body_counts rest
+body_counts (loop e body rest) = body_counts rest ++ (body_counts body ++ block_count body ∷ [])
+body_counts (choose e if_so if_not rest) =
+    body_counts rest ++ (body_counts if_not ++ (body_counts if_so ++ block_count if_not ∷ block_count if_so ∷ []))
+
+-- numbers stand on top of a stack
+abbrev pub Tops : List ℕ → List ℕ → Type 0
+Tops numbers stack = (below : List ℕ) × (stack ≡ below ++ numbers)
 
 -- the steps of statements over n variables that begin within block b; each step that ends a block is
 -- followed by the first step of the next block

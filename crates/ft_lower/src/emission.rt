@@ -1,9 +1,9 @@
 //! The steps of expressions, statements and programs, in a row.
-ghost use Rattle.std.specs.Prelude.{◌≡◌, ◌+◌, ◌<◌, ◌≤◌, ◌^◌, [], ◌∷◌, ◌++◌, OnOk, IfOk};
+ghost use Rattle.std.specs.Prelude.{◌≡◌, ◌≢◌, ◌+◌, ◌<◌, ◌≤◌, ◌^◌, [], ◌∷◌, ◌++◌, OnOk, IfOk};
 ghost use Rattle.ft_syntax.specs.Plain.{none, plain_expression, plain_statement, plain_list};
 ghost use Rattle.ft_scope.specs.Size.{same_slot, need, most_need};
 ghost use Rattle.ft_scope.specs.ProgramOf.{program_of};
-ghost use Rattle.ft_lower.specs.Lowered.{block_count, expression_steps, write, statement_steps, zeros, program_steps};
+ghost use Rattle.ft_lower.specs.Lowered.{block_count, body_counts, Tops, expression_steps, write, statement_steps, zeros, program_steps};
 
 use crate::counting::count_blocks;
 use crate::step3::Step3;
@@ -59,33 +59,54 @@ fn write_step(n: u8, to: Slot) -> Step3
     }
 }
 
-/// The steps of statements over n variables that begin within block b. Answers the block in which they end.
+/// The number on top of a stack.
+fn next_count(counts: &mut Vec<u32>) -> u32
+    requires some { counts.old.items ≢ [] }
+    ensures { counts.old.items ≡ counts.new.items ++ result ∷ [] }
+{
+    counts.pop().unwrap()
+}
+
+/// The steps of statements over n variables that begin within block b, where the stack has how many blocks
+/// their bodies begin. Answers the block in which they end.
 #[cycle(emit)]
 fn emit_statements(
     steps: &mut Vec<Step3>,
+    counts: &mut Vec<u32>,
     n: u8,
     b: u32,
     all: &[Stmt<Slot>],
 ) -> Result<u32, AllocError>
     requires few { b + block_count (plain_list same_slot all.now) < 2 ^ 32 }
     requires pairs { n + 1 + most_need (plain_list same_slot all.now) ≤ 32 }
+    requires counted { Tops (body_counts (plain_list same_slot all.now)) counts.old.items }
     ensures steps { OnOk result (steps.new.items ≡ steps.old.items ++ statement_steps n b (plain_list same_slot all.now)) }
+    ensures counts { OnOk result (counts.old.items ≡ counts.new.items ++ body_counts (plain_list same_slot all.now)) }
     ensures block { IfOk result (λ c. c ≡ b + block_count (plain_list same_slot all.now)) }
 {
     let mut at = b;
     for s in all {
-        at = emit_statement(steps, n, at, s)?;
+        at = emit_statement(steps, counts, n, at, s)?;
     }
     Ok(at)
 }
 
-/// The steps of a statement over n variables that begin within block b. Answers the block in which they end.
+/// The steps of a statement over n variables that begin within block b, where the stack has how many blocks
+/// its bodies begin. Answers the block in which they end.
 #[tactic(auto, using(crate::proofs::Forms::forms))]
 #[cycle(emit)]
-fn emit_statement(steps: &mut Vec<Step3>, n: u8, b: u32, s: &Stmt<Slot>) -> Result<u32, AllocError>
+fn emit_statement(
+    steps: &mut Vec<Step3>,
+    counts: &mut Vec<u32>,
+    n: u8,
+    b: u32,
+    s: &Stmt<Slot>,
+) -> Result<u32, AllocError>
     requires few { b + block_count (plain_statement same_slot s.now none) < 2 ^ 32 }
     requires pairs { n + 1 + most_need (plain_statement same_slot s.now none) ≤ 32 }
+    requires counted { Tops (body_counts (plain_statement same_slot s.now none)) counts.old.items }
     ensures steps { OnOk result (steps.new.items ≡ steps.old.items ++ statement_steps n b (plain_statement same_slot s.now none)) }
+    ensures counts { OnOk result (counts.old.items ≡ counts.new.items ++ body_counts (plain_statement same_slot s.now none)) }
     ensures block { IfOk result (λ c. c ≡ b + block_count (plain_statement same_slot s.now none)) }
 {
     match s {
@@ -96,7 +117,7 @@ fn emit_statement(steps: &mut Vec<Step3>, n: u8, b: u32, s: &Stmt<Slot>) -> Resu
         }
         Stmt::While { test, body } => {
             let head = b + 1;
-            let out = head + 1 + count_blocks(body);
+            let out = head + 1 + next_count(counts);
             put(steps, Step3::Go { spare: n, to: head })?;
             emit_expression(steps, n + 1, test)?;
             put(
@@ -107,13 +128,13 @@ fn emit_statement(steps: &mut Vec<Step3>, n: u8, b: u32, s: &Stmt<Slot>) -> Resu
                     to: out,
                 },
             )?;
-            emit_statements(steps, n, head, body)?;
+            emit_statements(steps, counts, n, head, body)?;
             put(steps, Step3::Go { spare: n, to: head })?;
             Ok(out)
         }
         Stmt::If { test, yes, no } => {
-            let other = b + 1 + count_blocks(yes);
-            let out = other + 1 + count_blocks(no);
+            let other = b + 1 + next_count(counts);
+            let out = other + 1 + next_count(counts);
             emit_expression(steps, n + 1, test)?;
             put(
                 steps,
@@ -123,9 +144,9 @@ fn emit_statement(steps: &mut Vec<Step3>, n: u8, b: u32, s: &Stmt<Slot>) -> Resu
                     to: other,
                 },
             )?;
-            emit_statements(steps, n, b, yes)?;
+            emit_statements(steps, counts, n, b, yes)?;
             put(steps, Step3::Go { spare: n, to: out })?;
-            emit_statements(steps, n, other, no)?;
+            emit_statements(steps, counts, n, other, no)?;
             put(steps, Step3::Go { spare: n, to: out })?;
             Ok(out)
         }
@@ -146,9 +167,11 @@ fn emit_zeros(steps: &mut Vec<Step3>, n: u8) -> Result<(), AllocError>
 pub fn emit_program(alloc: Global, prog: &Prog<'_>) -> Result<Vec<Step3>, AllocError>
     ensures { IfOk result (λ steps. steps.items ≡ program_steps (program_of prog.now)) }
 {
+    let mut counts = Vec::new(alloc);
+    count_blocks(&mut counts, &prog.body)?;
     let mut steps = Vec::new(alloc);
     emit_zeros(&mut steps, prog.vars)?;
-    emit_statements(&mut steps, prog.vars, 0, &prog.body)?;
+    emit_statements(&mut steps, &mut counts, prog.vars, 0, &prog.body)?;
     put(&mut steps, Step3::Stop)?;
     Ok(steps)
 }

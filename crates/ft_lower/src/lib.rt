@@ -10,9 +10,11 @@ mod counting;
 mod cutting;
 mod emission;
 mod flow;
+mod laws;
 mod lowering;
 mod step3;
 
 pub use flow::Flow;
+pub use laws::fibonacci_numbers_are_run;
 pub use lowering::lower;
 pub use step3::Step3;

@@ -5,7 +5,7 @@ use Rattle.ft_lower.specs.Lowered.{block_count}
 use Rattle.ft_lower.proofs.Sizes.{count_weighs}
 use Rattle.ft_lower.proofs.emission.emit_program.Goals as goal
 
-pub emit_statements-requires-clause-few : goal.emit_statements-requires-clause-few
-emit_statements-requires-clause-few c =
+pub count_blocks-requires : goal.count_blocks-requires
+count_blocks-requires c =
     let e = ap (λ l. block_count (plain_list same_slot l)) c.deref.ensures.value in
-    omega (arith, e, count_weighs (plain_list same_slot c.args.prog.now.body.items), c.args.prog.now.light)
+    record { few = omega (arith, e, count_weighs (plain_list same_slot c.args.prog.now.body.items), c.args.prog.now.light) }
