@@ -3,6 +3,7 @@ ghost use Rattle.std.specs.Prelude.{◌≡◌, ◌≢◌, ◌+◌, ◌<◌, ◌�
 ghost use Rattle.ft_syntax.specs.Plain.{none, plain_expression, plain_statement, plain_list};
 ghost use Rattle.ft_scope.specs.Size.{same_slot, need, most_need};
 ghost use Rattle.ft_scope.specs.ProgramOf.{program_of};
+ghost use Rattle.ft_lower.specs.declared.step3.Step3.TheVariants.{Exit};
 ghost use Rattle.ft_lower.specs.Lowered.{block_count, body_counts, Tops, expression_steps, write, statement_steps, zeros, program_steps};
 
 use crate::counting::count_blocks;
@@ -44,19 +45,25 @@ fn emit_expression(steps: &mut Vec<Step3>, t: u8, e: &Expr<Slot>) -> Result<(), 
     }
 }
 
-/// The step that writes pair n + 1 to a cell or a variable, with the spare n.
-fn write_step(n: u8, to: Slot) -> Step3
-    requires { n < 255 }
-    ensures { result ≡ write n to }
+/// The step that writes pair n + 1 to a cell or a variable, where pair n is the spare.
+fn write_step(spare: u8, to: Slot) -> Step3
+    requires { spare < 255 }
+    ensures { result ≡ write spare to }
 {
+    let q = spare + 1;
     match to {
-        Slot::Var(x) => Step3::Copy { p: x, q: n + 1 },
-        Slot::Cell(k) => Step3::Store {
-            cell: k,
-            q: n + 1,
-            spare: n,
-        },
+        Slot::Var(p) => Step3::Copy { p, q },
+        Slot::Cell(cell) => Step3::Store { cell, q, spare },
     }
+}
+
+/// The step that goes on to a block where pair n + 1 holds 0, where pair n is the spare.
+fn exit_step(spare: u8, to: u32) -> Step3
+    requires { spare < 255 }
+    ensures { result ≡ Exit (spare + 1) spare to }
+{
+    let q = spare + 1;
+    Step3::Exit { q, spare, to }
 }
 
 /// The number on top of a stack.
@@ -120,14 +127,7 @@ fn emit_statement(
             let out = head + 1 + next_count(counts);
             put(steps, Step3::Go { spare: n, to: head })?;
             emit_expression(steps, n + 1, test)?;
-            put(
-                steps,
-                Step3::Exit {
-                    q: n + 1,
-                    spare: n,
-                    to: out,
-                },
-            )?;
+            put(steps, exit_step(n, out))?;
             emit_statements(steps, counts, n, head, body)?;
             put(steps, Step3::Go { spare: n, to: head })?;
             Ok(out)
@@ -136,14 +136,7 @@ fn emit_statement(
             let other = b + 1 + next_count(counts);
             let out = other + 1 + next_count(counts);
             emit_expression(steps, n + 1, test)?;
-            put(
-                steps,
-                Step3::Exit {
-                    q: n + 1,
-                    spare: n,
-                    to: other,
-                },
-            )?;
+            put(steps, exit_step(n, other))?;
             emit_statements(steps, counts, n, b, yes)?;
             put(steps, Step3::Go { spare: n, to: out })?;
             emit_statements(steps, counts, n, other, no)?;

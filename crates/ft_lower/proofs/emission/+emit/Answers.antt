@@ -47,7 +47,7 @@ emit_statement-returns-in_ok-put-in-While-3-clause-steps t c =
     let top = loop_stack below _ _ c.next_count.result e (plain_list same_slot xs) (c.requires.counted.1 ∙ ap (λ st. below ++ body_counts st) is) c.next_count.ensures in
     let n = c.args.n in
     let b = c.args.b in
-    loop_steps _ _ _ _ _ _ n b _ e (plain_list same_slot xs) (omega (arith, top.1)) c.in_ok-put-in-While.ensures c.in_ok-emit_expression-in-While.ensures c.in_ok-put-in-While-2.ensures c.in_ok-emit_statements-in-While.ensures.steps c.in_ok-put-in-While-3.ensures
+    loop_steps _ _ _ _ _ _ n b _ e (plain_list same_slot xs) (omega (arith, top.1)) c.in_ok-put-in-While.ensures c.in_ok-emit_expression-in-While.ensures (c.in_ok-put-in-While-2.ensures ∙ ap (λ x. c.emit_expression-in-While.new.steps.items ++ x ∷ []) c.exit_step.ensures) c.in_ok-emit_statements-in-While.ensures.steps c.in_ok-put-in-While-3.ensures
     ∙ ap (λ st. c.args.steps.now.items ++ statement_steps n b st) (sym is)
 
 pub emit_statement-returns-in_ok-put-in-While-3-clause-counts : goal.emit_statement-returns-in_ok-put-in-While-3-clause-counts
@@ -156,7 +156,7 @@ emit_statement-returns-in_ok-put-in-If-3-clause-steps t c =
     let next = same_from_push _ _ _ _ (sym c.next_count-in-If-2.ensures ∙ top.0) in
     let n = c.args.n in
     let b = c.args.b in
-    choice_steps _ _ _ _ _ _ _ n b _ _ e (plain_list same_slot xs) (plain_list same_slot ys) (omega (arith, top.1)) (omega (arith, top.1, next.1)) c.in_ok-emit_expression-in-If.ensures c.in_ok-put-in-If.ensures c.in_ok-emit_statements-in-If.ensures.steps c.in_ok-put-in-If-2.ensures c.in_ok-emit_statements-in-If-2.ensures.steps c.in_ok-put-in-If-3.ensures
+    choice_steps _ _ _ _ _ _ _ n b _ _ e (plain_list same_slot xs) (plain_list same_slot ys) (omega (arith, top.1)) (omega (arith, top.1, next.1)) c.in_ok-emit_expression-in-If.ensures (c.in_ok-put-in-If.ensures ∙ ap (λ x. c.emit_expression-in-If.new.steps.items ++ x ∷ []) c.exit_step-in-If.ensures) c.in_ok-emit_statements-in-If.ensures.steps c.in_ok-put-in-If-2.ensures c.in_ok-emit_statements-in-If-2.ensures.steps c.in_ok-put-in-If-3.ensures
     ∙ ap (λ st. c.args.steps.now.items ++ statement_steps n b st) (sym is)
 
 pub emit_statement-returns-in_ok-put-in-If-3-clause-counts : goal.emit_statement-returns-in_ok-put-in-If-3-clause-counts
