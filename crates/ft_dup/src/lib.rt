@@ -1,0 +1,11 @@
+//! Doubling: the instructions of a flow's steps, each in green and in blue.
+//!
+//! The crate promises that `duplicate` gives exactly the images of the flow's steps in order with the
+//! blocks' starts, and that the machine's run of any object that carries them is the flow's run. Its
+//! definitions: `specs/Images.antt` (the instructions of a step), `specs/Doubles.antt` (what carries a flow
+//! and what its run does).
+#![tactic(auto)]
+
+mod doubled;
+
+pub use doubled::Doubled;
