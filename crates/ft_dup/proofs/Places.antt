@@ -1,5 +1,5 @@
 -- Where blocks begin, and the shape of well formed blocks.
-use Rattle.std.proofs.Common.{◌≡◌, ℕ, zero, suc, ◌+◌, ◌<◌, ◌≤◌, List, [], ◌∷◌, ◌++◌, map, length, slice_index, get_or, refl, sym, ap, ◌∙◌, subst, arith}
+use Rattle.std.proofs.Common.{◌≡◌, ℕ, zero, suc, ◌+◌, ◌<◌, List, [], ◌∷◌, ◌++◌, map, length, slice_index, get_or, refl, sym, ap, ◌∙◌, subst, arith}
 use Rattle.std.specs.List.{All}
 use Rattle.std.proofs.Math.ListN.{get_or-map}
 use Rattle.std.proofs.lemmas.List.Elements.{All-head, All-tail, All-cons, All-nil, All-from_get_or}
@@ -95,7 +95,7 @@ row_targets vars cells blocks k [] h = All-nil (HasTarget blocks)
 row_targets vars cells blocks k (i ∷ is) h = All-cons (HasTarget blocks) i is (target_of cells blocks i h.0) (row_targets vars cells blocks (known_after i k) is h.2)
 
 -- the block of a number is the list's element
-block_is : (bs : Blocks) (b : ℕ) → b < length bs → block_of bs b ≡ get_or bs b []
+pub block_is : (bs : Blocks) (b : ℕ) → b < length bs → block_of bs b ≡ get_or bs b []
 block_is [] b h = absurd (omega arith)
 block_is (x ∷ bs) zero h = refl
 block_is (x ∷ bs) (suc b) h = block_is bs b (omega arith)

@@ -53,6 +53,8 @@ pub fn duplicate(alloc: Global, flow: &Flow) -> Result<Doubled, NoMemory>
     ensures vars { IfOk result (λ d. d.vars ≡ flow.now.vars) }
     ensures instrs { IfOk result (λ d. d.instrs.items ≡ doubled (blocks_of flow.now)) }
     ensures starts { IfOk result (λ d. d.starts.items ≡ starts (blocks_of flow.now)) }
+    ensures runs { IfOk result (λ d. IsWell flow.now.vars flow.now.cells (blocks_of flow.now) →
+        RunsAs flow.now.vars flow.now.cells (blocks_of flow.now)) }
 {
     let starts = block_starts(alloc, &flow.blocks)?;
     let instrs = put_blocks(alloc, &starts, &flow.blocks)?;

@@ -1,5 +1,5 @@
 -- A block of the list is one of the blocks of which the conditions speak.
-use Rattle.std.proofs.Common.{◌<◌, length, map, sym, subst}
+use Rattle.std.proofs.Common.{◌<◌, length, sym, subst}
 use Rattle.std.specs.List.{All}
 use Rattle.ft_lower.specs.Size.{pairs_of}
 use Rattle.ft_dup.specs.Shape.{HasTarget}
