@@ -14,3 +14,6 @@ mod whole;
 
 pub use doubled::Doubled;
 pub use whole::duplicate;
+
+#[cfg(test)]
+mod tests;
