@@ -1,2 +1,4 @@
 pub mod StandsFor
+pub mod Cells
+pub mod Emitted
 pub mod Laws
