@@ -4,6 +4,7 @@ use Rattle.ft_types.specs.declared.object.Object.{Object}
 use Rattle.ft_types.specs.Accepted.{IsAccepted}
 use Rattle.ft_types.specs.Objects.{name_of}
 use Rattle.ft_types.specs.Spellable.{IsSpellable}
+use Rattle.ft_scope.specs.Outcome.{IsProgramOf}
 use Rattle.ft_scope.specs.Resolved.{Program}
 use Rattle.ft_lower.specs.Flow.{Blocks}
 use Rattle.ft_lower.specs.Lowers.{Lowers}
@@ -32,3 +33,7 @@ pub record IsEmission (names : List (List ℕ)) (inits : List ℕ) (bs : Blocks)
 -- so is the object of well formed blocks
 abbrev pub EmittedObjectsAreAccepted : Type 0
 EmittedObjectsAreAccepted = (names : List (List ℕ)) (inits : List ℕ) (vars : ℕ) (bs : Blocks) → AreCells names inits → IsWell vars (length inits) bs → IsEmission names inits bs (emitted names inits vars bs)
+
+-- the cells of a text's program have lawful names that differ
+abbrev pub ProgramsHaveCells : Type 0
+ProgramsHaveCells = (text : List ℕ) (p : Program) → IsProgramOf text p → AreCells p.names p.inits

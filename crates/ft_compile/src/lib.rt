@@ -7,4 +7,4 @@
 
 mod laws;
 
-pub use laws::{carried_blocks_run_as_meant, emitted_objects_are_accepted};
+pub use laws::{carried_blocks_run_as_meant, emitted_objects_are_accepted, programs_have_cells};
