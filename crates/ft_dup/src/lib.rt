@@ -7,5 +7,10 @@
 #![tactic(auto)]
 
 mod doubled;
+mod emission;
+mod registers;
+mod sizes;
+mod whole;
 
 pub use doubled::Doubled;
+pub use whole::duplicate;
