@@ -26,7 +26,7 @@ pushes_two : (ns : List Node) (x y : Node) (n : ℕ) → 2 ≤ n → length ((ns
 pushes_two ns x y n h = let l = length_more ns x in let m = length_more (ns ++ x ∷ []) y in omega arith
 
 -- each instruction gives a node at most
-nodes_step : (vars scope : ℕ) (w : Noted) (i : Step3) → length (step_noted vars scope w i).nodes ≤ length w.nodes + size i
+pub nodes_step : (vars scope : ℕ) (w : Noted) (i : Step3) → length (step_noted vars scope w i).nodes ≤ length w.nodes + size i
 nodes_step vars scope w (Put p v) = pushes_one w.nodes _ 2 (omega arith)
 nodes_step vars scope w (Copy p q) = pushes_two w.nodes _ _ 2 (omega arith)
 nodes_step vars scope w (Op o p q r) = pushes_one w.nodes _ 2 (omega arith)
@@ -36,7 +36,7 @@ nodes_step vars scope w (Exit q spare to) = omega arith
 nodes_step vars scope w (Go spare to) = omega arith
 nodes_step vars scope w Stop = omega arith
 
-nodes_row : (vars scope : ℕ) (w : Noted) (is : List Step3) → length (row_noted vars scope w is).nodes ≤ length w.nodes + row_size is
+pub nodes_row : (vars scope : ℕ) (w : Noted) (is : List Step3) → length (row_noted vars scope w is).nodes ≤ length w.nodes + row_size is
 nodes_row vars scope w [] = omega arith
 nodes_row vars scope w (i ∷ is) = omega (arith, nodes_step vars scope w i, nodes_row vars scope (step_noted vars scope w i) is)
 
@@ -48,7 +48,7 @@ nodes_blocks vars b w (x ∷ xs) = omega (arith, nodes_row vars (scope_of_block 
 rows_jump : (vars : ℕ) (w : Noted) → vars ≤ 32 → length (with_jump vars w).rows ≤ length w.rows + 32
 rows_jump vars w few = let l = length-append w.rows (take vars w.pairs) in let m = length-take vars w.pairs in omega arith
 
-rows_step : (vars scope : ℕ) (w : Noted) (i : Step3) → vars ≤ 32 → length (step_noted vars scope w i).rows ≤ length w.rows + 8 * size i
+pub rows_step : (vars scope : ℕ) (w : Noted) (i : Step3) → vars ≤ 32 → length (step_noted vars scope w i).rows ≤ length w.rows + 8 * size i
 rows_step vars scope w (Put p v) few = omega arith
 rows_step vars scope w (Copy p q) few = omega arith
 rows_step vars scope w (Op o p q r) few = omega arith
@@ -58,7 +58,7 @@ rows_step vars scope w (Exit q spare to) few = rows_jump vars w few
 rows_step vars scope w (Go spare to) few = rows_jump vars w few
 rows_step vars scope w Stop few = omega arith
 
-rows_row : (vars scope : ℕ) (w : Noted) (is : List Step3) → vars ≤ 32 → length (row_noted vars scope w is).rows ≤ length w.rows + 8 * row_size is
+pub rows_row : (vars scope : ℕ) (w : Noted) (is : List Step3) → vars ≤ 32 → length (row_noted vars scope w is).rows ≤ length w.rows + 8 * row_size is
 rows_row vars scope w [] few = omega arith
 rows_row vars scope w (i ∷ is) few = omega (arith, rows_step vars scope w i few, rows_row vars scope (step_noted vars scope w i) is few)
 
