@@ -6,5 +6,10 @@
 #![tactic(auto)]
 
 mod rows;
+mod sources;
 
-pub use rows::{Row, check_altered, check_file, check_row, check_rows, status_of, worked_objects};
+pub use rows::{
+    Row, check_altered, check_file, check_row, check_rows, check_script, status_of,
+    status_with_script, worked_objects,
+};
+pub use sources::{declared, repeated};

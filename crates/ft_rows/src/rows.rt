@@ -1,5 +1,5 @@
 //! Worked objects by name, and the tool over them.
-use ft_edge::{MemShelf, MemSink, SureSource};
+use ft_edge::{MemShelf, MemSink, Source, SureSource};
 use ft_worked_objects::{A, A2, BRANCH, J, K, L, LOOP, N, OVER, Q, TWICE, X, X2};
 use std::test::Fail;
 
@@ -53,16 +53,38 @@ fn split_words(rt: &impl AllocGlobal, text: &str) -> Result<Vec<String>, Fail> {
     Ok(words)
 }
 
-/// Runs the tool on the words, and tells the status.
+/// Runs the tool on the words, with a script, and tells the status.
+pub fn status_with_script<I: Source>(
+    rt: &impl AllocGlobal,
+    words: &str,
+    shelf: &mut MemShelf,
+    script: &mut I,
+    sink: &mut MemSink,
+) -> Result<u8, Fail> {
+    let words = split_words(rt, words)?;
+    Ok(ft_tool::tool(rt.alloc(), words.as_slice(), shelf, script, sink))
+}
+
+/// Runs the tool on the words, with an empty script, and tells the status.
 pub fn status_of(
     rt: &impl AllocGlobal,
     words: &str,
     shelf: &mut MemShelf,
     sink: &mut MemSink,
 ) -> Result<u8, Fail> {
-    let words = split_words(rt, words)?;
-    let mut script = SureSource::new(&[]);
-    Ok(ft_tool::tool(rt.alloc(), words.as_slice(), shelf, &mut script, sink))
+    status_with_script(rt, words, shelf, &mut SureSource::new(&[]), sink)
+}
+
+/// Fails unless the status is the row's and what was written is its text.
+fn compare(row: Row, found: u8, written: &[u8]) -> Result<(), Fail> {
+    let (words, text, status) = row;
+    if found != status {
+        return Err(Fail::new(format_args!("{words} answers {found}, not {status}")));
+    }
+    if written != text.as_bytes() {
+        return Err(Fail::new(format_args!("{words} does not write {text}")));
+    }
+    Ok(())
 }
 
 /// Fails unless the tool over this shelf and this sink writes the row's text and answers its status.
@@ -72,15 +94,20 @@ pub fn check_row(
     shelf: &mut MemShelf,
     sink: &mut MemSink,
 ) -> Result<(), Fail> {
-    let (words, text, status) = row;
-    let found = status_of(rt, words, shelf, sink)?;
-    if found != status {
-        return Err(Fail::new(format_args!("{words} answers {found}, not {status}")));
-    }
-    if sink.written() != text.as_bytes() {
-        return Err(Fail::new(format_args!("{words} does not write {text}")));
-    }
-    Ok(())
+    let found = status_of(rt, row.0, shelf, sink)?;
+    compare(row, found, sink.written())
+}
+
+/// Fails unless the row holds over the worked objects with this script.
+pub fn check_script<I: Source>(
+    rt: &impl AllocGlobal,
+    row: Row,
+    script: &mut I,
+) -> Result<(), Fail> {
+    let mut shelf = worked_objects(rt)?;
+    let mut sink = MemSink::new(rt.alloc(), 300)?;
+    let found = status_with_script(rt, row.0, &mut shelf, script, &mut sink)?;
+    compare(row, found, sink.written())
 }
 
 /// Fails unless each row holds over the worked objects.

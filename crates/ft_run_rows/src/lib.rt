@@ -1,4 +1,4 @@
-//! Worked rows of the commands `check`, `run` and `trial`, over files in memory, and of words that are no
+//! Worked rows of the commands `check`, `run`, `trial` and `debug`, over files in memory, and of words that are no
 //! command.
 //!
 //! The crate holds tests alone: for each row the words, the text that is written and the status. The
@@ -15,5 +15,7 @@ mod failing_calls;
 mod refusals;
 #[cfg(test)]
 mod runs;
+#[cfg(test)]
+mod sessions;
 #[cfg(test)]
 mod words;

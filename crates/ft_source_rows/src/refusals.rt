@@ -1,6 +1,9 @@
-//! What `mean` writes of texts that are no programs.
+//! What is written of texts that are no programs.
 use ft_rows::check_file;
 use std::test::Fail;
+
+/// The commands that read a source.
+const COMMANDS: &[&str] = &["mean file", "compile file", "exec file"];
 
 /// Texts that are refused, each with what is written.
 const REFUSALS: &[(&str, &str)] = &[
@@ -12,10 +15,18 @@ const REFUSALS: &[(&str, &str)] = &[
     ("y = 1;", "source 7 0\n"),
 ];
 
+/// Fails unless each command refuses a source with this line.
+pub fn check_refusal(rt: &impl AllocGlobal, source: &str, text: &str) -> Result<(), Fail> {
+    for words in COMMANDS {
+        check_file(rt, source.as_bytes(), (words, text, 6))?;
+    }
+    Ok(())
+}
+
 #[test]
 fn sources_are_refused(rt: HostRuntime) -> Result<(), Fail> {
     for (source, text) in REFUSALS {
-        check_file(&rt, source.as_bytes(), ("mean file", text, 6))?;
+        check_refusal(&rt, source, text)?;
     }
     Ok(())
 }
