@@ -6,8 +6,15 @@
 //! flows), `specs/Lowers.antt` (what the flow of a program is).
 #![tactic(auto)]
 
+mod counting;
+mod cutting;
+mod emission;
 mod flow;
+mod laws;
+mod lowering;
 mod step3;
 
 pub use flow::Flow;
+pub use laws::fibonacci_numbers_are_run;
+pub use lowering::lower;
 pub use step3::Step3;

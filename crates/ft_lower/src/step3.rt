@@ -6,44 +6,19 @@ use ft_isa::Op;
 #[derive(Clone, Copy, Debug, PartialEq, Eq)]
 pub enum Step3 {
     /// Pair `p` gets a word.
-    Put {
-        p: u8,
-        word: u64,
-    },
+    Put { p: u8, word: u64 },
     /// Pair `p` gets the word of pair `q`.
-    Copy {
-        p: u8,
-        q: u8,
-    },
+    Copy { p: u8, q: u8 },
     /// Pair `p` gets what the operation gives of the words of the pairs `q` and `s`.
-    Op {
-        op: Op,
-        p: u8,
-        q: u8,
-        s: u8,
-    },
+    Op { op: Op, p: u8, q: u8, s: u8 },
     /// Pair `p` gets the word of a cell.
-    Load {
-        p: u8,
-        cell: u32,
-    },
+    Load { p: u8, cell: u32 },
     /// A cell gets the word of pair `q`, which is an output.
-    Store {
-        cell: u32,
-        q: u8,
-        spare: u8,
-    },
+    Store { cell: u32, q: u8, spare: u8 },
     /// On to block `to` where pair `q` holds 0, and else to the next step.
-    Exit {
-        q: u8,
-        spare: u8,
-        to: u32,
-    },
+    Exit { q: u8, spare: u8, to: u32 },
     /// On to block `to`.
-    Go {
-        spare: u8,
-        to: u32,
-    },
+    Go { spare: u8, to: u32 },
     /// The end.
     Stop,
 }
