@@ -1,0 +1,454 @@
+-- The rows of jumps apply, and lead to code type 1; so the rows of each block apply.
+use Rattle.std.proofs.Common.{◌≡◌, ◌≢◌, ℕ, zero, suc, ◌+◌, ◌-◌, ◌<◌, ◌≤◌, Bool, true, false, cond, ◌==◌, ◌&&◌, List, [], ◌∷◌, ◌++◌, length, ◌⊎◌, inl, inr, Some, refl, sym, ap, ◌∙◌, subst, arith, slice_get, take, drop, map, append_assoc, eq-eqb, eqb-true}
+use Rattle.std.specs.Prelude.{All, slice_index, slice_index_or, slice_range, nat_le}
+use Rattle.std.specs.List.{list_all, range_with_len}
+use Rattle.std.specs.Option.{option_map, unwrap_or}
+use Rattle.std.specs.FinMap as finite
+use Rattle.std.proofs.lemmas.Bool.{and_from, le-leb, ltb-true}
+use Rattle.std.proofs.lemmas.List.{append-nil, length-map, length-take-le, get_or-take, get_or_default}
+use Rattle.std.proofs.lemmas.List.FromFn.{length-range_with_len}
+use Rattle.std.proofs.Math.Seq.{drop-append_seam, take-append_seam}
+use Rattle.ft_isa.specs.Words.{code_address, cell_address}
+use Rattle.ft_isa.specs.declared.colour.Colour.TheVariants.{Green, Blue}
+use Rattle.ft_isa.specs.declared.instr.Subst.{Subst}
+use Rattle.ft_isa.specs.declared.instr.Instr.{Instr}
+use Rattle.ft_isa.specs.declared.instr.Instr.TheVariants as instr
+use Rattle.ft_isa.specs.declared.reg.Reg.{Reg}
+use Rattle.ft_static.specs.declared.node.Shape.TheVariants as shape
+use Rattle.ft_static.specs.Form.{Polynomial, Updates, nought}
+use Rattle.ft_static.specs.FormOrder.{same_polynomial, same_updates}
+use Rattle.ft_static.specs.NormalForm.{constant}
+use Rattle.ft_static.specs.NodeRules.{MayName, AreNodes}
+use Rattle.ft_static.proofs.Under.{get_or-map}
+use Rattle.ft_static.proofs.Equal.{equal_updates}
+use Rattle.ft_types.specs.declared.object.Object.{Object}
+use Rattle.ft_types.specs.declared.object.RegType.{RegType}
+use Rattle.ft_types.specs.Accepted.{Applies, last_row, next_row}
+use Rattle.ft_types.specs.Objects.{reg_rows, queue_rows, ints_of, memory_of, scope_of, scope_of_node}
+use Rattle.ft_types.specs.Context.{Typed, d_zero, d_code, d_conditional, Context, typed, with_type, rows_of, replacement, typed_row, registers_after, start_context, integer_form_of, memory_form_of, integer_form_after, memory_form_after, queue_pair, FormPair, TypedRegisters}
+use Rattle.ft_types.specs.TypedWord.{int, has_type, is_seen_as, same_basic}
+use Rattle.ft_types.specs.TypingRow.{Outcome, Goes, Ends, same_colour, need, for_typed, for_code_over, for_zero, for_target, for_conditional, is_like, are_like, is_queue_like, is_annotated, is_empty, leads, row}
+use Rattle.ft_types.proofs.Maps.{get-insert}
+use Rattle.ft_lower.specs.declared.step3.Step3.{Step3}
+use Rattle.ft_lower.specs.declared.step3.Step3.TheVariants.{Put, Copy, Op, Load, Store, Exit, Go, Stop}
+use Rattle.ft_lower.specs.Size.{pairs_of}
+use Rattle.ft_lower.specs.Well.{Known, forget, known_after, known_first, is_last, IsBlock, KeepsVariables, IsTarget, StepFits, ReadsKnown, RowIsWell}
+use Rattle.ft_dup.specs.Images.{green, blue, code_one, ref_int}
+use Rattle.ft_compile.specs.Emitted.{Noted, node, with_jump, jump_subst, step_noted, row_noted, first_pairs, scope_of_block, variable_node, at_first, green_row, blue_row}
+use Rattle.ft_compile.proofs.Lists.{Starts, starts_trans, get_starts}
+use Rattle.ft_compile.proofs.Named.{IsNamed, IsLawful, step_lawful}
+use Rattle.ft_compile.proofs.Walked.{row_grows, variable_there, first_pair}
+use Rattle.ft_compile.proofs.Coded.{coded_step, row_coded}
+use Rattle.ft_compile.proofs.Forms.{green_number, blue_number, variable_after, memory_after}
+use Rattle.ft_compile.proofs.Typing.{ty, same_itself, mov_row, both, both_green, both_blue, other_green, other_blue, green_is_not_blue, blue_is_not_green, IsGood, good_forget, Passes, Leads, straight_leads}
+
+-- THE CODE TYPES
+
+-- what an emitted object has: the two code types, and the first nodes
+pub record HasTypes (o : Object) (vars : ℕ) : Type 0 where
+  pub few : vars ≤ 32
+  pub entry_ints : ints_of o 0 ≡ 0
+  pub entry_rows : reg_rows o 0 ≡ []
+  pub entry_queue : queue_rows o 0 ≡ []
+  pub entry_memory : memory_of o 0 ≡ 0
+  pub ints : ints_of o 1 ≡ vars
+  pub rows : reg_rows o 1 ≡ map green_row (range_with_len 0 vars) ++ map blue_row (range_with_len 0 vars)
+  pub queue : queue_rows o 1 ≡ []
+  pub memory : memory_of o 1 ≡ 0
+  pub nodes : AreNodes o.nodes
+  pub first_nodes : Starts (at_first vars).nodes o.nodes
+
+-- each of these rows is that of a variable in one of its two registers
+abbrev pub AreRows : ℕ → List RegType → Type 0
+AreRows n [] = Unit {0}
+AreRows n (x ∷ xs) = ((i : ℕ) × (i < n) × ((x ≡ green_row i) ⊎ (x ≡ blue_row i))) × AreRows n xs
+
+blue_rows : (n a k : ℕ) → a + k ≤ n → AreRows n (map blue_row (range_with_len a k))
+blue_rows n a zero h = tt
+blue_rows n a (suc k) h = ((a, omega (arith, h), inr refl), blue_rows n (a + 1) k (omega (arith, h)))
+
+green_rows : (n a k : ℕ) (rest : List RegType) → a + k ≤ n → AreRows n rest → AreRows n (map green_row (range_with_len a k) ++ rest)
+green_rows n a zero rest h r = r
+green_rows n a (suc k) rest h r = ((a, omega (arith, h), inl refl), green_rows n (a + 1) k rest (omega (arith, h)) r)
+
+pub type_rows : (n : ℕ) → AreRows n (map green_row (range_with_len 0 n) ++ map blue_row (range_with_len 0 n))
+type_rows n = green_rows n 0 n (map blue_row (range_with_len 0 n)) (omega arith) (blue_rows n 0 n (omega arith))
+
+-- a test of each member
+all_pass : (p : ℕ → Bool) (xs : List ℕ) → ((k : ℕ) → k < length xs → p (slice_index xs k) ≡ true) → list_all p xs ≡ true
+all_pass p [] h = refl
+all_pass p (x ∷ xs) h = and_from (p x) (list_all p xs) (h 0 (omega arith)) (all_pass p xs (λ k lt. h (suc k) (omega arith)))
+
+-- LEADING TO CODE TYPE 1
+
+module _ (o : Object) (vars : ℕ) (T : HasTypes o vars) (scope : ℕ) (pairs : List ℕ) (memory : ℕ) (u : Subst) where
+  -- a substitution puts the variables' nodes in turn, and the memory's
+  pub record PutsThese : Type 0 where
+    pub rows : rows_of o u ≡ take vars pairs
+    pub memory_is : u.memory ≡ memory
+    pub many : length pairs ≡ 32
+
+  -- the registers have what the target wants
+  abbrev HasVariables : Context → Type 0
+  HasVariables c = (q : ℕ) → q < vars → (typed c (green q).number ≡ Some (ty Green int (integer_form_of o (slice_index pairs q)))) × (typed c (blue q).number ≡ Some (ty Blue int (integer_form_of o (slice_index pairs q))))
+
+  put_rows : PutsThese → (replacement o u).integers ≡ map (integer_form_of o) (take vars pairs)
+  unfolding replacement
+  put_rows P = ap (map (integer_form_of o)) P.rows
+
+  put_memory : PutsThese → (replacement o u).memory ≡ memory_form_of o memory
+  unfolding replacement
+  put_memory P = ap (memory_form_of o) P.memory_is
+
+  -- the target's variable is what is put for it
+  put_variable : PutsThese → (q : ℕ) → q < vars → integer_form_after o (replacement o u) (1 + q) ≡ integer_form_of o (slice_index pairs q)
+  put_variable P q lt =
+      let few = T.few in
+      let many = P.many in
+      let l : length (take vars pairs) ≡ vars = length-take-le vars pairs (omega arith) in
+      let f = integer_form_of o in
+      let z : 1 + q ≡ suc q = omega arith in
+      ap (integer_form_after o (replacement o u)) z
+      ∙ variable_after o T.nodes (suc q) vars q (replacement o u) (get_starts (at_first vars).nodes o.nodes (suc q) (variable_node vars q) T.first_nodes (variable_there vars q lt))
+      ∙ ap (λ ps. slice_index_or ps q nought) (put_rows P)
+      ∙ get_or_default (map f (take vars pairs)) q nought (f 0) (let m = length-map (take vars pairs) f in omega arith)
+      ∙ get_or-map f (take vars pairs) q 0
+      ∙ ap f (get_or-take vars pairs q 0 lt)
+
+  row_like : PutsThese → (c : Context) (q : ℕ) (x : RegType) → q < vars → HasVariables c → (x ≡ green_row q) ⊎ (x ≡ blue_row q) → is_like o (replacement o u) (typed c x.reg.number) x ≡ true
+  unfolding is_like same_colour is_seen_as same_basic
+  row_like P c q x lt h (inl e) =
+      let y = integer_form_of o (slice_index pairs q) in
+      subst (λ z. is_like o (replacement o u) (typed c z.reg.number) z ≡ true) (sym e)
+      (ap (λ t. is_like o (replacement o u) t (green_row q)) (h q lt).0 ∙ ap (same_polynomial y) (put_variable P q lt) ∙ same_itself y)
+  row_like P c q x lt h (inr e) =
+      let y = integer_form_of o (slice_index pairs q) in
+      subst (λ z. is_like o (replacement o u) (typed c z.reg.number) z ≡ true) (sym e)
+      (ap (λ t. is_like o (replacement o u) t (blue_row q)) (h q lt).1 ∙ ap (same_polynomial y) (put_variable P q lt) ∙ same_itself y)
+
+  rows_like : PutsThese → (c : Context) (xs : List RegType) → HasVariables c → AreRows vars xs → are_like o (replacement o u) c xs ≡ true
+  rows_like P c [] h r = refl
+  rows_like P c (x ∷ xs) h r = and_from (is_like o (replacement o u) (typed c x.reg.number) x) (are_like o (replacement o u) c xs) (row_like P c r.0.0 x r.0.1 h r.0.2) (rows_like P c xs h r.1)
+
+  queue_like : (q : List FormPair) → q ≡ [] → is_queue_like o (replacement o u) q (queue_rows o 1) ≡ true
+  unfolding is_queue_like
+  queue_like q e = rw (e, T.queue) refl
+
+  memory_like : PutsThese → (m : Updates) → m ≡ memory_form_of o memory → same_updates m (memory_form_after o (replacement o u) (memory_of o 1)) ≡ true
+  memory_like P m e =
+      (equal_updates m (memory_form_after o (replacement o u) (memory_of o 1))).1
+      (e ∙ sym (put_memory P) ∙ sym (memory_after o T.nodes 0 0 (replacement o u) (get_starts (at_first vars).nodes o.nodes 0 (node 0 shape.Memory) T.first_nodes refl)) ∙ ap (memory_form_after o (replacement o u)) (sym T.memory))
+
+  -- the scope of a node that may be named
+  named_scope : (n : ℕ) (sort : Bool) (m : ℕ) → MayName o.nodes n scope sort m → nat_le (scope_of o m) scope ≡ true
+  named_scope n sort m h = le-leb (scope_of o m) scope (let e : scope_of o m ≡ h.node.scope = ap (λ x. unwrap_or (option_map scope_of_node x) 0) h.found in let w = h.scope_within in omega arith)
+
+  abbrev as_many : ℕ → Bool
+  as_many m = m == ints_of o 1
+
+  annotated : PutsThese → (k : Known) (n : ℕ) (spare ints : ℕ) → IsNamed o.nodes scope k n pairs memory → KeepsVariables vars k spare → ints ≡ scope → is_annotated o ints u 1 ≡ true
+  unfolding is_annotated
+  annotated P k n spare ints h keeps e =
+      let few = T.few in
+      let many = P.many in
+      let l : length (take vars pairs) ≡ vars = length-take-le vars pairs (omega arith) in
+      rw (e, P.rows, P.memory_is) (and_from (as_many (length (take vars pairs)) && list_all (λ m. nat_le (scope_of o m) scope) (take vars pairs)) (nat_le (scope_of o memory) scope)
+      (and_from (as_many (length (take vars pairs))) (list_all (λ m. nat_le (scope_of o m) scope) (take vars pairs)) (eq-eqb (length (take vars pairs)) (ints_of o 1) (l ∙ sym T.ints))
+      (all_pass (λ m. nat_le (scope_of o m) scope) (take vars pairs) (λ j lt. let jv : j < vars = omega arith in
+      subst (λ m. nat_le (scope_of o m) scope ≡ true) (sym (get_or-take vars pairs j 0 jv)) (named_scope n false (slice_index pairs j) (h.pair j (keeps.known j jv))))))
+      (named_scope n true memory h.memory_node))
+
+  -- the premises of a transfer hold
+  pub leads_on : PutsThese → (k : Known) (n spare : ℕ) (c : Context) (next : Outcome) → IsNamed o.nodes scope k n pairs memory → KeepsVariables vars k spare → HasVariables c → c.ints ≡ scope → c.queue ≡ [] → c.memory ≡ memory_form_of o memory → leads o u 1 c next ≡ next
+  unfolding leads need
+  leads_on P k n spare c next h keeps v ints qu mem =
+      let r : AreRows vars (reg_rows o 1) = subst (AreRows vars) (sym T.rows) (type_rows vars) in
+      rw (annotated P k n spare c.ints h keeps ints, rows_like P c (reg_rows o 1) v r, queue_like c.queue qu, memory_like P c.memory mem) refl
+
+-- JUMPS
+
+branch_green_row : (o : Object) (c : Context) (rz rd : Reg) (z a : Polynomial) → typed c rz.number ≡ Some (ty Green int z) → typed c rd.number ≡ Some (ty Green code_one a) → c.d ≡ d_zero → row o c (instr.BzG rz rd) ≡ Goes (record c { d = d_conditional z 1 a })
+unfolding need for_typed for_code_over for_zero same_colour
+branch_green_row o c rz rd z a hz hd d = rw (hz, hd, d) refl
+
+branch_blue_row : (o : Object) (c : Context) (rz rd : Reg) (u : Subst) (z a : Polynomial) → typed c rz.number ≡ Some (ty Blue int z) → typed c rd.number ≡ Some (ty Blue code_one a) → leads o u 1 (record c { d = d_conditional z 1 a }) (Goes (record c { d = d_zero })) ≡ Goes (record c { d = d_zero }) → row o (record c { d = d_conditional z 1 a }) (instr.BzB rz rd u) ≡ Goes (record c { d = d_zero })
+unfolding need for_typed for_code_over for_conditional same_colour
+branch_blue_row o c rz rd u z a hz hd l = rw (hz, hd) (rw (same_itself z) (rw (same_itself a) l))
+
+jump_green_row : (o : Object) (c : Context) (rd : Reg) (a : Polynomial) → typed c rd.number ≡ Some (ty Green code_one a) → c.d ≡ d_zero → row o c (instr.JmpG rd) ≡ Goes (record c { d = d_code 1 a })
+unfolding need for_typed for_code_over for_zero same_colour
+jump_green_row o c rd a hd d = rw (hd, d) refl
+
+jump_blue_row : (o : Object) (c : Context) (rd : Reg) (u : Subst) (a : Polynomial) → typed c rd.number ≡ Some (ty Blue code_one a) → leads o u 1 (record c { d = d_code 1 a }) Ends ≡ Ends → row o (record c { d = d_code 1 a }) (instr.JmpB rd u) ≡ Ends
+unfolding need for_typed for_code_over for_target same_colour
+jump_blue_row o c rd u a hd l = rw hd (rw (same_itself a) l)
+
+halt_row : (o : Object) (c : Context) → c.d ≡ d_zero → c.queue ≡ [] → row o c instr.Halt ≡ Ends
+unfolding need for_zero is_empty
+halt_row o c d q = rw (d, q) refl
+
+-- instructions that pass, before instructions that apply
+passes_applies : (o : Object) (c d : Context) (is js : List Instr) → Passes o c is d → Applies o d js → Applies o c (is ++ js)
+passes_applies o c d [] js p a = subst (λ e. Applies o e js) (sym p) a
+passes_applies o c d (i ∷ is) js p a = next_row p.0 p.1 (passes_applies o p.0 d is js p.2 a)
+
+module _ (o : Object) (vars : ℕ) (T : HasTypes o vars) (cells blocks : ℕ) (start : ℕ → ℕ) (small : cells ≤ 1024)
+    (refs : (c : ℕ) → c < cells → has_type o (cell_address c) ref_int ≡ true)
+    (targets : (b : ℕ) → IsTarget blocks b → has_type o (code_address (start b)) code_one ≡ true) where
+  -- what a jump's substitution puts, where its rows are among all
+  puts_these : (scope : ℕ) (w : Noted) → length w.pairs ≡ 32 → Starts (with_jump vars w).rows o.substs → PutsThese o vars T scope w.pairs w.memory (jump_subst vars w)
+  puts_these scope w many s =
+      let few = T.few in
+      let n = length w.rows in
+      let t = take vars w.pairs in
+      let l : length t ≡ vars = length-take-le vars w.pairs (omega arith) in
+      let z : n + vars - n ≡ length t = omega arith in
+      record {
+        rows =
+            ap (λ xs. slice_range xs n (n + vars)) (sym s.1)
+            ∙ ap (λ k. take k (drop n ((w.rows ++ t) ++ s.0))) z
+            ∙ ap (λ xs. take (length t) (drop n xs)) (append_assoc w.rows t s.0)
+            ∙ ap (take (length t)) (drop-append_seam w.rows (t ++ s.0))
+            ∙ take-append_seam t s.0;
+        memory_is = refl;
+        many = many;
+      }
+
+  -- a branch goes on
+  exit_leads : (scope : ℕ) (k : Known) (w : Noted) (c : Context) (q spare to : ℕ) → IsTarget blocks to → q < 32 → spare < 32 → ReadsKnown vars k (Exit q spare to) → Starts (with_jump vars w).rows o.substs → IsNamed o.nodes scope k (length w.nodes) w.pairs w.memory → IsGood o scope k w.pairs w.memory c → Leads o c (coded_step start (jump_subst vars w) (Exit q spare to)) scope (forget spare k) (with_jump vars w)
+  exit_leads scope k w c q spare to fits lq ls reads s h G =
+      let v = code_address (start to) in
+      let a = constant v in
+      let y = integer_form_of o (slice_index w.pairs q) in
+      let u = jump_subst vars w in
+      let keeps = reads.2 in
+      let t = targets to fits in
+      let c2 = both spare code_one a c in
+      let c3 = record c2 { d = d_conditional y 1 a } in
+      let c4 = record c3 { d = d_zero } in
+      let g2 = good_forget o scope k w.pairs w.memory c spare code_one a ls G in
+      let free : (x : ℕ) → x < vars → x ≢ spare = λ x lt e. let f = keeps.free in omega arith in
+      let holds : (x : ℕ) → x < vars → (typed c3 (green x).number ≡ Some (ty Green int (integer_form_of o (slice_index w.pairs x)))) × (typed c3 (blue x).number ≡ Some (ty Blue int (integer_form_of o (slice_index w.pairs x)))) = λ x lt.
+      (other_green spare x code_one a c ls (G.small x (keeps.known x lt)) (free x lt) ∙ G.green_pair x (keeps.known x lt), other_blue spare x code_one a c ls (G.small x (keeps.known x lt)) (free x lt) ∙ G.blue_pair x (keeps.known x lt)) in
+      record {
+        after = c4;
+        passes = (
+          _,
+          mov_row o c (green spare) v Green code_one t,
+          (
+            _,
+            mov_row o (with_type (green spare).number (ty Green code_one a) c) (blue spare) v Blue code_one t,
+            (
+              c3,
+              branch_green_row o c2 (green q) (green spare) y a (other_green spare q code_one a c ls lq reads.1 ∙ G.green_pair q reads.0) (both_green spare code_one a c ls) G.zero,
+              (
+                c4,
+                branch_blue_row o c2 (blue q) (blue spare) u y a (other_blue spare q code_one a c ls lq reads.1 ∙ G.blue_pair q reads.0) (both_blue spare code_one a c)
+                    (leads_on o vars T scope w.pairs w.memory u (puts_these scope w G.many s) k (length w.nodes) spare c3 (Goes c4) h keeps holds G.ints G.queue G.memory_is),
+                refl,
+              ),
+            ),
+          ),
+        );
+        good = record {
+          green_pair = g2.green_pair;
+          blue_pair = g2.blue_pair;
+          small = g2.small;
+          many = g2.many;
+          zero = refl;
+          queue = g2.queue;
+          memory_is = g2.memory_is;
+          ints = g2.ints;
+        };
+      }
+
+  -- a jump ends its block
+  go_applies : (scope : ℕ) (k : Known) (w : Noted) (c : Context) (spare to : ℕ) → IsTarget blocks to → spare < 32 → KeepsVariables vars k spare → Starts (with_jump vars w).rows o.substs → IsNamed o.nodes scope k (length w.nodes) w.pairs w.memory → IsGood o scope k w.pairs w.memory c → Applies o c (coded_step start (jump_subst vars w) (Go spare to))
+  go_applies scope k w c spare to fits ls keeps s h G =
+      let v = code_address (start to) in
+      let a = constant v in
+      let u = jump_subst vars w in
+      let t = targets to fits in
+      let c1 = with_type (green spare).number (ty Green code_one a) c in
+      let c2 = both spare code_one a c in
+      let c3 = record c2 { d = d_code 1 a } in
+      let free : (x : ℕ) → x < vars → x ≢ spare = λ x lt e. let f = keeps.free in omega arith in
+      let holds : (x : ℕ) → x < vars → (typed c3 (green x).number ≡ Some (ty Green int (integer_form_of o (slice_index w.pairs x)))) × (typed c3 (blue x).number ≡ Some (ty Blue int (integer_form_of o (slice_index w.pairs x)))) = λ x lt.
+      (other_green spare x code_one a c ls (G.small x (keeps.known x lt)) (free x lt) ∙ G.green_pair x (keeps.known x lt), other_blue spare x code_one a c ls (G.small x (keeps.known x lt)) (free x lt) ∙ G.blue_pair x (keeps.known x lt)) in
+      next_row c1 (mov_row o c (green spare) v Green code_one t)
+      (next_row c2 (mov_row o c1 (blue spare) v Blue code_one t)
+      (next_row c3 (jump_green_row o c2 (green spare) a (both_green spare code_one a c ls) G.zero)
+      (last_row (jump_blue_row o c2 (blue spare) u a (both_blue spare code_one a c)
+      (leads_on o vars T scope w.pairs w.memory u (puts_these scope w G.many s) k (length w.nodes) spare c3 Ends h keeps holds G.ints G.queue G.memory_is)))))
+
+  -- STEPS AND ROWS
+
+  -- a step that does not end its block
+  step_leads : (scope : ℕ) (k : Known) (w : Noted) (c : Context) (i : Step3) → is_last i ≡ false → StepFits cells blocks i → All (λ p. p < 32) (pairs_of i) → ReadsKnown vars k i → Starts (step_noted vars scope w i).nodes o.nodes → Starts (step_noted vars scope w i).rows o.substs → IsNamed o.nodes scope k (length w.nodes) w.pairs w.memory → IsGood o scope k w.pairs w.memory c → Leads o c (coded_step start (jump_subst vars w) i) scope (known_after i k) (step_noted vars scope w i)
+  step_leads scope k w c (Put p v) e fits ps reads sn sr h G = straight_leads o T.nodes cells refs start (jump_subst vars w) vars scope blocks k w c (Put p v) tt fits ps reads sn G
+  step_leads scope k w c (Copy p q) e fits ps reads sn sr h G = straight_leads o T.nodes cells refs start (jump_subst vars w) vars scope blocks k w c (Copy p q) tt fits ps reads sn G
+  step_leads scope k w c (Op op p q r) e fits ps reads sn sr h G = straight_leads o T.nodes cells refs start (jump_subst vars w) vars scope blocks k w c (Op op p q r) tt fits ps reads sn G
+  step_leads scope k w c (Load p cl) e fits ps reads sn sr h G = straight_leads o T.nodes cells refs start (jump_subst vars w) vars scope blocks k w c (Load p cl) tt fits ps reads sn G
+  step_leads scope k w c (Store cl q spare) e fits ps reads sn sr h G = straight_leads o T.nodes cells refs start (jump_subst vars w) vars scope blocks k w c (Store cl q spare) tt fits ps reads sn G
+  step_leads scope k w c (Exit q spare to) e fits ps reads sn sr h G = exit_leads scope k w c q spare to fits (ps 0 0 (omega arith)) (ps 1 0 (omega arith)) reads sr h G
+  step_leads scope k w c (Go spare to) e fits ps reads sn sr h G = cc
+  step_leads scope k w c Stop e fits ps reads sn sr h G = cc
+
+  -- one that does
+  last_applies : (scope : ℕ) (k : Known) (w : Noted) (c : Context) (i : Step3) → is_last i ≡ true → StepFits cells blocks i → All (λ p. p < 32) (pairs_of i) → ReadsKnown vars k i → Starts (step_noted vars scope w i).rows o.substs → IsNamed o.nodes scope k (length w.nodes) w.pairs w.memory → IsGood o scope k w.pairs w.memory c → Applies o c (coded_step start (jump_subst vars w) i)
+  last_applies scope k w c (Put p v) e fits ps reads sr h G = cc
+  last_applies scope k w c (Copy p q) e fits ps reads sr h G = cc
+  last_applies scope k w c (Op op p q r) e fits ps reads sr h G = cc
+  last_applies scope k w c (Load p cl) e fits ps reads sr h G = cc
+  last_applies scope k w c (Store cl q spare) e fits ps reads sr h G = cc
+  last_applies scope k w c (Exit q spare to) e fits ps reads sr h G = cc
+  last_applies scope k w c (Go spare to) e fits ps reads sr h G = go_applies scope k w c spare to fits (ps 0 0 (omega arith)) reads sr h G
+  last_applies scope k w c Stop e fits ps reads sr h G = last_row (halt_row o c G.zero G.queue)
+
+  last_or_not : (b : Bool) → (b ≡ true) ⊎ (b ≡ false)
+  last_or_not true = inl refl
+  last_or_not false = inr refl
+
+  block_ends : (i : Step3) (is : List Step3) → is_last i ≡ true → IsBlock (i ∷ is) → is ≡ []
+  block_ends i is e h = subst (λ b. elim b as (λ x. Type 0) [ true ↦ is ≡ [] | false ↦ IsBlock is ]) e h
+
+  block_goes_on : (i : Step3) (is : List Step3) → is_last i ≡ false → IsBlock (i ∷ is) → IsBlock is
+  block_goes_on i is e h = subst (λ b. elim b as (λ x. Type 0) [ true ↦ is ≡ [] | false ↦ IsBlock is ]) e h
+
+  -- the rows of a block's steps apply
+  pub row_applies : (scope : ℕ) (k : Known) (w : Noted) (c : Context) (is : List Step3) → scope ≤ 128 → IsBlock is → RowIsWell vars cells blocks k is → All (λ i. All (λ p. p < 32) (pairs_of i)) is → Starts (row_noted vars scope w is).nodes o.nodes → Starts (row_noted vars scope w is).rows o.substs → IsLawful o.nodes scope k w → IsGood o scope k w.pairs w.memory c → Applies o c (row_coded vars start scope w is)
+  row_applies scope k w c [] le B W ps sn sr L G = absurd B
+  row_applies scope k w c (i ∷ is) le B W ps sn sr L G =
+      let v = step_noted vars scope w i in
+      let g = row_grows vars scope v is in
+      let hn : Starts v.nodes o.nodes = starts_trans v.nodes _ o.nodes g.nodes sn in
+      let hr : Starts v.rows o.substs = starts_trans v.rows _ o.substs g.rows sr in
+      let here = coded_step start (jump_subst vars w) i in
+      let p = ps 0 i (omega arith) in
+      elim (last_or_not (is_last i)) [
+        | inl e ↦ let f = block_ends i is e B in
+            subst (λ l. Applies o c (here ++ row_coded vars start scope v l)) (sym f)
+            (subst (Applies o c) (sym (append-nil here)) (last_applies scope k w c i e W.0 p W.1 hr L.named G))
+        | inr e ↦ let S = step_leads scope k w c i e W.0 p W.1 hn hr L.named G in
+            passes_applies o c S.after here (row_coded vars start scope v is) S.passes
+            (row_applies scope (known_after i k) v S.after is le (block_goes_on i is e B) W.2 (λ j d lt. ps (suc j) d (omega arith)) sn sr (step_lawful o.nodes vars scope cells blocks k w i le small W.0 p W.1 hn L) S.good)
+      ]
+
+-- WHERE A BLOCK BEGINS
+
+-- what a register has after rows that say the same of it
+row_later : (o : Object) (m : TypedRegisters) (xs : List RegType) (r : ℕ) (t : Typed) → finite.get m r ≡ Some t → ((n : ℕ) (x : RegType) → slice_get xs n ≡ Some x → r ≡ x.reg.number → typed_row o x ≡ t) → finite.get (registers_after o m xs) r ≡ Some t
+unfolding registers_after
+row_later o m [] r t e h = e
+row_later o m (x ∷ xs) r t e h = row_later o (finite.insert m x.reg.number (typed_row o x)) xs r t (get-insert m x.reg.number (typed_row o x) r ∙ here (r == x.reg.number) refl) (λ n y f g. h (suc n) y f g)
+  where
+    here : (b : Bool) → (r == x.reg.number) ≡ b → cond b (Some (typed_row o x)) (finite.get m r) ≡ Some t
+    here true f = ap Some (h 0 x refl (eqb-true r x.reg.number f))
+    here false f = e
+
+row_there : (o : Object) (m : TypedRegisters) (xs : List RegType) (r : ℕ) (t : Typed) (n : ℕ) (x : RegType) → slice_get xs n ≡ Some x → r ≡ x.reg.number → ((n : ℕ) (x : RegType) → slice_get xs n ≡ Some x → r ≡ x.reg.number → typed_row o x ≡ t) → finite.get (registers_after o m xs) r ≡ Some t
+unfolding registers_after
+row_there o m [] r t n x f e h = cc
+row_there o m (y ∷ ys) r t zero x f e h =
+    let g : y ≡ x = cc in
+    let e2 : r ≡ y.reg.number = e ∙ ap (λ (z : RegType). z.reg.number) (sym g) in
+    row_later o (finite.insert m y.reg.number (typed_row o y)) ys r t
+    (get-insert m y.reg.number (typed_row o y) r ∙ ap (λ b. cond b (Some (typed_row o y)) (finite.get m r)) (eq-eqb r y.reg.number e2) ∙ ap Some (h 0 y refl e2)) (λ k z a b. h (suc k) z a b)
+row_there o m (y ∷ ys) r t (suc n) x f e h = row_there o (finite.insert m y.reg.number (typed_row o y)) ys r t n x f e (λ k z a b. h (suc k) z a b)
+
+-- a row of a variable stands where it should
+green_there : (a n i : ℕ) (rest : List RegType) → i < n → slice_get (map green_row (range_with_len a n) ++ rest) i ≡ Some (green_row (a + i))
+green_there a zero i rest lt = absurd (omega (arith, lt))
+green_there a (suc n) zero rest lt = let z : a ≡ a + 0 = omega arith in ap (λ j. Some (green_row j)) z
+green_there a (suc n) (suc i) rest lt = let z : a + 1 + i ≡ a + suc i = omega arith in green_there (a + 1) n i rest (omega (arith, lt)) ∙ ap (λ j. Some (green_row j)) z
+
+blue_there : (a n i : ℕ) → i < n → slice_get (map blue_row (range_with_len a n)) i ≡ Some (blue_row (a + i))
+blue_there a zero i lt = absurd (omega (arith, lt))
+blue_there a (suc n) zero lt = let z : a ≡ a + 0 = omega arith in ap (λ j. Some (blue_row j)) z
+blue_there a (suc n) (suc i) lt = let z : a + 1 + i ≡ a + suc i = omega arith in blue_there (a + 1) n i (omega (arith, lt)) ∙ ap (λ j. Some (blue_row j)) z
+
+after_green : (a n : ℕ) (rest : List RegType) (i : ℕ) → slice_get (map green_row (range_with_len a n) ++ rest) (n + i) ≡ slice_get rest i
+after_green a zero rest i = let z : 0 + i ≡ i = omega arith in ap (slice_get rest) z
+after_green a (suc n) rest i = let z : suc n + i ≡ suc (n + i) = omega arith in ap (slice_get (map green_row (range_with_len a (suc n)) ++ rest)) z ∙ after_green (a + 1) n rest i
+
+-- which row it is
+row_at : (n : ℕ) (xs : List RegType) (k : ℕ) (x : RegType) → AreRows n xs → slice_get xs k ≡ Some x → (i : ℕ) × (i < n) × ((x ≡ green_row i) ⊎ (x ≡ blue_row i))
+row_at n [] k x h e = cc
+row_at n (y ∷ ys) zero x h e = let f : y ≡ x = cc in subst (λ z. (i : ℕ) × (i < n) × ((z ≡ green_row i) ⊎ (z ≡ blue_row i))) f h.0
+row_at n (y ∷ ys) (suc k) x h e = row_at n ys k x h.1 e
+
+module _ (o : Object) (vars : ℕ) (T : HasTypes o vars) where
+  abbrev all_rows : List RegType
+  all_rows = map green_row (range_with_len 0 vars) ++ map blue_row (range_with_len 0 vars)
+
+  -- the rows say one thing of each register
+  green_only : (q : ℕ) → q < vars → (n : ℕ) (x : RegType) → slice_get all_rows n ≡ Some x → (green q).number ≡ x.reg.number → typed_row o x ≡ ty Green int (integer_form_of o (1 + q))
+  green_only q lt n x e f = go (row_at vars all_rows n x (type_rows vars) e)
+    where
+      few : vars ≤ 32
+      few = T.few
+
+      go : (i : ℕ) × (i < vars) × ((x ≡ green_row i) ⊎ (x ≡ blue_row i)) → typed_row o x ≡ ty Green int (integer_form_of o (1 + q))
+      go (i, li, inl g) =
+          let h : (green q).number ≡ (green i).number = f ∙ ap (λ (z : RegType). z.reg.number) g in
+          let same : i ≡ q = sym (green_number i (omega (arith, few, li))) ∙ sym h ∙ green_number q (omega (arith, few, lt)) in
+          ap (typed_row o) g ∙ ap (λ j. ty Green int (integer_form_of o (1 + j))) same
+      go (i, li, inr g) = absurd (green_is_not_blue i q (omega (arith, few, li)) (omega (arith, few, lt)) (f ∙ ap (λ (z : RegType). z.reg.number) g))
+
+  blue_only : (q : ℕ) → q < vars → (n : ℕ) (x : RegType) → slice_get all_rows n ≡ Some x → (blue q).number ≡ x.reg.number → typed_row o x ≡ ty Blue int (integer_form_of o (1 + q))
+  blue_only q lt n x e f = go (row_at vars all_rows n x (type_rows vars) e)
+    where
+      few : vars ≤ 32
+      few = T.few
+
+      go : (i : ℕ) × (i < vars) × ((x ≡ green_row i) ⊎ (x ≡ blue_row i)) → typed_row o x ≡ ty Blue int (integer_form_of o (1 + q))
+      go (i, li, inl g) = absurd (blue_is_not_green i q (omega (arith, few, li)) (omega (arith, few, lt)) (f ∙ ap (λ (z : RegType). z.reg.number) g))
+      go (i, li, inr g) =
+          let h : (blue q).number ≡ (blue i).number = f ∙ ap (λ (z : RegType). z.reg.number) g in
+          let k : 32 + i ≡ 32 + q = sym (blue_number i (omega (arith, few, li))) ∙ sym h ∙ blue_number q (omega (arith, few, lt)) in
+          let same : i ≡ q = omega arith in
+          ap (typed_row o) g ∙ ap (λ j. ty Blue int (integer_form_of o (1 + j))) same
+
+  -- a variable's node, by the pairs where a block begins
+  first_node : (q : ℕ) → q < vars → 1 + q ≡ slice_index first_pairs q
+  first_node q lt = let few = T.few in let e = first_pair q (omega arith) in omega arith
+
+  -- the code type of block b
+  abbrev pub type_of_block : ℕ → ℕ
+  type_of_block zero = 0
+  type_of_block (suc b) = 1
+
+  -- what is known where block b begins is what its code type says
+  pub begins_good : (b : ℕ) → IsGood o (scope_of_block vars b) (known_first vars b) first_pairs 0 (start_context o (type_of_block b))
+  unfolding registers_after
+  begins_good zero = record {
+    green_pair = λ q known. absurd (no known);
+    blue_pair = λ q known. absurd (no known);
+    small = λ q known. absurd (no known);
+    many = length-range_with_len 1 32;
+    zero = refl;
+    queue = ap (map (queue_pair o)) T.entry_queue;
+    memory_is = ap (memory_form_of o) T.entry_memory;
+    ints = T.entry_ints;
+  }
+    where
+      no : false ≡ true → ⊥
+      no e = cc
+  begins_good (suc b) = record {
+    green_pair = λ q known.
+        let lt : q < vars = ltb-true q vars known in
+        ap (λ xs. finite.get (registers_after o finite.empty xs) (green q).number) T.rows
+        ∙ row_there o finite.empty all_rows (green q).number (ty Green int (integer_form_of o (1 + q))) q (green_row (0 + q)) (green_there 0 vars q (map blue_row (range_with_len 0 vars)) lt) (let z : q ≡ 0 + q = omega arith in ap (λ j. (green j).number) z) (green_only q lt)
+        ∙ ap (λ n. Some (ty Green int (integer_form_of o n))) (first_node q lt);
+    blue_pair = λ q known.
+        let lt : q < vars = ltb-true q vars known in
+        ap (λ xs. finite.get (registers_after o finite.empty xs) (blue q).number) T.rows
+        ∙ row_there o finite.empty all_rows (blue q).number (ty Blue int (integer_form_of o (1 + q))) (vars + q) (blue_row (0 + q)) (after_green 0 vars (map blue_row (range_with_len 0 vars)) q ∙ blue_there 0 vars q lt) (let z : q ≡ 0 + q = omega arith in ap (λ j. (blue j).number) z) (blue_only q lt)
+        ∙ ap (λ n. Some (ty Blue int (integer_form_of o n))) (first_node q lt);
+    small = λ q known. let lt : q < vars = ltb-true q vars known in let few = T.few in omega arith;
+    many = length-range_with_len 1 32;
+    zero = refl;
+    queue = ap (map (queue_pair o)) T.queue;
+    memory_is = ap (memory_form_of o) T.memory;
+    ints = T.ints;
+  }

@@ -1,0 +1,215 @@
+-- The run of an object that carries a program's blocks, and the meaning of the program.
+use Rattle.std.proofs.Common.{◌≡◌, ◌≢◌, ℕ, zero, suc, ◌+◌, ◌-◌, ◌*◌, ◌≤◌, Bool, true, false, cond, List, [], ◌++◌, Option, Some, None, inl, inr, refl, sym, ap, ◌∙◌, subst, arith}
+use Rattle.std.specs.Option.{option_to_list}
+use Rattle.std.proofs.lemmas.Bool.{cases_lt}
+use Rattle.ft_isa.specs.declared.output.Output.{Output}
+use Rattle.ft_types.specs.declared.status.Status.{Status}
+use Rattle.ft_types.specs.declared.status.Status.TheVariants.{Running, Done, Detected}
+use Rattle.ft_types.specs.declared.object.Object.{Object}
+use Rattle.ft_types.specs.Step.{step, step_at}
+use Rattle.ft_types.specs.Run.{Ran, extended, run}
+use Rattle.ft_scope.specs.Resolved.{Program}
+use Rattle.ft_meaning.specs.Meaning.{State, Outcome, Ended, outputs, meaning}
+use Rattle.ft_meaning.specs.Begins.{Begins}
+use Rattle.ft_lower.specs.declared.step3.Step3.{Step3}
+use Rattle.ft_lower.specs.declared.step3.Step3.TheVariants.{Put, Copy, Op, Load, Store, Exit, Go, Stop}
+use Rattle.ft_lower.specs.Flow.{Blocks, FlowState, flow_step, flow_run, flow_start}
+use Rattle.ft_lower.specs.Flow as flow
+use Rattle.ft_lower.specs.Lowers.{Lowers}
+use Rattle.ft_lower.specs.Size.{size}
+use Rattle.ft_dup.specs.Doubles.{words_of, cost, cost_if, Doubles}
+use Rattle.ft_compile.specs.StandsFor.{RunsAsMeant}
+use Rattle.ft_compile.specs.Laws.{CarriedBlocksRunAsMeant}
+use Rattle.std.proofs.lemmas.List.{append-nil}
+use Rattle.std.proofs.Common.{append_assoc}
+
+-- LISTS OF OUTPUTS
+
+-- a list begins itself
+begins_refl : (a : List Output) → Begins a a
+begins_refl a = ([], append-nil a)
+
+-- what begins a beginning begins the whole
+begins_trans : (a b c : List Output) → Begins a b → Begins b c → Begins a c
+begins_trans a b c p q = (p.0 ++ q.0, sym (append_assoc a p.0 q.0) ∙ ap (λ l. l ++ q.0) p.1 ∙ q.1)
+
+-- MACHINE RUNS
+
+-- the run without a strike and without answers to wild loads
+abbrev ran : Object → ℕ → Ran
+ran o n = run o None [] n
+
+-- one step more
+ran_more : (o : Object) (n : ℕ) → ran o (suc n) ≡ extended (ran o n).outputs (step o (ran o n).state (ran o n).wild)
+unfolding run
+ran_more o n = refl
+
+-- the outputs so far begin those after n more steps
+more_begins : (o : Object) (n j : ℕ) → Begins (ran o n).outputs (ran o (n + j)).outputs
+more_begins o n zero = let e : n ≡ n + 0 = omega arith in subst (λ m. Begins (ran o n).outputs (ran o m).outputs) e (begins_refl (ran o n).outputs)
+more_begins o n (suc j) =
+    let e : suc (n + j) ≡ n + suc j = omega arith in
+    let r = ran o (n + j) in
+    let out = option_to_list (step o r.state r.wild).output in
+    let b : Begins (ran o n).outputs (r.outputs ++ out) = begins_trans (ran o n).outputs r.outputs (r.outputs ++ out) (more_begins o n j) (out, refl) in
+    subst (λ m. Begins (ran o n).outputs (ran o m).outputs) e (subst (λ (x : Ran). Begins (ran o n).outputs x.outputs) (sym (ran_more o (n + j))) b)
+
+-- the outputs so far begin those of any later time
+later_begins : (o : Object) (n m : ℕ) → n ≤ m → Begins (ran o n).outputs (ran o m).outputs
+later_begins o n m le = let e : n + (m - n) ≡ m = omega arith in subst (λ x. Begins (ran o n).outputs (ran o x).outputs) e (more_begins o n (m - n))
+
+-- the machine has stopped
+abbrev Stopped : Status → Type 0
+Stopped Running = ⊥
+Stopped Done = Unit {0}
+Stopped Detected = Unit {0}
+
+-- a stopped machine takes no step
+stopped_step : (v : Status) (o : Object) (r : Ran) → Stopped v → extended r.outputs (step_at o v r.state r.wild) ≡ r
+stopped_step Running o r h = absurd h
+stopped_step Done o r h = let e = append-nil r.outputs in λ i. record { state = r.state; wild = r.wild; outputs = e i }
+stopped_step Detected o r h = let e = append-nil r.outputs in λ i. record { state = r.state; wild = r.wild; outputs = e i }
+
+-- nor any number of them
+more_stays : (o : Object) (n j : ℕ) → Stopped (ran o n).state.status → ran o (n + j) ≡ ran o n
+more_stays o n zero h = let e : n + 0 ≡ n = omega arith in ap (ran o) e
+more_stays o n (suc j) h =
+    let e : n + suc j ≡ suc (n + j) = omega arith in
+    ap (ran o) e ∙ ran_more o (n + j) ∙ ap (λ (r : Ran). extended r.outputs (step o r.state r.wild)) (more_stays o n j h) ∙ stopped_step (ran o n).state.status o (ran o n) h
+
+-- so it stays at any later time
+stays : (o : Object) (n m : ℕ) → n ≤ m → Stopped (ran o n).state.status → ran o m ≡ ran o n
+stays o n m le h = let e : m ≡ n + (m - n) = omega arith in ap (ran o) e ∙ more_stays o n (m - n) h
+
+-- WHAT FLOW STEPS COST
+
+-- a step becomes at most four instructions
+size_most : (s : Step3) → size s ≤ 4
+size_most (Put p w) = omega arith
+size_most (Copy p q) = omega arith
+size_most (Op o p q s) = omega arith
+size_most (Load p c) = omega arith
+size_most (Store c q s) = omega arith
+size_most (Exit q s to) = omega arith
+size_most (Go s to) = omega arith
+size_most Stop = omega arith
+
+-- a step costs at most eight machine steps
+cost_if_most : (b : Bool) (x : Option Step3) → cost_if b x ≤ 8
+cost_if_most true x = omega arith
+cost_if_most false None = omega arith
+cost_if_most false (Some s) = omega (arith, size_most s)
+
+-- so do k steps k times
+cost_most : (bs : Blocks) (k : ℕ) (f : FlowState) → cost bs k f ≤ 8 * k
+cost_most bs zero f = omega arith
+cost_most bs (suc k) f = omega (arith, cost_if_most f.done (flow.step_at bs f.place), cost_most bs k (flow_step bs f))
+
+-- STATUSES
+
+stopped_done : (x : Status) → x ≡ Done → Stopped x
+stopped_done x e = subst Stopped (sym e) tt
+
+stopped_detected : (x : Status) → x ≡ Detected → Stopped x
+stopped_detected x e = subst Stopped (sym e) tt
+
+done_undetected : (x : Status) → x ≡ Done → x ≡ Detected → ⊥
+done_undetected x p q = cc
+
+running_undetected : (x : Status) → x ≡ Running → x ≡ Detected → ⊥
+running_undetected x p q = cc
+
+running_undone : (x : Status) → x ≡ Running → x ≡ Done → ⊥
+running_undone x p q = cc
+
+-- WHOLE RUNS
+
+module _ (p : Program) (o : Object) (vars : ℕ) (bs : Blocks) (L : Lowers p bs) (D : Doubles o vars bs []) (same : words_of o ≡ p.inits) where
+  -- the flow after k steps, and what these cost
+  abbrev at : ℕ → FlowState
+  at k = flow_run bs p.inits k
+
+  abbrev spent : ℕ → ℕ
+  spent k = cost bs k (flow_start (words_of o))
+
+  is_run : (k : ℕ) → flow_run bs (words_of o) k ≡ at k
+  is_run k = ap (λ ws. flow_run bs ws k) same
+
+  -- the machine's outputs and status after the cost of k flow steps
+  out_at : (k : ℕ) → (ran o (spent k)).outputs ≡ (at k).out
+  out_at k = (D.after k).out ∙ ap (λ (f : FlowState). f.out) (is_run k)
+
+  status_at : (k : ℕ) → (ran o (spent k)).state.status ≡ cond (at k).done Done Running
+  status_at k = (D.after k).status ∙ ap (λ (f : FlowState). cond f.done Done Running) (is_run k)
+
+  pace_at : (k : ℕ) → (at k).done ≡ false → k ≤ spent k
+  pace_at k e = D.pace k (ap (λ (f : FlowState). f.done) (is_run k) ∙ e)
+
+  -- what the machine shows after n steps
+  record Seen (n : ℕ) : Type 0 where
+    undetected : (ran o n).state.status ≢ Detected
+    done : (ran o n).state.status ≡ Done → (s : State) × (meaning p n ≡ Ended s) × ((ran o n).outputs ≡ s.out)
+    running : (ran o n).state.status ≡ Running → Begins (ran o n).outputs (outputs (meaning p n))
+
+  -- where the flow is done after n of its steps
+  seen_done : (n : ℕ) → (at n).done ≡ true → Seen n
+  seen_done n d =
+      let c = spent n in
+      let E = L.done n d in
+      let out : (ran o c).outputs ≡ E.0.out = out_at n ∙ E.2 in
+      let st : (ran o c).state.status ≡ Done = status_at n ∙ ap (λ b. cond b Done Running) d in
+      elim (cases_lt n c) [
+        | inl lt ↦ record {
+          undetected = λ e. done_undetected (ran o c).state.status st (ap (λ (r : Ran). r.state.status) (stays o n c (omega arith) (stopped_detected _ e)) ∙ e);
+          done = λ e. (E.0, E.1, sym (ap (λ (r : Ran). r.outputs) (stays o n c (omega arith) (stopped_done _ e))) ∙ out);
+          running = λ e. subst (λ (r : Outcome). Begins (ran o n).outputs (outputs r)) (sym E.1) (subst (λ x. Begins (ran o n).outputs x) out (later_begins o n c (omega arith)));
+        }
+        | inr le ↦
+            let stay = stays o c n le (stopped_done _ st) in
+            let st2 = ap (λ (r : Ran). r.state.status) stay ∙ st in
+            let out2 = ap (λ (r : Ran). r.outputs) stay ∙ out in
+            record {
+              undetected = λ e. done_undetected (ran o n).state.status st2 e;
+              done = λ e. (E.0, E.1, out2);
+              running = λ e. absurd (running_undone (ran o n).state.status e st2);
+            }
+      ]
+
+  -- where it is running
+  seen_running : (n : ℕ) → (at n).done ≡ false → Seen n
+  seen_running n d =
+      let c = spent n in
+      let le : n ≤ c = pace_at n d in
+      let R = L.running n d in
+      let st : (ran o c).state.status ≡ Running = status_at n ∙ ap (λ b. cond b Done Running) d in
+      record {
+        undetected = λ e. running_undetected (ran o c).state.status st (ap (λ (r : Ran). r.state.status) (stays o n c le (stopped_detected _ e)) ∙ e);
+        done = λ e. absurd (running_undone (ran o c).state.status st (ap (λ (r : Ran). r.state.status) (stays o n c le (stopped_done _ e)) ∙ e));
+        running = λ e. begins_trans (ran o n).outputs (ran o c).outputs _ (later_begins o n c le) (subst (λ x. Begins x (outputs (meaning p n))) (sym (out_at n)) R);
+      }
+
+  seen_by : (n : ℕ) (b : Bool) → (at n).done ≡ b → Seen n
+  seen_by n true e = seen_done n e
+  seen_by n false e = seen_running n e
+
+  -- the machine's run is what the program means
+  meant : RunsAsMeant p o
+  meant = record {
+    undetected = λ n. (seen_by n (at n).done refl).undetected;
+    done = λ n. (seen_by n (at n).done refl).done;
+    running = λ n. (seen_by n (at n).done refl).running;
+    ends = λ n t s e le.
+        let k = 2 * s.work + 40 in
+        let E = L.ends k t s e (omega arith) in
+        let st : (ran o (spent k)).state.status ≡ Done = status_at k ∙ ap (λ b. cond b Done Running) E.0 in
+        let stay = stays o (spent k) n (omega (arith, cost_most bs k (flow_start (words_of o)))) (stopped_done _ st) in
+        (ap (λ (r : Ran). r.state.status) stay ∙ st, ap (λ (r : Ran). r.outputs) stay ∙ out_at k ∙ E.1);
+    cuts = λ n t s e le.
+        let k = 2 * s.work + 40 in
+        let E = L.cuts k t s e (omega arith) in
+        begins_trans s.out (ran o (spent k)).outputs _ (subst (λ x. Begins s.out x) (sym (out_at k)) E) (later_begins o (spent k) n (omega (arith, cost_most bs k (flow_start (words_of o)))));
+  }
+
+-- the run of an object that carries a program's blocks is what the program means
+pub runs_as_meant : CarriedBlocksRunAsMeant
+runs_as_meant p vars cells bs o L R C same = meant p o vars bs L (R o C []) same

@@ -1,0 +1,156 @@
+-- The nodes that are noted obey the rules, and each known pair has one.
+use Rattle.std.proofs.Common.{◌≡◌, ◌≢◌, ℕ, ◌<◌, ◌≤◌, Bool, true, false, cond, List, [], ◌∷◌, ◌++◌, length, inl, inr, Some, refl, sym, ap, ◌∙◌, subst, arith, slice_get}
+use Rattle.std.specs.Prelude.{All, slice_index, slice_set}
+use Rattle.std.proofs.lemmas.Bool.{ne_eqb, eq-eqb, cases_eq}
+use Rattle.std.proofs.lemmas.List.{get_or-set_same, get_or-set_other, length-set}
+use Rattle.ft_static.specs.declared.node.Node.{Node}
+use Rattle.ft_static.specs.declared.node.Shape.{Shape}
+use Rattle.ft_static.specs.declared.node.Shape.TheVariants as shape
+use Rattle.ft_static.specs.NodeRules.{is_memory, MayName, IsShape, IsNode}
+use Rattle.ft_isa.specs.Words.{IsWord, cell_address}
+use Rattle.ft_isa.specs.declared.op.Op.TheVariants.{Add}
+use Rattle.ft_lower.specs.declared.step3.Step3.{Step3}
+use Rattle.ft_lower.specs.declared.step3.Step3.TheVariants.{Put, Copy, Op, Load, Store, Exit, Go, Stop}
+use Rattle.ft_lower.specs.Size.{pairs_of}
+use Rattle.ft_lower.specs.Well.{Known, learn, forget, known_after, StepFits, ReadsKnown}
+use Rattle.ft_compile.specs.Emitted.{Noted, node, pair_node, with_node, with_pair_node, with_memory_node, step_noted}
+use Rattle.ft_compile.proofs.Lists.{Starts, starts_trans, get_starts, get_last, get_push, length_more}
+
+-- what a step keeps of what is known
+pub learned : (k : Known) (p q : ℕ) → q ≢ p → learn p k q ≡ true → k q ≡ true
+learned k p q ne h = sym (ap (λ b. cond b true (k q)) (ne_eqb q p ne)) ∙ h
+
+pub kept : (k : Known) (p q : ℕ) → forget p k q ≡ true → (q ≢ p) × (k q ≡ true)
+kept k p q h = elim (cases_eq q p) [ inl e ↦ absurd (no (sym (ap (λ b. cond b false (k q)) (eq-eqb q p e)) ∙ h)) | inr ne ↦ (ne, sym (ap (λ b. cond b false (k q)) (ne_eqb q p ne)) ∙ h) ]
+  where
+    no : false ≡ true → ⊥
+    no e = cc
+
+module _ (F : List Node) where
+  -- each of these nodes, which are the first ones, obeys the rules among all
+  abbrev pub AreFine : List Node → Type 0
+  AreFine ns = (n : ℕ) (x : Node) → slice_get ns n ≡ Some x → IsNode F n x
+
+  pub fine_push : (ns : List Node) (x : Node) → AreFine ns → IsNode F (length ns) x → AreFine (ns ++ x ∷ [])
+  fine_push ns x h new n y e = elim (get_push ns x n y e) [ inl f ↦ h n y f | inr f ↦ subst (λ z. IsNode F n z) f.1 (subst (λ m. IsNode F m x) (sym f.0) new) ]
+
+  -- a name that is lawful here is lawful later
+  pub named_later : (n m scope : ℕ) (memory : Bool) (k : ℕ) → n ≤ m → MayName F n scope memory k → MayName F m scope memory k
+  named_later n m scope memory k le h = record { lower = omega (arith, le, h.lower); node = h.node; found = h.found; sort = h.sort; scope_within = h.scope_within }
+
+  -- the newest node may be named
+  pub new_named : (ns : List Node) (scope : ℕ) (x : Shape) (memory : Bool) → Starts (ns ++ node scope x ∷ []) F → is_memory x ≡ memory → MayName F (length (ns ++ node scope x ∷ [])) scope memory (length ns)
+  new_named ns scope x memory s e = record {
+    lower = let l = length_more ns (node scope x) in omega arith;
+    node = node scope x;
+    found = get_starts _ F (length ns) (node scope x) s (get_last ns (node scope x));
+    sort = e;
+    scope_within = omega arith;
+  }
+
+  -- each known pair and the memory have nodes below n, and there are 32 pairs
+  pub record IsNamed (scope : ℕ) (k : Known) (n : ℕ) (pairs : List ℕ) (memory : ℕ) : Type 0 where
+    pub pair : (q : ℕ) → k q ≡ true → MayName F n scope false (slice_index pairs q)
+    pub memory_node : MayName F n scope true memory
+    pub many : length pairs ≡ 32
+    pub small : (q : ℕ) → k q ≡ true → q < 32
+
+  -- a pair gets a node
+  named_pair : (scope : ℕ) (k : Known) (n m : ℕ) (pairs : List ℕ) (memory p new : ℕ) → n ≤ m → p < 32 → IsNamed scope k n pairs memory → MayName F m scope false new → IsNamed scope (learn p k) m (slice_set pairs p new) memory
+  named_pair scope k n m pairs memory p new le lt h x = record {
+    pair = λ q known. elim (cases_eq q p) [
+      | inl e ↦ subst (MayName F m scope false) (sym (ap (λ r. slice_index (slice_set pairs p new) r) e ∙ get_or-set_same pairs p new 0 (let l = h.many in omega arith))) x
+      | inr ne ↦ subst (MayName F m scope false) (sym (get_or-set_other pairs p q new 0 ne)) (named_later n m scope false (slice_index pairs q) le (h.pair q (learned k p q ne known)))
+    ];
+    memory_node = named_later n m scope true memory le h.memory_node;
+    many = length-set pairs p new ∙ h.many;
+    small = λ q known. elim (cases_eq q p) [ inl e ↦ subst (λ r. r < 32) (sym e) lt | inr ne ↦ h.small q (learned k p q ne known) ];
+  }
+
+  -- a pair is no longer known
+  named_spare : (scope : ℕ) (k : Known) (n m : ℕ) (pairs : List ℕ) (memory spare new : ℕ) → n ≤ m → IsNamed scope k n pairs memory → MayName F m scope true new → IsNamed scope (forget spare k) m pairs new
+  named_spare scope k n m pairs memory spare new le h x = record {
+    pair = λ q known. named_later n m scope false (slice_index pairs q) le (h.pair q (kept k spare q known).1);
+    memory_node = x;
+    many = h.many;
+    small = λ q known. h.small q (kept k spare q known).1;
+  }
+
+  -- what is so of a walk so far
+  pub record IsLawful (scope : ℕ) (k : Known) (w : Noted) : Type 0 where
+    pub named : IsNamed scope k (length w.nodes) w.pairs w.memory
+    pub fine : AreFine w.nodes
+
+  -- one node, for a pair
+  one_node : (scope : ℕ) (k : Known) (w : Noted) (p : ℕ) (x : Shape) → scope ≤ 128 → p < 32 → Starts (with_pair_node scope p x w).nodes F → is_memory x ≡ false → IsShape F (length w.nodes) scope x → IsLawful scope k w → IsLawful scope (learn p k) (with_pair_node scope p x w)
+  one_node scope k w p x le lt s e ok h =
+      let l = length_more w.nodes (node scope x) in
+      record {
+        named = named_pair scope k (length w.nodes) (length (w.nodes ++ node scope x ∷ [])) w.pairs w.memory p (length w.nodes) (omega arith) lt h.named (new_named w.nodes scope x false s e);
+        fine = fine_push w.nodes (node scope x) h.fine (record { scope = le; shape = ok });
+      }
+
+  -- a word before it
+  word_node : (scope : ℕ) (k : Known) (w : Noted) (v : ℕ) → scope ≤ 128 → IsWord v → IsLawful scope k w → IsLawful scope k (with_node scope (shape.Word v) w)
+  word_node scope k w v le ok h =
+      let l = length_more w.nodes (node scope (shape.Word v)) in
+      record {
+        named = record {
+          pair = λ q known. named_later _ _ scope false (slice_index w.pairs q) (omega arith) (h.named.pair q known);
+          memory_node = named_later _ _ scope true w.memory (omega arith) h.named.memory_node;
+          many = h.named.many;
+          small = h.named.small;
+        };
+        fine = fine_push w.nodes (node scope (shape.Word v)) h.fine (record { scope = le; shape = ok });
+      }
+
+  -- one node, for the memory, after a store that leaves no spare
+  memory_node : (scope : ℕ) (k : Known) (w : Noted) (spare : ℕ) (x : Shape) → scope ≤ 128 → Starts (with_memory_node scope x w).nodes F → is_memory x ≡ true → IsShape F (length w.nodes) scope x → IsLawful scope k w → IsLawful scope (forget spare k) (with_memory_node scope x w)
+  memory_node scope k w spare x le s e ok h =
+      let l = length_more w.nodes (node scope x) in
+      record {
+        named = named_spare scope k (length w.nodes) (length (w.nodes ++ node scope x ∷ [])) w.pairs w.memory spare (length w.nodes) (omega arith) h.named (new_named w.nodes scope x true s e);
+        fine = fine_push w.nodes (node scope x) h.fine (record { scope = le; shape = ok });
+      }
+
+  -- the walk with one more node begins all
+  first_of_two : (scope : ℕ) (w : Noted) (x y : Shape) → Starts ((w.nodes ++ node scope x ∷ []) ++ node scope y ∷ []) F → Starts (w.nodes ++ node scope x ∷ []) F
+  first_of_two scope w x y s = starts_trans (w.nodes ++ node scope x ∷ []) ((w.nodes ++ node scope x ∷ []) ++ node scope y ∷ []) F (node scope y ∷ [], refl) s
+
+  -- a cell's address is a word
+  pub address_is_word : (cells c : ℕ) → cells ≤ 1024 → c < cells → IsWord (cell_address c)
+  address_is_word cells c few lt = omega arith
+
+  -- a step that is well notes lawful nodes
+  pub step_lawful : (vars scope cells blocks : ℕ) (k : Known) (w : Noted) (i : Step3) → scope ≤ 128 → cells ≤ 1024 → StepFits cells blocks i → All (λ p. p < 32) (pairs_of i) → ReadsKnown vars k i → Starts (step_noted vars scope w i).nodes F → IsLawful scope k w → IsLawful scope (known_after i k) (step_noted vars scope w i)
+  step_lawful vars scope cells blocks k w (Put p v) le few fits ps reads s h =
+      one_node scope k w p (shape.Word v) le (ps 0 0 (omega arith)) s refl fits h
+  step_lawful vars scope cells blocks k w (Copy p q) le few fits ps reads s h =
+      let zeroed = with_node scope (shape.Word 0) w in
+      let g = word_node scope k w 0 le (omega arith) h in
+      let l = length_more w.nodes (node scope (shape.Word 0)) in
+      one_node scope k zeroed p (shape.Op Add (pair_node w q) (length w.nodes)) le (ps 0 0 (omega arith)) s refl
+      (g.named.pair q reads, new_named w.nodes scope (shape.Word 0) false (first_of_two scope w _ _ s) refl) g
+  step_lawful vars scope cells blocks k w (Op o p q r) le few fits ps reads s h =
+      one_node scope k w p (shape.Op o (pair_node w q) (pair_node w r)) le (ps 0 0 (omega arith)) s refl (h.named.pair q reads.0, h.named.pair r reads.1) h
+  step_lawful vars scope cells blocks k w (Load p c) le few fits ps reads s h =
+      let a = shape.Word (cell_address c) in
+      let at = with_node scope a w in
+      let g = word_node scope k w (cell_address c) le (address_is_word cells c few fits) h in
+      one_node scope k at p (shape.Sel w.memory (length w.nodes)) le (ps 0 0 (omega arith)) s refl
+      (g.named.memory_node, new_named w.nodes scope a false (first_of_two scope w _ _ s) refl) g
+  step_lawful vars scope cells blocks k w (Store c q spare) le few fits ps reads s h =
+      let a = shape.Word (cell_address c) in
+      let at = with_node scope a w in
+      let g = word_node scope k w (cell_address c) le (address_is_word cells c few fits) h in
+      memory_node scope k at spare (shape.Upd w.memory (length w.nodes) (pair_node w q)) le s refl
+      (g.named.memory_node, new_named w.nodes scope a false (first_of_two scope w _ _ s) refl, g.named.pair q reads.0) g
+  step_lawful vars scope cells blocks k w (Exit q spare to) le few fits ps reads s h = record {
+    named = named_spare scope k (length w.nodes) (length w.nodes) w.pairs w.memory spare w.memory (omega arith) h.named h.named.memory_node;
+    fine = h.fine;
+  }
+  step_lawful vars scope cells blocks k w (Go spare to) le few fits ps reads s h = record {
+    named = named_spare scope k (length w.nodes) (length w.nodes) w.pairs w.memory spare w.memory (omega arith) h.named h.named.memory_node;
+    fine = h.fine;
+  }
+  step_lawful vars scope cells blocks k w Stop le few fits ps reads s h = h

@@ -1,0 +1,332 @@
+-- The object of well formed blocks carries them, and is spellable and accepted.
+use Rattle.std.proofs.Common.{◌≡◌, ◌≢◌, ℕ, zero, suc, ◌+◌, ◌-◌, ◌*◌, ◌<◌, ◌≤◌, Bool, true, false, cond, ◌==◌, List, [], ◌∷◌, ◌++◌, length, Option, Some, None, refl, sym, ap, ◌∙◌, subst, arith, slice_get, map}
+use Rattle.std.specs.Prelude.{All, slice_range, if◌then◌else◌}
+use Rattle.std.specs.List.{AllPairs, find, zip}
+use Rattle.std.specs.Option.{option_map, unwrap_or}
+use Rattle.std.proofs.lemmas.Bool.{le-leb}
+use Rattle.std.proofs.lemmas.List.Elements.{All-nil, All-cons, All-tail, All-head}
+use Rattle.std.proofs.lemmas.Option.{slice_get-map, slice_get_within}
+use Rattle.ft_isa.specs.Words.{IsWord, code_address, cell_address}
+use Rattle.ft_isa.specs.declared.instr.Instr.{Instr}
+use Rattle.ft_isa.specs.declared.instr.Instr.TheVariants as instr
+use Rattle.ft_isa.specs.declared.instr.Subst.{Subst}
+use Rattle.ft_static.specs.declared.node.Shape.TheVariants as shape
+use Rattle.ft_static.specs.NodeRules.{AreNodes}
+use Rattle.ft_types.specs.declared.object.Object.{Object}
+use Rattle.ft_types.specs.declared.object.Cell.{Cell}
+use Rattle.ft_types.specs.declared.object.Block.{Block}
+use Rattle.ft_types.specs.Accepted.{Applies, IsEntryType}
+use Rattle.ft_types.specs.Context.{start_context}
+use Rattle.ft_types.specs.Objects.{name_of, basic_of, start_of as start_of_block, code_type_of, block_type, block_instrs}
+use Rattle.ft_types.specs.Spellable.{IsCell, IsSpellable, Cover, substs_of, IsNodeIn, IsInstr}
+use Rattle.ft_types.specs.TypedWord.{int, cell_of, cell_type, block_at, HasType, has_type}
+use Rattle.ft_types.proofs.TypedWords.{has_type_decides}
+use Rattle.ft_lower.specs.Flow.{Blocks}
+use Rattle.ft_lower.specs.Size.{blocks_size}
+use Rattle.ft_lower.specs.Well.{IsTarget, IsWell, known_first}
+use Rattle.ft_dup.specs.Doubles.{bare, init_of_cell, words_of}
+use Rattle.ft_dup.specs.Images.{starts, start_of, doubled, ref_int, code_one}
+use Rattle.ft_compile.specs.StandsFor.{IsIntCell}
+use Rattle.ft_compile.specs.Cells.{IsCellName, AreCells}
+use Rattle.ft_compile.specs.Emitted.{Noted, with_subst, substs_left, placed, blocks_at, block_from, cell_from, begun, scope_of_block, blocks_noted, at_first, noted, emitted}
+use Rattle.ft_compile.specs.Laws.{IsEmission, EmittedObjectsAreAccepted}
+use Rattle.ft_compile.proofs.Lists.{Starts, starts_refl, starts_trans, get_starts}
+use Rattle.ft_compile.proofs.Walked.{block_noted, block_grows, blocks_grow, RowsAreFine, well_rows, chain_covers, IsSound, begun_lawful, scope_within, noted_sound, row_sound, first_fine}
+use Rattle.ft_compile.proofs.Coded.{row_coded, rows_coded, joined, added_blocks, placed_blocks, joined_length, offsets, offsets_are_starts, cut_out}
+use Rattle.ft_compile.proofs.Counted.{nodes_blocks, rows_blocks, HaveSome, fine_have_some, blocks_few, starts_many, start_within, places_of_blocks, find_block}
+use Rattle.ft_compile.proofs.Spelled.{instrs_blocks, substs_blocks, types_lawful, reg_rows_few, queue_rows_few, blocks_in_order, blocks_begin, blocks_typed, blocks_many}
+use Rattle.ft_compile.proofs.Leading.{HasTypes, row_applies, type_of_block, begins_good}
+use Rattle.std.proofs.lemmas.List.FromFn.{length-map-range_with_len}
+use Rattle.ft_compile.specs.Emitted.{node, variable_node}
+
+-- CELLS
+
+names_of_cells : (names : List (List ℕ)) (inits : List ℕ) → length names ≡ length inits → map name_of (map cell_from (zip names inits)) ≡ names
+names_of_cells [] inits e = refl
+names_of_cells (n ∷ ns) [] e = absurd (omega (arith, e))
+names_of_cells (n ∷ ns) (w ∷ ws) e = ap (λ l. n ∷ l) (names_of_cells ns ws (omega (arith, e)))
+
+words_of_cells : (names : List (List ℕ)) (inits : List ℕ) → length names ≡ length inits → map init_of_cell (map cell_from (zip names inits)) ≡ inits
+words_of_cells [] [] e = refl
+words_of_cells [] (w ∷ ws) e = absurd (omega (arith, e))
+words_of_cells (n ∷ ns) [] e = absurd (omega (arith, e))
+words_of_cells (n ∷ ns) (w ∷ ws) e = ap (λ l. w ∷ l) (words_of_cells ns ws (omega (arith, e)))
+
+many_cells : (names : List (List ℕ)) (inits : List ℕ) → length names ≡ length inits → length (map cell_from (zip names inits)) ≡ length inits
+many_cells [] [] e = refl
+many_cells [] (w ∷ ws) e = absurd (omega (arith, e))
+many_cells (n ∷ ns) [] e = absurd (omega (arith, e))
+many_cells (n ∷ ns) (w ∷ ws) e = ap suc (many_cells ns ws (omega (arith, e)))
+
+int_cells : (xs : List (List ℕ × ℕ)) → All IsIntCell (map cell_from xs)
+int_cells [] = All-nil IsIntCell
+int_cells (x ∷ xs) = All-cons IsIntCell (cell_from x) (map cell_from xs) refl (int_cells xs)
+
+lawful_cells : (names : List (List ℕ)) (inits : List ℕ) → All IsCellName names → All IsWord inits → All (IsCell 2) (map cell_from (zip names inits))
+lawful_cells [] inits h k = All-nil (IsCell 2)
+lawful_cells (n ∷ ns) [] h k = All-nil (IsCell 2)
+lawful_cells (n ∷ ns) (w ∷ ws) h k =
+    let a = All-head IsCellName n ns h in
+    All-cons (IsCell 2) (cell_from (n, w)) (map cell_from (zip ns ws))
+    (record { name = a.bytes; name_length = a.short; basic = record { refs = omega arith; base = tt }; init = All-head IsWord w ws k })
+    (lawful_cells ns ws (All-tail IsCellName n ns h) (All-tail IsWord w ws k))
+
+cell_is_int : (xs : List (List ℕ × ℕ)) (k : ℕ) (c : Cell) → slice_get (map cell_from xs) k ≡ Some c → c.basic ≡ int
+cell_is_int [] k c e = cc
+cell_is_int (x ∷ xs) zero c e = let f : cell_from x ≡ c = cc in sym (ap basic_of f)
+cell_is_int (x ∷ xs) (suc k) c e = cell_is_int xs k c e
+
+cell_there : (names : List (List ℕ)) (inits : List ℕ) (k : ℕ) → length names ≡ length inits → k < length inits → option_map basic_of (slice_get (map cell_from (zip names inits)) k) ≡ Some int
+cell_there [] [] k e lt = absurd (omega (arith, lt))
+cell_there [] (w ∷ ws) k e lt = absurd (omega (arith, e))
+cell_there (n ∷ ns) [] k e lt = absurd (omega (arith, e))
+cell_there (n ∷ ns) (w ∷ ws) zero e lt = refl
+cell_there (n ∷ ns) (w ∷ ws) (suc k) e lt = cell_there ns ws k (omega (arith, e)) (omega (arith, lt))
+
+-- INSTRUCTIONS
+
+-- a substitution in place changes nothing else
+bare_subst : (i : Instr) (us : List Subst) → bare (with_subst i us) ≡ bare i
+bare_subst (instr.OpReg o rd rs rt) us = refl
+bare_subst (instr.OpWord o rd rs v) us = refl
+bare_subst (instr.Mov rd v b) us = refl
+bare_subst (instr.Ld c rd rs) us = refl
+bare_subst (instr.St c rd rs) us = refl
+bare_subst (instr.JmpG rd) us = refl
+bare_subst (instr.JmpB rd t) [] = refl
+bare_subst (instr.JmpB rd t) (u ∷ us) = refl
+bare_subst (instr.BzG rz rd) us = refl
+bare_subst (instr.BzB rz rd t) [] = refl
+bare_subst (instr.BzB rz rd t) (u ∷ us) = refl
+bare_subst instr.Halt us = refl
+
+bare_placed : (us : List Subst) (is : List Instr) → map bare (placed us is) ≡ map bare is
+bare_placed us [] = refl
+bare_placed us (i ∷ is) = ap (λ x. x ∷ map bare (placed (substs_left i us) is)) (bare_subst i us) ∙ ap (λ l. bare i ∷ l) (bare_placed (substs_left i us) is)
+
+-- BLOCKS
+
+code_type_is : (o : Object) (vars : ℕ) (T : HasTypes o vars) (ss : List ℕ) (b : ℕ) (x : Block) → slice_get (blocks_at ss) b ≡ Some x → x.code_type ≡ type_of_block o vars T b
+code_type_is o vars T [] b x e = cc
+code_type_is o vars T (s ∷ ss) zero x e = let f : Rattle.std.proofs.Common.◌≡◌ {A = Block} (record { start = s; code_type = 0 }) x = cc in sym (ap code_type_of f)
+code_type_is o vars T (s ∷ ss) (suc b) x e = others ss b x e
+  where
+    others : (ts : List ℕ) (k : ℕ) (y : Block) → slice_get (map block_from ts) k ≡ Some y → y.code_type ≡ 1
+    others [] k y f = cc
+    others (t ∷ ts) zero y f = let g : block_from t ≡ y = cc in sym (ap code_type_of g)
+    others (t ∷ ts) (suc k) y f = others ts k y f
+
+first_type : (ss : List ℕ) → unwrap_or (option_map code_type_of (slice_get (blocks_at ss) 0)) 0 ≡ 0
+first_type [] = refl
+first_type (s ∷ ss) = refl
+
+first_there : (bs : Blocks) → HaveSome bs → 0 < length bs → 0 < blocks_size bs
+first_there [] h lt = absurd (omega (arith, lt))
+first_there (x ∷ xs) h lt = omega (arith, h.0)
+
+-- a target's code address is that of a block of code type 1
+target_found : (bs : Blocks) (to : ℕ) → HaveSome bs → IsTarget (length bs) to → option_map code_type_of (find (λ (c : Block). code_address (start_of bs to) == code_address c.start) (blocks_at (starts bs))) ≡ Some 1
+target_found [] to h t = absurd (omega (arith, t.there))
+target_found (x ∷ xs) zero h t = absurd (omega (arith, t.no_entry))
+target_found (x ∷ xs) (suc b) h t = ap (option_map code_type_of) (find_block x xs b h.0 (omega (arith, t.there)))
+
+module _ (names : List (List ℕ)) (inits : List ℕ) (vars : ℕ) (bs : Blocks) (C : AreCells names inits) (W : IsWell vars (length inits) bs) where
+  abbrev o : Object
+  o = emitted names inits vars bs
+
+  abbrev start : ℕ → ℕ
+  start = start_of bs
+
+  abbrev rows : List (List Instr)
+  rows = rows_coded vars start 0 (at_first vars) bs
+
+  fine : RowsAreFine vars (length inits) (length bs) 0 bs
+  fine = well_rows vars (length inits) bs W
+
+  some : HaveSome bs
+  some = fine_have_some vars (length inits) (length bs) 0 bs fine
+
+  sound : IsSound o.nodes o.substs (noted vars bs)
+  sound = noted_sound vars (length inits) bs C.few W
+
+  -- the instructions are those of the rows, one after another
+  instrs_are : o.instrs ≡ joined vars start rows
+  instrs_are = ap (λ us. placed us (doubled bs)) (added_blocks vars start 0 (at_first vars) bs) ∙ placed_blocks vars start 0 (at_first vars) bs
+
+  instrs_many : length o.instrs ≡ blocks_size bs
+  instrs_many = ap length instrs_are ∙ joined_length vars start 0 (at_first vars) bs
+
+  nodes_lawful : AreNodes o.nodes
+  nodes_lawful = record {
+    few = let n = nodes_blocks vars 0 (at_first vars) bs in let m : length (at_first vars).nodes ≡ suc vars = ap suc (length-map-range_with_len (variable_node vars) 0 vars) in let s = W.short in let f = W.few_variables in omega arith;
+    each = sound.fine;
+  }
+
+  first_nodes : Starts (at_first vars).nodes o.nodes
+  first_nodes = (blocks_grow vars 0 (at_first vars) bs).nodes
+
+  types : HasTypes o vars
+  types = record {
+    few = W.few_variables;
+    entry_ints = refl;
+    entry_rows = refl;
+    entry_queue = refl;
+    entry_memory = refl;
+    ints = refl;
+    rows = refl;
+    queue = refl;
+    memory = refl;
+    nodes = nodes_lawful;
+    first_nodes = first_nodes;
+  }
+
+  -- a code address is a word
+  address_words : (b : ℕ) → IsWord (code_address (start b))
+  address_words b = let s = start_within bs b in let t = W.short in omega arith
+
+  substs_are : substs_of o.instrs ≡ (noted vars bs).substs
+  substs_are = ap substs_of instrs_are ∙ substs_blocks vars start 0 (at_first vars) bs ∙ sym (added_blocks vars start 0 (at_first vars) bs)
+
+  block_count : length o.blocks ≡ length bs
+  block_count = blocks_many (starts bs) ∙ starts_many 0 bs
+
+  names_are : map name_of o.cells ≡ names
+  names_are = names_of_cells names inits C.as_many
+
+  words_are : words_of o ≡ inits
+  words_are = words_of_cells names inits C.as_many
+
+  cell_count : length o.cells ≡ length inits
+  cell_count = many_cells names inits C.as_many
+
+  spelled : IsSpellable o
+  spelled = record {
+    few_cells = let c = cell_count in let f = C.few in omega arith;
+    cells = lawful_cells names inits C.lawful C.words;
+    names_differ = subst (AllPairs (λ x y. x ≢ y)) (sym names_are) C.differ;
+    nodes = nodes_lawful;
+    some_type = omega arith;
+    few_types = omega arith;
+    few_reg_rows = reg_rows_few vars W.few_variables;
+    few_queue_rows = queue_rows_few vars;
+    types = types_lawful o.nodes vars W.few_variables first_nodes;
+    few_blocks = let c = block_count in let f = blocks_few bs some in let s = W.short in omega arith;
+    first_block = blocks_begin bs W.some;
+    blocks = blocks_in_order (length o.instrs) bs (let e = instrs_many in omega arith) some;
+    block_types = blocks_typed (starts bs);
+    some_instr = let e = instrs_many in let f = first_there bs some W.some in omega arith;
+    few_instrs = let e = instrs_many in let s = W.short in omega arith;
+    instrs = subst (All (IsInstr 2)) (sym instrs_are) (instrs_blocks vars start (length inits) (length bs) C.few address_words 0 (at_first vars) bs fine);
+    few_substs = let r = rows_blocks vars 0 (at_first vars) bs W.few_variables in let s = W.short in omega arith;
+    covered = subst (Cover o.nodes (length o.substs) 0) (sym substs_are) (chain_covers o.nodes o.substs 0 (noted vars bs).substs sound.covered.chain);
+    substs = sound.covered.rows;
+    entry = let c = block_count in let s = W.some in omega arith;
+  }
+
+  -- ACCEPTED
+
+  refs : (c : ℕ) → c < length inits → has_type o (cell_address c) ref_int ≡ true
+  unfolding cell_of
+  refs c lt =
+      let z : cell_address c - cell_address 0 ≡ c = omega arith in
+      let e : cell_type o (cell_address c) ≡ Some int =
+      ap (λ b. option_map basic_of (if b then slice_get o.cells (cell_address c - cell_address 0) else None)) (le-leb (cell_address 0) (cell_address c) (omega arith))
+      ∙ ap (λ k. option_map basic_of (slice_get o.cells k)) z
+      ∙ cell_there names inits c C.as_many lt in
+      (has_type_decides o (cell_address c) ref_int).1 e
+
+  targets : (b : ℕ) → IsTarget (length bs) b → has_type o (code_address (start b)) code_one ≡ true
+  unfolding block_at
+  targets b t = (has_type_decides o (code_address (start b)) code_one).1 (target_found bs b some t)
+
+  -- the rows of each block's instructions apply
+  rows_apply : (b : ℕ) (w : Noted) (xs : Blocks) → RowsAreFine vars (length inits) (length bs) b xs → Starts (at_first vars).nodes w.nodes → Starts (blocks_noted vars b w xs).nodes o.nodes → Starts (blocks_noted vars b w xs).rows o.substs → IsSound o.nodes o.substs w → (j : ℕ) (r : List Instr) → slice_get (rows_coded vars start b w xs) j ≡ Some r → Applies o (start_context o (type_of_block o vars types (b + j))) r
+  rows_apply b w [] f s sn sr h j r e = cc
+  rows_apply b w (x ∷ xs) f s sn sr h zero r e =
+      let v = block_noted vars b w x in
+      let g = blocks_grow vars (suc b) v xs in
+      let hn : Starts v.nodes o.nodes = starts_trans v.nodes _ o.nodes g.nodes sn in
+      let hr : Starts v.rows o.substs = starts_trans v.rows _ o.substs g.rows sr in
+      let wg = block_grows vars b w x in
+      let q : row_coded vars start (scope_of_block vars b) (begun w) x ≡ r = cc in
+      let z : b ≡ b + 0 = omega arith in
+      subst (λ n. Applies o (start_context o (type_of_block o vars types n)) r) z
+      (subst (Applies o (start_context o (type_of_block o vars types b))) q
+      (row_applies o vars types (length inits) (length bs) start C.few refs targets (scope_of_block vars b) (known_first vars b) (begun w) (start_context o (type_of_block o vars types b)) x
+      (scope_within vars b W.few_variables) f.0.ended f.0.well f.0.pairs hn hr
+      (begun_lawful o.nodes vars b w W.few_variables s (starts_trans w.nodes v.nodes o.nodes wg.nodes hn) h.fine)
+      (begins_good o vars types b)))
+  rows_apply b w (x ∷ xs) f s sn sr h (suc j) r e =
+      let v = block_noted vars b w x in
+      let g = blocks_grow vars (suc b) v xs in
+      let hn : Starts v.nodes o.nodes = starts_trans v.nodes _ o.nodes g.nodes sn in
+      let hr : Starts v.rows o.substs = starts_trans v.rows _ o.substs g.rows sr in
+      let wg = block_grows vars b w x in
+      let z : suc b + j ≡ b + suc j = omega arith in
+      subst (λ n. Applies o (start_context o (type_of_block o vars types n)) r) z
+      (rows_apply (suc b) v xs f.1 (starts_trans (at_first vars).nodes w.nodes v.nodes s wg.nodes) sn sr
+      (row_sound o.nodes o.substs vars (scope_of_block vars b) (length inits) (length bs) (known_first vars b) (begun w) x W.few_variables (scope_within vars b W.few_variables) C.few f.0.well f.0.pairs hn hr
+      (begun_lawful o.nodes vars b w W.few_variables s (starts_trans w.nodes v.nodes o.nodes wg.nodes hn) h.fine)
+      (record { rows = h.covered.rows; chain = h.covered.chain }))
+      j r e)
+
+  row_of_block : (b : ℕ) (w : Noted) (xs : Blocks) (j : ℕ) → j < length xs → (r : List Instr) × (slice_get (rows_coded vars start b w xs) j ≡ Some r)
+  row_of_block b w [] j lt = absurd (omega (arith, lt))
+  row_of_block b w (x ∷ xs) zero lt = (row_coded vars start (scope_of_block vars b) (begun w) x, refl)
+  row_of_block b w (x ∷ xs) (suc j) lt = row_of_block (suc b) (block_noted vars b w x) xs j (omega (arith, lt))
+
+  -- where a block begins
+  place_is : (b : ℕ) → option_map start_of_block (slice_get o.blocks b) ≡ slice_get (offsets vars start 0 rows) b
+  place_is b = sym (slice_get-map start_of_block o.blocks b) ∙ ap (λ l. slice_get l b) (places_of_blocks (starts bs) ∙ sym (offsets_are_starts vars start 0 0 (at_first vars) bs))
+
+  -- the instructions of a block are its row
+  block_is_row : (b : ℕ) (r : List Instr) → slice_get rows b ≡ Some r → block_instrs o b ≡ r
+  block_is_row b r e =
+      ap (λ p. slice_range o.instrs (unwrap_or p 0) (unwrap_or (option_map start_of_block (slice_get o.blocks (suc b))) (length o.instrs))) (place_is b)
+      ∙ ap (λ p. slice_range o.instrs (unwrap_or (slice_get (offsets vars start 0 rows) b) 0) (unwrap_or p (length o.instrs))) (place_is (suc b))
+      ∙ ap (λ l. slice_range l (unwrap_or (slice_get (offsets vars start 0 rows) b) 0) (unwrap_or (slice_get (offsets vars start 0 rows) (suc b)) (length l))) instrs_are
+      ∙ cut_out vars start rows b r e
+
+  blocks_apply : (b : ℕ) (x : Block) → slice_get o.blocks b ≡ Some x → Applies o (start_context o x.code_type) (block_instrs o b)
+  blocks_apply b x e =
+      let lt : b < length bs = let c = block_count in omega (arith, slice_get_within o.blocks b x e) in
+      let R = row_of_block 0 (at_first vars) bs b lt in
+      let z : 0 + b ≡ b = omega arith in
+      let whole = noted vars bs in
+      let h = rows_apply 0 (at_first vars) bs fine (starts_refl (at_first vars).nodes) (starts_refl whole.nodes) (starts_refl whole.rows)
+      (record { fine = first_fine whole.nodes vars W.few_variables; covered = record { rows = All-nil (IsNodeIn whole.nodes 128 false); chain = refl } }) b R.0 R.1 in
+      subst (λ t. Applies o (start_context o t) (block_instrs o b)) (sym (code_type_is o vars types (starts bs) b x e))
+      (subst (λ l. Applies o (start_context o (type_of_block o vars types b)) l) (sym (block_is_row b R.0 R.1))
+      (subst (λ n. Applies o (start_context o (type_of_block o vars types n)) R.0) z h))
+
+  entry_lawful : IsEntryType o (block_type o o.entry)
+  entry_lawful = subst (IsEntryType o) (sym (first_type (starts bs))) (record {
+    ints = refl;
+    regs = refl;
+    queue = refl;
+    memory = record { node = node 0 shape.Memory; found = get_starts (at_first vars).nodes o.nodes 0 (node 0 shape.Memory) first_nodes refl; shape = refl };
+  })
+
+  cells_typed : (k : ℕ) (x : Cell) → slice_get o.cells k ≡ Some x → HasType o x.init x.basic
+  cells_typed k x e = subst (HasType o x.init) (sym (cell_is_int (zip names inits) k x e)) tt
+
+  emission_of : IsEmission names inits bs o
+  emission_of = record {
+    names_are = names_are;
+    words_are = words_are;
+    ints = int_cells (zip names inits);
+    spellable = spelled;
+    accepted = record { entry = entry_lawful; cells = cells_typed; blocks = blocks_apply };
+    carries = record {
+      instrs = bare_placed (noted vars bs).substs (doubled bs);
+      blocks = places_of_blocks (starts bs);
+      entry = refl;
+      many = cell_count;
+      words = subst (All IsWord) (sym words_are) C.words;
+    };
+    instrs = instrs_many;
+  }
+
+-- the object of well formed blocks carries them, and is spellable and accepted
+pub emission : EmittedObjectsAreAccepted
+emission = emission_of

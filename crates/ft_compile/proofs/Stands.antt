@@ -1,0 +1,28 @@
+-- The object of a program's flow stands for the program.
+use Rattle.std.proofs.Common.{◌≡◌, ℕ, ◌≤◌, length, sym, subst, arith}
+use Rattle.ft_types.specs.declared.object.Object.{Object}
+use Rattle.ft_scope.specs.Resolved.{Program, program_weight}
+use Rattle.ft_lower.specs.Flow.{Blocks}
+use Rattle.ft_lower.specs.Lowers.{Lowers}
+use Rattle.ft_lower.specs.Size.{blocks_size}
+use Rattle.ft_lower.specs.Well.{IsWell}
+use Rattle.ft_dup.specs.Doubles.{RunsAs, Carries}
+use Rattle.ft_compile.specs.Cells.{AreCells}
+use Rattle.ft_compile.specs.Emitted.{emitted}
+use Rattle.ft_compile.specs.StandsFor.{StandsFor}
+use Rattle.ft_compile.proofs.Meant.{runs_as_meant}
+use Rattle.ft_compile.proofs.Objects.{emission}
+
+-- the object of blocks to which a program was lowered, and which run as doubled code does
+pub stands : (p : Program) (o : Object) (vars cells : ℕ) (bs : Blocks) → AreCells p.names p.inits → IsWell vars cells bs → cells ≡ length p.inits → blocks_size bs ≤ program_weight p → Lowers p bs → RunsAs vars cells bs → o ≡ emitted p.names p.inits vars bs → StandsFor p o
+stands p o vars cells bs C W many light L R e =
+    let E = emission p.names p.inits vars bs C (subst (λ n. IsWell vars n bs) many W) in
+    subst (StandsFor p) (sym e) (record {
+      names = E.names_are;
+      inits = E.words_are;
+      ints = E.ints;
+      spellable = E.spellable;
+      accepted = E.accepted;
+      short = omega (arith, E.instrs, light);
+      run = runs_as_meant p vars cells bs (emitted p.names p.inits vars bs) L R (subst (λ n. Carries (emitted p.names p.inits vars bs) n bs) (sym many) E.carries) E.words_are;
+    })

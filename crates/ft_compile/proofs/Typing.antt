@@ -1,0 +1,339 @@
+-- The rows of a step's instructions apply, where the known pairs have the forms of their nodes.
+use Rattle.std.proofs.Common.{◌≡◌, ◌≢◌, ℕ, ◌+◌, ◌<◌, true, cond, ◌==◌, List, [], ◌∷◌, ◌++◌, length, inl, inr, Some, refl, sym, ap, ◌∙◌, subst, arith, slice_get}
+use Rattle.std.specs.Prelude.{All, slice_index, slice_set}
+use Rattle.std.proofs.lemmas.Bool.{ne_eqb, eq-eqb, cases_eq}
+use Rattle.std.proofs.lemmas.List.{get_or-set_same, get_or-set_other, length-set}
+use Rattle.ft_isa.specs.Words.{cell_address}
+use Rattle.ft_isa.specs.declared.colour.Colour.{Colour}
+use Rattle.ft_isa.specs.declared.colour.Colour.TheVariants.{Green, Blue}
+use Rattle.ft_isa.specs.declared.basic.Basic.{Basic}
+use Rattle.ft_isa.specs.declared.instr.Subst.{Subst}
+use Rattle.ft_isa.specs.declared.instr.Instr.{Instr}
+use Rattle.ft_isa.specs.declared.instr.Instr.TheVariants as instr
+use Rattle.ft_isa.specs.declared.op.Op.{Op as Operator}
+use Rattle.ft_isa.specs.declared.op.Op.TheVariants.{Add}
+use Rattle.ft_isa.specs.declared.reg.Reg.{Reg}
+use Rattle.ft_static.specs.declared.node.Shape.{Shape}
+use Rattle.ft_static.specs.declared.node.Shape.TheVariants as shape
+use Rattle.ft_static.specs.Form.{Polynomial}
+use Rattle.ft_static.specs.FormOrder.{same_polynomial}
+use Rattle.ft_static.specs.NormalForm.{constant, norm_op, norm_sel, norm_upd}
+use Rattle.ft_static.specs.NodeRules.{AreNodes}
+use Rattle.ft_static.proofs.Equal.{equal_polynomials}
+use Rattle.ft_types.specs.declared.object.Object.{Object}
+use Rattle.ft_types.specs.Context.{Typed, d_zero, Context, typed, with_type, integer_form_of, memory_form_of}
+use Rattle.ft_types.specs.TypedWord.{int, has_type, is_seen_as, same_basic}
+use Rattle.ft_types.specs.TypingRow.{Goes, same_colour, need, for_typed, for_ref_over, for_oldest, pending_memory, row}
+use Rattle.ft_types.proofs.Maps.{get-insert}
+use Rattle.ft_lower.specs.declared.step3.Step3.{Step3}
+use Rattle.ft_lower.specs.declared.step3.Step3.TheVariants.{Put, Copy, Op, Load, Store, Exit, Go, Stop}
+use Rattle.ft_lower.specs.Size.{pairs_of}
+use Rattle.ft_lower.specs.Well.{Known, learn, forget, known_after, StepFits, ReadsKnown}
+use Rattle.ft_dup.specs.Images.{green, blue, ref_int}
+use Rattle.ft_compile.specs.Emitted.{Noted, node, pair_node, step_noted}
+use Rattle.ft_compile.proofs.Lists.{Starts, starts_trans, get_starts, get_last}
+use Rattle.ft_compile.proofs.Named.{learned, kept}
+use Rattle.ft_compile.proofs.Coded.{coded_step}
+use Rattle.ft_compile.proofs.Forms.{green_number, blue_number, word_form, operation_form, sel_form, upd_form}
+
+-- what is known of a register
+abbrev pub ty : Colour → Basic → Polynomial → Typed
+ty k b x = record { colour = k; basic = b; form = x }
+
+typed_with : (c : Context) (r : ℕ) (t : Typed) (q : ℕ) → typed (with_type r t c) q ≡ cond (q == r) (Some t) (typed c q)
+typed_with c r t q = get-insert c.registers r t q
+
+pub typed_same : (c : Context) (r : ℕ) (t : Typed) → typed (with_type r t c) r ≡ Some t
+typed_same c r t = typed_with c r t r ∙ ap (λ b. cond b (Some t) (typed c r)) (eq-eqb r r refl)
+
+pub typed_other : (c : Context) (r : ℕ) (t : Typed) (q : ℕ) → q ≢ r → typed (with_type r t c) q ≡ typed c q
+typed_other c r t q ne = typed_with c r t q ∙ ap (λ b. cond b (Some t) (typed c q)) (ne_eqb q r ne)
+
+pub same_colours : (k : Colour) → same_colour k k ≡ true
+unfolding same_colour
+same_colours Green = refl
+same_colours Blue = refl
+
+-- a form is the same as itself
+pub same_itself : (p : Polynomial) → same_polynomial p p ≡ true
+same_itself p = (equal_polynomials p p).1 refl
+
+has_int : (o : Object) (v : ℕ) → has_type o v int ≡ true
+unfolding has_type
+has_int o v = refl
+
+-- ROWS, WHERE THEIR PREMISES HOLD
+
+module _ (o : Object) where
+  pub mov_row : (c : Context) (rd : Reg) (v : ℕ) (k : Colour) (b : Basic) → has_type o v b ≡ true → row o c (instr.Mov rd (record { colour = k; word = v }) b) ≡ Goes (with_type rd.number (ty k b (constant v)) c)
+  unfolding need
+  mov_row c rd v k b h = rw h refl
+
+  op_row : (c : Context) (p : Operator) (rd rs rt : Reg) (k : Colour) (a b : Basic) (x y : Polynomial) → typed c rs.number ≡ Some (ty k a x) → typed c rt.number ≡ Some (ty k b y) → row o c (instr.OpReg p rd rs rt) ≡ Goes (with_type rd.number (ty k int (norm_op p x y)) c)
+  unfolding need for_typed
+  op_row c p rd rs rt k a b x y hs ht = rw (hs, ht, same_colours k) refl
+
+  op_word_row : (c : Context) (p : Operator) (rd rs : Reg) (v : ℕ) (k : Colour) (a : Basic) (x : Polynomial) → typed c rs.number ≡ Some (ty k a x) → row o c (instr.OpWord p rd rs (record { colour = k; word = v })) ≡ Goes (with_type rd.number (ty k int (norm_op p x (constant v))) c)
+  unfolding need for_typed
+  op_word_row c p rd rs v k a x hs = rw (hs, same_colours k) refl
+
+  load_green_row : (c : Context) (rd rs : Reg) (x : Polynomial) → c.queue ≡ [] → typed c rs.number ≡ Some (ty Green ref_int x) → row o c (instr.Ld Green rd rs) ≡ Goes (with_type rd.number (ty Green int (norm_sel c.memory x)) c)
+  unfolding need for_typed for_ref_over same_colour pending_memory
+  load_green_row c rd rs x q hs = rw (hs, q) refl
+
+  load_blue_row : (c : Context) (rd rs : Reg) (x : Polynomial) → typed c rs.number ≡ Some (ty Blue ref_int x) → row o c (instr.Ld Blue rd rs) ≡ Goes (with_type rd.number (ty Blue int (norm_sel c.memory x)) c)
+  unfolding need for_typed for_ref_over same_colour
+  load_blue_row c rd rs x hs = rw hs refl
+
+  store_green_row : (c : Context) (rd rs : Reg) (a x : Polynomial) → c.queue ≡ [] → typed c rd.number ≡ Some (ty Green ref_int a) → typed c rs.number ≡ Some (ty Green int x) → row o c (instr.St Green rd rs) ≡ Goes (record c { queue = (a, x) ∷ [] })
+  unfolding need for_typed for_ref_over is_seen_as same_basic same_colour
+  store_green_row c rd rs a x q hd hs = rw (hd, hs, q) refl
+
+  store_blue_row : (c : Context) (rd rs : Reg) (a x : Polynomial) → c.queue ≡ (a, x) ∷ [] → typed c rd.number ≡ Some (ty Blue ref_int a) → typed c rs.number ≡ Some (ty Blue int x) → row o c (instr.St Blue rd rs) ≡ Goes (record c { queue = []; memory = norm_upd c.memory a x })
+  unfolding need for_typed for_ref_over is_seen_as same_basic same_colour for_oldest
+  store_blue_row c rd rs a x q hd hs = rw (hd, hs, q) (rw (same_itself a) (rw (same_itself x) refl))
+
+-- PAIRS
+
+-- the two registers of a pair are typed
+abbrev pub both : ℕ → Basic → Polynomial → Context → Context
+both p b x c = with_type (blue p).number (ty Blue b x) (with_type (green p).number (ty Green b x) c)
+
+-- registers of pairs differ
+pub greens_differ : (p q : ℕ) → p < 32 → q < 32 → q ≢ p → (green q).number ≢ (green p).number
+greens_differ p q lp lq ne e = ne (sym (green_number q (omega arith)) ∙ e ∙ green_number p (omega arith))
+
+pub blues_differ : (p q : ℕ) → p < 32 → q < 32 → q ≢ p → (blue q).number ≢ (blue p).number
+blues_differ p q lp lq ne e = let f = sym (blue_number q lq) ∙ e ∙ blue_number p lp in ne (omega arith)
+
+pub green_is_not_blue : (p q : ℕ) → p < 32 → q < 32 → (green q).number ≢ (blue p).number
+green_is_not_blue p q lp lq e = let f = sym (green_number q (omega arith)) ∙ e ∙ blue_number p lp in (let g : q ≡ 32 + p = f in omega arith)
+
+pub blue_is_not_green : (p q : ℕ) → p < 32 → q < 32 → (blue q).number ≢ (green p).number
+blue_is_not_green p q lp lq e = green_is_not_blue q p lq lp (sym e)
+
+pub both_green : (p : ℕ) (b : Basic) (x : Polynomial) (c : Context) → p < 32 → typed (both p b x c) (green p).number ≡ Some (ty Green b x)
+both_green p b x c lt = typed_other (with_type (green p).number (ty Green b x) c) (blue p).number (ty Blue b x) (green p).number (green_is_not_blue p p lt lt) ∙ typed_same c (green p).number (ty Green b x)
+
+pub both_blue : (p : ℕ) (b : Basic) (x : Polynomial) (c : Context) → typed (both p b x c) (blue p).number ≡ Some (ty Blue b x)
+both_blue p b x c = typed_same (with_type (green p).number (ty Green b x) c) (blue p).number (ty Blue b x)
+
+pub other_green : (p q : ℕ) (b : Basic) (x : Polynomial) (c : Context) → p < 32 → q < 32 → q ≢ p → typed (both p b x c) (green q).number ≡ typed c (green q).number
+other_green p q b x c lp lq ne = typed_other (with_type (green p).number (ty Green b x) c) (blue p).number (ty Blue b x) (green q).number (green_is_not_blue p q lp lq) ∙ typed_other c (green p).number (ty Green b x) (green q).number (greens_differ p q lp lq ne)
+
+pub other_blue : (p q : ℕ) (b : Basic) (x : Polynomial) (c : Context) → p < 32 → q < 32 → q ≢ p → typed (both p b x c) (blue q).number ≡ typed c (blue q).number
+other_blue p q b x c lp lq ne = typed_other (with_type (green p).number (ty Green b x) c) (blue p).number (ty Blue b x) (blue q).number (blues_differ p q lp lq ne) ∙ typed_other c (green p).number (ty Green b x) (blue q).number (blue_is_not_green p q lp lq)
+
+-- WHAT A CONTEXT KNOWS
+
+-- both registers of each known pair have the form of the pair's node, the memory that of its own, d is 0 and nothing waits
+pub record IsGood (o : Object) (scope : ℕ) (k : Known) (pairs : List ℕ) (memory : ℕ) (c : Context) : Type 0 where
+  pub green_pair : (q : ℕ) → k q ≡ true → typed c (green q).number ≡ Some (ty Green int (integer_form_of o (slice_index pairs q)))
+  pub blue_pair : (q : ℕ) → k q ≡ true → typed c (blue q).number ≡ Some (ty Blue int (integer_form_of o (slice_index pairs q)))
+  pub small : (q : ℕ) → k q ≡ true → q < 32
+  pub many : length pairs ≡ 32
+  pub zero : c.d ≡ d_zero
+  pub queue : c.queue ≡ []
+  pub memory_is : c.memory ≡ memory_form_of o memory
+  pub ints : c.ints ≡ scope
+
+-- what is so of a pair other than p
+abbrev pub Others : Object → Known → List ℕ → ℕ → Context → Type 0
+Others o k pairs p c = (q : ℕ) → q ≢ p → k q ≡ true → (typed c (green q).number ≡ Some (ty Green int (integer_form_of o (slice_index pairs q)))) × (typed c (blue q).number ≡ Some (ty Blue int (integer_form_of o (slice_index pairs q)))) × (q < 32)
+
+pub others_of : (o : Object) (scope : ℕ) (k : Known) (pairs : List ℕ) (memory p : ℕ) (c : Context) → IsGood o scope k pairs memory c → Others o k pairs p c
+others_of o scope k pairs memory p c G q ne h = (G.green_pair q h, G.blue_pair q h, G.small q h)
+
+-- pair p gets a form, which is that of its new node
+good_learn : (o : Object) (scope : ℕ) (k : Known) (pairs : List ℕ) (memory : ℕ) (c : Context) (p new : ℕ) (x : Polynomial) → p < 32 → length pairs ≡ 32 → integer_form_of o new ≡ x → Others o k pairs p c → c.d ≡ d_zero → c.queue ≡ [] → c.memory ≡ memory_form_of o memory → c.ints ≡ scope → IsGood o scope (learn p k) (slice_set pairs p new) memory (both p int x c)
+good_learn o scope k pairs memory c p new x lt many f old z qu mem ints = record {
+  green_pair = λ q h. elim (cases_eq q p) [
+    | inl e ↦ subst (λ r. typed (both p int x c) (green r).number ≡ Some (ty Green int (integer_form_of o (slice_index (slice_set pairs p new) r)))) (sym e) (both_green p int x c lt ∙ ap (λ y. Some (ty Green int y)) here)
+    | inr ne ↦ let r = old q ne (learned k p q ne h) in other_green p q int x c lt r.2 ne ∙ r.0 ∙ ap (λ n. Some (ty Green int (integer_form_of o n))) (there q ne)
+  ];
+  blue_pair = λ q h. elim (cases_eq q p) [
+    | inl e ↦ subst (λ r. typed (both p int x c) (blue r).number ≡ Some (ty Blue int (integer_form_of o (slice_index (slice_set pairs p new) r)))) (sym e) (both_blue p int x c ∙ ap (λ y. Some (ty Blue int y)) here)
+    | inr ne ↦ let r = old q ne (learned k p q ne h) in other_blue p q int x c lt r.2 ne ∙ r.1 ∙ ap (λ n. Some (ty Blue int (integer_form_of o n))) (there q ne)
+  ];
+  small = λ q h. elim (cases_eq q p) [ inl e ↦ subst (λ r. r < 32) (sym e) lt | inr ne ↦ (old q ne (learned k p q ne h)).2 ];
+  many = length-set pairs p new ∙ many;
+  zero = z;
+  queue = qu;
+  memory_is = mem;
+  ints = ints;
+}
+  where
+    here : x ≡ integer_form_of o (slice_index (slice_set pairs p new) p)
+    here = sym f ∙ ap (integer_form_of o) (sym (get_or-set_same pairs p new 0 (omega (arith, many))))
+
+    there : (q : ℕ) → q ≢ p → slice_index pairs q ≡ slice_index (slice_set pairs p new) q
+    there q ne = sym (get_or-set_other pairs p q new 0 ne)
+
+-- pair p is set and then forgotten
+pub good_forget : (o : Object) (scope : ℕ) (k : Known) (pairs : List ℕ) (memory : ℕ) (c : Context) (p : ℕ) (b : Basic) (x : Polynomial) → p < 32 → IsGood o scope k pairs memory c → IsGood o scope (forget p k) pairs memory (both p b x c)
+good_forget o scope k pairs memory c p b x lt G = record {
+  green_pair = λ q h. let u = kept k p q h in other_green p q b x c lt (G.small q u.1) u.0 ∙ G.green_pair q u.1;
+  blue_pair = λ q h. let u = kept k p q h in other_blue p q b x c lt (G.small q u.1) u.0 ∙ G.blue_pair q u.1;
+  small = λ q h. G.small q (kept k p q h).1;
+  many = G.many;
+  zero = G.zero;
+  queue = G.queue;
+  memory_is = G.memory_is;
+  ints = G.ints;
+}
+
+-- INSTRUCTIONS ONE AFTER ANOTHER
+
+-- the rows of these instructions apply, and lead from one context to another
+abbrev pub Passes : Object → Context → List Instr → Context → Type 0
+Passes o c [] d = c ≡ d
+Passes o c (i ∷ is) d = (e : Context) × (row o c i ≡ Goes e) × Passes o e is d
+
+-- a step that goes to the next one alone
+abbrev pub IsStraight : Step3 → Type 0
+IsStraight (Put p v) = Unit {0}
+IsStraight (Copy p q) = Unit {0}
+IsStraight (Op o p q r) = Unit {0}
+IsStraight (Load p c) = Unit {0}
+IsStraight (Store c q spare) = Unit {0}
+IsStraight (Exit q spare to) = ⊥
+IsStraight (Go spare to) = ⊥
+IsStraight Stop = ⊥
+
+-- where a step leads
+pub record Leads (o : Object) (c : Context) (is : List Instr) (scope : ℕ) (k : Known) (w : Noted) : Type 0 where
+  pub after : Context
+  pub passes : Passes o c is after
+  pub good : IsGood o scope k w.pairs w.memory after
+
+module _ (o : Object) (N : AreNodes o.nodes) (cells : ℕ) (refs : (c : ℕ) → c < cells → has_type o (cell_address c) ref_int ≡ true) where
+  -- the newest of two nodes, and the one before it
+  newest : (w : Noted) (scope : ℕ) (x y : Shape) → Starts ((w.nodes ++ node scope x ∷ []) ++ node scope y ∷ []) o.nodes → (slice_get o.nodes (length w.nodes) ≡ Some (node scope x)) × (slice_get o.nodes (length (w.nodes ++ node scope x ∷ [])) ≡ Some (node scope y))
+  newest w scope x y s = (
+    get_starts (w.nodes ++ node scope x ∷ []) o.nodes (length w.nodes) (node scope x) (starts_trans (w.nodes ++ node scope x ∷ []) ((w.nodes ++ node scope x ∷ []) ++ node scope y ∷ []) o.nodes (node scope y ∷ [], refl) s) (get_last w.nodes (node scope x)),
+    get_starts ((w.nodes ++ node scope x ∷ []) ++ node scope y ∷ []) o.nodes (length (w.nodes ++ node scope x ∷ [])) (node scope y) s (get_last (w.nodes ++ node scope x ∷ []) (node scope y)),
+  )
+
+  -- a straight step
+  pub straight_leads : (start : ℕ → ℕ) (u : Subst) (vars scope blocks : ℕ) (k : Known) (w : Noted) (c : Context) (i : Step3) → IsStraight i → StepFits cells blocks i → All (λ p. p < 32) (pairs_of i) → ReadsKnown vars k i → Starts (step_noted vars scope w i).nodes o.nodes → IsGood o scope k w.pairs w.memory c → Leads o c (coded_step start u i) scope (known_after i k) (step_noted vars scope w i)
+  straight_leads start u vars scope blocks k w c (Put p v) st fits ps reads s G =
+      let x = constant v in
+      let lt = ps 0 0 (omega arith) in
+      let f = word_form o N (length w.nodes) scope v (get_starts (w.nodes ++ node scope (shape.Word v) ∷ []) o.nodes (length w.nodes) (node scope (shape.Word v)) s (get_last w.nodes (node scope (shape.Word v)))) in
+      record {
+        after = both p int x c;
+        passes = (_, mov_row o c (green p) v Green int (has_int o v), (_, mov_row o (with_type (green p).number (ty Green int x) c) (blue p) v Blue int (has_int o v), refl));
+        good = good_learn o scope k w.pairs w.memory c p (length w.nodes) x lt G.many f (others_of o scope k w.pairs w.memory p c G) G.zero G.queue G.memory_is G.ints;
+      }
+  straight_leads start u vars scope blocks k w c (Copy p q) st fits ps reads s G =
+      let m = length (w.nodes ++ node scope (shape.Word 0) ∷ []) in
+      let y = integer_form_of o (pair_node w q) in
+      let x = norm_op Add y (constant 0) in
+      let lt = ps 0 0 (omega arith) in
+      let lq = G.small q reads in
+      let n = newest w scope (shape.Word 0) (shape.Op Add (pair_node w q) (length w.nodes)) s in
+      let f : integer_form_of o m ≡ x = operation_form o N m scope Add (pair_node w q) (length w.nodes) n.1 ∙ ap (norm_op Add y) (word_form o N (length w.nodes) scope 0 n.0) in
+      record {
+        after = both p int x c;
+        passes = (
+          _,
+          op_word_row o c Add (green p) (green q) 0 Green int y (G.green_pair q reads),
+          (_, op_word_row o (with_type (green p).number (ty Green int x) c) Add (blue p) (blue q) 0 Blue int y (typed_other c (green p).number (ty Green int x) (blue q).number (blue_is_not_green p q lt lq) ∙ G.blue_pair q reads), refl),
+        );
+        good = good_learn o scope k w.pairs w.memory c p m x lt G.many f (others_of o scope k w.pairs w.memory p c G) G.zero G.queue G.memory_is G.ints;
+      }
+  straight_leads start u vars scope blocks k w c (Op op p q r) st fits ps reads s G =
+      let y = integer_form_of o (pair_node w q) in
+      let z = integer_form_of o (pair_node w r) in
+      let x = norm_op op y z in
+      let lt = ps 0 0 (omega arith) in
+      let sh = shape.Op op (pair_node w q) (pair_node w r) in
+      let f = operation_form o N (length w.nodes) scope op (pair_node w q) (pair_node w r) (get_starts (w.nodes ++ node scope sh ∷ []) o.nodes (length w.nodes) (node scope sh) s (get_last w.nodes (node scope sh))) in
+      let c1 = with_type (green p).number (ty Green int x) c in
+      record {
+        after = both p int x c;
+        passes = (
+          _,
+          op_row o c op (green p) (green q) (green r) Green int int y z (G.green_pair q reads.0) (G.green_pair r reads.1),
+          (
+            _,
+            op_row o c1 op (blue p) (blue q) (blue r) Blue int int y z
+                (typed_other c (green p).number (ty Green int x) (blue q).number (blue_is_not_green p q lt (G.small q reads.0)) ∙ G.blue_pair q reads.0)
+                (typed_other c (green p).number (ty Green int x) (blue r).number (blue_is_not_green p r lt (G.small r reads.1)) ∙ G.blue_pair r reads.1),
+            refl,
+          ),
+        );
+        good = good_learn o scope k w.pairs w.memory c p (length w.nodes) x lt G.many f (others_of o scope k w.pairs w.memory p c G) G.zero G.queue G.memory_is G.ints;
+      }
+  straight_leads start u vars scope blocks k w c (Load p cl) st fits ps reads s G =
+      let v = cell_address cl in
+      let a = constant v in
+      let m = length (w.nodes ++ node scope (shape.Word v) ∷ []) in
+      let x = norm_sel c.memory a in
+      let lt = ps 0 0 (omega arith) in
+      let h = refs cl fits in
+      let n = newest w scope (shape.Word v) (shape.Sel w.memory (length w.nodes)) s in
+      let f : integer_form_of o m ≡ x = sel_form o N m scope w.memory (length w.nodes) n.1 ∙ ap (norm_sel (memory_form_of o w.memory)) (word_form o N (length w.nodes) scope v n.0) ∙ ap (λ y. norm_sel y a) (sym G.memory_is) in
+      let c2 = both p ref_int a c in
+      let c3 = with_type (green p).number (ty Green int x) c2 in
+      let old : Others o k w.pairs p c2 = λ q ne known.
+      (other_green p q ref_int a c lt (G.small q known) ne ∙ G.green_pair q known, other_blue p q ref_int a c lt (G.small q known) ne ∙ G.blue_pair q known, G.small q known) in
+      record {
+        after = both p int x c2;
+        passes = (
+          _,
+          mov_row o c (green p) v Green ref_int h,
+          (
+            _,
+            mov_row o (with_type (green p).number (ty Green ref_int a) c) (blue p) v Blue ref_int h,
+            (
+              _,
+              load_green_row o c2 (green p) (green p) a G.queue (both_green p ref_int a c lt),
+              (_, load_blue_row o c3 (blue p) (blue p) a (typed_other c2 (green p).number (ty Green int x) (blue p).number (blue_is_not_green p p lt lt) ∙ both_blue p ref_int a c), refl),
+            ),
+          ),
+        );
+        good = good_learn o scope k w.pairs w.memory c2 p m x lt G.many f old G.zero G.queue G.memory_is G.ints;
+      }
+  straight_leads start u vars scope blocks k w c (Store cl q spare) st fits ps reads s G =
+      let v = cell_address cl in
+      let a = constant v in
+      let m = length (w.nodes ++ node scope (shape.Word v) ∷ []) in
+      let y = integer_form_of o (pair_node w q) in
+      let lt = ps 1 0 (omega arith) in
+      let lq = G.small q reads.0 in
+      let h = refs cl fits in
+      let n = newest w scope (shape.Word v) (shape.Upd w.memory (length w.nodes) (pair_node w q)) s in
+      let f : memory_form_of o m ≡ norm_upd c.memory a y = upd_form o N m scope w.memory (length w.nodes) (pair_node w q) n.1 ∙ ap (λ b. norm_upd (memory_form_of o w.memory) b y) (word_form o N (length w.nodes) scope v n.0) ∙ ap (λ z. norm_upd z a y) (sym G.memory_is) in
+      let c2 = both spare ref_int a c in
+      let c3 = record c2 { queue = (a, y) ∷ [] } in
+      let g2 = good_forget o scope k w.pairs w.memory c spare ref_int a lt G in
+      record {
+        after = record c3 { queue = []; memory = norm_upd c.memory a y };
+        passes = (
+          _,
+          mov_row o c (green spare) v Green ref_int h,
+          (
+            _,
+            mov_row o (with_type (green spare).number (ty Green ref_int a) c) (blue spare) v Blue ref_int h,
+            (
+              _,
+              store_green_row o c2 (green spare) (green q) a y G.queue (both_green spare ref_int a c lt) (other_green spare q ref_int a c lt lq reads.1 ∙ G.green_pair q reads.0),
+              (_, store_blue_row o c3 (blue spare) (blue q) a y refl (both_blue spare ref_int a c) (other_blue spare q ref_int a c lt lq reads.1 ∙ G.blue_pair q reads.0), refl),
+            ),
+          ),
+        );
+        good = record {
+          green_pair = g2.green_pair;
+          blue_pair = g2.blue_pair;
+          small = g2.small;
+          many = g2.many;
+          zero = g2.zero;
+          queue = refl;
+          memory_is = sym f;
+          ints = g2.ints;
+        };
+      }
+  straight_leads start u vars scope blocks k w c (Exit q spare to) st fits ps reads s G = absurd st
+  straight_leads start u vars scope blocks k w c (Go spare to) st fits ps reads s G = absurd st
+  straight_leads start u vars scope blocks k w c Stop st fits ps reads s G = absurd st

@@ -1,0 +1,5 @@
+pub mod StandsFor
+pub mod Cells
+pub mod Emitted
+pub mod Viewed
+pub mod Laws

@@ -1,0 +1,43 @@
+-- When an object stands for a program.
+use Rattle.std.specs.Prelude.{◌≡◌, ◌≢◌, ℕ, ◌+◌, ◌*◌, ◌≤◌, [], length, map, None, All}
+use Rattle.ft_types.specs.declared.status.Status.TheVariants.{Running, Done, Detected}
+use Rattle.ft_types.specs.declared.object.Object.{Object}
+use Rattle.ft_types.specs.declared.object.Cell.{Cell}
+use Rattle.ft_types.specs.Accepted.{IsAccepted}
+use Rattle.ft_types.specs.Objects.{name_of}
+use Rattle.ft_types.specs.Run.{outputs_after, status_after}
+use Rattle.ft_types.specs.Spellable.{IsSpellable}
+use Rattle.ft_types.specs.TypedWord.{int}
+use Rattle.ft_scope.specs.Resolved.{Program, program_weight}
+use Rattle.ft_meaning.specs.Meaning.{State, Ended, Cut, outputs, meaning}
+use Rattle.ft_meaning.specs.Begins.{Begins}
+use Rattle.ft_dup.specs.Doubles.{words_of}
+
+-- the object's run, without a strike and without answers to wild loads, is what the program means
+pub record RunsAsMeant (p : Program) (o : Object) : Type 0 where
+  -- it is never detected
+  pub undetected : (n : ℕ) → status_after o None [] n ≢ Detected
+  -- where it is done after n steps, the meaning with n turns has ended with its outputs
+  pub done : (n : ℕ) → status_after o None [] n ≡ Done → (s : State) × (meaning p n ≡ Ended s) × (outputs_after o None [] n ≡ s.out)
+  -- where it is running after n steps, its outputs begin those of the meaning with n turns
+  pub running : (n : ℕ) → status_after o None [] n ≡ Running → Begins (outputs_after o None [] n) (outputs (meaning p n))
+  -- where the meaning has ended, the run is done with its outputs after 16 times the work and 320 steps more
+  pub ends : (n t : ℕ) (s : State) → meaning p t ≡ Ended s → 16 * s.work + 320 ≤ n → (status_after o None [] n ≡ Done) × (outputs_after o None [] n ≡ s.out)
+  -- where the meaning is cut, the run then has its outputs
+  pub cuts : (n t : ℕ) (s : State) → meaning p t ≡ Cut s → 16 * s.work + 320 ≤ n → Begins s.out (outputs_after o None [] n)
+
+-- a cell holds any word
+abbrev pub IsIntCell : Cell → Type 0
+IsIntCell c = c.basic ≡ int
+
+-- an object stands for a program: it has the program's cells in order, with their names and initial words, all of
+-- type `int`; it is spellable and accepted; it has at most as many instructions as the program weighs; and its run is
+-- what the program means
+pub record StandsFor (p : Program) (o : Object) : Type 0 where
+  pub names : map name_of o.cells ≡ p.names
+  pub inits : words_of o ≡ p.inits
+  pub ints : All IsIntCell o.cells
+  pub spellable : IsSpellable o
+  pub accepted : IsAccepted o
+  pub short : length o.instrs ≤ program_weight p
+  pub run : RunsAsMeant p o

@@ -1,0 +1,53 @@
+//! From a text to its object.
+ghost use Rattle.std.specs.Prelude.{◌≡◌, ◌≢◌, IfOk, IfErr};
+ghost use Rattle.ft_syntax.specs.declared.source_error.SourceError.TheVariants as errors;
+ghost use Rattle.ft_scope.specs.Outcome.{IsProgramOf, IsRefusalOf};
+ghost use Rattle.ft_scope.specs.ProgramOf.{program_of};
+ghost use Rattle.ft_scope.specs.Resolved.{Program};
+ghost use Rattle.ft_compile.specs.Cells.{AreCells};
+ghost use Rattle.ft_compile.specs.StandsFor.{StandsFor};
+
+use crate::emission::emit;
+use ft_dup::duplicate;
+use ft_isa::NoMemory;
+use ft_lower::lower;
+use ft_scope::{Prog, resolve};
+use ft_syntax::{SourceError, parse};
+use ft_types::Object;
+use std::alloc::Global;
+
+/// The object that stands for a program.
+fn compile_program(alloc: Global, prog: &Prog<'_>) -> Result<Object, NoMemory>
+    requires { AreCells (program_of prog.now).names (program_of prog.now).inits }
+    ensures { IfOk result (λ o. StandsFor (program_of prog.now) o) }
+{
+    let flow = lower(alloc, prog)?;
+    let code = duplicate(alloc, &flow)?;
+    let object = emit(alloc, prog, &flow, &code)?;
+    Ok(object)
+}
+
+/// Compiles a source: the object stands for the source's program. It has the program's cells, of type
+/// `int`, with their names and initial words; it is spellable and accepted, and has at most as many
+/// instructions as the program weighs. Without a fault its run is never detected, its outputs begin those
+/// of the meaning, and it ends with them where the meaning ends.
+///
+/// A text that is no program is refused by its first refusal, as `parse` and `resolve` say. Want of
+/// memory may come in the place of any answer.
+pub fn compile(alloc: Global, text: &[u8]) -> Result<Object, SourceError>
+    ensures ok { IfOk result (λ o. (p : Program) × IsProgramOf text.now p × StandsFor p o) }
+    ensures err { IfErr result (λ e. e ≢ errors.NoMemory → IsRefusalOf text.now e) }
+{
+    let tree = match parse(alloc, text) {
+        Ok(tree) => tree,
+        Err(error) => return Err(error),
+    };
+    let program = match resolve(alloc, tree) {
+        Ok(program) => program,
+        Err(error) => return Err(error),
+    };
+    match compile_program(alloc, &program) {
+        Ok(object) => Ok(object),
+        Err(NoMemory) => Err(SourceError::NoMemory),
+    }
+}

@@ -1,0 +1,48 @@
+//! The object of a flow.
+ghost use Rattle.std.specs.Prelude.{◌≡◌, ◌≤◌, length, map, IfOk};
+ghost use Rattle.ft_lower.specs.Flow.{blocks_of};
+ghost use Rattle.ft_lower.specs.Size.{PairsBelow, blocks_size};
+ghost use Rattle.ft_dup.specs.Images.{doubled, starts};
+ghost use Rattle.ft_compile.specs.Emitted.{emitted};
+
+use crate::cells::cells_of;
+use crate::code_types::types_of;
+use crate::notes::Notes;
+use crate::placing::{blocks_from, place};
+use crate::walking::note_flow;
+use ft_dup::Doubled;
+use ft_lower::Flow;
+use ft_scope::Prog;
+use ft_types::{Object, Table};
+use std::alloc::{AllocError, Global};
+
+/// The object of a program's flow and its doubled code.
+pub fn emit(
+    alloc: Global,
+    prog: &Prog<'_>,
+    flow: &Flow,
+    code: &Doubled,
+) -> Result<Object, AllocError>
+    requires vars { flow.now.vars ≤ 32 }
+    requires pairs { PairsBelow 32 (blocks_of flow.now) }
+    requires short { blocks_size (blocks_of flow.now) ≤ 65536 }
+    requires instrs { code.now.instrs.items ≡ doubled (blocks_of flow.now) }
+    requires starts { code.now.starts.items ≡ starts (blocks_of flow.now) }
+    ensures { IfOk result (λ o. o ≡ emitted (map (λ r. r.now) prog.now.names.items) prog.now.inits.items flow.now.vars (blocks_of flow.now)) }
+{
+    let cells = cells_of(alloc, &prog.names, &prog.inits)?;
+    let notes = note_flow(alloc, flow)?;
+    let types = types_of(alloc, flow.vars)?;
+    let blocks = blocks_from(alloc, &code.starts)?;
+    let instrs = place(alloc, &code.instrs, &notes.substs)?;
+    let Notes { nodes, rows, .. } = notes;
+    Ok(Object {
+        cells: Table::from_vec(cells),
+        nodes: Table::from_vec(nodes),
+        types: Table::from_vec(types),
+        blocks: Table::from_vec(blocks),
+        instrs: Table::from_vec(instrs),
+        substs: Table::from_vec(rows),
+        entry: 0,
+    })
+}

@@ -1,0 +1,19 @@
+//! Compiled objects: what a source means, as an object that the checker accepts.
+//!
+//! The crate promises that `compile` refuses exactly what is no program, and otherwise gives an object
+//! that stands for the program: spellable, accepted, and with a run that commits what the program means
+//! and ends when it ends. Its definitions: `specs/StandsFor.antt` (what stands for a program),
+//! `specs/Emitted.antt` (the object of a flow).
+#![tactic(auto)]
+
+mod cells;
+mod code_types;
+mod compiling;
+mod emission;
+mod laws;
+mod notes;
+mod placing;
+mod walking;
+
+pub use compiling::compile;
+pub use laws::{carried_blocks_run_as_meant, emitted_objects_are_accepted, programs_have_cells};

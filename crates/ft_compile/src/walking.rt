@@ -1,0 +1,132 @@
+//! The walk along the steps of a flow.
+ghost use Rattle.std.specs.Prelude.{◌≡◌, ◌≤◌, ◌<◌, ◌+◌, ℕ, length, IfOk, OnOk};
+ghost use Rattle.std.specs.List.{All};
+ghost use Rattle.ft_lower.specs.Flow.{blocks_of};
+ghost use Rattle.ft_lower.specs.Size.{PairsBelow, blocks_size, pairs_of, row_size, size};
+ghost use Rattle.ft_compile.specs.Emitted.{noted, row_noted, step_noted};
+ghost use Rattle.ft_compile.specs.Viewed.{HasRoom, noted_of};
+
+use crate::notes::Notes;
+use ft_isa::Op;
+use ft_lower::{Flow, Step3};
+use ft_static::Shape;
+use std::alloc::{AllocError, Global};
+
+/// The address of the first cell.
+const FIRST_CELL: u64 = 1_048_576;
+
+/// Notes a copy of pair `q` to pair `p`.
+fn note_copy(notes: &mut Notes, scope: u8, p: u8, q: u8) -> Result<(), AllocError>
+    requires p { p < 32 }
+    requires q { q < 32 }
+    requires room { length notes.old.nodes.items + 2 ≤ 1048576 }
+    ensures { OnOk result ((vars : ℕ) → noted_of notes.new ≡ step_noted vars scope (noted_of notes.old) (Step3.Copy p q)) }
+{
+    let copied = notes.pairs[q as usize];
+    let zero = notes.put(scope, Shape::Word(0))?;
+    notes.set_pair(
+        scope,
+        p,
+        Shape::Op {
+            op: Op::Add,
+            a: copied,
+            b: zero,
+        },
+    )?;
+    Ok(())
+}
+
+/// Notes an operation on the pairs `q` and `s`, for pair `p`.
+fn note_operation(
+    notes: &mut Notes,
+    scope: u8,
+    op: Op,
+    p: u8,
+    q: u8,
+    s: u8,
+) -> Result<(), AllocError>
+    requires p { p < 32 }
+    requires q { q < 32 }
+    requires s { s < 32 }
+    requires room { length notes.old.nodes.items + 2 ≤ 1048576 }
+    ensures { OnOk result ((vars : ℕ) → noted_of notes.new ≡ step_noted vars scope (noted_of notes.old) (Step3.Op op p q s)) }
+{
+    let a = notes.pairs[q as usize];
+    let b = notes.pairs[s as usize];
+    notes.set_pair(scope, p, Shape::Op { op, a, b })?;
+    Ok(())
+}
+
+/// Notes a load of a cell to pair `p`.
+fn note_load(notes: &mut Notes, scope: u8, p: u8, cell: u32) -> Result<(), AllocError>
+    requires p { p < 32 }
+    requires room { length notes.old.nodes.items + 2 ≤ 1048576 }
+    ensures { OnOk result ((vars : ℕ) → noted_of notes.new ≡ step_noted vars scope (noted_of notes.old) (Step3.Load p cell)) }
+{
+    let memory = notes.memory;
+    let at = notes.put(scope, Shape::Word(FIRST_CELL + u64::from(cell)))?;
+    notes.set_pair(scope, p, Shape::Sel { memory, at })?;
+    Ok(())
+}
+
+/// Notes a store of pair `q` to a cell.
+fn note_store(notes: &mut Notes, scope: u8, cell: u32, q: u8) -> Result<(), AllocError>
+    requires q { q < 32 }
+    requires room { length notes.old.nodes.items + 2 ≤ 1048576 }
+    ensures { OnOk result ((vars spare : ℕ) → noted_of notes.new ≡ step_noted vars scope (noted_of notes.old) (Step3.Store cell q spare)) }
+{
+    let memory = notes.memory;
+    let value = notes.pairs[q as usize];
+    let at = notes.put(scope, Shape::Word(FIRST_CELL + u64::from(cell)))?;
+    notes.set_memory(scope, Shape::Upd { memory, at, value })?;
+    Ok(())
+}
+
+/// Notes a step of a block of this scope, in a flow of so many variables.
+fn note_step(notes: &mut Notes, vars: u8, scope: u8, step: Step3) -> Result<(), AllocError>
+    requires vars { vars ≤ 32 }
+    requires pairs { All (λ p. p < 32) (pairs_of step) }
+    requires room { HasRoom (noted_of notes.old) (size step) }
+    ensures { OnOk result (noted_of notes.new ≡ step_noted vars scope (noted_of notes.old) step) }
+{
+    match step {
+        Step3::Put { p, word } => notes.set_pair(scope, p, Shape::Word(word))?,
+        Step3::Copy { p, q } => note_copy(notes, scope, p, q)?,
+        Step3::Op { op, p, q, s } => note_operation(notes, scope, op, p, q, s)?,
+        Step3::Load { p, cell } => note_load(notes, scope, p, cell)?,
+        Step3::Store { cell, q, .. } => note_store(notes, scope, cell, q)?,
+        Step3::Exit { .. } | Step3::Go { .. } => notes.jump(vars)?,
+        Step3::Stop => {}
+    }
+    Ok(())
+}
+
+/// Notes the steps of a block of this scope.
+fn note_row(notes: &mut Notes, vars: u8, scope: u8, steps: &[Step3]) -> Result<(), AllocError>
+    requires vars { vars ≤ 32 }
+    requires pairs { All (λ i. All (λ p. p < 32) (pairs_of i)) steps.now }
+    requires room { HasRoom (noted_of notes.old) (row_size steps.now) }
+    ensures { OnOk result (noted_of notes.new ≡ row_noted vars scope (noted_of notes.old) steps.now) }
+{
+    for step in steps {
+        note_step(notes, vars, scope, *step)?;
+    }
+    Ok(())
+}
+
+/// Notes all blocks of a flow: the entry has no variable, and the others have those of the flow.
+pub fn note_flow(alloc: Global, flow: &Flow) -> Result<Notes, AllocError>
+    requires vars { flow.now.vars ≤ 32 }
+    requires pairs { PairsBelow 32 (blocks_of flow.now) }
+    requires short { blocks_size (blocks_of flow.now) ≤ 65536 }
+    ensures { IfOk result (λ n. noted_of n ≡ noted flow.now.vars (blocks_of flow.now)) }
+{
+    let mut notes = Notes::new(alloc, flow.vars)?;
+    let mut scope = 0;
+    for block in &flow.blocks {
+        notes.begin();
+        note_row(&mut notes, flow.vars, scope, block)?;
+        scope = flow.vars;
+    }
+    Ok(notes)
+}

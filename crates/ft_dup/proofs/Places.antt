@@ -1,0 +1,112 @@
+-- Where blocks begin, and the shape of well formed blocks.
+use Rattle.std.proofs.Common.{◌≡◌, ℕ, zero, suc, ◌+◌, ◌<◌, List, [], ◌∷◌, ◌++◌, map, length, slice_index, get_or, refl, sym, ap, ◌∙◌, subst, arith}
+use Rattle.std.specs.List.{All}
+use Rattle.std.proofs.Math.ListN.{get_or-map}
+use Rattle.std.proofs.lemmas.List.Elements.{All-head, All-tail, All-cons, All-nil, All-from_get_or}
+use Rattle.ft_lower.specs.declared.step3.Step3.{Step3}
+use Rattle.ft_lower.specs.declared.step3.Step3.TheVariants.{Put, Copy, Op, Load, Store, Exit, Go, Stop}
+use Rattle.ft_lower.specs.Flow.{Blocks, block_of}
+use Rattle.ft_lower.specs.Size.{row_size}
+use Rattle.ft_lower.specs.Well.{Known, StepFits, RowIsWell, known_after, known_first, IsWell}
+use Rattle.ft_dup.specs.Shape.{HasTarget, HasShape}
+use Rattle.ft_dup.specs.Images.{image, row_images, blocks_images, starts, starts_from, start_of, doubled}
+
+-- a function gives as many values as there are elements
+pub mapped_length : {X Y : Type 0} (f : X → Y) (xs : List X) → length (map f xs) ≡ length xs
+mapped_length f [] = refl
+mapped_length f (x ∷ xs) = ap suc (mapped_length f xs)
+
+-- what holds of each value of a function holds at an element
+pub all_mapped : {X Y : Type 0} (f : X → Y) (P : Y → Type 0) (xs : List X) (i : ℕ) (x : X) → i < length xs → x ≡ get_or xs i x → All P (map f xs) → P (f x)
+all_mapped f P xs i x h e all =
+    let there : i < length (map f xs) = omega (arith, mapped_length f xs) in
+    subst P (get_or-map f xs i x ∙ ap f (sym e)) (all i (f x) there)
+
+-- THE STARTS
+
+-- there are as many starts as blocks
+pub starts_length : (n : ℕ) (bs : Blocks) → length (starts_from n bs) ≡ length bs
+starts_length n [] = refl
+starts_length n (b ∷ bs) = ap suc (starts_length (n + row_size b) bs)
+
+-- the start of a block that is there
+pub start_at : (n : ℕ) (bs : Blocks) (b : ℕ) → b < length bs → slice_index (starts_from n bs) b ≡ n + start_of bs b
+start_at n [] b h = absurd (omega arith)
+start_at n (x ∷ bs) zero h = omega arith
+start_at n (x ∷ bs) (suc b) h =
+    let lt : b < length bs = omega arith in
+    start_at (n + row_size x) bs b lt ∙ omega arith
+
+-- the first block begins with the code
+pub first_start : (bs : Blocks) → start_of bs 0 ≡ 0
+first_start [] = refl
+first_start (x ∷ bs) = refl
+
+-- IMAGES BY THE STARTS
+
+module _ (f g : ℕ → ℕ) (n : ℕ) (same : (b : ℕ) → b < n → f b ≡ g b) where
+  -- the image of a step depends on its target's start alone
+  image_same : (i : Step3) → HasTarget n i → image f i ≡ image g i
+  image_same (Put p w) h = refl
+  image_same (Copy p q) h = refl
+  image_same (Op o p q s) h = refl
+  image_same (Load p c) h = refl
+  image_same (Store c q spare) h = refl
+  image_same (Exit q spare to) h = ap (λ t. image (λ b. t) (Exit q spare to)) (same to h.there)
+  image_same (Go spare to) h = ap (λ t. image (λ b. t) (Go spare to)) (same to h.there)
+  image_same Stop h = refl
+
+  -- so do the images of a row
+  row_same : (is : List Step3) → All (HasTarget n) is → row_images f is ≡ row_images g is
+  row_same [] h = refl
+  row_same (i ∷ is) h =
+      ap (λ l. l ++ row_images f is) (image_same i (All-head (HasTarget n) i is h))
+      ∙ ap (λ l. image g i ++ l) (row_same is (All-tail (HasTarget n) i is h))
+
+  -- images whose targets have the same starts are the same
+  pub blocks_same : (bs : Blocks) → All (All (HasTarget n)) bs → blocks_images f bs ≡ blocks_images g bs
+  blocks_same [] h = refl
+  blocks_same (b ∷ bs) h =
+      ap (λ l. l ++ blocks_images f bs) (row_same b (All-head (All (HasTarget n)) b bs h))
+      ∙ ap (λ l. row_images g b ++ l) (blocks_same bs (All-tail (All (HasTarget n)) b bs h))
+
+-- where the starts are the definition's, a target's start is there
+pub targets_there : (ss : List ℕ) (bs : Blocks) → ss ≡ starts bs → All (All (HasTarget (length bs))) bs → All (All (HasTarget (length ss))) bs
+targets_there ss bs e h = subst (λ n. All (All (HasTarget n)) bs) (sym (ap length e ∙ starts_length 0 bs)) h
+
+-- and the images by them are the doubled blocks
+pub images_there : (ss : List ℕ) (bs : Blocks) → ss ≡ starts bs → All (All (HasTarget (length bs))) bs → blocks_images (slice_index ss) bs ≡ doubled bs
+images_there ss bs e h = blocks_same (slice_index ss) (start_of bs) (length bs) (λ b lt. ap (λ l. slice_index l b) e ∙ start_at 0 bs b lt ∙ omega arith) bs h
+
+-- THE SHAPE
+
+-- a step that fits has its target
+target_of : (cells blocks : ℕ) (i : Step3) → StepFits cells blocks i → HasTarget blocks i
+target_of cells blocks (Put p w) h = tt
+target_of cells blocks (Copy p q) h = tt
+target_of cells blocks (Op o p q s) h = tt
+target_of cells blocks (Load p c) h = tt
+target_of cells blocks (Store c q spare) h = tt
+target_of cells blocks (Exit q spare to) h = h
+target_of cells blocks (Go spare to) h = h
+target_of cells blocks Stop h = tt
+
+-- each step of a well formed row has its target
+row_targets : (vars cells blocks : ℕ) (k : Known) (is : List Step3) → RowIsWell vars cells blocks k is → All (HasTarget blocks) is
+row_targets vars cells blocks k [] h = All-nil (HasTarget blocks)
+row_targets vars cells blocks k (i ∷ is) h = All-cons (HasTarget blocks) i is (target_of cells blocks i h.0) (row_targets vars cells blocks (known_after i k) is h.2)
+
+-- the block of a number is the list's element
+pub block_is : (bs : Blocks) (b : ℕ) → b < length bs → block_of bs b ≡ get_or bs b []
+block_is [] b h = absurd (omega arith)
+block_is (x ∷ bs) zero h = refl
+block_is (x ∷ bs) (suc b) h = block_is bs b (omega arith)
+
+-- blocks that are well formed have the shape
+pub shape_of_well : (vars cells : ℕ) (bs : Blocks) → IsWell vars cells bs → HasShape bs
+shape_of_well vars cells bs h = record {
+  pairs = h.pairs;
+  targets = All-from_get_or (All (HasTarget (length bs))) bs [] (λ b lt. subst (All (HasTarget (length bs))) (block_is bs b lt) (row_targets vars cells (length bs) (known_first vars b) (block_of bs b) (h.rows b lt)));
+  ended = h.ended;
+  short = h.short;
+}

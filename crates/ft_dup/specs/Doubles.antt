@@ -1,0 +1,81 @@
+-- What carries the instructions of a flow, and what its run does.
+use Rattle.std.specs.Prelude.{◌≡◌, ℕ, zero, suc, ◌+◌, ◌*◌, ◌≤◌, Bool, true, false, cond, List, [], map, length, slice_get, Option, Some, None, All}
+use Rattle.ft_isa.specs.Words.{IsWord, cell_address}
+use Rattle.ft_isa.specs.declared.plan.Wild.{Wild}
+use Rattle.ft_isa.specs.declared.instr.Instr.{Instr}
+use Rattle.ft_isa.specs.declared.instr.Instr.TheVariants as instr
+use Rattle.ft_types.specs.declared.object.Object.{Object}
+use Rattle.ft_types.specs.declared.object.Cell.{Cell}
+use Rattle.ft_types.specs.declared.status.Status.TheVariants.{Running, Done}
+use Rattle.ft_types.specs.Objects.{start_of as start_of_block}
+use Rattle.ft_types.specs.State.{State, register, cell_at}
+use Rattle.ft_types.specs.Run.{state_after, outputs_after, status_after}
+use Rattle.ft_lower.specs.declared.step3.Step3.{Step3}
+use Rattle.ft_lower.specs.Flow.{Blocks, FlowState, step_at, flow_step, flow_run, flow_start}
+use Rattle.ft_lower.specs.Size.{size}
+use Rattle.ft_lower.specs.Well.{Known, known_at}
+use Rattle.ft_dup.specs.Images.{green, blue, green_word, blue_word, int, empty, starts, doubled}
+
+-- the same instruction with no claim and no substitution
+abbrev pub bare : Instr → Instr
+bare (instr.OpReg o rd rs rt) = instr.OpReg o rd rs rt
+bare (instr.OpWord o rd rs v) = instr.OpWord o rd rs v
+bare (instr.Mov rd v b) = instr.Mov rd v int
+bare (instr.Ld c rd rs) = instr.Ld c rd rs
+bare (instr.St c rd rs) = instr.St c rd rs
+bare (instr.JmpG rd) = instr.JmpG rd
+bare (instr.JmpB rd t) = instr.JmpB rd empty
+bare (instr.BzG rz rd) = instr.BzG rz rd
+bare (instr.BzB rz rd t) = instr.BzB rz rd empty
+bare instr.Halt = instr.Halt
+
+-- the initial word of a cell
+abbrev pub init_of_cell : Cell → ℕ
+init_of_cell c = c.init
+
+-- the initial words of an object's cells
+abbrev pub words_of : Object → List ℕ
+words_of o = map init_of_cell o.cells
+
+-- an object carries blocks: its instructions are theirs but for claims and substitutions, its blocks begin where theirs
+-- do, its entry is block 0, and it has so many cells
+pub record Carries (o : Object) (cells : ℕ) (bs : Blocks) : Type 0 where
+  pub instrs : map bare o.instrs ≡ map bare (doubled bs)
+  pub blocks : map start_of_block o.blocks ≡ starts bs
+  pub entry : o.entry ≡ 0
+  pub many : length o.cells ≡ cells
+  pub words : All IsWord (words_of o)
+
+-- twice the number of instructions of a step that is run
+abbrev pub cost_if : Bool → Option Step3 → ℕ
+cost_if true o = 0
+cost_if false None = 0
+cost_if false (Some i) = 2 * size i
+
+-- twice the number of instructions of the first k steps
+abbrev pub cost : Blocks → ℕ → FlowState → ℕ
+cost bs zero f = 0
+cost bs (suc k) f = cost_if f.done (step_at bs f.place) + cost bs k (flow_step bs f)
+
+-- what a running machine holds: the known pairs in both colours, 0 in d, and an empty queue
+pub record Holds (known : Known) (pairs : ℕ → ℕ) (s : State) : Type 0 where
+  pub green_pairs : (q : ℕ) → known q ≡ true → register s (green q) ≡ green_word (pairs q)
+  pub blue_pairs : (q : ℕ) → known q ≡ true → register s (blue q) ≡ blue_word (pairs q)
+  pub d : s.d ≡ 0
+  pub queue : s.queue ≡ []
+
+-- the machine's run, after the cost of the first k steps, is the flow's run after k steps
+pub record DoublesAt (o : Object) (vars : ℕ) (wild : List Wild) (bs : Blocks) (f : FlowState) (n : ℕ) : Type 0 where
+  pub out : outputs_after o None wild n ≡ f.out
+  pub cells : (c : ℕ) → cell_at (state_after o None wild n).cells (cell_address c) ≡ slice_get f.cells c
+  pub status : status_after o None wild n ≡ cond f.done Done Running
+  pub holds : f.done ≡ false → Holds (known_at vars bs f.place) f.pairs (state_after o None wild n)
+
+-- it is so for each k, which is at most its cost while the flow is running
+pub record Doubles (o : Object) (vars : ℕ) (bs : Blocks) (wild : List Wild) : Type 0 where
+  pub after : (k : ℕ) → DoublesAt o vars wild bs (flow_run bs (words_of o) k) (cost bs k (flow_start (words_of o)))
+  pub pace : (k : ℕ) → (flow_run bs (words_of o) k).done ≡ false → k ≤ cost bs k (flow_start (words_of o))
+
+-- each object that carries these blocks runs as they do
+abbrev pub RunsAs : ℕ → ℕ → Blocks → Type 0
+RunsAs vars cells bs = (o : Object) → Carries o cells bs → (wild : List Wild) → Doubles o vars bs wild

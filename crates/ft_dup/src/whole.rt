@@ -1,0 +1,67 @@
+//! Doubling of a whole flow.
+ghost use Rattle.std.specs.Prelude.{◌≡◌, ◌<◌, ◌++◌, length, map, slice_index, IfOk, OnOk};
+ghost use Rattle.std.specs.List.{All};
+ghost use Rattle.ft_lower.specs.Flow.{blocks_of};
+ghost use Rattle.ft_lower.specs.Size.{PairsBelow, blocks_size, pairs_of};
+ghost use Rattle.ft_lower.specs.Well.{IsWell};
+ghost use Rattle.ft_dup.specs.Shape.{HasShape, HasTarget};
+ghost use Rattle.ft_dup.specs.Images.{blocks_images, doubled, row_images, starts};
+ghost use Rattle.ft_dup.specs.Doubles.{RunsAs};
+
+use crate::doubled::Doubled;
+use crate::emission::put_step;
+use crate::sizes::block_starts;
+use ft_isa::{Instr, NoMemory};
+use ft_lower::{Flow, Step3};
+use std::alloc::{AllocError, Global};
+
+/// Adds the instructions of the steps of a block.
+fn put_block(code: &mut Vec<Instr>, starts: &[u32], steps: &[Step3]) -> Result<(), AllocError>
+    requires pairs { All (λ i. All (λ p. p < 32) (pairs_of i)) steps.now }
+    requires targets { All (HasTarget (length starts.now)) steps.now }
+    ensures { OnOk result (code.new.items ≡ code.old.items ++ row_images (slice_index starts.now) steps.now) }
+{
+    for step in steps {
+        put_step(code, starts, step)?;
+    }
+    Ok(())
+}
+
+/// The instructions of the steps of all blocks.
+fn put_blocks(
+    alloc: Global,
+    starts: &[u32],
+    blocks: &[Vec<Step3>],
+) -> Result<Vec<Instr>, AllocError>
+    requires pairs { PairsBelow 32 (map (λ b. b.items) blocks.now) }
+    requires targets { All (All (HasTarget (length starts.now))) (map (λ b. b.items) blocks.now) }
+    ensures { IfOk result (λ code. code.items ≡ blocks_images (slice_index starts.now) (map (λ b. b.items) blocks.now)) }
+{
+    let mut code = Vec::new(alloc);
+    for block in blocks {
+        put_block(&mut code, starts, block)?;
+    }
+    Ok(code)
+}
+
+/// Doubles a flow: the instructions of its steps, each in green and in blue, block by block. The flow
+/// has pairs below 32 only, each jump goes to a block that is there and is not the entry, each block is
+/// ended by its last step and no other, and there are at most 65,536 instructions in all. The only
+/// error is want of memory.
+pub fn duplicate(alloc: Global, flow: &Flow) -> Result<Doubled, NoMemory>
+    requires { HasShape (blocks_of flow.now) }
+    ensures vars { IfOk result (λ d. d.vars ≡ flow.now.vars) }
+    ensures instrs { IfOk result (λ d. d.instrs.items ≡ doubled (blocks_of flow.now)) }
+    ensures starts { IfOk result (λ d. d.starts.items ≡ starts (blocks_of flow.now)) }
+    ensures size { IfOk result (λ d. length d.instrs.items ≡ blocks_size (blocks_of flow.now)) }
+    ensures runs { IfOk result (λ d. IsWell flow.now.vars flow.now.cells (blocks_of flow.now) →
+        RunsAs flow.now.vars flow.now.cells (blocks_of flow.now)) }
+{
+    let starts = block_starts(alloc, &flow.blocks)?;
+    let instrs = put_blocks(alloc, &starts, &flow.blocks)?;
+    Ok(Doubled {
+        vars: flow.vars,
+        starts,
+        instrs,
+    })
+}

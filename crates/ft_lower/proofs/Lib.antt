@@ -1,0 +1,10 @@
+pub mod Runs
+pub mod Places
+pub mod Expressions
+pub mod Statements
+pub mod Whole
+pub mod Forms
+pub mod Counts
+pub mod Sizes
+pub mod Pairs
+pub mod WellFormed

@@ -1,0 +1,5 @@
+pub mod Flow
+pub mod Size
+pub mod Well
+pub mod Lowered
+pub mod Lowers

@@ -1,0 +1,114 @@
+-- Well formed flows: blocks end rightly, jumps go to blocks that are there, and steps read pairs that are known.
+use Rattle.std.specs.Prelude.{◌≡◌, ◌≢◌, ℕ, zero, suc, ◌<◌, ◌≤◌, Bool, true, false, cond, List, [], ◌∷◌, ◌==◌, nat_lt, length, take}
+use Rattle.ft_isa.specs.Words.{IsWord}
+use Rattle.ft_lower.specs.declared.step3.Step3.{Step3}
+use Rattle.ft_lower.specs.declared.step3.Step3.TheVariants.{Put, Copy, Op, Load, Store, Exit, Go, Stop}
+use Rattle.ft_lower.specs.Flow.{Blocks, Place, block_of}
+use Rattle.ft_lower.specs.Size.{PairsBelow, blocks_size}
+
+-- whether a step ends its block
+abbrev pub is_last : Step3 → Bool
+is_last (Put p w) = false
+is_last (Copy p q) = false
+is_last (Op o p q s) = false
+is_last (Load p c) = false
+is_last (Store c q spare) = false
+is_last (Exit q spare to) = false
+is_last (Go spare to) = true
+is_last Stop = true
+
+-- the last step, and no other, ends the block
+abbrev pub IsBlock : List Step3 → Type 0
+IsBlock [] = ⊥
+IsBlock (i ∷ is) = elim (is_last i) as (λ b. Type 0) [ true ↦ is ≡ [] | false ↦ IsBlock is ]
+
+-- a jump goes to a block that is there and is not the entry
+pub record IsTarget (blocks to : ℕ) : Type 0 where
+  pub there : to < blocks
+  pub no_entry : 0 < to
+
+-- a word is one, and cells and targets are there
+abbrev pub StepFits : ℕ → ℕ → Step3 → Type 0
+StepFits cells blocks (Put p w) = IsWord w
+StepFits cells blocks (Copy p q) = Unit {0}
+StepFits cells blocks (Op o p q s) = Unit {0}
+StepFits cells blocks (Load p c) = c < cells
+StepFits cells blocks (Store c q spare) = c < cells
+StepFits cells blocks (Exit q spare to) = IsTarget blocks to
+StepFits cells blocks (Go spare to) = IsTarget blocks to
+StepFits cells blocks Stop = Unit {0}
+
+-- which pairs are known
+abbrev pub Known : Type 0
+Known = ℕ → Bool
+
+-- no pair
+abbrev pub no_pair : Known
+no_pair = λ q. false
+
+-- the pairs below n
+abbrev pub pairs_below : ℕ → Known
+pairs_below n = λ q. nat_lt q n
+
+-- a pair more
+abbrev pub learn : ℕ → Known → Known
+learn p k = λ q. cond (q == p) true (k q)
+
+-- without a pair
+abbrev pub forget : ℕ → Known → Known
+forget p k = λ q. cond (q == p) false (k q)
+
+-- what is known after a step: the pair that it sets, and its spare no more
+abbrev pub known_after : Step3 → Known → Known
+known_after (Put p w) k = learn p k
+known_after (Copy p q) k = learn p k
+known_after (Op o p q s) k = learn p k
+known_after (Load p c) k = learn p k
+known_after (Store c q spare) k = forget spare k
+known_after (Exit q spare to) k = forget spare k
+known_after (Go spare to) k = forget spare k
+known_after Stop k = k
+
+-- at a jump each variable's pair is known, and the spare is none of them
+pub record KeepsVariables (vars : ℕ) (k : Known) (spare : ℕ) : Type 0 where
+  pub known : (x : ℕ) → x < vars → k x ≡ true
+  pub free : vars ≤ spare
+
+-- a step reads what is known, and not its spare
+abbrev pub ReadsKnown : ℕ → Known → Step3 → Type 0
+ReadsKnown vars k (Put p w) = Unit {0}
+ReadsKnown vars k (Copy p q) = k q ≡ true
+ReadsKnown vars k (Op o p q s) = (k q ≡ true) × (k s ≡ true)
+ReadsKnown vars k (Load p c) = Unit {0}
+ReadsKnown vars k (Store c q spare) = (k q ≡ true) × (q ≢ spare)
+ReadsKnown vars k (Exit q spare to) = (k q ≡ true) × (q ≢ spare) × KeepsVariables vars k spare
+ReadsKnown vars k (Go spare to) = KeepsVariables vars k spare
+ReadsKnown vars k Stop = Unit {0}
+
+-- the steps of a row are so, one after another
+abbrev pub RowIsWell : ℕ → ℕ → ℕ → Known → List Step3 → Type 0
+RowIsWell vars cells blocks k [] = Unit {0}
+RowIsWell vars cells blocks k (i ∷ is) = StepFits cells blocks i × ReadsKnown vars k i × RowIsWell vars cells blocks (known_after i k) is
+
+-- what is known at a block's first step: nothing in the entry, and the variables in the others
+abbrev pub known_first : ℕ → ℕ → Known
+known_first vars zero = no_pair
+known_first vars (suc b) = pairs_below vars
+
+-- what is known after the steps of a row
+abbrev pub row_known : Known → List Step3 → Known
+row_known k [] = k
+row_known k (i ∷ is) = row_known (known_after i k) is
+
+-- what is known at a place
+abbrev pub known_at : ℕ → Blocks → Place → Known
+known_at vars bs p = row_known (known_first vars p.block) (take p.index (block_of bs p.block))
+
+-- blocks over so many variables and cells are well formed
+pub record IsWell (vars cells : ℕ) (bs : Blocks) : Type 0 where
+  pub some : 0 < length bs
+  pub few_variables : vars ≤ 32
+  pub pairs : PairsBelow 32 bs
+  pub ended : (b : ℕ) → b < length bs → IsBlock (block_of bs b)
+  pub rows : (b : ℕ) → b < length bs → RowIsWell vars cells (length bs) (known_first vars b) (block_of bs b)
+  pub short : blocks_size bs ≤ 65536

@@ -1,0 +1,163 @@
+//! The steps of expressions, statements and programs, in a row.
+ghost use Rattle.std.specs.Prelude.{◌≡◌, ◌≢◌, ◌+◌, ◌<◌, ◌≤◌, ◌^◌, [], ◌∷◌, ◌++◌, OnOk, IfOk};
+ghost use Rattle.ft_syntax.specs.Plain.{none, plain_expression, plain_statement, plain_list};
+ghost use Rattle.ft_scope.specs.Size.{same_slot, need, most_need};
+ghost use Rattle.ft_scope.specs.ProgramOf.{program_of};
+ghost use Rattle.ft_lower.specs.declared.step3.Step3.TheVariants.{Exit};
+ghost use Rattle.ft_lower.specs.Lowered.{block_count, body_counts, Tops, expression_steps, write, statement_steps, zeros, program_steps};
+
+use crate::counting::count_blocks;
+use crate::step3::Step3;
+use ft_scope::{Prog, Slot};
+use ft_syntax::{Expr, Stmt};
+use std::alloc::{AllocError, Global};
+
+/// One step more.
+fn put(steps: &mut Vec<Step3>, step: Step3) -> Result<(), AllocError>
+    ensures { OnOk result (steps.new.items ≡ steps.old.items ++ step ∷ []) }
+{
+    steps.push(step)?;
+    Ok(())
+}
+
+/// The steps that leave an expression's word in pair p, by this pair and those above it.
+fn emit_expression(steps: &mut Vec<Step3>, p: u8, e: &Expr<Slot>) -> Result<(), AllocError>
+    requires pairs { p + need (plain_expression same_slot e.now) ≤ 32 }
+    ensures { OnOk result (steps.new.items ≡ steps.old.items ++ expression_steps p (plain_expression same_slot e.now)) }
+{
+    match e {
+        Expr::Literal(word) => put(steps, Step3::Put { p, word: *word }),
+        Expr::Name(Slot::Var(x)) => put(steps, Step3::Copy { p, q: *x }),
+        Expr::Name(Slot::Cell(k)) => put(steps, Step3::Load { p, cell: *k }),
+        Expr::Op { op, a, b } => {
+            emit_expression(steps, p, a)?;
+            emit_expression(steps, p + 1, b)?;
+            let (op, q, s) = (*op, p, p + 1);
+            put(steps, Step3::Op { op, p, q, s })
+        }
+    }
+}
+
+/// The step that writes the pair after the spare to a cell or a variable.
+fn write_step(spare: u8, to: Slot) -> Step3
+    requires { spare < 255 }
+    ensures { result ≡ write spare to }
+{
+    let q = spare + 1;
+    match to {
+        Slot::Var(p) => Step3::Copy { p, q },
+        Slot::Cell(cell) => Step3::Store { cell, q, spare },
+    }
+}
+
+/// The step that goes on to a block where the pair after the spare holds 0.
+fn exit_step(spare: u8, to: u32) -> Step3
+    requires { spare < 255 }
+    ensures { result ≡ Exit (spare + 1) spare to }
+{
+    let q = spare + 1;
+    Step3::Exit { q, spare, to }
+}
+
+/// The number on top of a stack.
+fn next_count(counts: &mut Vec<u32>) -> u32
+    requires some { counts.old.items ≢ [] }
+    ensures { counts.old.items ≡ counts.new.items ++ result ∷ [] }
+{
+    counts.pop().unwrap()
+}
+
+/// The steps of statements that begin within a block, where the variables' pairs are those below the spare, and
+/// the stack has how many blocks their bodies begin. Answers the block in which they end.
+#[cycle(emit)]
+fn emit_statements(
+    steps: &mut Vec<Step3>,
+    counts: &mut Vec<u32>,
+    spare: u8,
+    block: u32,
+    all: &[Stmt<Slot>],
+) -> Result<u32, AllocError>
+    requires few { block + block_count (plain_list same_slot all.now) < 2 ^ 32 }
+    requires pairs { spare + 1 + most_need (plain_list same_slot all.now) ≤ 32 }
+    requires counted { Tops (body_counts (plain_list same_slot all.now)) counts.old.items }
+    ensures steps { OnOk result (steps.new.items ≡ steps.old.items ++ statement_steps spare block (plain_list same_slot all.now)) }
+    ensures counts { OnOk result (counts.old.items ≡ counts.new.items ++ body_counts (plain_list same_slot all.now)) }
+    ensures block { IfOk result (λ c. c ≡ block + block_count (plain_list same_slot all.now)) }
+{
+    let mut at = block;
+    for s in all {
+        at = emit_statement(steps, counts, spare, at, s)?;
+    }
+    Ok(at)
+}
+
+/// The steps of a statement that begin within a block, where the variables' pairs are those below the spare, and
+/// the stack has how many blocks its bodies begin. Answers the block in which they end.
+#[tactic(auto, using(crate::proofs::Forms::forms))]
+#[cycle(emit)]
+fn emit_statement(
+    steps: &mut Vec<Step3>,
+    counts: &mut Vec<u32>,
+    spare: u8,
+    block: u32,
+    s: &Stmt<Slot>,
+) -> Result<u32, AllocError>
+    requires few { block + block_count (plain_statement same_slot s.now none) < 2 ^ 32 }
+    requires pairs { spare + 1 + most_need (plain_statement same_slot s.now none) ≤ 32 }
+    requires counted { Tops (body_counts (plain_statement same_slot s.now none)) counts.old.items }
+    ensures steps { OnOk result (steps.new.items ≡ steps.old.items ++ statement_steps spare block (plain_statement same_slot s.now none)) }
+    ensures counts { OnOk result (counts.old.items ≡ counts.new.items ++ body_counts (plain_statement same_slot s.now none)) }
+    ensures block { IfOk result (λ c. c ≡ block + block_count (plain_statement same_slot s.now none)) }
+{
+    match s {
+        Stmt::Assign { to, value } => {
+            emit_expression(steps, spare + 1, value)?;
+            put(steps, write_step(spare, *to))?;
+            Ok(block)
+        }
+        Stmt::While { test, body } => {
+            let head = block + 1;
+            let out = head + 1 + next_count(counts);
+            put(steps, Step3::Go { spare, to: head })?;
+            emit_expression(steps, spare + 1, test)?;
+            put(steps, exit_step(spare, out))?;
+            emit_statements(steps, counts, spare, head, body)?;
+            put(steps, Step3::Go { spare, to: head })?;
+            Ok(out)
+        }
+        Stmt::If { test, yes, no } => {
+            let other = block + 1 + next_count(counts);
+            let out = other + 1 + next_count(counts);
+            emit_expression(steps, spare + 1, test)?;
+            put(steps, exit_step(spare, other))?;
+            emit_statements(steps, counts, spare, block, yes)?;
+            put(steps, Step3::Go { spare, to: out })?;
+            emit_statements(steps, counts, spare, other, no)?;
+            put(steps, Step3::Go { spare, to: out })?;
+            Ok(out)
+        }
+    }
+}
+
+/// 0 in each of the variables' pairs.
+fn emit_zeros(steps: &mut Vec<Step3>, vars: u8) -> Result<(), AllocError>
+    ensures { OnOk result (steps.new.items ≡ steps.old.items ++ zeros vars) }
+{
+    for p in 0..vars {
+        put(steps, Step3::Put { p, word: 0 })?;
+    }
+    Ok(())
+}
+
+/// The steps of a program.
+pub fn emit_program(alloc: Global, prog: &Prog<'_>) -> Result<Vec<Step3>, AllocError>
+    ensures { IfOk result (λ steps. steps.items ≡ program_steps (program_of prog.now)) }
+{
+    let mut counts = Vec::new(alloc);
+    count_blocks(&mut counts, &prog.body)?;
+    let mut steps = Vec::new(alloc);
+    emit_zeros(&mut steps, prog.vars)?;
+    emit_statements(&mut steps, &mut counts, prog.vars, 0, &prog.body)?;
+    put(&mut steps, Step3::Stop)?;
+    Ok(steps)
+}

@@ -1,0 +1,20 @@
+//! A law of the definitions, the contract of a function that does nothing.
+ghost use Rattle.std.specs.Prelude.{◌≡◌, true, [], ◌∷◌};
+ghost use Rattle.ft_scope.specs.Resolved.{program_need, program_weight};
+ghost use Rattle.ft_meaning.specs.Fibonacci.{fibonacci, puts_out};
+ghost use Rattle.ft_lower.specs.Flow.{flow_run};
+ghost use Rattle.ft_lower.specs.Size.{blocks_size, PairsBelow};
+ghost use Rattle.ft_lower.specs.Well.{IsWell};
+ghost use Rattle.ft_lower.specs.Lowered.{lowered};
+
+/// The Fibonacci program of the documents needs 7 pairs and weighs 69. Its blocks are well formed, become 61
+/// instructions, name pairs below 7, and their run is done after 240 steps with ten numbers.
+pub fn fibonacci_numbers_are_run()
+    ensures need { program_need fibonacci ≡ 7 }
+    ensures weight { program_weight fibonacci ≡ 69 }
+    ensures well { IsWell 4 1 (lowered fibonacci) }
+    ensures size { blocks_size (lowered fibonacci) ≡ 61 }
+    ensures pairs { PairsBelow 7 (lowered fibonacci) }
+    ensures done { (flow_run (lowered fibonacci) (0 ∷ []) 240).done ≡ true }
+    ensures out { (flow_run (lowered fibonacci) (0 ∷ []) 240).out ≡ puts_out (0 ∷ 1 ∷ 1 ∷ 2 ∷ 3 ∷ 5 ∷ 8 ∷ 13 ∷ 21 ∷ 34 ∷ []) }
+{}

@@ -1,0 +1,36 @@
+//! From a program to its flow.
+ghost use Rattle.std.specs.Prelude.{◌≡◌, ◌≤◌, length, IfOk};
+ghost use Rattle.ft_scope.specs.Resolved.{program_need, program_weight};
+ghost use Rattle.ft_scope.specs.ProgramOf.{program_of};
+ghost use Rattle.ft_lower.specs.Flow.{blocks_of};
+ghost use Rattle.ft_lower.specs.Size.{PairsBelow, blocks_size};
+ghost use Rattle.ft_lower.specs.Well.{IsWell};
+ghost use Rattle.ft_lower.specs.Lowers.{Lowers};
+
+use crate::cutting::cut;
+use crate::emission::emit_program;
+use crate::flow::Flow;
+use ft_isa::NoMemory;
+use ft_scope::Prog;
+use std::alloc::Global;
+
+/// Gives the flow of a program: well formed, with no more instructions than the program weighs and no pair
+/// at or above its need; its run commits what the program means, and ends when the program ends.
+///
+/// It calls itself no deeper than statements and operators nest in the source.
+pub fn lower(alloc: Global, prog: &Prog<'_>) -> Result<Flow, NoMemory>
+    ensures vars { IfOk result (λ f. f.vars ≡ prog.now.vars) }
+    ensures cells { IfOk result (λ f. f.cells ≡ length prog.now.inits.items) }
+    ensures well { IfOk result (λ f. IsWell f.vars f.cells (blocks_of f)) }
+    ensures light { IfOk result (λ f. blocks_size (blocks_of f) ≤ program_weight (program_of prog.now)) }
+    ensures pairs { IfOk result (λ f. PairsBelow (program_need (program_of prog.now)) (blocks_of f)) }
+    ensures runs { IfOk result (λ f. Lowers (program_of prog.now) (blocks_of f)) }
+{
+    let steps = emit_program(alloc, prog)?;
+    let blocks = cut(alloc, &steps)?;
+    Ok(Flow {
+        vars: prog.vars,
+        cells: prog.inits.len() as u32,
+        blocks,
+    })
+}
