@@ -11,8 +11,11 @@ use Rattle.ft_text.proofs.PutLines.{puts_none, puts_then, breaks_then, breaks_be
 use Rattle.ft_types.specs.declared.object.Object.{Object}
 use Rattle.ft_types.specs.Strike.{is_running, is_there}
 use Rattle.ft_debug.specs.declared.moment.Moment.{Moment}
+use Rattle.ft_debug.specs.declared.command.Command as read
 use Rattle.ft_debug.specs.declared.debugger.Debugger.{Debugger}
-use Rattle.ft_debug.specs.Sessions.{Session, Reply, present, stays, says, after_lines, further, step_lines, walks, goes, is_at_break, reports, at_line, goes_back, earlier, strikes, with_strike}
+use Rattle.ft_debug.specs.Commands.{Bad}
+use Rattle.ft_debug.specs.Reads.{command_of}
+use Rattle.ft_debug.specs.Sessions.{reply, Session, Reply, present, stays, says, after_lines, further, step_lines, walks, goes, is_at_break, reports, at_line, goes_back, earlier, zaps, with_strike}
 use Rattle.ft_debug.specs.Inside.{Holds, Puts, Does, advances}
 
 -- GO
@@ -112,12 +115,12 @@ zap_line : (b : Bool) (x y : Session) (l m : List ℕ) → (if b then says l x e
 zap_line true x y l m = refl
 zap_line false x y l m = refl
 
-pub zaps : (o : Object) (d e : Debugger) (site : Site) (value : ℕ) (b : Bool) (r : Result (Unit {0}) Failed) (old new : Option (List ℕ)) (a c : Option ℕ) → is_there d.present.machine site ≡ b → ((w : List Wild) (s : Session) → Holds o w s d → Holds o w (strikes o w site value s).session e)
-    → Puts r ((if b then codes "zapped\n" else codes "nothing there\n") ∷ []) old new a c → Does (λ w. strikes o w site value) o d e r old new a c
-zaps o d e site value b r old new a c there holds p =
-    says_line (λ w. strikes o w site value) o d e (if b then codes "zapped\n" else codes "nothing there\n") (λ w s. (strikes o w site value s).session) r old new a c (λ w s h. (
+pub does_zap : (o : Object) (d e : Debugger) (site : Site) (value : ℕ) (b : Bool) (r : Result (Unit {0}) Failed) (old new : Option (List ℕ)) (a c : Option ℕ) → is_there d.present.machine site ≡ b → ((w : List Wild) (s : Session) → Holds o w s d → Holds o w (zaps o w site value s).session e)
+    → Puts r ((if b then codes "zapped\n" else codes "nothing there\n") ∷ []) old new a c → Does (λ w. zaps o w site value) o d e r old new a c
+does_zap o d e site value b r old new a c there holds p =
+    says_line (λ w. zaps o w site value) o d e (if b then codes "zapped\n" else codes "nothing there\n") (λ w s. (zaps o w site value s).session) r old new a c (λ w s h. (
       zap_line (is_there (present o w s).state site) (with_strike site value s) s (codes "zapped\n") (codes "nothing there\n")
-          ∙ ap (λ t. says (if t then codes "zapped\n" else codes "nothing there\n") (strikes o w site value s).session) (there_is o w s d site b h there),
+          ∙ ap (λ t. says (if t then codes "zapped\n" else codes "nothing there\n") (zaps o w site value s).session) (there_is o w s d site b h there),
       holds w s h,
     )) p
 
@@ -142,3 +145,10 @@ back_taken o d e n r old new a c l holds p =
   where
     not_more : (m n : ℕ) → n ≤ m → nat_lt m n ≡ false
     not_more m n le = grind (arith, nat_tests)
+
+-- the answer to a command is the answer to what it is
+pub answers : (o : Object) (d e : Debugger) (x y : read.Command) (r : Result (Unit {0}) Failed) (old new : Option (List ℕ)) (a b : Option ℕ) → x ≡ y → Does (λ w. reply o w (command_of y)) o d e r old new a b → Does (λ w. reply o w (command_of x)) o d e r old new a b
+answers o d e x y r old new a b e' does = subst (λ (c : read.Command). Does (λ w. reply o w (command_of c)) o d e r old new a b) (sym e') does
+
+pub answers_bad : (o : Object) (d : Debugger) (r : Result (Unit {0}) Failed) (old new : Option (List ℕ)) (a b : Option ℕ) → Puts r (codes "bad command\n" ∷ []) old new a b → Does (λ w. reply o w Bad) o d d r old new a b
+answers_bad o d r old new a b p = says_line (λ w. reply o w Bad) o d d (codes "bad command\n") (λ w s. s) r old new a b (λ w s h. (refl, h)) p

@@ -6,3 +6,4 @@ pub mod Advanced
 pub mod Gone
 pub mod Listed
 pub mod Replied
+pub mod One
