@@ -1,6 +1,7 @@
 #!/usr/bin/env bash
 # The proved program over real files, real standard input and output: what no proof speaks of. Each
-# line of the form `expect NAME STATUS TEXT WORDS..` runs it and compares what it wrote.
+# line of the form `expect NAME STATUS TEXT WORDS..` runs it and compares what it wrote. At the end are
+# three programs over the libraries, of which only one may compile.
 set -u
 top=$(cd "$(dirname "$0")/.." && pwd)
 work=$(mktemp -d)
@@ -72,6 +73,40 @@ mkfifo pipe
 cat "$top/examples/five.obj" >pipe &
 expect 'a file that is a pipe' 0 'out 5\n' trial pipe
 wait
+
+# At most one fault: a run that was struck has no strike, and the run without a fault is spent by its
+# strike. Each line of the form `compiles NAME WANTED THEN` has a program that strikes a run, and then
+# does THEN; WANTED is what the compiler says of it.
+mkdir house
+tar -C "$top" --exclude=out -cf - crates crates.txt HANDLES | tar -C house -xf -
+mkdir -p house/crates/one_fault/src
+echo 'one_fault: ft_isa ft_types ft_machine ft_inject' >>house/crates.txt
+
+compiles() {
+  cat >house/crates/one_fault/src/main.rt <<END
+//! Strikes a run.
+use ft_inject::{Clean, Hit};
+use ft_isa::Site;
+use ft_machine::Stepped;
+use ft_types::Program;
+
+/// Strikes the word \`d\`, and goes on.
+pub fn strike_and_go_on<'a, P: Program>(mut clean: Clean<'a, P>) -> Option<Stepped> {
+    match clean.strike(Site::D, 1, &[]) {
+        Hit::Struck(mut struck) => Some($3),
+        Hit::Idle(_) => None,
+    }
+}
+
+fn main(rt: HostRuntime) {}
+END
+  report "$1" "$2" "$(cd house/crates/one_fault && rt try 2>&1 | grep -o 'run=ended status=0\|error\[[^:]*: [^:]*' | head -n 1)"
+}
+
+compiles 'a step after a strike' 'run=ended status=0' 'struck.step()'
+compiles 'a second strike' 'error[unknown-method]: no method named `strike` found for type `Struck<P>`' \
+  '{ struck.strike(Site::D, 2, &[]); struck.step() }'
+compiles 'a step without the strike' 'error[borrow-e0382]: borrow of moved value' 'clean.step()'
 
 echo "$passed passed, $failed failed"
 [ "$failed" -eq 0 ]

@@ -9,7 +9,8 @@ use Rattle.ft_isa.specs.declared.plan.Strike.{Strike}
 use Rattle.ft_isa.proofs.StrikeRead.{strike_reader}
 use Rattle.ft_campaign.specs.declared.fault_list.ListError.{ListError}
 use Rattle.ft_campaign.specs.declared.fault_list.ListError.TheVariants.{Line, TooMany, NoMemory}
-use Rattle.ft_campaign.specs.FaultList.{lines_of, AreStrikeTexts, IsFaultList, GoesOn, IsFirstBad, IsLong, IsListError}
+use Rattle.ft_text.specs.Lines.{lines_of}
+use Rattle.ft_campaign.specs.FaultList.{AreStrikeTexts, IsFaultList, GoesOn, IsFirstBad, IsLong, IsListError}
 
 -- WHAT WAS READ
 

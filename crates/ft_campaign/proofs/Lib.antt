@@ -3,4 +3,3 @@ pub mod Equal
 pub mod Faults
 pub mod Judged
 pub mod Puts
-pub mod Texts

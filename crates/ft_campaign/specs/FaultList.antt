@@ -1,20 +1,11 @@
 -- Fault lists: a text of lines, each the text of a strike.
-use Rattle.std.specs.Prelude.{◌≡◌, ◌⊎◌, ℕ, ◌+◌, ◌<◌, ◌≤◌, ◌==◌, if◌then◌else◌, List, [], ◌∷◌, ◌++◌, length}
+use Rattle.std.specs.Prelude.{◌≡◌, ◌⊎◌, ℕ, ◌+◌, ◌<◌, ◌≤◌, List, ◌∷◌, ◌++◌, length}
 use Rattle.std.specs.List.{AllZip}
 use Rattle.ft_isa.specs.PlanText.{IsStrikeText}
 use Rattle.ft_isa.specs.declared.plan.Strike.{Strike}
+use Rattle.ft_text.specs.Lines.{lines_of}
 use Rattle.ft_campaign.specs.declared.fault_list.ListError.{ListError}
 use Rattle.ft_campaign.specs.declared.fault_list.ListError.TheVariants.{Line, TooMany, NoMemory}
-
--- lines with one more byte before them
-abbrev pub with_byte : ℕ → List (List ℕ) → List (List ℕ)
-with_byte byte [] = (byte ∷ []) ∷ []
-with_byte byte (line ∷ lines) = (byte ∷ line) ∷ lines
-
--- the lines of a text, each up to a line feed; the last line may lack it
-abbrev pub lines_of : List ℕ → List (List ℕ)
-lines_of [] = []
-lines_of (byte ∷ bytes) = if byte == 10 then [] ∷ lines_of bytes else with_byte byte (lines_of bytes)
 
 -- the lines are the texts of these strikes, in turn
 abbrev pub AreStrikeTexts : List (List ℕ) → List Strike → Type 0

@@ -1,9 +1,10 @@
 //! The text of a fault list.
-ghost use Rattle.std.specs.Prelude.{◌≡◌, ◌≢◌, ◌<◌, ◌≤◌, ◌⊎◌, [], ◌∷◌, List, length, position, ◌==◌, IfOk, IfErr, MatchResult, MatchOption};
+ghost use Rattle.std.specs.Prelude.{◌≡◌, ◌≢◌, ◌≤◌, ◌⊎◌, List, length, IfOk, IfErr, MatchResult};
 ghost use Rattle.ft_isa.specs.declared.plan.Strike.{Strike as Fault};
-ghost use Rattle.ft_campaign.specs.FaultList.{lines_of, IsFaultList, IsListError};
+ghost use Rattle.ft_campaign.specs.FaultList.{IsFaultList, IsListError};
 
 use ft_isa::{Strike, read_strike};
+use ft_text::read_line;
 use std::alloc::Global;
 use thiserror::Error;
 
@@ -27,26 +28,6 @@ const BYTE_LIMIT: usize = 4_194_304;
 /// The most lines of a fault list.
 const LINE_LIMIT: usize = 65_536;
 
-/// The place of the first line feed.
-fn first_feed(text: &[u8]) -> Option<usize>
-    ensures { result ≡ position (λ byte. byte == 10) text.now }
-{
-    text.iter().position(|byte| *byte == b'\n')
-}
-
-/// The first line of a text, and the text after it; `None` where the text is empty.
-fn first_line(text: &[u8]) -> Option<(&[u8], &[u8])>
-    ensures { MatchOption result (text.now ≡ []) (λ p. (lines_of text.now ≡ p.0.now ∷ lines_of p.1.now) × (length p.1.now < length text.now)) }
-{
-    if text.is_empty() {
-        return None;
-    }
-    match first_feed(text) {
-        Some(at) => Some((&text[..at], &text[at + 1..])),
-        None => Some((text, &[])),
-    }
-}
-
 /// Reads the lines of a text of at most `BYTE_LIMIT` bytes.
 fn read_lines(alloc: Global, bytes: &[u8]) -> Result<Vec<Strike>, ListError>
     requires { length bytes.now ≤ BYTE_LIMIT }
@@ -55,7 +36,7 @@ fn read_lines(alloc: Global, bytes: &[u8]) -> Result<Vec<Strike>, ListError>
 {
     let mut faults = Vec::new(alloc);
     let mut rest = bytes;
-    while let Some((line, after)) = first_line(rest) {
+    while let Some((line, after)) = read_line(rest) {
         if faults.len() == LINE_LIMIT {
             return Err(ListError::TooMany);
         }

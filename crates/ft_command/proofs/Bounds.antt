@@ -47,7 +47,10 @@ few_of verb.Run operand given h = tt
 few_of verb.Trial operand given h = tt
 few_of verb.Campaign operand given h = few_of_list (λ faults. Strikes (campaign_of operand given faults)) given.faults (λ w. few_by_default given.steps h)
 few_of verb.Survey operand given h = few_of_list (λ faults. Surveys (campaign_of operand given faults)) given.faults (λ w. few_by_default given.steps h)
+few_of verb.Compile operand given h = tt
+few_of verb.Exec operand given h = tt
 few_of verb.Mean operand given h = tt
+few_of verb.Debug operand given h = tt
 
 none_up_to : (v : Verb) → IsUpTo (allowed_of v).steps none_given.steps
 none_up_to v = tt

@@ -4,7 +4,7 @@ use Rattle.std.specs.Option.{option_map, unwrap_or}
 use Rattle.ft_command.specs.declared.verb.Verb.{Verb}
 use Rattle.ft_command.specs.declared.verb.Verb.TheVariants as verb
 use Rattle.ft_command.specs.Options.{Word, Given, none_given, GivesAll}
-use Rattle.ft_command.specs.Commands.{name_of, allowed_of, request_of, Request, Usage, Checks, Runs, Tries, Strikes, Surveys, Means, AreCommand, Asks}
+use Rattle.ft_command.specs.Commands.{name_of, allowed_of, request_of, Request, Usage, Checks, Runs, Tries, Strikes, Surveys, Compiles, Executes, Means, Debugs, AreCommand, Asks}
 
 -- the command that a name is of, by its letters
 verb_by : Word → Verb
@@ -12,8 +12,11 @@ verb_by w =
     if slice_index w 1 == 104 then verb.Check
     else if slice_index w 0 == 114 then verb.Run
     else if slice_index w 0 == 116 then verb.Trial
+    else if slice_index w 0 == 101 then verb.Exec
+    else if slice_index w 1 == 111 then verb.Compile
     else if slice_index w 0 == 99 then verb.Campaign
     else if slice_index w 0 == 115 then verb.Survey
+    else if slice_index w 0 == 100 then verb.Debug
     else verb.Mean
 
 verb_by-name_of : (v : Verb) → verb_by (name_of v) ≡ v
@@ -23,7 +26,10 @@ verb_by-name_of verb.Run = refl
 verb_by-name_of verb.Trial = refl
 verb_by-name_of verb.Campaign = refl
 verb_by-name_of verb.Survey = refl
+verb_by-name_of verb.Compile = refl
+verb_by-name_of verb.Exec = refl
 verb_by-name_of verb.Mean = refl
+verb_by-name_of verb.Debug = refl
 
 -- commands with one name are one
 same_verb : (u v : Verb) → name_of u ≡ name_of v → u ≡ v
@@ -60,7 +66,10 @@ no_usage verb.Run operand given e = absurd (cc)
 no_usage verb.Trial operand given e = absurd (cc)
 no_usage verb.Campaign operand given e = no_usage_of _ given.faults (λ w h. cc) e
 no_usage verb.Survey operand given e = no_usage_of _ given.faults (λ w h. cc) e
+no_usage verb.Compile operand given e = absurd (cc)
+no_usage verb.Exec operand given e = absurd (cc)
 no_usage verb.Mean operand given e = absurd (cc)
+no_usage verb.Debug operand given e = absurd (cc)
 
 -- what a command asks for, the words ask for
 pub asks : (words : List Word) (request : Request) → AreCommand words request → Asks words request
@@ -70,7 +79,10 @@ asks words (Runs run) h = h
 asks words (Tries run) h = h
 asks words (Strikes campaign) h = h
 asks words (Surveys campaign) h = h
+asks words (Compiles source) h = h
+asks words (Executes execution) h = h
 asks words (Means meaning) h = h
+asks words (Debugs debugging) h = h
 
 -- what words ask for but usage, they are a command for
 pub by_command : (words : List Word) (request other : Request) → AreCommand words request → Asks words other → AreCommand words other
@@ -80,7 +92,10 @@ by_command words request (Runs run) asked h = h
 by_command words request (Tries run) asked h = h
 by_command words request (Strikes campaign) asked h = h
 by_command words request (Surveys campaign) asked h = h
+by_command words request (Compiles source) asked h = h
+by_command words request (Executes execution) asked h = h
 by_command words request (Means meaning) asked h = h
+by_command words request (Debugs debugging) asked h = h
 
 -- words that are a command ask for nothing else
 pub asks_only : (words options : List Word) (v : Verb) (operand : Word) (given : Given) (request : Request) → words ≡ name_of v ∷ operand ∷ options
@@ -113,4 +128,7 @@ usage_only words none (Runs run) h = absurd (none (Runs run) h)
 usage_only words none (Tries run) h = absurd (none (Tries run) h)
 usage_only words none (Strikes campaign) h = absurd (none (Strikes campaign) h)
 usage_only words none (Surveys campaign) h = absurd (none (Surveys campaign) h)
+usage_only words none (Compiles source) h = absurd (none (Compiles source) h)
+usage_only words none (Executes execution) h = absurd (none (Executes execution) h)
 usage_only words none (Means meaning) h = absurd (none (Means meaning) h)
+usage_only words none (Debugs debugging) h = absurd (none (Debugs debugging) h)

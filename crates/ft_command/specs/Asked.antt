@@ -5,16 +5,18 @@ use Rattle.ft_command.specs.declared.options.Options.{Options}
 use Rattle.ft_command.specs.declared.command.Run as declared_run
 use Rattle.ft_command.specs.declared.command.Campaign as declared_campaign
 use Rattle.ft_command.specs.declared.command.Meaning as declared_meaning
+use Rattle.ft_command.specs.declared.command.Execution as declared_execution
+use Rattle.ft_command.specs.declared.command.Debugging as declared_debugging
 use Rattle.ft_command.specs.declared.command.Command as declared_command
 use Rattle.ft_command.specs.declared.command.Command.TheVariants as commands
 use Rattle.ft_command.specs.Options.{Given}
-use Rattle.ft_command.specs.Commands.{Run, Campaign, Meaning, Request, Usage, Checks, Runs, Tries, Strikes, Surveys, Means}
+use Rattle.ft_command.specs.Commands.{Run, Campaign, Meaning, Execution, Debugging, Request, Usage, Checks, Runs, Tries, Strikes, Surveys, Compiles, Executes, Means, Debugs}
 
 -- the options that the code has taken so far
 abbrev pub given_of : Options → Given
 given_of o = record { steps = o.steps; turns = o.turns; strike = o.strike; wild = option_map (λ v. v.items) o.wild; faults = option_map (λ w. w.now) o.faults }
 
--- the run, the campaign and the meaning that the code carries out
+-- the run, the campaign, the execution, the meaning and the debugging that the code carries out
 abbrev pub run_view : declared_run.Run → Run
 run_view t = record { object = t.object.now; steps = t.steps; strike = t.strike; wild = t.wild.items }
 
@@ -24,6 +26,12 @@ campaign_view t = record { object = t.object.now; faults = t.faults.now; steps =
 abbrev pub meaning_view : declared_meaning.Meaning → Meaning
 meaning_view t = record { source = t.source.now; turns = t.turns }
 
+abbrev pub execution_view : declared_execution.Execution → Execution
+execution_view t = record { source = t.source.now; steps = t.steps }
+
+abbrev pub debugging_view : declared_debugging.Debugging → Debugging
+debugging_view t = record { object = t.object.now; wild = t.wild.items }
+
 -- the request that the code has read
 abbrev pub asked : declared_command.Command → Request
 asked commands.Usage = Usage
@@ -32,7 +40,10 @@ asked (commands.Run run) = Runs (run_view run)
 asked (commands.Trial run) = Tries (run_view run)
 asked (commands.Campaign campaign) = Strikes (campaign_view campaign)
 asked (commands.Survey campaign) = Surveys (campaign_view campaign)
+asked (commands.Compile source) = Compiles source.now
+asked (commands.Exec execution) = Executes (execution_view execution)
 asked (commands.Mean meaning) = Means (meaning_view meaning)
+asked (commands.Debug debugging) = Debugs (debugging_view debugging)
 
 -- the request that the code has read, or the wish for usage where there is none
 abbrev pub asked_or_usage : Option declared_command.Command → Option Request

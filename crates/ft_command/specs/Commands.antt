@@ -15,7 +15,10 @@ name_of verb.Run = codes "run"
 name_of verb.Trial = codes "trial"
 name_of verb.Campaign = codes "campaign"
 name_of verb.Survey = codes "survey"
+name_of verb.Compile = codes "compile"
+name_of verb.Exec = codes "exec"
 name_of verb.Mean = codes "mean"
+name_of verb.Debug = codes "debug"
 
 -- no options
 abbrev pub no_options : Allowed
@@ -33,6 +36,14 @@ campaign_options = record no_options { steps = Some 1000000; wild = true; faults
 abbrev pub meaning_options : Allowed
 meaning_options = record no_options { turns = Some 1000000000 }
 
+-- the option of an execution: `--steps` up to 1,000,000,000
+abbrev pub execution_options : Allowed
+execution_options = record no_options { steps = Some 1000000000 }
+
+-- the option of a debugging: `--wild`
+abbrev pub debugging_options : Allowed
+debugging_options = record no_options { wild = true }
+
 -- the options that a command takes
 abbrev pub allowed_of : Verb → Allowed
 allowed_of verb.Check = no_options
@@ -40,7 +51,10 @@ allowed_of verb.Run = run_options
 allowed_of verb.Trial = run_options
 allowed_of verb.Campaign = campaign_options
 allowed_of verb.Survey = campaign_options
+allowed_of verb.Compile = no_options
+allowed_of verb.Exec = execution_options
 allowed_of verb.Mean = meaning_options
+allowed_of verb.Debug = debugging_options
 
 -- the run of an object, for at most so many steps, under a plan
 pub record Run : Type 0 where
@@ -83,6 +97,24 @@ pub record Meaning : Type 0 where
 abbrev pub meaning_of : Word → Given → Meaning
 meaning_of source given = record { source = source; turns = unwrap_or given.turns 1000000 }
 
+-- the run of the object of a source, for at most so many steps
+pub record Execution : Type 0 where
+  pub source : Word
+  pub steps : ℕ
+
+-- an option that is not given has its default: 1,000,000 steps
+abbrev pub execution_of : Word → Given → Execution
+execution_of source given = record { source = source; steps = unwrap_or given.steps 1000000 }
+
+-- the debugging of an object, with answers to wild loads
+pub record Debugging : Type 0 where
+  pub object : Word
+  pub wild : List Wild
+
+-- an option that is not given has its default: no answers
+abbrev pub debugging_of : Word → Given → Debugging
+debugging_of object given = record { object = object; wild = unwrap_or given.wild [] }
+
 -- what words ask for
 pub data Request : Type 0 where
   -- the line on usage
@@ -97,8 +129,14 @@ pub data Request : Type 0 where
   Strikes : Campaign → Request
   -- a campaign on an object that is not checked
   Surveys : Campaign → Request
+  -- the object of a source
+  Compiles : Word → Request
+  -- the run of the object of a source
+  Executes : Execution → Request
   -- the meaning of a source
   Means : Meaning → Request
+  -- a debugging of an object that is not checked
+  Debugs : Debugging → Request
 
 -- what a command asks for, with its operand and its options; campaigns need their list
 abbrev pub request_of : Verb → Word → Given → Option Request
@@ -107,7 +145,10 @@ request_of verb.Run operand given = Some (Runs (run_of operand given))
 request_of verb.Trial operand given = Some (Tries (run_of operand given))
 request_of verb.Campaign operand given = option_map (λ faults. Strikes (campaign_of operand given faults)) given.faults
 request_of verb.Survey operand given = option_map (λ faults. Surveys (campaign_of operand given faults)) given.faults
+request_of verb.Compile operand given = Some (Compiles operand)
+request_of verb.Exec operand given = Some (Executes (execution_of operand given))
 request_of verb.Mean operand given = Some (Means (meaning_of operand given))
+request_of verb.Debug operand given = Some (Debugs (debugging_of operand given))
 
 -- the words are a command, its operand, and options that it takes, and ask for this
 pub record AreCommand (words : List Word) (request : Request) : Type 0 where
@@ -127,7 +168,10 @@ Asks words (Runs run) = AreCommand words (Runs run)
 Asks words (Tries run) = AreCommand words (Tries run)
 Asks words (Strikes campaign) = AreCommand words (Strikes campaign)
 Asks words (Surveys campaign) = AreCommand words (Surveys campaign)
+Asks words (Compiles source) = AreCommand words (Compiles source)
+Asks words (Executes execution) = AreCommand words (Executes execution)
 Asks words (Means meaning) = AreCommand words (Means meaning)
+Asks words (Debugs debugging) = AreCommand words (Debugs debugging)
 
 -- each run of a campaign takes at most 1,000,000 steps
 abbrev pub HasFewSteps : Request → Type 0
@@ -137,4 +181,7 @@ HasFewSteps (Runs run) = Unit {0}
 HasFewSteps (Tries run) = Unit {0}
 HasFewSteps (Strikes campaign) = campaign.steps ≤ 1000000
 HasFewSteps (Surveys campaign) = campaign.steps ≤ 1000000
+HasFewSteps (Compiles source) = Unit {0}
+HasFewSteps (Executes execution) = Unit {0}
 HasFewSteps (Means meaning) = Unit {0}
+HasFewSteps (Debugs debugging) = Unit {0}

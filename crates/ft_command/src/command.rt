@@ -1,7 +1,7 @@
 //! What the words of a command line ask for.
 ghost use Rattle.std.specs.Prelude.{◌≡◌, map, string_bytes, IfOk};
-ghost use Rattle.ft_command.specs.Commands.{Asks, Request, HasFewSteps, run_of, campaign_of, meaning_of, request_of};
-ghost use Rattle.ft_command.specs.Asked.{given_of, run_view, campaign_view, meaning_view, asked, asked_or_usage};
+ghost use Rattle.ft_command.specs.Commands.{Asks, Request, HasFewSteps, run_of, campaign_of, meaning_of, execution_of, debugging_of, request_of};
+ghost use Rattle.ft_command.specs.Asked.{given_of, run_view, campaign_view, meaning_view, execution_view, debugging_view, asked, asked_or_usage};
 
 use crate::options::{OptionError, Options, read_options};
 use crate::verb::Verb;
@@ -29,8 +29,14 @@ pub enum Command<'w> {
     Campaign(Campaign<'w>),
     /// Tries a list of faults on an object without checking it.
     Survey(Campaign<'w>),
+    /// Compiles the source of this file.
+    Compile(&'w str),
+    /// Compiles a source and runs its object.
+    Exec(Execution<'w>),
     /// Gives the meaning of a source.
     Mean(Meaning<'w>),
+    /// Debugs an object without checking it.
+    Debug(Debugging<'w>),
 }
 
 /// The run of an object: the file's name, how many steps at the most, and the plan.
@@ -57,6 +63,20 @@ pub struct Campaign<'w> {
 pub struct Meaning<'w> {
     pub source: &'w str,
     pub turns: u64,
+}
+
+/// The run of the object that a source is compiled to: the file's name, and how many steps at the most.
+#[derive(Drop)]
+pub struct Execution<'w> {
+    pub source: &'w str,
+    pub steps: u64,
+}
+
+/// The debugging of an object: the file's name, and the answers to wild loads.
+#[derive(Drop)]
+pub struct Debugging<'w> {
+    pub object: &'w str,
+    pub wild: Vec<Wild>,
 }
 
 /// The run that an operand and options ask for.
@@ -98,6 +118,26 @@ fn meaning_of<'w>(source: &'w str, options: Options<'w>) -> Meaning<'w>
     }
 }
 
+/// The execution that an operand and options ask for.
+fn execution_of<'w>(source: &'w str, options: Options<'w>) -> Execution<'w>
+    ensures { execution_view result ≡ execution_of source.now (given_of options.entry) }
+{
+    Execution {
+        source,
+        steps: options.steps.unwrap_or(STEPS),
+    }
+}
+
+/// The debugging that an operand and options ask for.
+fn debugging_of<'w>(alloc: Global, object: &'w str, options: Options<'w>) -> Debugging<'w>
+    ensures { debugging_view result ≡ debugging_of object.now (given_of options.entry) }
+{
+    Debugging {
+        object,
+        wild: options.wild.unwrap_or(Vec::new(alloc)),
+    }
+}
+
 /// The command of a verb with its operand and options, if it has the options that it needs.
 fn command_from<'w>(
     alloc: Global,
@@ -123,7 +163,10 @@ fn command_from<'w>(
             };
             Command::Survey(campaign_of(alloc, operand, options, faults))
         }
+        Verb::Compile => Command::Compile(operand),
+        Verb::Exec => Command::Exec(execution_of(operand, options)),
         Verb::Mean => Command::Mean(meaning_of(operand, options)),
+        Verb::Debug => Command::Debug(debugging_of(alloc, operand, options)),
     };
     Some(command)
 }

@@ -12,5 +12,5 @@ mod options;
 mod verb;
 
 pub use allowed::Allowed;
-pub use command::{Campaign, Command, Meaning, Run, command_of};
+pub use command::{Campaign, Command, Debugging, Execution, Meaning, Run, command_of};
 pub use verb::Verb;

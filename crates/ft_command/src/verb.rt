@@ -35,8 +35,14 @@ pub enum Verb {
     Campaign,
     /// `survey`: tries a list of faults on an object without checking it.
     Survey,
+    /// `compile`: compiles a source to an object.
+    Compile,
+    /// `exec`: compiles a source and runs its object.
+    Exec,
     /// `mean`: gives the meaning of a source.
     Mean,
+    /// `debug`: debugs an object without checking it.
+    Debug,
 }
 
 impl Verb {
@@ -60,8 +66,17 @@ impl Verb {
         if word == "survey" {
             return Some(Verb::Survey);
         }
+        if word == "compile" {
+            return Some(Verb::Compile);
+        }
+        if word == "exec" {
+            return Some(Verb::Exec);
+        }
         if word == "mean" {
             return Some(Verb::Mean);
+        }
+        if word == "debug" {
+            return Some(Verb::Debug);
         }
         None
     }
@@ -71,7 +86,11 @@ impl Verb {
         ensures { result ≡ allowed_of self }
     {
         match self {
-            Verb::Check => NONE,
+            Verb::Check | Verb::Compile => NONE,
+            Verb::Exec => Allowed {
+                steps: Some(RUN_STEPS),
+                ..NONE
+            },
             Verb::Run | Verb::Trial => Allowed {
                 steps: Some(RUN_STEPS),
                 fault: true,
@@ -88,6 +107,7 @@ impl Verb {
                 turns: Some(TURNS),
                 ..NONE
             },
+            Verb::Debug => Allowed { wild: true, ..NONE },
         }
     }
 }

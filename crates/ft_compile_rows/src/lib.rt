@@ -1,8 +1,17 @@
-//! Tests of compiled objects: what they write when they run, and what is refused.
+//! Worked rows of the commands `compile` and `exec`, over files in memory.
 //!
-//! The crate holds tests alone, since a crate with tests is proved twice. Outputs and refusals are worked
-//! out by hand from the rules of the source language.
+//! The crate holds tests alone: for each row the source, the words, the text that is written and the
+//! status. The values come from the definitions and from another implementation, not from this one's
+//! output; what compiled objects write is compared with what `exec` does.
 #![tactic(auto)]
 
 #[cfg(test)]
-mod tests;
+mod compiled;
+#[cfg(test)]
+mod executions;
+#[cfg(test)]
+mod limits;
+#[cfg(test)]
+mod objects;
+#[cfg(test)]
+mod struck;

@@ -33,10 +33,12 @@ use Rattle.ft_dup.proofs.Laying.{row_size-append, blocks_length, Laid, laid}
 
 -- WHAT IS KNOWN
 
+-- what is known after one step more
 row_known-append : (k : Known) (o : List Step3) (i : Step3) → row_known k (o ++ i ∷ []) ≡ known_after i (row_known k o)
 row_known-append k [] i = refl
 row_known-append k (x ∷ o) i = row_known-append (known_after x k) o i
 
+-- false is not true
 no_known : false ≡ true → ⊥
 no_known e = cc
 
@@ -54,6 +56,7 @@ record Shows (o : Object) (vars : ℕ) (bs : Blocks) (k : ℕ) (f : FlowState) (
   agrees : Agrees vars bs (steps bs k f) (machine_steps o (cost bs k f) r)
   pace : (steps bs k f).done ≡ false → k ≤ cost bs k f
 
+-- each step becomes an instruction
 size_some : (s : Step3) → 1 ≤ size s
 size_some (Put p w) = omega arith
 size_some (Copy p q) = omega arith
@@ -76,6 +79,7 @@ shows_step o vars bs k f g s r q runs at eq l h =
       pace = λ d. let z = h.pace (sym (ap (λ x. (steps bs k x).done) to) ∙ d) in omega (arith, size_some s);
     }
 
+-- a flow that is done costs nothing
 done_costs : (bs : Blocks) (k : ℕ) (f : FlowState) → f.done ≡ true → cost bs k f ≡ 0
 done_costs bs zero f d = refl
 done_costs bs (suc k) f d =
@@ -84,6 +88,7 @@ done_costs bs (suc k) f d =
     let b : cost bs k (flow_step bs f) ≡ 0 = ap (cost bs k) g ∙ done_costs bs k f d in
     omega arith
 
+-- a flow that is done stays as it is
 done_stays : (bs : Blocks) (k : ℕ) (f : FlowState) → f.done ≡ true → steps bs k f ≡ f
 done_stays bs zero f d = refl
 done_stays bs (suc k) f d = ap (steps bs k) (ap (λ b. act_if b (step_at bs f.place) f) d) ∙ done_stays bs k f d
@@ -121,6 +126,7 @@ module _ (o : Object) (vars cells : ℕ) (bs : Blocks) (W : IsWell vars cells bs
     words : All IsWord f.cells
     running : f.done ≡ false
 
+  -- the machine where the flow stands
   abbrev from : FlowState → ℕ → Registers → Cells → Ran
   from f i m c = spot i m 0 [] c w f.out
 
@@ -193,6 +199,7 @@ module _ (o : Object) (vars cells : ℕ) (bs : Blocks) (W : IsWell vars cells bs
       shows_step o vars bs k f g s (from f i m c) (from g (start_of bs to) R.regs R.cells) A.running (there bs f front rest s A.is A.index) eq R.leads
       (next g (start_of bs to) R.regs R.cells [] (block_of bs to) (known_first vars to) (jumps known spare to g R.regs R.cells T J place R.holds R.memory fine))
 
+  -- an exit, by the word that it tests
   exit_by : (v k : ℕ) (f : FlowState) (i : ℕ) (m : Registers) (c : Cells) (q s to : ℕ) (front rest : List Step3) (known : Known) → Next k → At f i m c front (Exit q s to ∷ rest) known → Laid (map bare o.instrs) i (start_of bs) (Exit q s to) → i + 4 < 65537 → Below (pairs_of (Exit q s to)) → f.pairs q ≡ v → Shows o vars bs (suc k) f (from f i m c)
   exit_by zero k f i m c q s to front rest known next A L n p is =
       let a = goes_to to (with_pair s 0 f) in
@@ -205,6 +212,7 @@ module _ (o : Object) (vars cells : ℕ) (bs : Blocks) (W : IsWell vars cells bs
       on_row k f b i (suc (suc (suc (suc i)))) m c (Exit q s to) front rest known next A A.ended (rw is refl) refl (omega arith) (record { many = A.many; words = A.words; running = A.running })
       (exit_other_row o w known i q s to v m c f (start_of bs) n L.has p r.0 r.1 is A.holds A.memory)
 
+  -- one step of the flow, by its kind
   by_step : (k : ℕ) (f : FlowState) (i : ℕ) (m : Registers) (c : Cells) (s : Step3) (front rest : List Step3) (known : Known) → Next k → At f i m c front (s ∷ rest) known → Laid (map bare o.instrs) i (start_of bs) s → i + size s < 65537 → Below (pairs_of s) → Shows o vars bs (suc k) f (from f i m c)
   by_step k f i m c (Put p v) front rest known next A L n h =
       on_row k f (goes_on (with_pair p v f)) i (suc (suc i)) m c (Put p v) front rest known next A A.ended refl refl (omega arith) (record { many = A.many; words = A.words; running = A.running })
@@ -239,12 +247,14 @@ module _ (o : Object) (vars cells : ℕ) (bs : Blocks) (W : IsWell vars cells bs
   code_short : length (map bare o.instrs) ≤ 65536
   code_short = let x = W.short in omega (arith, ap length C.instrs, mapped_length bare (doubled bs), blocks_length (start_of bs) bs)
 
+  -- a running flow has a step to take
   by_rest : (k : ℕ) (f : FlowState) (i : ℕ) (m : Registers) (c : Cells) (front rest : List Step3) (known : Known) → Next k → At f i m c front rest known → Shows o vars bs (suc k) f (from f i m c)
   by_rest k f i m c front [] known next A = absurd A.ended
   by_rest k f i m c front (s ∷ rest) known next A =
       let L = subst (λ j. Laid (map bare o.instrs) j (start_of bs) s) (sym A.number) (laid bs (map bare o.instrs) f.place.block front rest s C.instrs A.within A.is) in
       by_step k f i m c s front rest known next A L (let y = L.short in omega (arith, code_short)) (All-head (λ s. Below (pairs_of s)) s rest A.pairs)
 
+  -- what is known where they stand is held
   held_at : (f : FlowState) (i : ℕ) (m : Registers) (c : Cells) (front rest : List Step3) (known : Known) → At f i m c front rest known → Holds (known_at vars bs f.place) f.pairs (from f i m c).state
   held_at f i m c front rest known A =
       let e : known_at vars bs f.place ≡ known =
@@ -254,6 +264,7 @@ module _ (o : Object) (vars cells : ℕ) (bs : Blocks) (W : IsWell vars cells bs
       ∙ sym A.walked in
       subst (λ (k : Known). Holds k f.pairs (from f i m c).state) (sym e) (record { green_pairs = λ q h. (A.holds q h).green; blue_pairs = λ q h. (A.holds q h).blue; d = refl; queue = refl })
 
+  -- any number of steps
   follow : (k : ℕ) → Next k
   follow zero f i m c front rest known A = record {
     agrees = record { out = refl; cells = A.memory; status = ap (λ b. cond b Done Running) (sym A.running); holds = λ d. held_at f i m c front rest known A };
@@ -263,6 +274,7 @@ module _ (o : Object) (vars cells : ℕ) (bs : Blocks) (W : IsWell vars cells bs
 
 -- THE START
 
+-- what a map with numbered entries has at one of its cells
 tabulated : (value : ℕ → ℕ) (n k : ℕ) → k < n → cell_at (tabulate n cell_address value) (cell_address k) ≡ Some (value k)
 unfolding tabulate
 tabulated value zero k h = absurd (omega arith)
@@ -273,6 +285,7 @@ tabulated value (suc n) k h =
       | inr ne ↦ ap (λ b. cond b (Some (value n)) (cell_at (tabulate n cell_address value) (cell_address k))) (ne_eqb (cell_address k) (cell_address n) (λ e. ne (omega arith))) ∙ tabulated value n k (let g = ne in omega arith)
     ]
 
+-- and past the last of them
 untabulated : (value : ℕ → ℕ) (n k : ℕ) → n ≤ k → cell_at (tabulate n cell_address value) (cell_address k) ≡ None
 unfolding tabulate
 untabulated value zero k h = finite.get-empty nat_cmp (cell_address k)

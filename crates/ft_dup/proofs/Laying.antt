@@ -12,16 +12,19 @@ use Rattle.ft_dup.specs.Doubles.{bare}
 use Rattle.ft_dup.proofs.Places.{mapped_length}
 use Rattle.ft_dup.proofs.Rows.{HasInstrs}
 
+-- the size of two rows
 pub row_size-append : (a b : List Step3) → row_size (a ++ b) ≡ row_size a + row_size b
 row_size-append [] b = omega arith
 row_size-append (i ∷ a) b = omega (arith, row_size-append a b)
 
+-- the images of two rows
 row_images-append : (start : ℕ → ℕ) (a b : List Step3) → row_images start (a ++ b) ≡ row_images start a ++ row_images start b
 row_images-append start [] b = refl
 row_images-append start (i ∷ a) b = ap (λ l. image start i ++ l) (row_images-append start a b) ∙ sym (append_assoc (image start i) (row_images start a) (row_images start b))
 
 -- HOW MANY INSTRUCTIONS
 
+-- an image has as many instructions as its step has size
 image_length : (start : ℕ → ℕ) (i : Step3) → length (image start i) ≡ size i
 image_length start (Put p w) = refl
 image_length start (Copy p q) = refl
@@ -32,6 +35,7 @@ image_length start (Exit q s to) = refl
 image_length start (Go s to) = refl
 image_length start Stop = refl
 
+-- and so have the images of a row
 row_length : (start : ℕ → ℕ) (is : List Step3) → length (row_images start is) ≡ row_size is
 row_length start [] = refl
 row_length start (i ∷ is) = length-append (image start i) (row_images start is) ∙ omega (arith, image_length start i, row_length start is)
@@ -50,6 +54,7 @@ record Among (start : ℕ → ℕ) (bs : Blocks) (b : ℕ) (front : List Step3) 
   is : blocks_images start bs ≡ before ++ (image start s ++ behind)
   long : length before ≡ start_of bs b + row_size front
 
+-- each step of a block has its image among those of all blocks
 among : (start : ℕ → ℕ) (bs : Blocks) (b : ℕ) (front rest : List Step3) (s : Step3) → b < length bs → block_of bs b ≡ front ++ s ∷ rest → Among start bs b front s
 among start [] b front rest s h e = absurd (omega arith)
 among start (x ∷ bs) zero front rest s h e =
@@ -77,10 +82,12 @@ among start (x ∷ bs) (suc b) front rest s h e =
       long = length-append row A.before ∙ omega (arith, row_length start x, A.long);
     }
 
+-- two lists of instructions without their claims
 map_append : (a b : List Instr) → map bare (a ++ b) ≡ map bare a ++ map bare b
 map_append [] b = refl
 map_append (x ∷ a) b = ap (λ l. bare x ∷ l) (map_append a b)
 
+-- a list stands where what is before it ends
 has_here : (js : List Instr) (A C : List Instr) → HasInstrs (A ++ (map bare js ++ C)) (length A) js
 has_here [] A C = tt
 has_here (J ∷ js) A C =
@@ -95,6 +102,7 @@ pub record Laid (code : List Instr) (i : ℕ) (start : ℕ → ℕ) (s : Step3) 
   pub has : HasInstrs code i (image start s)
   pub short : i + size s ≤ length code
 
+-- each step of a block is laid where the block begins and the steps before it end
 pub laid : (bs : Blocks) (code : List Instr) (b : ℕ) (front rest : List Step3) (s : Step3) → code ≡ map bare (doubled bs) → b < length bs → block_of bs b ≡ front ++ s ∷ rest → Laid code (start_of bs b + row_size front) (start_of bs) s
 laid bs code b front rest s c h e =
     let start = start_of bs in

@@ -20,32 +20,38 @@ use Rattle.ft_dup.proofs.Stretches.{col, held_same, held_other}
 
 -- THE REGISTERS OF A PAIR
 
+-- the green register of a pair has its number
 green_number : (p : ℕ) → p < 32 → (green p).number ≡ p
 green_number p h =
     let l : p < 64 = omega arith in
     ap (λ (r : Option Reg). (unwrap_or r register_zero).number) (sym (some_reg p (nat_lt p 64) refl l (lt-ltb p 64 l)))
 
+-- and the blue one 32 more
 blue_number : (p : ℕ) → p < 32 → (blue p).number ≡ 32 + p
 blue_number p h =
     let l : 32 + p < 64 = omega arith in
     ap (λ (r : Option Reg). (unwrap_or r register_zero).number) (sym (some_reg (32 + p) (nat_lt (32 + p) 64) refl l (lt-ltb (32 + p) 64 l)))
 
--- a green register is no blue one, and other pairs have other registers
+-- a green register is no blue one
 green_no_blue : (p q : ℕ) → p < 32 → q < 32 → (green p).number ≢ (blue q).number
 green_no_blue p q h k e = let f : p ≡ 32 + q = sym (green_number p h) ∙ e ∙ blue_number q k in omega arith
 
+-- other pairs have other green registers
 other_green : (p q : ℕ) → p < 32 → q < 32 → q ≢ p → (green q).number ≢ (green p).number
 other_green p q h k ne e = ne (sym (green_number q k) ∙ e ∙ green_number p h)
 
+-- and other blue ones
 other_blue : (p q : ℕ) → p < 32 → q < 32 → q ≢ p → (blue q).number ≢ (blue p).number
 other_blue p q h k ne e = ne (let f : 32 + q ≡ 32 + p = sym (blue_number q k) ∙ e ∙ blue_number p h in omega arith)
 
 -- WORDS
 
+-- the word of a test is a word
 test_word : (b : Bool) → IsWord (word_of_test b)
 test_word true = omega arith
 test_word false = omega arith
 
+-- an operation gives a word
 pub apply_word : (o : Operation) (a b : ℕ) → IsWord (apply o a b)
 unfolding apply
 apply_word op.Add a b = omega arith
@@ -54,6 +60,7 @@ apply_word op.Mul a b = omega arith
 apply_word op.Ltu a b = test_word (nat_lt a b)
 apply_word op.Eq a b = test_word (a == b)
 
+-- the sum of a word and 0 is the word
 pub add_nothing : (a : ℕ) → IsWord a → apply op.Add a 0 ≡ a
 unfolding apply
 add_nothing a h = omega arith
@@ -75,9 +82,11 @@ PairsHeld k m ps = (q : ℕ) → k q ≡ true → Pair m ps q
 abbrev pub two_held : Registers → ℕ → Coloured → Coloured → Registers
 two_held m p x y = with_held (with_held m (green p).number x) (blue p).number y
 
+-- what the green register of a written pair holds
 pub green_read : (m : Registers) (p : ℕ) (x y : Coloured) → p < 32 → held (two_held m p x y) (green p).number ≡ x
 green_read m p x y h = held_other (with_held m (green p).number x) (blue p).number y (green p).number (green_no_blue p p h h) ∙ held_same m (green p).number x
 
+-- and what the blue one holds
 pub blue_read : (m : Registers) (p : ℕ) (x y : Coloured) → held (two_held m p x y) (blue p).number ≡ y
 blue_read m p x y = held_same (with_held m (green p).number x) (blue p).number y
 
@@ -85,6 +94,7 @@ blue_read m p x y = held_same (with_held m (green p).number x) (blue p).number y
 pub blue_left : (m : Registers) (p q : ℕ) (x : Coloured) → p < 32 → q < 32 → held (with_held m (green p).number x) (blue q).number ≡ held m (blue q).number
 blue_left m p q x h k = held_other m (green p).number x (blue q).number (λ e. green_no_blue p q h k (sym e))
 
+-- another pair is held after the write
 pub pair_kept : (m : Registers) (ps qs : ℕ → ℕ) (p q : ℕ) (x y : Coloured) → p < 32 → q ≢ p → qs q ≡ ps q → Pair m ps q → Pair (two_held m p x y) qs q
 pair_kept m ps qs p q x y lt ne e h =
     let b = h.below in
@@ -95,6 +105,7 @@ pair_kept m ps qs p q x y lt ne e h =
       blue = held_other (with_held m (green p).number x) (blue p).number y (blue q).number (other_blue p q lt b ne) ∙ blue_left m p q x lt b ∙ h.blue ∙ ap (col Blue) (sym e);
     }
 
+-- and so is the pair that got one word in both colours
 pair_put : (m : Registers) (qs : ℕ → ℕ) (p v : ℕ) → p < 32 → IsWord v → qs p ≡ v → Pair (two_held m p (col Green v) (col Blue v)) qs p
 pair_put m qs p v lt h e = record {
   below = lt;
@@ -103,16 +114,19 @@ pair_put m qs p v lt h e = record {
   blue = blue_read m p (col Green v) (col Blue v) ∙ ap (col Blue) (sym e);
 }
 
--- the pair that a flow state sets, and another one
+-- the pair that a flow state sets
 same_pair : (p v : ℕ) (f : FlowState) → (with_pair p v f).pairs p ≡ v
 same_pair p v f = ap (λ b. cond b v (f.pairs p)) (eq-eqb p p refl)
 
+-- another pair stays
 other_pair : (p v : ℕ) (f : FlowState) (q : ℕ) → q ≢ p → (with_pair p v f).pairs q ≡ f.pairs q
 other_pair p v f q ne = ap (λ b. cond b v (f.pairs q)) (ne_eqb q p ne)
 
+-- another pair that is known after learning was known before
 learned : (k : Known) (p q : ℕ) → q ≢ p → learn p k q ≡ true → k q ≡ true
 learned k p q ne h = sym (ap (λ b. cond b true (k q)) (ne_eqb q p ne)) ∙ h
 
+-- a pair that is known after forgetting is another one, and was known before
 forgotten : (k : Known) (p q : ℕ) → forget p k q ≡ true → (q ≢ p) × (k q ≡ true)
 forgotten k p q h = elim (cases_eq q p) [ inl e ↦ absurd (not_false (sym (ap (λ b. cond b false (k q)) (eq-eqb q p e)) ∙ h)) | inr ne ↦ (ne, sym (ap (λ b. cond b false (k q)) (ne_eqb q p ne)) ∙ h) ]
   where
@@ -138,6 +152,7 @@ holds_forget k m f p v x y lt old = λ q known.
 abbrev pub CellsHold : Cells → List ℕ → Type 0
 CellsHold m cs = (c : ℕ) → cell_at m (cell_address c) ≡ slice_get cs c
 
+-- the word of a cell that is there
 pub cell_there : (m : Cells) (cs : List ℕ) (c : ℕ) → CellsHold m cs → c < length cs → cell_at m (cell_address c) ≡ Some (slice_index cs c)
 cell_there m cs c h lt = h c ∙ slice_get-get_or cs c 0 lt
 
@@ -149,6 +164,7 @@ get_set_other (x ∷ cs) zero v (suc d) ne = refl
 get_set_other (x ∷ cs) (suc c) v zero ne = refl
 get_set_other (x ∷ cs) (suc c) v (suc d) ne = get_set_other cs c v d (λ e. ne (ap suc e))
 
+-- a cell of both is set
 pub cells_set : (m : Cells) (cs : List ℕ) (c v : ℕ) → c < length cs → CellsHold m cs → CellsHold (with_cell m (cell_address c) v) (slice_set cs c v)
 cells_set m cs c v lt h = λ d.
     get-insert m (cell_address c) v (cell_address d)

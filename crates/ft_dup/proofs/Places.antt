@@ -56,6 +56,7 @@ module _ (f g : ℕ → ℕ) (n : ℕ) (same : (b : ℕ) → b < n → f b ≡ g
   image_same (Go spare to) h = ap (λ t. image (λ b. t) (Go spare to)) (same to h.there)
   image_same Stop h = refl
 
+  -- so do the images of a row
   row_same : (is : List Step3) → All (HasTarget n) is → row_images f is ≡ row_images g is
   row_same [] h = refl
   row_same (i ∷ is) h =
@@ -90,6 +91,7 @@ target_of cells blocks (Exit q spare to) h = h
 target_of cells blocks (Go spare to) h = h
 target_of cells blocks Stop h = tt
 
+-- each step of a well formed row has its target
 row_targets : (vars cells blocks : ℕ) (k : Known) (is : List Step3) → RowIsWell vars cells blocks k is → All (HasTarget blocks) is
 row_targets vars cells blocks k [] h = All-nil (HasTarget blocks)
 row_targets vars cells blocks k (i ∷ is) h = All-cons (HasTarget blocks) i is (target_of cells blocks i h.0) (row_targets vars cells blocks (known_after i k) is h.2)

@@ -31,9 +31,11 @@ HasInstrs code i (J ∷ js) = (slice_get code i ≡ Some (bare J)) × HasInstrs 
 abbrev pub Below : List ℕ → Type 0
 Below ps = All (λ q. q < 32) ps
 
+-- the first pair that a step names is below 32
 first_pair : (p : ℕ) (ps : List ℕ) → Below (p ∷ ps) → p < 32
 first_pair p ps h = All-head (λ q. q < 32) p ps h
 
+-- and so is the second
 second_pair : (p q : ℕ) (ps : List ℕ) → Below (p ∷ q ∷ ps) → q < 32
 second_pair p q ps h = first_pair q ps (All-tail (λ q. q < 32) p (q ∷ ps) h)
 
@@ -50,6 +52,7 @@ module _ (o : Object) (w : List Wild) where
   two_moves : (i p v : ℕ) (m : Registers) (c : Cells) (os : List Output) → i + 2 < 65537 → slice_get (map bare o.instrs) i ≡ Some (instr.Mov (green p) (col Green v) int) → slice_get (map bare o.instrs) (suc i) ≡ Some (instr.Mov (blue p) (col Blue v) int) → Leads o 4 (spot i m 0 [] c w os) (spot (suc (suc i)) (two_held m p (col Green v) (col Blue v)) 0 [] c w os)
   two_moves i p v m c os short a b = lead_on o 2 2 _ _ _ (mov o w i (omega arith) m c os (green p) (col Green v) a) (mov o w (suc i) (omega arith) (with_held m (green p).number (col Green v)) c os (blue p) (col Blue v) b)
 
+  -- `Put` by its two instructions
   pub put_row : (k : Known) (i p v : ℕ) (m : Registers) (c : Cells) (f : FlowState) (start : ℕ → ℕ) → i + 2 < 65537 → HasInstrs (map bare o.instrs) i (image start (Put p v)) → Below (pairs_of (Put p v)) → IsWord v → PairsHeld k m f.pairs → CellsHold c f.cells → Row (learn p k) 4 i (suc (suc i)) m c f (goes_on (with_pair p v f))
   put_row k i p v m c f start short has pairs word h cells = record {
     regs = two_held m p (col Green v) (col Blue v);
@@ -59,6 +62,7 @@ module _ (o : Object) (w : List Wild) where
     memory = cells;
   }
 
+  -- `Copy` by its two instructions
   pub copy_row : (k : Known) (i p q : ℕ) (m : Registers) (c : Cells) (f : FlowState) (start : ℕ → ℕ) → i + 2 < 65537 → HasInstrs (map bare o.instrs) i (image start (Copy p q)) → Below (pairs_of (Copy p q)) → k q ≡ true → PairsHeld k m f.pairs → CellsHold c f.cells → Row (learn p k) 4 i (suc (suc i)) m c f (goes_on (with_pair p (f.pairs q) f))
   copy_row k i p q m c f start short has pairs known h cells =
       let v = f.pairs q in
@@ -76,6 +80,7 @@ module _ (o : Object) (w : List Wild) where
         memory = cells;
       }
 
+  -- `Op` by its two instructions
   pub op_row : (k : Known) (i p q s : ℕ) (x : Operation) (m : Registers) (c : Cells) (f : FlowState) (start : ℕ → ℕ) → i + 2 < 65537 → HasInstrs (map bare o.instrs) i (image start (Op x p q s)) → Below (pairs_of (Op x p q s)) → (k q ≡ true) × (k s ≡ true) → PairsHeld k m f.pairs → CellsHold c f.cells → Row (learn p k) 4 i (suc (suc i)) m c f (goes_on (with_pair p (apply x (f.pairs q) (f.pairs s)) f))
   op_row k i p q s x m c f start short has pairs known h cells =
       let v = apply x (f.pairs q) (f.pairs s) in
@@ -92,6 +97,7 @@ module _ (o : Object) (w : List Wild) where
         memory = cells;
       }
 
+  -- `Load` by its four instructions
   pub load_row : (k : Known) (i p n : ℕ) (m : Registers) (c : Cells) (f : FlowState) (start : ℕ → ℕ) → i + 4 < 65537 → HasInstrs (map bare o.instrs) i (image start (Load p n)) → Below (pairs_of (Load p n)) → n < length f.cells → IsWord (slice_index f.cells n) → PairsHeld k m f.pairs → CellsHold c f.cells → Row (learn p k) 8 i (suc (suc (suc (suc i)))) m c f (goes_on (with_pair p (slice_index f.cells n) f))
   load_row k i p n m c f start short has pairs there word h cells =
       let a = cell_address n in
@@ -112,6 +118,7 @@ module _ (o : Object) (w : List Wild) where
         memory = cells;
       }
 
+  -- `Store` by its four instructions
   pub store_row : (k : Known) (i n q s : ℕ) (m : Registers) (c : Cells) (f : FlowState) (start : ℕ → ℕ) → i + 4 < 65537 → HasInstrs (map bare o.instrs) i (image start (Store n q s)) → Below (pairs_of (Store n q s)) → n < length f.cells → (k q ≡ true) × (q ≢ s) → PairsHeld k m f.pairs → CellsHold c f.cells → Row (forget s k) 8 i (suc (suc (suc (suc i)))) m c f (goes_on (with_pair s 0 (flow.with_cell n (f.pairs q) f)))
   store_row k i n q s m c f start short has pairs there reads h cells =
       let a = cell_address n in
@@ -137,6 +144,7 @@ module _ (o : Object) (w : List Wild) where
       let e : code_address t ≡ suc t = omega arith in
       subst (λ v. Leads o 4 (spot i m 0 [] c w os) (spot (suc (suc i)) (two_held m s (col Green v) (col Blue v)) 0 [] c w os)) e (two_moves i s (code_address t) m c os short a b)
 
+  -- `Go` by its four instructions
   pub go_row : (k : Known) (i s to : ℕ) (m : Registers) (c : Cells) (f : FlowState) (start : ℕ → ℕ) → i + 4 < 65537 → HasInstrs (map bare o.instrs) i (image start (Go s to)) → Below (pairs_of (Go s to)) → PairsHeld k m f.pairs → CellsHold c f.cells → Row (forget s k) 8 i (start to) m c f (goes_to to (with_pair s 0 f))
   go_row k i s to m c f start short has pairs h cells =
       let t = start to in
@@ -154,6 +162,7 @@ module _ (o : Object) (w : List Wild) where
         memory = cells;
       }
 
+  -- `Exit` by its four instructions, where the pair holds 0
   pub exit_zero_row : (k : Known) (i q s to : ℕ) (m : Registers) (c : Cells) (f : FlowState) (start : ℕ → ℕ) → i + 4 < 65537 → HasInstrs (map bare o.instrs) i (image start (Exit q s to)) → Below (pairs_of (Exit q s to)) → k q ≡ true → q ≢ s → f.pairs q ≡ 0 → PairsHeld k m f.pairs → CellsHold c f.cells → Row (forget s k) 8 i (start to) m c f (goes_to to (with_pair s 0 f))
   exit_zero_row k i q s to m c f start short has pairs known ne z h cells =
       let t = start to in
@@ -172,6 +181,7 @@ module _ (o : Object) (w : List Wild) where
         memory = cells;
       }
 
+  -- and where it does not
   pub exit_other_row : (k : Known) (i q s to x : ℕ) (m : Registers) (c : Cells) (f : FlowState) (start : ℕ → ℕ) → i + 4 < 65537 → HasInstrs (map bare o.instrs) i (image start (Exit q s to)) → Below (pairs_of (Exit q s to)) → k q ≡ true → q ≢ s → f.pairs q ≡ suc x → PairsHeld k m f.pairs → CellsHold c f.cells → Row (forget s k) 8 i (suc (suc (suc (suc i)))) m c f (goes_on (with_pair s 0 f))
   exit_other_row k i q s to x m c f start short has pairs known ne z h cells =
       let t = start to in

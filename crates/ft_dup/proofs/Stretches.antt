@@ -34,6 +34,7 @@ abbrev pub machine_steps : Object → ℕ → Ran → Ran
 machine_steps o zero r = r
 machine_steps o (suc k) r = machine_steps o k (machine_step o r)
 
+-- the first of some steps may be taken last
 steps_moved : (o : Object) (n : ℕ) (r : Ran) → machine_steps o n (machine_step o r) ≡ machine_step o (machine_steps o n r)
 steps_moved o zero r = refl
 steps_moved o (suc n) r = steps_moved o n (machine_step o r)
@@ -56,6 +57,7 @@ lead_on o i j r q z a b = record { by = λ k. let e : i + j + k ≡ i + (j + k) 
 abbrev pub stands : ℕ → Registers → ℕ → Pending → Cells → State
 stands x m d q c = record { registers = m; d = d; pc_green = x; pc_blue = x; queue = q; cells = c; fetched = None; status = Running }
 
+-- a point of a run
 abbrev pub ran : State → List Wild → List Output → Ran
 ran s w os = record { state = s; wild = w; outputs = os }
 
@@ -82,11 +84,13 @@ execute_bare (instr.BzG rz rd) s w = refl
 execute_bare (instr.BzB rz rd t) s w = refl
 execute_bare instr.Halt s w = refl
 
+-- an instruction that stands there without its claims
 get_bare : (xs : List Instr) (i : ℕ) (J : Instr) → slice_get (map bare xs) i ≡ Some J → (I : Instr) × (slice_get xs i ≡ Some I) × (bare I ≡ J)
 get_bare [] i J h = absurd cc
 get_bare (x ∷ xs) zero J h = (x, refl, cc)
 get_bare (x ∷ xs) (suc i) J h = get_bare xs i J h
 
+-- a step without an output leaves the outputs
 quiet_ran : (os : List Output) (s : State) (w : List Wild) → extended os (quiet s w) ≡ ran s w os
 quiet_ran os s w = ap (ran s w) (append-nil os)
 
@@ -114,30 +118,36 @@ two o J i m d q c w os t at does =
 two_quiet : (o : Object) (J : Instr) (i : ℕ) (m : Registers) (d : ℕ) (q : Pending) (c : Cells) (w : List Wild) (os : List Output) (s : State) → slice_get (map bare o.instrs) i ≡ Some J → ((I : Instr) → execute J (fetched_state i m d q c I) w ≡ quiet s w) → Leads o 2 (spot i m d q c w os) (ran s w os)
 two_quiet o J i m d q c w os s at does = subst (Leads o 2 (spot i m d q c w os)) (quiet_ran os s w) (two o J i m d q c w os (quiet s w) at does)
 
+-- a counter in the code has a next one
 next_small : (i : ℕ) → i < 65537 → next (suc i) ≡ suc (suc i)
 next_small i h = omega arith
 
 -- REGISTERS
 
--- a register that was written, and another one
+-- a register that was written
 pub held_same : (m : Registers) (r : ℕ) (x : Coloured) → held (with_held m r x) r ≡ x
 held_same m r x = held-with_held m r x r ∙ ap (λ b. cond b x (held m r)) (eq-eqb r r refl)
 
+-- and another one
 pub held_other : (m : Registers) (r : ℕ) (x : Coloured) (q : ℕ) → q ≢ r → held (with_held m r x) q ≡ held m q
 held_other m r x q ne = held-with_held m r x q ∙ ap (λ b. cond b x (held m q)) (ne_eqb q r ne)
 
+-- a word in a colour
 abbrev pub col : Colour → ℕ → Coloured
 col c v = record { colour = c; word = v }
 
 -- EACH INSTRUCTION
 
 module _ (o : Object) (w : List Wild) (i : ℕ) (short : i < 65537) where
+  -- both counters go on
   goes_by : (m : Registers) (d : ℕ) (q : Pending) (c : Cells) → quiet (stands (next (suc i)) m d q c) w ≡ quiet (stands (suc (suc i)) m d q c) w
   goes_by m d q c = ap (λ z. quiet (stands z m d q c) w) (next_small i short)
 
+  -- a move
   pub mov : (m : Registers) (c : Cells) (os : List Output) (r : Reg) (x : Coloured) → slice_get (map bare o.instrs) i ≡ Some (instr.Mov r x int) → Leads o 2 (spot i m 0 [] c w os) (spot (suc i) (with_held m r.number x) 0 [] c w os)
   mov m c os r x at = two_quiet o _ i m 0 [] c w os _ at (λ I. goes_by (with_held m r.number x) 0 [] c)
 
+  -- an operation on registers of one colour
   pub op_reg : (m : Registers) (c : Cells) (os : List Output) (op : Op) (rd rs rt : Reg) (x y : ℕ) (k : Colour) → slice_get (map bare o.instrs) i ≡ Some (instr.OpReg op rd rs rt) → held m rs.number ≡ col k x → held m rt.number ≡ col k y → Leads o 2 (spot i m 0 [] c w os) (spot (suc i) (with_held m rd.number (col k (apply op x y))) 0 [] c w os)
   op_reg m c os op rd rs rt x y k at es et = two_quiet o _ i m 0 [] c w os _ at (λ I.
       let s = fetched_state i m 0 [] c I in
@@ -145,6 +155,7 @@ module _ (o : Object) (w : List Wild) (i : ℕ) (short : i < 65537) where
       ∙ ap (λ (h : Coloured). machine.writes rd k (apply op x h.word) s w) et
       ∙ goes_by (with_held m rd.number (col k (apply op x y))) 0 [] c)
 
+  -- an operation on a register and a word of one colour
   pub op_word : (m : Registers) (c : Cells) (os : List Output) (op : Op) (rd rs : Reg) (x y : ℕ) (k : Colour) → slice_get (map bare o.instrs) i ≡ Some (instr.OpWord op rd rs (col k y)) → held m rs.number ≡ col k x → Leads o 2 (spot i m 0 [] c w os) (spot (suc i) (with_held m rd.number (col k (apply op x y))) 0 [] c w os)
   op_word m c os op rd rs x y k at es = two_quiet o _ i m 0 [] c w os _ at (λ I.
       ap (λ (h : Coloured). machine.writes rd h.colour (apply op h.word y) (fetched_state i m 0 [] c I) w) es
@@ -156,6 +167,7 @@ module _ (o : Object) (w : List Wild) (i : ℕ) (short : i < 65537) where
   finds Green m c a I = refl
   finds Blue m c a I = refl
 
+  -- a load from a cell, where nothing is pending
   pub load : (m : Registers) (c : Cells) (os : List Output) (rd rs : Reg) (a v : ℕ) (k : Colour) → slice_get (map bare o.instrs) i ≡ Some (instr.Ld k rd rs) → held m rs.number ≡ col k a → cell_at c a ≡ Some v → Leads o 2 (spot i m 0 [] c w os) (spot (suc i) (with_held m rd.number (col k v)) 0 [] c w os)
   load m c os rd rs a v k at es there = two_quiet o _ i m 0 [] c w os _ at (λ I.
       let s = fetched_state i m 0 [] c I in
@@ -163,6 +175,7 @@ module _ (o : Object) (w : List Wild) (i : ℕ) (short : i < 65537) where
       ∙ ap (λ x. machine.load k rd x s w) (finds k m c a I ∙ there)
       ∙ goes_by (with_held m rd.number (col k v)) 0 [] c)
 
+  -- a green store, where nothing is pending
   pub store_green : (m : Registers) (c : Cells) (os : List Output) (rd rs : Reg) (a v : ℕ) → slice_get (map bare o.instrs) i ≡ Some (instr.St Green rd rs) → held m rd.number ≡ col Green a → held m rs.number ≡ col Green v → Leads o 2 (spot i m 0 [] c w os) (spot (suc i) m 0 ((a, v) ∷ []) c w os)
   store_green m c os rd rs a v at ed es = two_quiet o _ i m 0 [] c w os _ at (λ I.
       let s = fetched_state i m 0 [] c I in
@@ -170,6 +183,7 @@ module _ (o : Object) (w : List Wild) (i : ℕ) (short : i < 65537) where
       ∙ ap (λ (h : Coloured). machine.store_green a h.word s w) es
       ∙ goes_by m 0 ((a, v) ∷ []) c)
 
+  -- a blue store of the one pending entry, which is an output
   pub store_blue : (m : Registers) (c : Cells) (os : List Output) (rd rs : Reg) (a v x : ℕ) → slice_get (map bare o.instrs) i ≡ Some (instr.St Blue rd rs) → held m rd.number ≡ col Blue a → held m rs.number ≡ col Blue v → cell_at c a ≡ Some x → Leads o 2 (spot i m 0 ((a, v) ∷ []) c w os) (spot (suc i) m 0 [] (with_cell c a v) w (os ++ record { addr = a; value = v } ∷ []))
   store_blue m c os rd rs a v x at ed es there = two o _ i m 0 ((a, v) ∷ []) c w os (record { state = stands (suc (suc i)) m 0 [] (with_cell c a v); wild = w; output = Some (record { addr = a; value = v }) }) at (λ I.
       let s = fetched_state i m 0 ((a, v) ∷ []) c I in
@@ -180,21 +194,25 @@ module _ (o : Object) (w : List Wild) (i : ℕ) (short : i < 65537) where
       ∙ ap (λ z. cond (is_some z) (machine.commit a v s w) (detected s w)) there
       ∙ ap (λ z. let t : Stepping = record { state = stands z m 0 [] (with_cell c a v); wild = w; output = Some (record { addr = a; value = v }) } in t) (next_small i short))
 
+  -- a green jump, where d is 0
   pub jump_green : (m : Registers) (c : Cells) (os : List Output) (rd : Reg) (a : ℕ) → slice_get (map bare o.instrs) i ≡ Some (instr.JmpG rd) → held m rd.number ≡ col Green a → Leads o 2 (spot i m 0 [] c w os) (spot (suc i) m a [] c w os)
   jump_green m c os rd a at ed = two_quiet o _ i m 0 [] c w os _ at (λ I.
       ap (λ (h : Coloured). machine.jump_green h.word (fetched_state i m 0 [] c I) w) ed
       ∙ goes_by m a [] c)
 
+  -- a blue jump to the address in d
   jumps : (m : Registers) (c : Cells) (t : ℕ) (I : Instr) → machine.jump_blue (suc t) (fetched_state i m (suc t) [] c I) w ≡ quiet (stands (suc t) m 0 [] c) w
   jumps m c t I =
       let s = fetched_state i m (suc t) [] c I in
       ap (λ b. cond (not b && (suc t == suc t)) (quiet (machine.transfers (suc t) s) w) (detected s w)) (ne_eqb (suc t) 0 (λ e. omega arith))
       ∙ ap (λ b. cond b (quiet (machine.transfers (suc t) s) w) (detected s w)) (eq-eqb (suc t) (suc t) refl)
 
+  -- a blue jump, where d is its target
   pub jump_blue : (m : Registers) (c : Cells) (os : List Output) (rd : Reg) (t : ℕ) → slice_get (map bare o.instrs) i ≡ Some (instr.JmpB rd empty) → held m rd.number ≡ col Blue (suc t) → Leads o 2 (spot i m (suc t) [] c w os) (spot t m 0 [] c w os)
   jump_blue m c os rd t at ed = two_quiet o _ i m (suc t) [] c w os _ at (λ I.
       ap (λ (h : Coloured). machine.jump_blue h.word (fetched_state i m (suc t) [] c I) w) ed ∙ jumps m c t I)
 
+  -- a green branch that is taken
   pub branch_green_zero : (m : Registers) (c : Cells) (os : List Output) (rz rd : Reg) (a : ℕ) → slice_get (map bare o.instrs) i ≡ Some (instr.BzG rz rd) → held m rz.number ≡ col Green 0 → held m rd.number ≡ col Green a → Leads o 2 (spot i m 0 [] c w os) (spot (suc i) m a [] c w os)
   branch_green_zero m c os rz rd a at ez ed = two_quiet o _ i m 0 [] c w os _ at (λ I.
       let s = fetched_state i m 0 [] c I in
@@ -202,6 +220,7 @@ module _ (o : Object) (w : List Wild) (i : ℕ) (short : i < 65537) where
       ∙ ap (λ (h : Coloured). machine.jump_green h.word s w) ed
       ∙ goes_by m a [] c)
 
+  -- a green branch that is not
   pub branch_green_other : (m : Registers) (c : Cells) (os : List Output) (rz rd : Reg) (x : ℕ) → slice_get (map bare o.instrs) i ≡ Some (instr.BzG rz rd) → held m rz.number ≡ col Green (suc x) → Leads o 2 (spot i m 0 [] c w os) (spot (suc i) m 0 [] c w os)
   branch_green_other m c os rz rd x at ez = two_quiet o _ i m 0 [] c w os _ at (λ I.
       let s = fetched_state i m 0 [] c I in
@@ -209,6 +228,7 @@ module _ (o : Object) (w : List Wild) (i : ℕ) (short : i < 65537) where
       ∙ ap (λ b. cond b (machine.jump_green (held m rd.number).word s w) (machine.pass s w)) (ne_eqb (suc x) 0 (λ e. omega arith))
       ∙ goes_by m 0 [] c)
 
+  -- a blue branch that is taken
   pub branch_blue_zero : (m : Registers) (c : Cells) (os : List Output) (rz rd : Reg) (t : ℕ) → slice_get (map bare o.instrs) i ≡ Some (instr.BzB rz rd empty) → held m rz.number ≡ col Blue 0 → held m rd.number ≡ col Blue (suc t) → Leads o 2 (spot i m (suc t) [] c w os) (spot t m 0 [] c w os)
   branch_blue_zero m c os rz rd t at ez ed = two_quiet o _ i m (suc t) [] c w os _ at (λ I.
       let s = fetched_state i m (suc t) [] c I in
@@ -216,6 +236,7 @@ module _ (o : Object) (w : List Wild) (i : ℕ) (short : i < 65537) where
       ∙ ap (λ (h : Coloured). machine.jump_blue h.word s w) ed
       ∙ jumps m c t I)
 
+  -- a blue branch that is not
   pub branch_blue_other : (m : Registers) (c : Cells) (os : List Output) (rz rd : Reg) (x : ℕ) → slice_get (map bare o.instrs) i ≡ Some (instr.BzB rz rd empty) → held m rz.number ≡ col Blue (suc x) → Leads o 2 (spot i m 0 [] c w os) (spot (suc i) m 0 [] c w os)
   branch_blue_other m c os rz rd x at ez = two_quiet o _ i m 0 [] c w os _ at (λ I.
       let s = fetched_state i m 0 [] c I in

@@ -1,16 +1,21 @@
 //! Doubling: the instructions of a flow's steps, each in green and in blue.
 //!
 //! The crate promises that `duplicate` gives exactly the images of the flow's steps in order with the
-//! blocks' starts, and that the machine's run of any object that carries them is the flow's run. Its
-//! definitions: `specs/Images.antt` (the instructions of a step), `specs/Doubles.antt` (what carries a flow
-//! and what its run does).
+//! blocks' starts, and that the machine's run of any object that carries those of a well formed flow is the
+//! flow's run. Its definitions: `specs/Shape.antt` (which flows are doubled), `specs/Images.antt` (the
+//! instructions of a step), `specs/Doubles.antt` (what carries a flow and what its run does).
 #![tactic(auto)]
 
 mod doubled;
 mod emission;
+mod laws;
 mod registers;
 mod sizes;
 mod whole;
 
 pub use doubled::Doubled;
+pub use laws::fibonacci_program_is_doubled;
 pub use whole::duplicate;
+
+#[cfg(test)]
+mod tests;

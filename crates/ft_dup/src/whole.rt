@@ -2,7 +2,7 @@
 ghost use Rattle.std.specs.Prelude.{◌≡◌, ◌<◌, ◌++◌, length, map, slice_index, IfOk, OnOk};
 ghost use Rattle.std.specs.List.{All};
 ghost use Rattle.ft_lower.specs.Flow.{blocks_of};
-ghost use Rattle.ft_lower.specs.Size.{PairsBelow, pairs_of};
+ghost use Rattle.ft_lower.specs.Size.{PairsBelow, blocks_size, pairs_of};
 ghost use Rattle.ft_lower.specs.Well.{IsWell};
 ghost use Rattle.ft_dup.specs.Shape.{HasShape, HasTarget};
 ghost use Rattle.ft_dup.specs.Images.{blocks_images, doubled, row_images, starts};
@@ -53,6 +53,7 @@ pub fn duplicate(alloc: Global, flow: &Flow) -> Result<Doubled, NoMemory>
     ensures vars { IfOk result (λ d. d.vars ≡ flow.now.vars) }
     ensures instrs { IfOk result (λ d. d.instrs.items ≡ doubled (blocks_of flow.now)) }
     ensures starts { IfOk result (λ d. d.starts.items ≡ starts (blocks_of flow.now)) }
+    ensures size { IfOk result (λ d. length d.instrs.items ≡ blocks_size (blocks_of flow.now)) }
     ensures runs { IfOk result (λ d. IsWell flow.now.vars flow.now.cells (blocks_of flow.now) →
         RunsAs flow.now.vars flow.now.cells (blocks_of flow.now)) }
 {

@@ -23,6 +23,7 @@ pub record Like (n : ℕ) (p : Place) (s : State) (f : FlowState) : Type 0 where
   pub out : f.out ≡ s.out
   pub running : f.done ≡ false
 
+-- the same place
 pub moved : (n : ℕ) (p q : Place) (s : State) (f : FlowState) → p ≡ q → Like n p s f → Like n q s f
 moved n p q s f e l = subst (λ r. Like n r s f) e l
 
@@ -30,6 +31,7 @@ moved n p q s f e l = subst (λ r. Like n r s f) e l
 pub other_pair : (t v : ℕ) (f : FlowState) (q : ℕ) → q ≢ t → (with_pair t v f).pairs q ≡ f.pairs q
 other_pair t v f q ne = ap (λ b. cond b v (f.pairs q)) (ne_eqb q t ne)
 
+-- the pair itself holds the word
 pub same_pair : (t v : ℕ) (f : FlowState) → (with_pair t v f).pairs t ≡ v
 same_pair t v f = ap (λ b. cond b v (f.pairs t)) (eq-eqb t t refl)
 
@@ -44,6 +46,7 @@ put_like n t v p s f le l = record {
   running = l.running;
 }
 
+-- the same at a jump
 pub put_first : (n t v b : ℕ) (p : Place) (s : State) (f : FlowState) → n ≤ t → Like n p s f → Like n (first b) s (goes_to b (with_pair t v f))
 put_first n t v b p s f le l = record {
   vars = λ x h. other_pair t v f x (λ e. omega arith) ∙ l.vars x h;
@@ -77,6 +80,7 @@ module _ (bs : Blocks) (n m : ℕ) (s : State) where
     lower = λ q h. other_pair t v f q (λ e. omega arith);
   }
 
+  -- an expression's steps leave its word in pair t, in as many steps as it has nodes
   pub expression_run : (e : Expression Slot) (t : ℕ) (p : Place) (f : FlowState) → n ≤ t → ExpressionFits m n e → HasAt bs p (expression_steps t e) → Like n p s f → Valued bs n (after p (expression_steps t e)) t e s f
   expression_run (literal w) t p f le ok has l = one t w (literal w) (Put t w) p f le refl has.0 refl refl l
   expression_run (name (Var x)) t p f le ok has l = one t (f.pairs x) (name (Var x)) (Copy t x) p f le refl has.0 refl (l.vars x ok) l

@@ -25,6 +25,7 @@ module _ (m : ℕ) where
   abbrev Below : Step3 → Type 0
   Below i = All (λ p. p < m) (pairs_of i)
 
+  -- lists of pairs below m
   one_pair : (p : ℕ) → p < m → All (λ p. p < m) (p ∷ [])
   one_pair p h = All-cons (λ p. p < m) p [] h (All-nil (λ p. p < m))
 
@@ -97,6 +98,7 @@ module _ (m : ℕ) where
         (All-append Below cb (Go n out ∷ cr) (statements_below y other (omega arith) ok.2)
         (after_go n out cr lt (statements_below rest out (omega arith) ok.3))))))
 
+  -- the zeros at the start name the pairs of the variables
   zeros_below : (k : ℕ) → k ≤ m → All Below (zeros k)
   zeros_below zero le = All-nil Below
   zeros_below (suc k) le = All-push Below (zeros k) (Put k 0) (zeros_below k (omega arith)) (one_pair k (omega arith))

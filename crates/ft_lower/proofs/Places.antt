@@ -9,17 +9,21 @@ use Rattle.ft_lower.specs.Flow.{Place, on, first}
 use Rattle.ft_lower.specs.Lowered.{read, expression_steps, write, block_count, statement_steps, zeros}
 use Rattle.ft_lower.proofs.Runs.{next, after, after-append}
 
+-- the block after two rows
 pub block_append : (p : Place) (a b : List Step3) → (after p (a ++ b)).block ≡ (after (after p a) b).block
 block_append p a b = ap (λ (q : Place). q.block) (after-append p a b)
 
+-- a read ends no block
 read_next : (t : ℕ) (x : Slot) (p : Place) → next (read t x) p ≡ on p
 read_next t (Var x) p = refl
 read_next t (Cell c) p = refl
 
+-- a write ends no block
 write_next : (n : ℕ) (x : Slot) (p : Place) → next (write n x) p ≡ on p
 write_next n (Var x) p = refl
 write_next n (Cell c) p = refl
 
+-- an expression's steps end no block
 pub expression_block : (e : Expression Slot) (t : ℕ) (p : Place) → (after p (expression_steps t e)).block ≡ p.block
 expression_block (literal w) t p = refl
 expression_block (name x) t p = ap (λ (q : Place). q.block) (read_next t x p)
@@ -29,13 +33,16 @@ expression_block (operation o a b) t p =
     ∙ expression_block b (t + 1) (after p (expression_steps t a))
     ∙ expression_block a t p
 
+-- a write stays in its block
 pub write_block : (n : ℕ) (x : Slot) (p : Place) → (next (write n x) p).block ≡ p.block
 write_block n x p = ap (λ (q : Place). q.block) (write_next n x p)
 
+-- the zeros end no block
 pub zeros_block : (k : ℕ) (p : Place) → (after p (zeros k)).block ≡ p.block
 zeros_block zero p = refl
 zeros_block (suc k) p = block_append p (zeros k) (Put k 0 ∷ []) ∙ zeros_block k p
 
+-- statements end as many blocks as they begin
 pub statements_block : (st : StatementList Slot) (n b : ℕ) (p : Place) → p.block ≡ b → (after p (statement_steps n b st)).block ≡ b + block_count st
 statements_block none n b p e = e ∙ omega arith
 statements_block (assign to x rest) n b p e =

@@ -20,12 +20,15 @@ use Rattle.ft_lower.specs.Lowered.{blocks_onto}
 pub record Reaches (bs : Blocks) (j : ℕ) (f g : FlowState) : Type 0 where
   pub by : (k : ℕ) → steps bs (j + k) f ≡ steps bs k g
 
+-- a state comes to itself
 pub reach_none : (bs : Blocks) (f : FlowState) → Reaches bs 0 f f
 reach_none bs f = record { by = λ k. let e : 0 + k ≡ k = omega arith in ap (λ m. steps bs m f) e }
 
+-- one way and then another
 pub reach_trans : (bs : Blocks) (i j : ℕ) (f g h : FlowState) → Reaches bs i f g → Reaches bs j g h → Reaches bs (i + j) f h
 reach_trans bs i j f g h p q = record { by = λ k. let e : i + j + k ≡ i + (j + k) = omega arith in ap (λ m. steps bs m f) e ∙ p.by (j + k) ∙ q.by k }
 
+-- one step
 pub reach_one : (bs : Blocks) (f : FlowState) (i : Step3) → f.done ≡ false → step_at bs f.place ≡ Some i → Reaches bs 1 f (act i f)
 reach_one bs f i run at = record {
   by = λ k. let e : 1 + k ≡ suc k = omega arith in ap (λ m. steps bs m f) e ∙ ap (steps bs k) (ap (λ b. act_if b (step_at bs f.place) f) run ∙ ap (λ o. act_if false o f) at);
@@ -35,6 +38,7 @@ reach_one bs f i run at = record {
 pub reached : (bs : Blocks) (j : ℕ) (f g : FlowState) → Reaches bs j f g → steps bs j f ≡ g
 reached bs j f g r = let e : j ≡ j + 0 = omega arith in ap (λ m. steps bs m f) e ∙ r.by 0
 
+-- j steps and then k
 pub after_steps : (bs : Blocks) (j k : ℕ) (f : FlowState) → steps bs (j + k) f ≡ steps bs k (steps bs j f)
 after_steps bs zero k f = let e : 0 + k ≡ k = omega arith in ap (λ m. steps bs m f) e
 after_steps bs (suc j) k f = let e : suc j + k ≡ suc (j + k) = omega arith in ap (λ m. steps bs m f) e ∙ after_steps bs j k (flow_step bs f)
@@ -44,6 +48,7 @@ done_stays : (bs : Blocks) (k : ℕ) (f : FlowState) → f.done ≡ true → ste
 done_stays bs zero f d = refl
 done_stays bs (suc k) f d = ap (steps bs k) (ap (λ b. act_if b (step_at bs f.place) f) d) ∙ done_stays bs k f d
 
+-- a run that is done after j steps is the same later
 pub stays : (bs : Blocks) (j k : ℕ) (f : FlowState) → j ≤ k → (steps bs j f).done ≡ true → steps bs k f ≡ steps bs j f
 stays bs j k f le d = let e : k ≡ j + (k - j) = omega arith in ap (λ m. steps bs m f) e ∙ after_steps bs j (k - j) f ∙ done_stays bs (k - j) (steps bs j f) d
 
@@ -52,6 +57,7 @@ zero_begins : (v : ℕ) (o : List Output) (f g : FlowState) → Begins o f.out �
 zero_begins zero o f g p q = p
 zero_begins (suc v) o f g p q = q
 
+-- a step keeps the outputs before it
 act_begins : (i : Step3) (f : FlowState) → Begins f.out (act i f).out
 act_begins (Put p w) f = begins_refl f.out
 act_begins (Copy p q) f = begins_refl f.out
@@ -62,15 +68,18 @@ act_begins (Exit q spare to) f = zero_begins (f.pairs q) f.out (goes_to to (with
 act_begins (Go spare to) f = begins_refl f.out
 act_begins Stop f = begins_refl f.out
 
+-- also where there is none
 act_if_begins : (b : Bool) (o : Option Step3) (f : FlowState) → Begins f.out (act_if b o f).out
 act_if_begins true o f = begins_refl f.out
 act_if_begins false None f = begins_refl f.out
 act_if_begins false (Some i) f = act_begins i f
 
+-- so do many steps
 steps_begin : (bs : Blocks) (k : ℕ) (f : FlowState) → Begins f.out (steps bs k f).out
 steps_begin bs zero f = begins_refl f.out
 steps_begin bs (suc k) f = begins_trans f.out _ _ (act_if_begins f.done (step_at bs f.place) f) (steps_begin bs k (flow_step bs f))
 
+-- the outputs after j steps begin those later
 pub later : (bs : Blocks) (j k : ℕ) (f : FlowState) → j ≤ k → Begins (steps bs j f).out (steps bs k f).out
 later bs j k f le =
     let e : k ≡ j + (k - j) = omega arith in
@@ -82,10 +91,12 @@ later bs j k f le =
 abbrev pub next : Step3 → Place → Place
 next i p = cond (is_last i) (first (suc p.block)) (on p)
 
+-- the place after a row of steps
 abbrev pub after : Place → List Step3 → Place
 after p [] = p
 after p (i ∷ is) = after (next i p) is
 
+-- after two rows
 pub after-append : (p : Place) (a b : List Step3) → after p (a ++ b) ≡ after (after p a) b
 after-append p [] b = refl
 after-append p (i ∷ a) b = after-append (next i p) a b
@@ -95,10 +106,12 @@ abbrev pub HasAt : Blocks → Place → List Step3 → Type 0
 HasAt bs p [] = Unit {0}
 HasAt bs p (i ∷ is) = (step_at bs p ≡ Some i) × HasAt bs (next i p) is
 
+-- the first of two rows stands there
 pub has_front : (bs : Blocks) (p : Place) (a b : List Step3) → HasAt bs p (a ++ b) → HasAt bs p a
 has_front bs p [] b h = tt
 has_front bs p (i ∷ a) b h = (h.0, has_front bs (next i p) a b h.1)
 
+-- the second stands after the first
 pub has_back : (bs : Blocks) (p : Place) (a b : List Step3) → HasAt bs p (a ++ b) → HasAt bs (after p a) b
 has_back bs p [] b h = h
 has_back bs p (i ∷ a) b h = has_back bs (next i p) a b h.1
@@ -109,10 +122,12 @@ record Begun (open_block left : List Step3) : Type 0 where
   others : Blocks
   is : blocks_onto open_block left ≡ (open_block ++ rest) ∷ others
 
+-- by whether the next step ends the block
 begun_by : (x : Step3) (o : List Step3) (i : Step3) (is : List Step3) (b : Bool) → Begun (x ∷ (o ++ i ∷ [])) is → (rest : List Step3) × (others : Blocks) × ((elim b as (λ b. Blocks) [ true ↦ (x ∷ (o ++ i ∷ [])) ∷ blocks_onto [] is | false ↦ blocks_onto (x ∷ (o ++ i ∷ [])) is ]) ≡ (x ∷ (o ++ rest)) ∷ others)
 begun_by x o i is true d = (i ∷ [], blocks_onto [] is, refl)
 begun_by x o i is false d = (i ∷ d.rest, d.others, d.is ∙ ap (λ l. (x ∷ l) ∷ d.others) (append_assoc o (i ∷ []) d.rest))
 
+-- of an open block with a first step
 begun : (x : Step3) (open_block is : List Step3) → Begun (x ∷ open_block) is
 begun x o [] = record { rest = []; others = []; is = ap (λ l. l ∷ []) (sym (append-nil (x ∷ o))) }
 begun x o (i ∷ is) = let b = begun_by x o i is (is_last i) (begun x (o ++ i ∷ []) is) in record { rest = b.0; others = b.1; is = b.2 }
@@ -130,6 +145,7 @@ here bs o rest others i =
     ∙ slice_get-get_or (o ++ i ∷ rest) (length o) i within
     ∙ ap Some (get_or-append_seam o i rest i)
 
+-- the next step stands there, and what follows it after it
 has_from : (bs : Blocks) (o : List Step3) (i : Step3) (is : List Step3) (b : Bool) → ((bs1 : Blocks) (o1 : List Step3) → HasAt (bs1 ++ blocks_onto o1 is) (record { block = length bs1; index = length o1 }) is) → (let all = bs ++ (elim b as (λ b. Blocks) [ true ↦ (o ++ i ∷ []) ∷ blocks_onto [] is | false ↦ blocks_onto (o ++ i ∷ []) is ]) in (step_at all (record { block = length bs; index = length o }) ≡ Some i) × HasAt all (cond b (first (suc (length bs))) (record { block = length bs; index = suc (length o) })) is)
 has_from bs o i is true all =
     let B = o ++ i ∷ [] in
@@ -144,6 +160,7 @@ has_from bs o i is false all =
     let is_begun : blocks_onto B is ≡ (o ++ i ∷ b.rest) ∷ b.others = b.is ∙ ap (λ l. l ∷ b.others) (append_assoc o (i ∷ []) b.rest) in
     (subst (λ l. step_at (bs ++ l) (record { block = length bs; index = length o }) ≡ Some i) (sym is_begun) at, subst (λ n. HasAt (bs ++ blocks_onto B is) (record { block = length bs; index = n }) is) e (all bs B))
 
+-- a row that is cut into blocks stands in them
 pub has_all : (bs : Blocks) (o is : List Step3) → HasAt (bs ++ blocks_onto o is) (record { block = length bs; index = length o }) is
 has_all bs o [] = tt
 has_all bs o (i ∷ is) = has_from bs o i is (is_last i) (λ bs1 o1. has_all bs1 o1 is)

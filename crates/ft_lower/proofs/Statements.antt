@@ -36,6 +36,7 @@ pub record CutsAt (bs : Blocks) (c : ℕ) (s : State) (f : FlowState) (t : State
   pub out : end.out ≡ t.out
   pub running : end.done ≡ false
 
+-- what the flow does where the program has this outcome
 abbrev pub Runs : Blocks → ℕ → ℕ → Place → State → FlowState → Outcome → Type 0
 Runs bs n c p s f (Ended t) = EndsAt bs n c p s f t
 Runs bs n c p s f (Cut t) = CutsAt bs c s f t
@@ -79,6 +80,7 @@ pub then_run : (bs : Blocks) (n c : ℕ) (p q : Place) (s : State) (f : FlowStat
 then_run bs n c p q s f (Ended t) go r le k = prepend bs n c 0 r.taken q s t f r.end (go t) r.reaches (omega (arith, r.few)) (omega (arith, r.many)) (k t r.end le r.like)
 then_run bs n c p q s f (Cut t) go r le k = r
 
+-- the same end
 pub ends_at : (bs : Blocks) (n c : ℕ) (p q : Place) (s : State) (f : FlowState) (r : Outcome) → p ≡ q → Runs bs n c p s f r → Runs bs n c q s f r
 ends_at bs n c p q s f r e h = subst (λ x. Runs bs n c x s f r) e h
 
@@ -86,6 +88,7 @@ ends_at bs n c p q s f r e h = subst (λ x. Runs bs n c x s f r) e h
 pub like_evaluated : (n : ℕ) (p : Place) (e : Expression Slot) (s : State) (f : FlowState) → Like n p s f → Like n p (evaluated e s) f
 like_evaluated n p e s f l = record { vars = l.vars; many = l.many; cells = l.cells; place = l.place; out = l.out; running = l.running }
 
+-- nor about the turns that are left
 pub like_left : (n k : ℕ) (p : Place) (s : State) (f : FlowState) → Like n p s f → Like n p (with_left k s) f
 like_left n k p s f l = record { vars = l.vars; many = l.many; cells = l.cells; place = l.place; out = l.out; running = l.running }
 
@@ -96,6 +99,7 @@ module _ (bs : Blocks) (n m : ℕ) where
     reaches : Reaches bs (expression_nodes e + 1) f end
     like : Like n p (evaluated e s) end
 
+  -- by what the exit does
   tested_by : (e : Expression Slot) (to : ℕ) (p q : Place) (s : State) (f g : FlowState) → (V : Valued bs n (after p (expression_steps (n + 1) e)) (n + 1) e s f) → step_at bs (after p (expression_steps (n + 1) e)) ≡ Some (Exit (n + 1) n to) → act (Exit (n + 1) n to) V.end ≡ g → Like n q s g → Tested e q s f
   tested_by e to p q s f g V at eq l = record {
     end = g;
@@ -103,11 +107,13 @@ module _ (bs : Blocks) (n m : ℕ) where
     like = like_evaluated n q e s g l;
   }
 
+  -- where the word is 0 the exit is taken
   tested_zero : (e : Expression Slot) (to : ℕ) (p : Place) (s : State) (f : FlowState) → Valued bs n (after p (expression_steps (n + 1) e)) (n + 1) e s f → step_at bs (after p (expression_steps (n + 1) e)) ≡ Some (Exit (n + 1) n to) → value e s.vars s.cells ≡ 0 → Tested e (first to) s f
   tested_zero e to p s f V at z =
       let a = goes_to to (with_pair n 0 V.end) in
       tested_by e to p (first to) s f a V at (ap (λ v. at_zero v a (goes_on (with_pair n 0 V.end))) (V.value ∙ z)) (put_first n n 0 to _ s V.end (omega arith) V.like)
 
+  -- where it is not the flow goes on
   tested_suc : (e : Expression Slot) (to v : ℕ) (p : Place) (s : State) (f : FlowState) → Valued bs n (after p (expression_steps (n + 1) e)) (n + 1) e s f → step_at bs (after p (expression_steps (n + 1) e)) ≡ Some (Exit (n + 1) n to) → value e s.vars s.cells ≡ suc v → Tested e (on (after p (expression_steps (n + 1) e))) s f
   tested_suc e to v p s f V at z =
       let a = goes_on (with_pair n 0 V.end) in
@@ -115,10 +121,12 @@ module _ (bs : Blocks) (n m : ℕ) where
 
   -- ASSIGNMENTS
 
+  -- a variable that is set, and the others
   set_var : (x y v : ℕ) (vs : List ℕ) (g : FlowState) → x < length vs → g.pairs y ≡ slice_index vs y → (with_pair x v g).pairs y ≡ slice_index (slice_set vs x v) y
   set_var x y v vs g h old =
       elim (cases_eq y x) [ inl e ↦ subst (λ z. (with_pair x v g).pairs z ≡ slice_index (slice_set vs x v) z) (sym e) (same_pair x v g ∙ sym (get_or-set_same vs x v 0 h)) | inr ne ↦ other_pair x v g y ne ∙ old ∙ sym (get_or-set_other vs x y v 0 ne) ]
 
+  -- a write is the assignment
   written : (to : Slot) (v : ℕ) (e : Expression Slot) (p : Place) (s : State) (f : FlowState) → SlotFits m n to → f.pairs (n + 1) ≡ v → Like n p s f → Like n (next (write n to) p) (assigned to v (evaluated e s)) (act (write n to) f)
   written (Var x) v e p s f ok is l =
       let g = goes_on (with_pair x v f) in
@@ -142,20 +150,24 @@ module _ (bs : Blocks) (n m : ℕ) where
       } in
       subst (λ w. Like n (on p) (assigned (Cell c) v (evaluated e s)) (goes_on (with_pair n 0 (with_cell c w f)))) (sym is) r
 
+  -- an assignment takes as many steps as its work
   work_of : (to : Slot) (v : ℕ) (e : Expression Slot) (s : State) → expression_nodes e + 1 + 0 + 2 * s.work ≤ 0 + 2 * (assigned to v (evaluated e s)).work
   work_of (Var x) v e s = omega arith
   work_of (Cell c) v e s = omega arith
 
+  -- an assignment takes no turn
   left_of : (to : Slot) (v : ℕ) (e : Expression Slot) (s : State) → s.left ≤ (assigned to v (evaluated e s)).left + (expression_nodes e + 1)
   left_of (Var x) v e s = omega arith
   left_of (Cell c) v e s = omega arith
 
+  -- a choice gives no turn back
   zero_less : (v : ℕ) (s : State) (a b : Outcome) → (state_of a).left ≤ s.left → (state_of b).left ≤ s.left → (state_of (at_zero v a b)).left ≤ s.left
   zero_less zero s a b p q = p
   zero_less (suc v) s a b p q = q
 
   -- CHOICES
 
+  -- a test, one of two sides and its jump are a choice
   choose_run : (v : ℕ) (e : Expression Slot) (to end : ℕ) (p p3 p5 : Place) (s : State) (f : FlowState) (ra rb : Outcome) → value e s.vars s.cells ≡ v → Valued bs n (after p (expression_steps (n + 1) e)) (n + 1) e s f → step_at bs (after p (expression_steps (n + 1) e)) ≡ Some (Exit (n + 1) n to) → step_at bs p3 ≡ Some (Go n end) → step_at bs p5 ≡ Some (Go n end) → ((g : FlowState) → Like n (on (after p (expression_steps (n + 1) e))) (evaluated e s) g → Runs bs n 0 p3 (evaluated e s) g ra) → ((g : FlowState) → Like n (first to) (evaluated e s) g → Runs bs n 0 p5 (evaluated e s) g rb) → Runs bs n 0 (first end) s f (at_zero v rb ra)
   choose_run zero e to end p p3 p5 s f ra rb is V at at3 at5 a b =
       let T = tested_zero e to p s f V at is in
@@ -198,6 +210,7 @@ module _ (bs : Blocks) (n m : ℕ) where
 
   -- STATEMENTS
 
+  -- the steps of statements are their run
   pub statements_run : (st : StatementList Slot) (b : ℕ) (p : Place) (s : State) (f : FlowState) → p.block ≡ b → StatementsFit m n st → HasAt bs p (statement_steps n b st) → Like n p s f → Runs bs n 0 (after p (statement_steps n b st)) s f (run st s)
   statements_run none b p s f e ok has l = record { end = f; taken = 0; reaches = reach_none bs f; few = omega arith; many = omega arith; like = l }
   statements_run (assign to x rest) b p s f e ok has l =

@@ -58,6 +58,7 @@ Knows n k = (x : ℕ) → x < n → k x ≡ true
 
 -- over n variables and m cells, with so many blocks
 module _ (n m : ℕ) (blocks : ℕ) where
+  -- a step is well after what is known
   abbrev StepIsWell : Known → Step3 → Type 0
   StepIsWell k i = StepFits m blocks i × ReadsKnown n k i
 
@@ -75,10 +76,12 @@ module _ (n m : ℕ) (blocks : ℕ) where
   FlatIsWell k [] = Unit {0}
   FlatIsWell k (i ∷ is) = StepIsWell k i × FlatIsWell (after_step i k) is
 
+  -- what is known after two rows
   walk-append : (k : Known) (a b : List Step3) → walk k (a ++ b) ≡ walk (walk k a) b
   walk-append k [] b = refl
   walk-append k (i ∷ a) b = walk-append (after_step i k) a b
 
+  -- two rows are well where each is
   flat-append : (k : Known) (a b : List Step3) → FlatIsWell k a → FlatIsWell (walk k a) b → FlatIsWell k (a ++ b)
   flat-append k [] b p q = q
   flat-append k (i ∷ a) b p q = (p.0, flat-append (after_step i k) a b p.1 q)
@@ -90,6 +93,7 @@ module _ (n m : ℕ) (blocks : ℕ) where
     here : walk k (expression_steps t e) t ≡ true
     lower : (q : ℕ) → q < t → walk k (expression_steps t e) q ≡ k q
 
+  -- so are those of each expression
   flat_expression : (e : Expression Slot) (t : ℕ) (k : Known) → n ≤ t → ExpressionFits m n e → Knows n k → FlatExpression t k e
   flat_expression (literal w) t k le fits h = record { well = ((fits, tt), tt); knows = λ x lt. learn_keeps t k x (h x lt); here = learn_same t k; lower = λ q lt. learn_other t k q (λ e. omega arith) }
   flat_expression (name (Var y)) t k le fits h = record { well = ((tt, h y fits), tt); knows = λ x lt. learn_keeps t k x (h x lt); here = learn_same t k; lower = λ q lt. learn_other t k q (λ e. omega arith) }
@@ -110,9 +114,11 @@ module _ (n m : ℕ) (blocks : ℕ) where
         lower = λ q lt. ap (λ (f : Known). f q) at ∙ learn_other t k2 q (λ e. omega arith) ∙ B.lower q (omega arith) ∙ A.lower q lt;
       }
 
+  -- the variables are known where they are what is known
   knows_below : Knows n (pairs_below n)
   knows_below x lt = lt-ltb x n lt
 
+  -- without the spare the variables are still known
   knows_forget : (k : Known) → Knows n k → Knows n (forget n k)
   knows_forget k h x lt = forget_other n k x (λ e. omega arith) ∙ h x lt
 
@@ -120,6 +126,7 @@ module _ (n m : ℕ) (blocks : ℕ) where
   keeps : (k : Known) → Knows n k → KeepsVariables n k n
   keeps k h = record { known = h; free = omega arith }
 
+  -- a jump goes to a block that is there
   target : (to : ℕ) → to < blocks → 0 < to → IsTarget blocks to
   target to there entry = record { there = there; no_entry = entry }
 
@@ -200,6 +207,7 @@ module _ (n m : ℕ) (blocks : ℕ) where
 
   -- INTO BLOCKS
 
+  -- a block ends rightly, and its steps are well
   record BlockIsWell (k : Known) (is : List Step3) : Type 0 where
     ended : IsBlock is
     well : RowIsWell n m blocks k is
@@ -214,10 +222,12 @@ module _ (n m : ℕ) (blocks : ℕ) where
   IsOpen [] = Unit {0}
   IsOpen (i ∷ is) = (is_last i ≡ false) × IsOpen is
 
+  -- one step more that ends no block
   open-append : (o : List Step3) (i : Step3) → IsOpen o → is_last i ≡ false → IsOpen (o ++ i ∷ [])
   open-append [] i h e = (e, tt)
   open-append (x ∷ o) i h e = (h.0, open-append o i h.1 e)
 
+  -- what follows a step that ends a block or not
   abbrev EndIs : Bool → List Step3 → Type 0
   EndIs b is = elim b as (λ b. Type 0) [ true ↦ is ≡ [] | false ↦ IsBlock is ]
 
@@ -226,14 +236,17 @@ module _ (n m : ℕ) (blocks : ℕ) where
   closed [] i h e = subst (λ b. EndIs b []) (sym e) refl
   closed (x ∷ o) i h e = subst (λ b. EndIs b (o ++ i ∷ [])) (sym h.0) (closed o i h.1 e)
 
+  -- one step more that is well
   row-append : (k : Known) (o : List Step3) (i : Step3) → RowIsWell n m blocks k o → StepIsWell (row_known k o) i → RowIsWell n m blocks k (o ++ i ∷ [])
   row-append k [] i h w = (w.0, w.1, tt)
   row-append k (x ∷ o) i h w = (h.0, h.1, row-append (known_after x k) o i h.2 w)
 
+  -- what is known after one step more
   row_known-append : (k : Known) (o : List Step3) (i : Step3) → row_known k (o ++ i ∷ []) ≡ known_after i (row_known k o)
   row_known-append k [] i = refl
   row_known-append k (x ∷ o) i = row_known-append (known_after x k) o i
 
+  -- by whether the next step ends the block
   all_by : (b : Bool) (i : Step3) (is o : List Step3) (k : Known) → is_last i ≡ b → ((o1 : List Step3) (k1 : Known) → IsOpen o1 → RowIsWell n m blocks k1 o1 → FlatIsWell (row_known k1 o1) (is ++ Stop ∷ []) → AllAreWell k1 (blocks_onto o1 (is ++ Stop ∷ []))) → IsOpen o → RowIsWell n m blocks k o → StepIsWell (row_known k o) i → FlatIsWell (cond b (pairs_below n) (known_after i (row_known k o))) (is ++ Stop ∷ []) → AllAreWell k (elim b as (λ b. Blocks) [ true ↦ (o ++ i ∷ []) ∷ blocks_onto [] (is ++ Stop ∷ []) | false ↦ blocks_onto (o ++ i ∷ []) (is ++ Stop ∷ []) ])
   all_by true i is o k e next op row step flat = (record { ended = closed o i op e; well = row-append k o i row step }, next [] (pairs_below n) tt tt flat)
   all_by false i is o k e next op row step flat =

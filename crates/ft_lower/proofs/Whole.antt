@@ -31,9 +31,11 @@ record Fresh (bs : Blocks) (k : ℕ) (p : Place) (f : FlowState) : Type 0 where
   out : end.out ≡ f.out
   running : end.done ≡ false
 
+-- a pair that is 0 stays so
 zero_pair : (k q : ℕ) (f : FlowState) → f.pairs q ≡ 0 → (with_pair k 0 f).pairs q ≡ 0
 zero_pair k q f z = elim (cases_eq q k) [ inl e ↦ subst (λ x. (with_pair k 0 f).pairs x ≡ 0) (sym e) (same_pair k 0 f) | inr ne ↦ other_pair k 0 f q ne ∙ z ]
 
+-- the zeros take a step for each variable
 zeros_run : (bs : Blocks) (k : ℕ) (p : Place) (f : FlowState) → HasAt bs p (zeros k) → ((q : ℕ) → f.pairs q ≡ 0) → f.place ≡ p → f.done ≡ false → Fresh bs k (after p (zeros k)) f
 zeros_run bs zero p f has z at run = record { end = f; reaches = reach_none bs f; pairs = z; cells = refl; place = at; out = refl; running = run }
 zeros_run bs (suc k) p f has z at run =
@@ -57,6 +59,7 @@ abbrev Follows : Blocks → FlowState → ℕ → Outcome → Type 0
 Follows bs f t (Ended s) = (j : ℕ) × (j ≤ 2 * s.work + 40) × ((steps bs j f).done ≡ true) × ((steps bs j f).out ≡ s.out)
 Follows bs f t (Cut s) = (j : ℕ) × (t ≤ j) × (j ≤ 2 * s.work + 40) × ((steps bs j f).done ≡ false) × ((steps bs j f).out ≡ s.out)
 
+-- after the zeros come the statements, and then the end
 follows_from : (bs : Blocks) (n i t : ℕ) (p : Place) (s : State) (f f1 : FlowState) (r : Outcome) → i ≤ 32 → s.work ≡ 0 → s.left ≡ t → Reaches bs i f f1 → step_at bs p ≡ Some Stop → Runs bs n 0 p s f1 r → Follows bs f t r
 follows_from bs n i t p s f f1 (Ended s1) le w l to at r =
     let g = act Stop r.end in
@@ -67,6 +70,7 @@ follows_from bs n i t p s f f1 (Cut s1) le w l to at r =
     let e = reached bs (i + r.taken) f r.end (reach_trans bs i r.taken f f1 r.end to r.reaches) in
     (i + r.taken, omega (arith, r.many), omega (arith, r.few), ap (λ (x : FlowState). x.done) e ∙ r.running, ap (λ (x : FlowState). x.out) e ∙ r.out)
 
+-- the flow does what the program does
 follows : (p : Program) → IsResolved p → (t : ℕ) → Follows (lowered p) (flow_start p.inits) t (meaning p t)
 follows p fits t =
     let bs = lowered p in
@@ -88,6 +92,7 @@ follows p fits t =
     let R = statements_run bs n (length p.inits) p.body 0 p1 (start p t) A.end (zeros_block n (first 0)) fits.names (has_front bs p1 cp _ h) like in
     follows_from bs n n t (after p1 cp) (start p t) f A.end (meaning p t) (omega (arith, fits.need)) refl refl A.reaches (has_back bs p1 cp (Stop ∷ []) h).0 R
 
+-- no test is both
 clash : (b : Bool) → b ≡ true → b ≡ false → ⊥
 clash b p q = cc
 
@@ -100,6 +105,7 @@ done_from bs f k (Ended s) h d =
     ]
 done_from bs f k (Cut s) h d = absurd (clash (steps bs h.0 f).done (ap (λ (x : FlowState). x.done) (stays bs k h.0 f h.1 d) ∙ d) h.3)
 
+-- a run that is not done has outputs that begin those
 running_from : (bs : Blocks) (f : FlowState) (k : ℕ) (r : Outcome) → Follows bs f k r → (steps bs k f).done ≡ false → Begins (steps bs k f).out (state_of r).out
 running_from bs f k (Ended s) h d =
     elim (cases_lt h.0 k) [
@@ -108,12 +114,15 @@ running_from bs f k (Ended s) h d =
     ]
 running_from bs f k (Cut s) h d = subst (λ o. Begins (steps bs k f).out o) h.4 (later bs k h.0 f h.1)
 
+-- after twice the work and 40 steps the run is done
 ends_from : (bs : Blocks) (f : FlowState) (k t : ℕ) (s : State) → Follows bs f t (Ended s) → 2 * s.work + 40 ≤ k → ((steps bs k f).done ≡ true) × ((steps bs k f).out ≡ s.out)
 ends_from bs f k t s h le = let e = stays bs h.0 k f (omega (arith, h.1)) h.2 in (ap (λ (x : FlowState). x.done) e ∙ h.2, ap (λ (x : FlowState). x.out) e ∙ h.3)
 
+-- and has the outputs of a cut one
 cuts_from : (bs : Blocks) (f : FlowState) (k t : ℕ) (s : State) → Follows bs f t (Cut s) → 2 * s.work + 40 ≤ k → Begins s.out (steps bs k f).out
 cuts_from bs f k t s h le = subst (λ o. Begins o (steps bs k f).out) h.4 (later bs h.0 k f (omega (arith, h.2)))
 
+-- the blocks of a program do what it means
 pub lowers : (p : Program) → IsResolved p → Lowers p (lowered p)
 lowers p fits =
     let bs = lowered p in

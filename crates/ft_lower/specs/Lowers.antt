@@ -1,4 +1,4 @@
--- What the flow of a program is, and what its run does.
+-- What the run of a program's flow does.
 use Rattle.std.specs.Prelude.{◌≡◌, ℕ, ◌+◌, ◌*◌, ◌≤◌, true, false}
 use Rattle.ft_scope.specs.Resolved.{Program}
 use Rattle.ft_meaning.specs.Meaning.{State, Ended, Cut, outputs, meaning}

@@ -3,6 +3,7 @@ ghost use Rattle.std.specs.Prelude.{◌≡◌, ◌≢◌, ◌+◌, ◌<◌, ◌�
 ghost use Rattle.ft_syntax.specs.Plain.{none, plain_expression, plain_statement, plain_list};
 ghost use Rattle.ft_scope.specs.Size.{same_slot, need, most_need};
 ghost use Rattle.ft_scope.specs.ProgramOf.{program_of};
+ghost use Rattle.ft_lower.specs.declared.step3.Step3.TheVariants.{Exit};
 ghost use Rattle.ft_lower.specs.Lowered.{block_count, body_counts, Tops, expression_steps, write, statement_steps, zeros, program_steps};
 
 use crate::counting::count_blocks;
@@ -19,44 +20,43 @@ fn put(steps: &mut Vec<Step3>, step: Step3) -> Result<(), AllocError>
     Ok(())
 }
 
-/// The steps that leave an expression's word in pair t, by this pair and those above it.
-fn emit_expression(steps: &mut Vec<Step3>, t: u8, e: &Expr<Slot>) -> Result<(), AllocError>
-    requires pairs { t + need (plain_expression same_slot e.now) ≤ 32 }
-    ensures { OnOk result (steps.new.items ≡ steps.old.items ++ expression_steps t (plain_expression same_slot e.now)) }
+/// The steps that leave an expression's word in pair p, by this pair and those above it.
+fn emit_expression(steps: &mut Vec<Step3>, p: u8, e: &Expr<Slot>) -> Result<(), AllocError>
+    requires pairs { p + need (plain_expression same_slot e.now) ≤ 32 }
+    ensures { OnOk result (steps.new.items ≡ steps.old.items ++ expression_steps p (plain_expression same_slot e.now)) }
 {
     match e {
-        Expr::Literal(word) => put(steps, Step3::Put { p: t, word: *word }),
-        Expr::Name(Slot::Var(x)) => put(steps, Step3::Copy { p: t, q: *x }),
-        Expr::Name(Slot::Cell(k)) => put(steps, Step3::Load { p: t, cell: *k }),
+        Expr::Literal(word) => put(steps, Step3::Put { p, word: *word }),
+        Expr::Name(Slot::Var(x)) => put(steps, Step3::Copy { p, q: *x }),
+        Expr::Name(Slot::Cell(k)) => put(steps, Step3::Load { p, cell: *k }),
         Expr::Op { op, a, b } => {
-            emit_expression(steps, t, a)?;
-            emit_expression(steps, t + 1, b)?;
-            put(
-                steps,
-                Step3::Op {
-                    op: *op,
-                    p: t,
-                    q: t,
-                    s: t + 1,
-                },
-            )
+            emit_expression(steps, p, a)?;
+            emit_expression(steps, p + 1, b)?;
+            let (op, q, s) = (*op, p, p + 1);
+            put(steps, Step3::Op { op, p, q, s })
         }
     }
 }
 
-/// The step that writes pair n + 1 to a cell or a variable, with the spare n.
-fn write_step(n: u8, to: Slot) -> Step3
-    requires { n < 255 }
-    ensures { result ≡ write n to }
+/// The step that writes the pair after the spare to a cell or a variable.
+fn write_step(spare: u8, to: Slot) -> Step3
+    requires { spare < 255 }
+    ensures { result ≡ write spare to }
 {
+    let q = spare + 1;
     match to {
-        Slot::Var(x) => Step3::Copy { p: x, q: n + 1 },
-        Slot::Cell(k) => Step3::Store {
-            cell: k,
-            q: n + 1,
-            spare: n,
-        },
+        Slot::Var(p) => Step3::Copy { p, q },
+        Slot::Cell(cell) => Step3::Store { cell, q, spare },
     }
+}
+
+/// The step that goes on to a block where the pair after the spare holds 0.
+fn exit_step(spare: u8, to: u32) -> Step3
+    requires { spare < 255 }
+    ensures { result ≡ Exit (spare + 1) spare to }
+{
+    let q = spare + 1;
+    Step3::Exit { q, spare, to }
 }
 
 /// The number on top of a stack.
@@ -67,97 +67,83 @@ fn next_count(counts: &mut Vec<u32>) -> u32
     counts.pop().unwrap()
 }
 
-/// The steps of statements over n variables that begin within block b, where the stack has how many blocks
-/// their bodies begin. Answers the block in which they end.
+/// The steps of statements that begin within a block, where the variables' pairs are those below the spare, and
+/// the stack has how many blocks their bodies begin. Answers the block in which they end.
 #[cycle(emit)]
 fn emit_statements(
     steps: &mut Vec<Step3>,
     counts: &mut Vec<u32>,
-    n: u8,
-    b: u32,
+    spare: u8,
+    block: u32,
     all: &[Stmt<Slot>],
 ) -> Result<u32, AllocError>
-    requires few { b + block_count (plain_list same_slot all.now) < 2 ^ 32 }
-    requires pairs { n + 1 + most_need (plain_list same_slot all.now) ≤ 32 }
+    requires few { block + block_count (plain_list same_slot all.now) < 2 ^ 32 }
+    requires pairs { spare + 1 + most_need (plain_list same_slot all.now) ≤ 32 }
     requires counted { Tops (body_counts (plain_list same_slot all.now)) counts.old.items }
-    ensures steps { OnOk result (steps.new.items ≡ steps.old.items ++ statement_steps n b (plain_list same_slot all.now)) }
+    ensures steps { OnOk result (steps.new.items ≡ steps.old.items ++ statement_steps spare block (plain_list same_slot all.now)) }
     ensures counts { OnOk result (counts.old.items ≡ counts.new.items ++ body_counts (plain_list same_slot all.now)) }
-    ensures block { IfOk result (λ c. c ≡ b + block_count (plain_list same_slot all.now)) }
+    ensures block { IfOk result (λ c. c ≡ block + block_count (plain_list same_slot all.now)) }
 {
-    let mut at = b;
+    let mut at = block;
     for s in all {
-        at = emit_statement(steps, counts, n, at, s)?;
+        at = emit_statement(steps, counts, spare, at, s)?;
     }
     Ok(at)
 }
 
-/// The steps of a statement over n variables that begin within block b, where the stack has how many blocks
-/// its bodies begin. Answers the block in which they end.
+/// The steps of a statement that begin within a block, where the variables' pairs are those below the spare, and
+/// the stack has how many blocks its bodies begin. Answers the block in which they end.
 #[tactic(auto, using(crate::proofs::Forms::forms))]
 #[cycle(emit)]
 fn emit_statement(
     steps: &mut Vec<Step3>,
     counts: &mut Vec<u32>,
-    n: u8,
-    b: u32,
+    spare: u8,
+    block: u32,
     s: &Stmt<Slot>,
 ) -> Result<u32, AllocError>
-    requires few { b + block_count (plain_statement same_slot s.now none) < 2 ^ 32 }
-    requires pairs { n + 1 + most_need (plain_statement same_slot s.now none) ≤ 32 }
+    requires few { block + block_count (plain_statement same_slot s.now none) < 2 ^ 32 }
+    requires pairs { spare + 1 + most_need (plain_statement same_slot s.now none) ≤ 32 }
     requires counted { Tops (body_counts (plain_statement same_slot s.now none)) counts.old.items }
-    ensures steps { OnOk result (steps.new.items ≡ steps.old.items ++ statement_steps n b (plain_statement same_slot s.now none)) }
+    ensures steps { OnOk result (steps.new.items ≡ steps.old.items ++ statement_steps spare block (plain_statement same_slot s.now none)) }
     ensures counts { OnOk result (counts.old.items ≡ counts.new.items ++ body_counts (plain_statement same_slot s.now none)) }
-    ensures block { IfOk result (λ c. c ≡ b + block_count (plain_statement same_slot s.now none)) }
+    ensures block { IfOk result (λ c. c ≡ block + block_count (plain_statement same_slot s.now none)) }
 {
     match s {
         Stmt::Assign { to, value } => {
-            emit_expression(steps, n + 1, value)?;
-            put(steps, write_step(n, *to))?;
-            Ok(b)
+            emit_expression(steps, spare + 1, value)?;
+            put(steps, write_step(spare, *to))?;
+            Ok(block)
         }
         Stmt::While { test, body } => {
-            let head = b + 1;
+            let head = block + 1;
             let out = head + 1 + next_count(counts);
-            put(steps, Step3::Go { spare: n, to: head })?;
-            emit_expression(steps, n + 1, test)?;
-            put(
-                steps,
-                Step3::Exit {
-                    q: n + 1,
-                    spare: n,
-                    to: out,
-                },
-            )?;
-            emit_statements(steps, counts, n, head, body)?;
-            put(steps, Step3::Go { spare: n, to: head })?;
+            put(steps, Step3::Go { spare, to: head })?;
+            emit_expression(steps, spare + 1, test)?;
+            put(steps, exit_step(spare, out))?;
+            emit_statements(steps, counts, spare, head, body)?;
+            put(steps, Step3::Go { spare, to: head })?;
             Ok(out)
         }
         Stmt::If { test, yes, no } => {
-            let other = b + 1 + next_count(counts);
+            let other = block + 1 + next_count(counts);
             let out = other + 1 + next_count(counts);
-            emit_expression(steps, n + 1, test)?;
-            put(
-                steps,
-                Step3::Exit {
-                    q: n + 1,
-                    spare: n,
-                    to: other,
-                },
-            )?;
-            emit_statements(steps, counts, n, b, yes)?;
-            put(steps, Step3::Go { spare: n, to: out })?;
-            emit_statements(steps, counts, n, other, no)?;
-            put(steps, Step3::Go { spare: n, to: out })?;
+            emit_expression(steps, spare + 1, test)?;
+            put(steps, exit_step(spare, other))?;
+            emit_statements(steps, counts, spare, block, yes)?;
+            put(steps, Step3::Go { spare, to: out })?;
+            emit_statements(steps, counts, spare, other, no)?;
+            put(steps, Step3::Go { spare, to: out })?;
             Ok(out)
         }
     }
 }
 
-/// 0 in each of the first n pairs.
-fn emit_zeros(steps: &mut Vec<Step3>, n: u8) -> Result<(), AllocError>
-    ensures { OnOk result (steps.new.items ≡ steps.old.items ++ zeros n) }
+/// 0 in each of the variables' pairs.
+fn emit_zeros(steps: &mut Vec<Step3>, vars: u8) -> Result<(), AllocError>
+    ensures { OnOk result (steps.new.items ≡ steps.old.items ++ zeros vars) }
 {
-    for p in 0..n {
+    for p in 0..vars {
         put(steps, Step3::Put { p, word: 0 })?;
     }
     Ok(())

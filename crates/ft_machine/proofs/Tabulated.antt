@@ -5,6 +5,9 @@ use Rattle.std.specs.Ordering.{nat_cmp, eq_by_cmp}
 use Rattle.std.specs.Cmp.{nat_cmp_total, unsigned_tied}
 use Rattle.std.specs.FinMap.{get, insert, contains_key, get-insert, get-empty}
 use Rattle.std.specs.Prelude.{◌||◌, ◌==◌}
+use Rattle.std.proofs.Common.{⊎_elim, sym}
+use Rattle.std.proofs.lemmas.Bool.{false≢true}
+use Rattle.ft_machine.proofs.Maps.{key_there}
 use Rattle.ft_isa.specs.Words.{cell_address}
 use Rattle.ft_types.specs.State.{tabulate}
 
@@ -39,3 +42,10 @@ cells_there value zero a = ap is_some (get-empty nat_cmp a) ∙ none_between a
 cells_there value (suc n) a =
     contains_key-insert _ (cell_address n) (value n) a
     ∙ ap (λ b. (a == cell_address n) || b) (cells_there value n a) ∙ between a n
+
+-- and no register beyond
+pub no_registers_beyond : {V : Type 0} (value : ℕ → V) (n r : ℕ) → IsTrue (contains_key (tabulate n (λ r. r) value) r) → r < n
+unfolding tabulate
+no_registers_beyond value zero r h = absurd (false≢true (sym (ap is_some (get-empty nat_cmp r)) ∙ h))
+no_registers_beyond value (suc n) r h =
+    ⊎_elim (λ (e : r ≡ n). omega arith) (λ (i : IsTrue (contains_key (tabulate n (λ r. r) value) r)). let below = no_registers_beyond value n r i in omega arith) (key_there (tabulate n (λ r. r) value) n (value n) r h)

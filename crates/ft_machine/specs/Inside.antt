@@ -17,6 +17,7 @@ state_of m = record {
   status = m.status;
 }
 
--- each of the 64 registers is there
+-- each of the 64 registers is there, and no other
 pub record HasRegisters (m : Inside) : Type 0 where
   pub registers : (r : ℕ) → r < 64 → IsTrue (map.contains_key m.registers r)
+  pub few : (r : ℕ) → IsTrue (map.contains_key m.registers r) → r < 64

@@ -87,6 +87,21 @@ impl Machine {
         })
     }
 
+    /// Takes over another machine's state, which takes no memory. Both have the same cells.
+    pub fn copy_from(&mut self, other: &Machine)
+        requires { (a : ℕ) → is_cell self.old.cells a ≡ is_cell other.now.cells a }
+        ensures { self.new ≡ other.now }
+    {
+        self.registers.copy_from(&other.registers);
+        self.d = other.d;
+        self.pc_green = other.pc_green;
+        self.pc_blue = other.pc_blue;
+        self.queue.copy_from(&other.queue);
+        self.cells.copy_from(&other.cells);
+        self.fetched = other.fetched;
+        self.status = other.status;
+    }
+
     /// What a register holds.
     #[tactic(auto, unfolding(ft_types::specs::State::held))]
     pub fn reg(&self, r: Reg) -> Coloured

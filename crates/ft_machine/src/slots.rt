@@ -1,5 +1,5 @@
 //! Ordered maps from numbers, which contracts see as finite maps.
-ghost use Rattle.std.specs.Prelude.{◌≡◌, IsTrue, OnOk, OnErr};
+ghost use Rattle.std.specs.Prelude.{◌≡◌, ℕ, IsTrue, OnOk, OnErr};
 ghost use Rattle.std.specs.FinMap as map;
 
 use ft_isa::NoMemory;
@@ -59,6 +59,18 @@ impl<V: Copy> Slots<V> {
             Err(_) => return Err(NoMemory),
         }
         Ok(())
+    }
+
+    /// Takes over the values of another map with the same keys, which takes no memory.
+    pub fn copy_from(&mut self, other: &Slots<V>)
+        requires { (q : ℕ) → map.contains_key self.old q ≡ map.contains_key other.now q }
+        ensures { self.new ≡ other.now }
+    {
+        for key in other.values.keys() {
+            if let Some(value) = other.get(*key) {
+                self.replace(*key, value);
+            }
+        }
     }
 
     /// Puts a value at a key that is there, which takes no memory.

@@ -28,6 +28,13 @@ impl<'w> WildLeft<'w> {
         WildLeft { rest: all }
     }
 
+    /// Leaves the same answers as another.
+    pub fn copy_from(&mut self, other: &WildLeft<'w>)
+        ensures { self.new ≡ other.now }
+    {
+        self.rest = other.rest;
+    }
+
     /// Takes the next answer; `Stop` where none is left.
     pub fn next(&mut self) -> Wild
         ensures answer { result ≡ next_answer self.old }

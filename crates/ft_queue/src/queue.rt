@@ -42,6 +42,17 @@ impl StoreQueue {
         })
     }
 
+    /// Takes over another queue's pairs, which takes no memory.
+    pub fn copy_from(&mut self, other: &StoreQueue)
+        ensures { self.new ≡ other.now }
+    {
+        self.pairs.clear();
+        match self.pairs.extend_from_slice(&other.pairs) {
+            Ok(()) => {}
+            Err(_) => unreachable!(),
+        }
+    }
+
     /// How many pairs wait, at most eight.
     pub fn len(&self) -> usize
         ensures pairs { result ≡ length self.now }

@@ -1,25 +1,15 @@
-//! Tests of the crates below, and worked rows of the tool over files in memory.
+//! The tool over files in memory, for the crates of rows.
 //!
-//! The crate holds tests alone, since a crate with tests is proved twice: for each row the words, the
-//! text that is written and the status. The values come from the definitions and from another
-//! implementation, not from this one's output.
+//! A row is words, the text that the tool writes and the status that it answers. The crate promises
+//! nothing: it is what the tests of several crates share, and compares what the tool does with a row. An
+//! error names what differs.
 #![tactic(auto)]
 
-#[cfg(test)]
-mod campaigns;
-#[cfg(test)]
-mod checks;
-#[cfg(test)]
-mod machine;
-#[cfg(test)]
-mod objects;
-#[cfg(test)]
-mod outside;
-#[cfg(test)]
 mod rows;
-#[cfg(test)]
 mod sources;
-#[cfg(test)]
-mod strikes;
-#[cfg(test)]
-mod tests;
+
+pub use rows::{
+    Row, check_altered, check_file, check_row, check_rows, check_script, status_of,
+    status_with_script, worked_objects,
+};
+pub use sources::{declared, repeated};

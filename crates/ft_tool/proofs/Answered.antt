@@ -9,6 +9,10 @@ use Rattle.ft_isa.specs.declared.plan.Wild.{Wild}
 use Rattle.ft_types.specs.declared.object.Object as objects
 use Rattle.ft_types.specs.declared.status.Status.{Status}
 use Rattle.ft_types.specs.Run.{run, status_after, outputs_after}
+use Rattle.ft_types.specs.Spellable.{IsSpellable}
+use Rattle.ft_types.proofs.Acceptance.{accepted_is_unrefused}
+use Rattle.ft_inject.proofs.Masking.{tolerant}
+use Rattle.ft_isa.specs.declared.plan.Strike.{Strike}
 use Rattle.ft_types.specs.Texts.{lines}
 use Rattle.ft_object.specs.Broken.{broken}
 use Rattle.ft_object.specs.declared.object_error.ObjectError.TheVariants.{Length}
@@ -23,8 +27,8 @@ use Rattle.ft_checker.specs.declared.error.CheckError.{CheckError}
 use Rattle.ft_checker.specs.declared.error.CheckError.TheVariants as checks
 use Rattle.ft_checker.specs.Judges.{IsRefusalOf}
 use Rattle.ft_tool.specs.Texts.{check_line}
-use Rattle.ft_tool.specs.Replies.{Answer}
-use Rattle.ft_tool.specs.Answers.{ran, tried, judged, checked, run_unless, run_checked, status_of_run, OverFile, Concludes, BreaksOff}
+use Rattle.ft_tool.specs.Replies.{Answer, ran, status_of_run}
+use Rattle.ft_tool.specs.Answers.{tried, judged, checked, Withstands, RunsUnless, RunsObject, TriesObject, OverFile, Concludes, BreaksOff}
 use Rattle.ft_tool.specs.Files.{LoadsObject, IsRefusedBy, IsNotAccepted}
 use Rattle.ft_tool.specs.Endings.{Ends}
 
@@ -45,7 +49,7 @@ Ends-map FaultList P Q old new before now L M f g h = record { answer = h.answer
 
 -- a run whose lines were written
 pub concludes : (r : Run) (o : objects.Object) (w : List Wild) (v : Status) (old new : Option (List ℕ)) → w ≡ r.wild → status_after o r.strike w r.steps ≡ v
-    → new ≡ append_known old (lines o (outputs_after o r.strike w r.steps)) → Concludes (λ a. a ≡ tried r o) (status_of_run v) old new
+    → new ≡ append_known old (lines o (outputs_after o r.strike w r.steps)) → Concludes (TriesObject r o) (status_of_run v) old new
 concludes r o w v old new is status written = record {
   answer = ran o (run o r.strike r.wild r.steps);
   is = refl;
@@ -55,7 +59,7 @@ concludes r o w v old new is status written = record {
 
 -- a run of whose lines a front was written
 pub breaks_off : (r : Run) (o : objects.Object) (w : List Wild) (old new : Option (List ℕ)) → w ≡ r.wild
-    → AddsPrefix old new (lines o (outputs_after o r.strike w r.steps)) → BreaksOff (λ a. a ≡ tried r o) old new
+    → AddsPrefix old new (lines o (outputs_after o r.strike w r.steps)) → BreaksOff (TriesObject r o) old new
 breaks_off r o w old new is written = record {
   answer = ran o (run o r.strike r.wild r.steps);
   is = refl;
@@ -69,9 +73,27 @@ refusal_concludes Is r old new line is e written = record { answer = judged (Som
 pub refusal_breaks_off : (Is : Answer → Type 0) (r : Refusal) (old new : Option (List ℕ)) (line : List ℕ) → Is (judged (Some r)) → line ≡ check_line r → AddsPrefix old new line → BreaksOff Is old new
 refusal_breaks_off Is r old new line is e written = record { answer = judged (Some r); is = is; written = subst (AddsPrefix old new) e written }
 
--- an object that is accepted is run, and one that is refused is not
-pub run_accepted : (r : Run) (o : objects.Object) → refusal o ≡ None → run_checked r o ≡ tried r o
-run_accepted r o h = ap (λ x. run_unless x r o) h
+-- an object that is accepted withstands each plan
+withstands : (o : objects.Object) (strike : Option Strike) (w : List Wild) → IsSpellable o → refusal o ≡ None → Withstands o strike w
+withstands o strike w spellable h = λ n. tolerant o strike w n spellable ((accepted_is_unrefused o).1 h)
+
+-- an object that is accepted is run
+pub run_accepted : (r : Run) (o : objects.Object) → IsSpellable o → refusal o ≡ None → (a : Answer) → a ≡ tried r o → RunsObject r o a
+run_accepted r o spellable h a is = subst (λ x. RunsUnless x r o a) (sym h) (is, withstands o r.strike r.wild spellable h)
+
+-- a run of an accepted object whose lines were written
+pub run_concludes : (r : Run) (o x : objects.Object) (w : List Wild) (v : Status) (old new : Option (List ℕ)) → IsSpellable o → refusal o ≡ None → x ≡ o → w ≡ r.wild
+    → status_after x r.strike w r.steps ≡ v → new ≡ append_known old (lines x (outputs_after x r.strike w r.steps)) → Concludes (RunsObject r o) (status_of_run v) old new
+run_concludes r o x w v old new spelled unrefused same is status written =
+    let h = concludes r o w v old new is (subst (λ y. status_after y r.strike w r.steps ≡ v) same status) (subst (λ y. new ≡ append_known old (lines y (outputs_after y r.strike w r.steps))) same written) in
+    record { answer = h.answer; is = run_accepted r o spelled unrefused h.answer h.is; written = h.written; status_is = h.status_is }
+
+-- a run of an accepted object of whose lines a front was written
+pub run_breaks_off : (r : Run) (o x : objects.Object) (w : List Wild) (old new : Option (List ℕ)) → IsSpellable o → refusal o ≡ None → x ≡ o → w ≡ r.wild
+    → AddsPrefix old new (lines x (outputs_after x r.strike w r.steps)) → BreaksOff (RunsObject r o) old new
+run_breaks_off r o x w old new spelled unrefused same is written =
+    let h = breaks_off r o w old new is (subst (λ y. AddsPrefix old new (lines y (outputs_after y r.strike w r.steps))) same written) in
+    record { answer = h.answer; is = run_accepted r o spelled unrefused h.answer h.is; written = h.written }
 
 -- the answer of a check that is refused
 pub checked_refused : (e : CheckError) (o : objects.Object) → IsRefusalOf (refusal o) e → (a : Answer) → IsNotAccepted e a → a ≡ checked o
@@ -81,10 +103,10 @@ checked_refused (checks.Refused b i why) o h a is = is ∙ sym (ap judged h)
 checked_refused checks.NoMemory o h a is = absurd is
 
 -- the answer of a run whose object is refused
-pub run_refused : (e : CheckError) (r : Run) (o : objects.Object) → IsRefusalOf (refusal o) e → (a : Answer) → IsNotAccepted e a → a ≡ run_checked r o
-run_refused checks.EntryType r o h a is = is ∙ sym (ap (λ x. run_unless x r o) h)
-run_refused (checks.CellType k) r o h a is = is ∙ sym (ap (λ x. run_unless x r o) h)
-run_refused (checks.Refused b i why) r o h a is = is ∙ sym (ap (λ x. run_unless x r o) h)
+pub run_refused : (e : CheckError) (r : Run) (o : objects.Object) → IsRefusalOf (refusal o) e → (a : Answer) → IsNotAccepted e a → RunsObject r o a
+run_refused checks.EntryType r o h a is = subst (λ x. RunsUnless x r o a) (sym h) is
+run_refused (checks.CellType k) r o h a is = subst (λ x. RunsUnless x r o a) (sym h) is
+run_refused (checks.Refused b i why) r o h a is = subst (λ x. RunsUnless x r o a) (sym h) is
 run_refused checks.NoMemory r o h a is = absurd is
 
 -- there are lists longer than any number
@@ -103,11 +125,11 @@ too_long_file None name told = let h = longer_bytes 67108864 in (h.0, (tt, too_l
 too_long_file (Some files) name told = (told.bytes, (told.found, too_long told.bytes told.longer))
 
 -- the answer over an object that a file's bytes spell is one over the file
-pub over_object : (over : objects.Object → Answer) (files : Option Files) (name : Word) (o : objects.Object) → LoadsObject files name (Ok o) → (a : Answer) → a ≡ over o → OverFile over name files a
-over_object over files name o h a is = (h.0, (h.1.0, inl (o, (h.1.1, is))))
+pub over_object : (Over : objects.Object → Answer → Type 0) (files : Option Files) (name : Word) (o : objects.Object) → LoadsObject files name (Ok o) → (a : Answer) → Over o a → OverFile Over name files a
+over_object Over files name o h a is = (h.0, (h.1.0, inl (o, (h.1.1, is))))
 
 -- the answer to a file's bytes that are refused is one over the file
-pub over_fault : (over : objects.Object → Answer) (files : Option Files) (name : Word) (e : ObjectFault) → LoadsObject files name (Err e) → (a : Answer) → IsRefusedBy e a → OverFile over name files a
-over_fault over files name (Refused e) h a is = (h.0, (h.1.0, inr (e, (h.1.1, is))))
-over_fault over files name Failed h a is = absurd is
-over_fault over files name no_memory h a is = absurd is
+pub over_fault : (Over : objects.Object → Answer → Type 0) (files : Option Files) (name : Word) (e : ObjectFault) → LoadsObject files name (Err e) → (a : Answer) → IsRefusedBy e a → OverFile Over name files a
+over_fault Over files name (Refused e) h a is = (h.0, (h.1.0, inr (e, (h.1.1, is))))
+over_fault Over files name Failed h a is = absurd is
+over_fault Over files name no_memory h a is = absurd is

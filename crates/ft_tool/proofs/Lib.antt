@@ -1,3 +1,5 @@
 mod Answered
+mod Compiled
 mod Meant
+mod Taken
 mod Tried

@@ -4,22 +4,24 @@ use Rattle.std.specs.List.{list_any}
 use Rattle.std.specs.Io.KnownBytes.{append_known}
 use Rattle.ft_edge.specs.Causes.{Rose, AddsPrefix}
 use Rattle.ft_edge.specs.Loads.{Files}
+use Rattle.ft_isa.specs.declared.plan.Strike.{Strike}
+use Rattle.ft_isa.specs.declared.plan.Wild.{Wild}
 use Rattle.ft_types.specs.declared.object.Object.{Object}
-use Rattle.ft_types.specs.declared.status.Status.{Status}
-use Rattle.ft_types.specs.declared.status.Status.TheVariants as machine
-use Rattle.ft_types.specs.Run.{Ran, run}
+use Rattle.ft_types.specs.Agrees.{Agrees}
+use Rattle.ft_types.specs.Run.{run, outputs_after, status_after}
 use Rattle.ft_types.specs.Accepted.{Refusal, refusal}
-use Rattle.ft_types.specs.Texts.{lines}
 use Rattle.ft_object.specs.declared.object_error.ObjectError.{ObjectError}
 use Rattle.ft_object.specs.Format.{Spells}
 use Rattle.ft_object.specs.Broken.{broken}
 use Rattle.ft_command.specs.Options.{Word}
+use Rattle.ft_command.specs.Commands.{Run, Campaign, Debugging, Request, Usage, Checks, Runs, Tries, Strikes, Surveys, Compiles, Executes, Means, Debugs, Asks}
 use Rattle.ft_campaign.specs.declared.verdict.Verdict.{Verdict}
-use Rattle.ft_command.specs.Commands.{Run, Campaign, Request, Usage, Checks, Runs, Tries, Strikes, Surveys, Means, Asks}
 use Rattle.ft_tool.specs.Texts.{object_line, accepted_line, check_line}
-use Rattle.ft_tool.specs.Replies.{Answer, IsFile}
-use Rattle.ft_tool.specs.Sources.{MeansText}
-use Rattle.ft_tool.specs.Lists.{campaign_status, survey_status, OverList}
+use Rattle.ft_tool.specs.Replies.{Answer, ran, IsFile}
+use Rattle.ft_scope.specs.Resolved.{Program}
+use Rattle.ft_tool.specs.Sources.{OverText, CompilesProgram, ExecutesProgram, MeansProgram}
+use Rattle.ft_tool.specs.Lists.{AnyVerdicts, NoneCorrupt, OverList}
+use Rattle.ft_tool.specs.Scripts.{DebugsObject}
 
 -- words that are no command
 abbrev pub usage : Answer
@@ -28,16 +30,6 @@ usage = record { text = codes "usage\n"; status = 2 }
 -- bytes that spell no object, by the first rule that they break
 abbrev pub refused : ObjectError → Answer
 refused e = record { text = object_line e; status = 7 }
-
--- the status of a run by how the machine stands after its steps
-abbrev pub status_of_run : Status → ℕ
-status_of_run machine.Done = 0
-status_of_run machine.Detected = 1
-status_of_run machine.Running = 9
-
--- a line for each output of a run
-abbrev pub ran : Object → Ran → Answer
-ran o r = record { text = lines o r.outputs; status = status_of_run r.state.status }
 
 -- the run of an object for so many steps under a plan
 abbrev pub tried : Run → Object → Answer
@@ -51,60 +43,75 @@ judged (Some r) = record { text = check_line r; status = 8 }
 abbrev pub checked : Object → Answer
 checked o = judged (refusal o)
 
--- the run of an object that is accepted, or why it is refused
-abbrev pub run_unless : Option Refusal → Run → Object → Answer
-run_unless None r o = tried r o
-run_unless (Some x) r o = judged (Some x)
+-- the run under a plan stands what the plan does to it: after each number of steps it has the outputs and the status of
+-- the run without the strike, or it is detected and its outputs begin those
+abbrev pub Withstands : Object → Option Strike → List Wild → Type 0
+Withstands o strike w = (n : ℕ) → Agrees (outputs_after o strike w n) (status_after o strike w n) (outputs_after o None w n) (status_after o None w n)
 
-abbrev pub run_checked : Run → Object → Answer
-run_checked r o = run_unless (refusal o) r o
+-- the run of an object that is accepted, which withstands its plan, or why the object is refused
+abbrev pub RunsUnless : Option Refusal → Run → Object → Answer → Type 0
+RunsUnless None r o a = (a ≡ tried r o) × Withstands o r.strike r.wild
+RunsUnless (Some x) r o a = a ≡ judged (Some x)
 
 -- the answer over a file's bytes: over the object that they spell, or by the first rule that they break
-abbrev pub OverBytes : (Object → Answer) → List ℕ → Answer → Type 0
-OverBytes over bytes a =
-    ((o : Object) × (Spells bytes o × (a ≡ over o)))
+abbrev pub OverBytes : (Object → Answer → Type 0) → List ℕ → Answer → Type 0
+OverBytes Over bytes a =
+    ((o : Object) × (Spells bytes o × Over o a))
     ⊎ ((e : ObjectError) × ((broken bytes ≡ Some e) × (a ≡ refused e)))
 
 -- the answer over the file of a name
-abbrev pub OverFile : (Object → Answer) → Word → Option Files → Answer → Type 0
-OverFile over name files a = (bytes : List ℕ) × (IsFile files name bytes × OverBytes over bytes a)
+abbrev pub OverFile : (Object → Answer → Type 0) → Word → Option Files → Answer → Type 0
+OverFile Over name files a = (bytes : List ℕ) × (IsFile files name bytes × OverBytes Over bytes a)
 
--- the answer of a campaign over an object, where it comes to its list
-abbrev pub OverListFile : (List Verdict → ℕ) → Campaign → Option Files → Object → Answer → Type 0
-OverListFile status_of c files o a = (list : List ℕ) × (IsFile files c.faults list × OverList status_of c o list a)
+-- the answer of a check, of a run and of a trial over an object
+abbrev pub ChecksObject : Object → Answer → Type 0
+ChecksObject o a = a ≡ checked o
 
--- the answer of a campaign over an object, which is refused before the list is loaded where it is not accepted
-abbrev pub OverChecked : Option Refusal → Campaign → Option Files → Object → Answer → Type 0
-OverChecked None c files o a = OverListFile campaign_status c files o a
-OverChecked (Some r) c files o a = a ≡ judged (Some r)
+abbrev pub RunsObject : Run → Object → Answer → Type 0
+RunsObject r o a = RunsUnless (refusal o) r o a
 
--- the answer of a campaign over the bytes of an object's file
-abbrev pub StrikesBytes : Campaign → Option Files → List ℕ → Answer → Type 0
-StrikesBytes c files bytes a =
-    ((o : Object) × (Spells bytes o × OverChecked (refusal o) c files o a))
-    ⊎ ((e : ObjectError) × ((broken bytes ≡ Some e) × (a ≡ refused e)))
+abbrev pub TriesObject : Run → Object → Answer → Type 0
+TriesObject r o a = a ≡ tried r o
 
--- the answer of a survey over the bytes of an object's file
-abbrev pub SurveysBytes : Campaign → Option Files → List ℕ → Answer → Type 0
-SurveysBytes c files bytes a =
-    ((o : Object) × (Spells bytes o × OverListFile survey_status c files o a))
-    ⊎ ((e : ObjectError) × ((broken bytes ≡ Some e) × (a ≡ refused e)))
+-- the answer over an object and the file of a fault list
+abbrev pub OverListFile : (List Verdict → Type 0) → Campaign → Option Files → Object → Answer → Type 0
+OverListFile Promised c files o a = (list : List ℕ) × (IsFile files c.faults list × OverList Promised c o list a)
 
--- the answer of a command over files
-abbrev pub Answers : Request → Option Files → Answer → Type 0
-Answers Usage files a = a ≡ usage
-Answers (Checks name) files a = OverFile checked name files a
-Answers (Runs r) files a = OverFile (run_checked r) r.object files a
-Answers (Tries r) files a = OverFile (tried r) r.object files a
-Answers (Strikes c) files a = (bytes : List ℕ) × (IsFile files c.object bytes × StrikesBytes c files bytes a)
-Answers (Surveys c) files a = (bytes : List ℕ) × (IsFile files c.object bytes × SurveysBytes c files bytes a)
-Answers (Means m) files a = (text : List ℕ) × (IsFile files m.source text × MeansText m.turns text a)
+-- the answer of a survey over an object
+abbrev pub SurveysObject : Campaign → Option Files → Object → Answer → Type 0
+SurveysObject c files o a = OverListFile AnyVerdicts c files o a
+
+-- the answer of a campaign over an object, which is refused before the list is loaded where it is not accepted, and of
+-- which no verdict is corrupt where it is accepted
+abbrev pub StrikesUnless : Option Refusal → Campaign → Option Files → Object → Answer → Type 0
+StrikesUnless None c files o a = OverListFile NoneCorrupt c files o a
+StrikesUnless (Some r) c files o a = a ≡ judged (Some r)
+
+abbrev pub StrikesObject : Campaign → Option Files → Object → Answer → Type 0
+StrikesObject c files o a = StrikesUnless (refusal o) c files o a
+
+-- the answer over the source in the file of a name
+abbrev pub OverSource : (Program → Answer → Type 0) → Word → Option Files → Answer → Type 0
+OverSource Over name files a = (text : List ℕ) × (IsFile files name text × OverText Over text a)
+
+-- the answer of a command over files and a script
+abbrev pub Answers : Request → Option Files → Option (List ℕ) → Answer → Type 0
+Answers Usage files script a = a ≡ usage
+Answers (Checks name) files script a = OverFile ChecksObject name files a
+Answers (Runs r) files script a = OverFile (RunsObject r) r.object files a
+Answers (Tries r) files script a = OverFile (TriesObject r) r.object files a
+Answers (Strikes c) files script a = OverFile (StrikesObject c files) c.object files a
+Answers (Surveys c) files script a = OverFile (SurveysObject c files) c.object files a
+Answers (Compiles name) files script a = OverSource CompilesProgram name files a
+Answers (Executes e) files script a = OverSource (ExecutesProgram e.steps) e.source files a
+Answers (Means m) files script a = OverSource (MeansProgram m.turns) m.source files a
+Answers (Debugs d) files script a = OverFile (DebugsObject d script) d.object files a
 
 -- the answer of the command that the words ask for
-pub record IsAnswer (words : List Word) (files : Option Files) (a : Answer) : Type 0 where
+pub record IsAnswer (words : List Word) (files : Option Files) (script : Option (List ℕ)) (a : Answer) : Type 0 where
   pub request : Request
   pub asks : Asks words request
-  pub answers : Answers request files a
+  pub answers : Answers request files script a
 
 -- the whole text was written, and this is the status
 pub record Concludes (Is : Answer → Type 0) (status : ℕ) (old new : Option (List ℕ)) : Type 0 where
@@ -135,7 +142,10 @@ ComesTo (Runs r) files file = file ≡ r.object
 ComesTo (Tries r) files file = file ≡ r.object
 ComesTo (Strikes c) files file = (file ≡ c.object) ⊎ ((file ≡ c.faults) × SpellsAccepted files c.object)
 ComesTo (Surveys c) files file = (file ≡ c.object) ⊎ ((file ≡ c.faults) × SpellsFile files c.object)
+ComesTo (Compiles name) files file = file ≡ name
+ComesTo (Executes e) files file = file ≡ e.source
 ComesTo (Means m) files file = file ≡ m.source
+ComesTo (Debugs d) files file = file ≡ d.object
 
 -- a request came to load a file; that load was the last that failed, and the count of failed loads rose
 pub record FailsIn (request : Request) (files : Option Files) (before now : ℕ) (failed : Option (List ℕ)) : Type 0 where
@@ -149,6 +159,18 @@ pub record FailedToLoad (words : List Word) (files : Option Files) (before now :
   pub request : Request
   pub asks : Asks words request
   pub fails : FailsIn request files before now failed
+
+-- a request came to its script: no earlier step of it refuses; a take of the script failed, and the count of failed
+-- takes rose
+pub record FailsAtScript (d : Debugging) (files : Option Files) (before now : ℕ) : Type 0 where
+  pub rose : Rose before now
+  pub comes : SpellsFile files d.object
+
+-- the words ask for a session that came to its script, and a take of the script failed
+pub record FailedToTake (words : List Word) (files : Option Files) (before now : ℕ) : Type 0 where
+  pub debugging : Debugging
+  pub asks : Asks words (Debugs debugging)
+  pub fails : FailsAtScript debugging files before now
 
 -- the statuses that there are
 abbrev pub is_status : ℕ → Bool

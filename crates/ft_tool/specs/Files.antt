@@ -1,5 +1,5 @@
 -- What loading a command's file gives.
-use Rattle.std.specs.Prelude.{◌≡◌, ℕ, List, Option, Some, Result, Ok, Err}
+use Rattle.std.specs.Prelude.{◌≡◌, ℕ, ◌<◌, List, length, Option, Some, Result, Ok, Err}
 use Rattle.ft_edge.specs.Causes.{Rose}
 use Rattle.ft_edge.specs.Loads.{Files}
 use Rattle.ft_types.specs.declared.object.Object.{Object}
@@ -16,6 +16,10 @@ use Rattle.ft_isa.specs.declared.plan.Strike.{Strike}
 use Rattle.ft_campaign.specs.declared.fault_list.ListError.TheVariants as lists
 use Rattle.ft_campaign.specs.FaultList.{IsFaultList, IsListError}
 use Rattle.ft_tool.specs.Lists.{IsListAnswer}
+use Rattle.ft_syntax.specs.declared.source_error.SourceError.TheVariants as sources
+use Rattle.ft_tool.specs.Sources.{IsSourceRefused}
+use Rattle.ft_tool.specs.declared.load.SourceFault.{SourceFault}
+use Rattle.ft_tool.specs.declared.load.SourceFault.TheVariants as source_faults
 use Rattle.ft_tool.specs.declared.load.ListFault.{ListFault}
 use Rattle.ft_tool.specs.declared.load.ListFault.TheVariants as list_faults
 use Rattle.ft_tool.specs.declared.load.ObjectFault.{ObjectFault}
@@ -70,3 +74,23 @@ IsListRefusedBy (list_faults.Line number) a = IsListAnswer (lists.Line number) a
 IsListRefusedBy list_faults.TooMany a = IsListAnswer lists.TooMany a
 IsListRefusedBy list_faults.Failed a = ⊥
 IsListRefusedBy list_faults.NoMemory a = ⊥
+
+-- the file's bytes, or a file that is longer than a source may be
+abbrev pub LoadsSource : {V : Type 0} → (V → List ℕ) → Option Files → Word → Result V SourceFault → Type 0
+LoadsSource bytes_of files name (Ok v) = IsFile files name (bytes_of v)
+LoadsSource bytes_of files name (Err source_faults.TooLong) = (text : List ℕ) × (IsFile files name text × (1048576 < length text))
+LoadsSource bytes_of files name (Err source_faults.Failed) = Unit {0}
+LoadsSource bytes_of files name (Err source_faults.NoMemory) = Unit {0}
+
+-- a load of a source that failed shows in the count and left its name; any other answer leaves both as they were
+abbrev pub SourceCause : {V : Type 0} → ℕ → ℕ → Option (List ℕ) → Option (List ℕ) → Word → Result V SourceFault → Type 0
+SourceCause before now failed failed' name (Ok v) = (now ≡ before) × (failed' ≡ failed)
+SourceCause before now failed failed' name (Err source_faults.TooLong) = (now ≡ before) × (failed' ≡ failed)
+SourceCause before now failed failed' name (Err source_faults.Failed) = Rose before now × (failed' ≡ Some name)
+SourceCause before now failed failed' name (Err source_faults.NoMemory) = (now ≡ before) × (failed' ≡ failed)
+
+-- the answer of a command whose source is too long
+abbrev pub IsTooLongBy : SourceFault → Answer → Type 0
+IsTooLongBy source_faults.TooLong a = IsSourceRefused sources.TooLong a
+IsTooLongBy source_faults.Failed a = ⊥
+IsTooLongBy source_faults.NoMemory a = ⊥

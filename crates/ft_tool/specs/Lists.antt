@@ -13,13 +13,16 @@ use Rattle.ft_command.specs.Commands.{Campaign}
 use Rattle.ft_tool.specs.Texts.{list_line}
 use Rattle.ft_tool.specs.Replies.{Answer}
 
--- the status of a survey: 10 where some verdict is corrupt
-abbrev pub survey_status : List Verdict → ℕ
-survey_status vs = if count_by is_corrupt vs == 0 then 0 else 10
+-- the status by the verdicts: 10 where some verdict is corrupt
+abbrev pub status_of : List Verdict → ℕ
+status_of vs = if count_by is_corrupt vs == 0 then 0 else 10
 
--- the status of a campaign on an accepted object, of which no verdict is corrupt
-abbrev pub campaign_status : List Verdict → ℕ
-campaign_status vs = 0
+-- what is promised of the verdicts of a survey, which is nothing, and of a campaign on an accepted object
+abbrev pub AnyVerdicts : List Verdict → Type 0
+AnyVerdicts vs = Unit {0}
+
+abbrev pub NoneCorrupt : List Verdict → Type 0
+NoneCorrupt vs = count_by is_corrupt vs ≡ 0
 
 -- the answer to a text that is no fault list
 abbrev pub IsListAnswer : ListError → Answer → Type 0
@@ -34,13 +37,13 @@ pub record IsRefusedList (list : List ℕ) (a : Answer) : Type 0 where
   pub answer : IsListAnswer error a
 
 -- the answer of a campaign over these faults: where their number times the number of steps is above 1,000,000,000, a
--- refusal, and else the lines of the faults' verdicts
-pub data OverFaults (status_of : List Verdict → ℕ) (c : Campaign) (o : Object) (faults : List Strike) (a : Answer) : Type 0 where
-  too_much : 1000000000 < length faults * c.steps → a ≡ record { text = list_line 3 (length faults * c.steps); status = 11 } → OverFaults status_of c o faults a
-  tried : length faults * c.steps ≤ 1000000000 → (verdicts : List Verdict) → AreVerdicts o faults c.wild c.steps verdicts
-      → a ≡ record { text = concat (campaign_lines faults verdicts); status = status_of verdicts } → OverFaults status_of c o faults a
+-- refusal, and else the lines of the faults' verdicts, which are as promised
+pub data OverFaults (Promised : List Verdict → Type 0) (c : Campaign) (o : Object) (faults : List Strike) (a : Answer) : Type 0 where
+  too_much : 1000000000 < length faults * c.steps → a ≡ record { text = list_line 3 (length faults * c.steps); status = 11 } → OverFaults Promised c o faults a
+  tried : length faults * c.steps ≤ 1000000000 → (verdicts : List Verdict) → AreVerdicts o faults c.wild c.steps verdicts → Promised verdicts
+      → a ≡ record { text = concat (campaign_lines faults verdicts); status = status_of verdicts } → OverFaults Promised c o faults a
 
 -- the answer of a campaign over the text of a list
-pub data OverList (status_of : List Verdict → ℕ) (c : Campaign) (o : Object) (list : List ℕ) (a : Answer) : Type 0 where
-  refused_list : IsRefusedList list a → OverList status_of c o list a
-  listed : (faults : List Strike) → IsFaultList list faults → OverFaults status_of c o faults a → OverList status_of c o list a
+pub data OverList (Promised : List Verdict → Type 0) (c : Campaign) (o : Object) (list : List ℕ) (a : Answer) : Type 0 where
+  refused_list : IsRefusedList list a → OverList Promised c o list a
+  listed : (faults : List Strike) → IsFaultList list faults → OverFaults Promised c o faults a → OverList Promised c o list a

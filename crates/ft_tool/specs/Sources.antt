@@ -1,5 +1,9 @@
 -- What a command answers over the text of a source.
-use Rattle.std.specs.Prelude.{◌≡◌, ◌≢◌, ◌⊎◌, ℕ, List}
+use Rattle.std.specs.Prelude.{◌≡◌, ◌≢◌, ◌⊎◌, ℕ, List, [], None}
+use Rattle.ft_types.specs.declared.object.Object.{Object}
+use Rattle.ft_types.specs.Run.{run}
+use Rattle.ft_object.specs.Format.{Spells}
+use Rattle.ft_compile.specs.StandsFor.{StandsFor}
 use Rattle.ft_syntax.specs.declared.source_error.SourceError.{SourceError}
 use Rattle.ft_syntax.specs.declared.source_error.SourceError.TheVariants.{NoMemory}
 use Rattle.ft_scope.specs.Resolved.{Program}
@@ -7,7 +11,7 @@ use Rattle.ft_scope.specs.Outcome.{IsProgramOf, IsRefusalOf}
 use Rattle.ft_meaning.specs.Meaning.{Outcome, Ended, Cut, meaning}
 use Rattle.ft_meaning.specs.Lines.{lines}
 use Rattle.ft_tool.specs.Texts.{source_line}
-use Rattle.ft_tool.specs.Replies.{Answer}
+use Rattle.ft_tool.specs.Replies.{Answer, ran}
 
 -- the answer of a source that is refused
 pub record IsSourceRefused (e : SourceError) (a : Answer) : Type 0 where
@@ -19,8 +23,25 @@ abbrev pub meant : Program → Outcome → Answer
 meant p (Ended s) = record { text = lines p.names s.out; status = 0 }
 meant p (Cut s) = record { text = lines p.names s.out; status = 9 }
 
--- the answer over the text of a source: the meaning of its program, or its refusal
-abbrev pub MeansText : ℕ → List ℕ → Answer → Type 0
-MeansText turns text a =
-    ((p : Program) × (IsProgramOf text p × (a ≡ meant p (meaning p turns))))
+-- the answer over the text of a source: over the program that it is, or its refusal
+abbrev pub OverText : (Program → Answer → Type 0) → List ℕ → Answer → Type 0
+OverText Over text a =
+    ((p : Program) × (IsProgramOf text p × Over p a))
     ⊎ ((e : SourceError) × (IsRefusalOf text e × IsSourceRefused e a))
+
+-- the answer of a compilation: the bytes of an object that stands for the program
+pub record CompilesProgram (p : Program) (a : Answer) : Type 0 where
+  pub object : Object
+  pub stands : StandsFor p object
+  pub spelled : Spells a.text object
+  pub status : a.status ≡ 0
+
+-- the answer of an execution: the run of an object that stands for the program, for so many steps without a strike
+pub record ExecutesProgram (steps : ℕ) (p : Program) (a : Answer) : Type 0 where
+  pub object : Object
+  pub stands : StandsFor p object
+  pub is : a ≡ ran object (run object None [] steps)
+
+-- the answer of a meaning with so many turns
+abbrev pub MeansProgram : ℕ → Program → Answer → Type 0
+MeansProgram turns p a = a ≡ meant p (meaning p turns)

@@ -5,8 +5,8 @@ ghost use Rattle.ft_command.specs.Asked.{campaign_view};
 ghost use Rattle.ft_types.specs.Accepted.{refusal};
 ghost use Rattle.ft_types.specs.Spellable.{IsSpellable};
 ghost use Rattle.ft_campaign.specs.Campaigns.{EndsAs as CampaignEnds, IsExcused, IsUncorrupted};
-ghost use Rattle.ft_tool.specs.Answers.{OverListFile, OverChecked};
-ghost use Rattle.ft_tool.specs.Lists.{campaign_status, survey_status, OverFaults};
+ghost use Rattle.ft_tool.specs.Answers.{OverListFile, SurveysObject, StrikesObject};
+ghost use Rattle.ft_tool.specs.Lists.{AnyVerdicts, NoneCorrupt, OverFaults};
 ghost use Rattle.ft_tool.specs.Endings.{Ends, Puts};
 
 use crate::ending::{Ending, put_list_line, refuse_check, refuse_list};
@@ -70,6 +70,7 @@ fn campaign_counted<K: Sink, L: Ledger>(
     ensures ends { CampaignEnds result checked.now faults.now asked.now.wild.items asked.now.steps (K.written out.old) (K.written out.new) (K.puts out.old) (K.puts out.new) }
     ensures too_much { 1000000000 < length faults.now * asked.now.steps → result ≡ CampaignEnd.TooMuch (length faults.now * asked.now.steps) }
     ensures cause { IsExcused result (K.faults out.old) (K.faults out.new) }
+    ensures uncorrupted { IsUncorrupted result }
 {
     let mut steps = Steps::<L>::new(blank);
     campaign(
@@ -94,7 +95,7 @@ fn survey_faults<K: Sink>(
     requires spellable { IsSpellable object.now }
     requires faults { length faults.now ≤ 65536 }
     requires steps { asked.now.steps ≤ 1000000 }
-    ensures ends { Ends result (OverFaults survey_status (campaign_view asked.now) object.now faults.now)
+    ensures ends { Ends result (OverFaults AnyVerdicts (campaign_view asked.now) object.now faults.now)
         (K.written out.old) (K.written out.new) (K.faults out.old) (K.faults out.new) ⊥ }
     ensures puts { Puts result (K.puts out.old) (K.puts out.new) }
     ensures faults { result ≢ Ending.WriteFault → K.faults out.new ≡ K.faults out.old }
@@ -121,9 +122,11 @@ fn campaign_faults<K: Sink>(
     asked: &Campaign,
     out: &mut K,
 ) -> Ending
+    requires spellable { IsSpellable checked.now }
+    requires accepted { refusal checked.now ≡ None }
     requires faults { length faults.now ≤ 65536 }
     requires steps { asked.now.steps ≤ 1000000 }
-    ensures ends { Ends result (OverFaults campaign_status (campaign_view asked.now) checked.now faults.now)
+    ensures ends { Ends result (OverFaults NoneCorrupt (campaign_view asked.now) checked.now faults.now)
         (K.written out.old) (K.written out.new) (K.faults out.old) (K.faults out.new) ⊥ }
     ensures puts { Puts result (K.puts out.old) (K.puts out.new) }
     ensures faults { result ≢ Ending.WriteFault → K.faults out.new ≡ K.faults out.old }
@@ -146,7 +149,7 @@ pub(crate) fn survey_object<F: Shelf, K: Sink>(
 ) -> Ending
     requires spellable { IsSpellable object.now }
     requires steps { asked.now.steps ≤ 1000000 }
-    ensures ends { Ends result (OverListFile survey_status (campaign_view asked.now) (F.files shelf.old) object.now)
+    ensures ends { Ends result (SurveysObject (campaign_view asked.now) (F.files shelf.old) object.now)
         (K.written out.old) (K.written out.new) (K.faults out.old) (K.faults out.new)
         (Rose (F.faults shelf.old) (F.faults shelf.new) × (F.failed_name shelf.new ≡ Some asked.now.faults.now)) }
     ensures puts { Puts result (K.puts out.old) (K.puts out.new) }
@@ -167,8 +170,10 @@ fn strike_checked<F: Shelf, K: Sink>(
     shelf: &mut F,
     out: &mut K,
 ) -> Ending
+    requires spellable { IsSpellable checked.now }
+    requires accepted { refusal checked.now ≡ None }
     requires steps { asked.now.steps ≤ 1000000 }
-    ensures ends { Ends result (OverListFile campaign_status (campaign_view asked.now) (F.files shelf.old) checked.now)
+    ensures ends { Ends result (OverListFile NoneCorrupt (campaign_view asked.now) (F.files shelf.old) checked.now)
         (K.written out.old) (K.written out.new) (K.faults out.old) (K.faults out.new)
         (Rose (F.faults shelf.old) (F.faults shelf.new) × (F.failed_name shelf.new ≡ Some asked.now.faults.now)) }
     ensures puts { Puts result (K.puts out.old) (K.puts out.new) }
@@ -191,7 +196,7 @@ pub(crate) fn strike_object<F: Shelf, K: Sink>(
 ) -> Ending
     requires spellable { IsSpellable object.now }
     requires steps { asked.now.steps ≤ 1000000 }
-    ensures ends { Ends result (OverChecked (refusal object.now) (campaign_view asked.now) (F.files shelf.old) object.now)
+    ensures ends { Ends result (StrikesObject (campaign_view asked.now) (F.files shelf.old) object.now)
         (K.written out.old) (K.written out.new) (K.faults out.old) (K.faults out.new)
         (Rose (F.faults shelf.old) (F.faults shelf.new) × (F.failed_name shelf.new ≡ Some asked.now.faults.now) × (refusal object.now ≡ None)) }
     ensures puts { Puts result (K.puts out.old) (K.puts out.new) }

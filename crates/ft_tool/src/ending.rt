@@ -2,12 +2,14 @@
 ghost use Rattle.std.specs.Prelude.{◌≡◌, ◌≢◌};
 ghost use Rattle.ft_edge.specs.Puts.{one_more};
 ghost use Rattle.ft_tool.specs.Answers.{usage};
-ghost use Rattle.ft_tool.specs.Files.{IsRefusedBy, IsNotAccepted, IsListRefusedBy};
+ghost use Rattle.ft_tool.specs.Files.{IsRefusedBy, IsNotAccepted, IsListRefusedBy, IsTooLongBy};
 ghost use Rattle.ft_tool.specs.Texts.{list_line};
 ghost use Rattle.ft_tool.specs.Sources.{IsSourceRefused};
+ghost use Rattle.ft_tool.specs.Scripts.{IsScriptRefusedBy};
 ghost use Rattle.ft_tool.specs.Endings.{Ends, Puts};
 
-use crate::load::{ListFault, ObjectFault};
+use crate::load::{ListFault, ObjectFault, SourceFault};
+use crate::script::ScriptFault;
 use crate::refused::{cell_line, entry_line, list_line, object_line, place_line, source_line};
 use ft_checker::CheckError;
 use ft_edge::Sink;
@@ -38,7 +40,7 @@ pub(crate) enum Ending {
     OutOfSteps,
     /// Some verdict is corrupt.
     Corrupt,
-    /// The fault list is refused, or the campaign over it.
+    /// The fault list, the campaign over it, or the script is refused.
     FaultList,
 }
 
@@ -117,6 +119,20 @@ pub(crate) fn refuse_list<K: Sink>(fault: ListFault, out: &mut K) -> Ending
     }
 }
 
+/// Ends a command that has no script, with the line of the refusal where it is too long.
+pub(crate) fn refuse_script<K: Sink>(fault: ScriptFault, out: &mut K) -> Ending
+    ensures ends { Ends result (IsScriptRefusedBy fault) (K.written out.old) (K.written out.new) (K.faults out.old) (K.faults out.new) (fault ≡ ScriptFault.Failed) }
+    ensures puts { Puts result (K.puts out.old) (K.puts out.new) }
+    ensures faults { result ≢ Ending.WriteFault → K.faults out.new ≡ K.faults out.old }
+    ensures failed { result ≢ Ending.LoadFault → fault ≢ ScriptFault.Failed }
+{
+    match fault {
+        ScriptFault::TooLong => put_list_line(4, 1_048_576, out),
+        ScriptFault::Failed => Ending::LoadFault,
+        ScriptFault::NoMemory => Ending::NoMemory,
+    }
+}
+
 /// Ends a command whose source is refused, with the line of the refusal.
 pub(crate) fn refuse_source<K: Sink>(error: SourceError, out: &mut K) -> Ending
     ensures ends { Ends result (IsSourceRefused error) (K.written out.old) (K.written out.new) (K.faults out.old) (K.faults out.new) ⊥ }
@@ -129,5 +145,19 @@ pub(crate) fn refuse_source<K: Sink>(error: SourceError, out: &mut K) -> Ending
     match out.put(source_line(error).as_bytes()) {
         Ok(()) => Ending::Source,
         Err(_) => Ending::WriteFault,
+    }
+}
+
+/// Ends a command that has no source, with the line of the refusal where it is too long.
+pub(crate) fn refuse_long_source<K: Sink>(fault: SourceFault, out: &mut K) -> Ending
+    ensures ends { Ends result (IsTooLongBy fault) (K.written out.old) (K.written out.new) (K.faults out.old) (K.faults out.new) (fault ≡ SourceFault.Failed) }
+    ensures puts { Puts result (K.puts out.old) (K.puts out.new) }
+    ensures faults { result ≢ Ending.WriteFault → K.faults out.new ≡ K.faults out.old }
+    ensures failed { result ≢ Ending.LoadFault → fault ≢ SourceFault.Failed }
+{
+    match fault {
+        SourceFault::TooLong => refuse_source(SourceError::TooLong, out),
+        SourceFault::Failed => Ending::LoadFault,
+        SourceFault::NoMemory => Ending::NoMemory,
     }
 }

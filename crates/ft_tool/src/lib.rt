@@ -6,10 +6,12 @@
 #![tactic(auto)]
 
 mod campaigns;
+mod debugging;
 mod ending;
 mod load;
 mod objects;
 mod refused;
+mod script;
 mod sources;
 mod top;
 

@@ -1,6 +1,6 @@
 //! What a command's files hold.
 ghost use Rattle.std.specs.Prelude.{◌≡◌};
-ghost use Rattle.ft_tool.specs.Files.{LoadsObject, LoadCause, LoadsList, ListCause};
+ghost use Rattle.ft_tool.specs.Files.{LoadsObject, LoadCause, LoadsList, ListCause, LoadsSource, SourceCause};
 
 use ft_campaign::{ListError, read_faults};
 use ft_edge::{Load, LoadFault, Shelf};
@@ -12,6 +12,9 @@ use thiserror::Error;
 
 /// The most bytes of a file that are read as an object.
 const OBJECT_LIMIT: usize = 67_108_864;
+
+/// The most bytes of a file that are read as a source.
+const SOURCE_LIMIT: usize = 1_048_576;
 
 /// The most bytes of a file that are read as a fault list.
 const LIST_LIMIT: usize = 4_194_304;
@@ -91,5 +94,37 @@ pub(crate) fn load_list<F: Shelf>(
         Ok(Load::TooLong) => Err(ListFault::TooMany),
         Err(LoadFault::Failed) => Err(ListFault::Failed),
         Err(LoadFault::NoMemory) => Err(ListFault::NoMemory),
+    }
+}
+
+/// Why there is no source.
+#[derive(Clone, Copy, Debug, PartialEq, Eq, Error)]
+pub(crate) enum SourceFault {
+    /// The file has more than 1,048,576 bytes.
+    #[error("the source is too long")]
+    TooLong,
+    /// The file could not be read.
+    #[error("the file could not be read")]
+    Failed,
+    /// There was no memory left.
+    #[error("out of memory")]
+    NoMemory,
+}
+
+/// Loads the file of a name as a source.
+pub(crate) fn load_source<F: Shelf>(
+    alloc: Global,
+    name: &str,
+    shelf: &mut F,
+) -> Result<Vec<u8>, SourceFault>
+    ensures loads { LoadsSource (λ v. v.items) (F.files shelf.old) name.now result }
+    ensures cause { SourceCause (F.faults shelf.old) (F.faults shelf.new) (F.failed_name shelf.old) (F.failed_name shelf.new) name.now result }
+{
+    let mut bytes = Vec::new(alloc);
+    match shelf.load(name, SOURCE_LIMIT, &mut bytes) {
+        Ok(Load::Whole) => Ok(bytes),
+        Ok(Load::TooLong) => Err(SourceFault::TooLong),
+        Err(LoadFault::Failed) => Err(SourceFault::Failed),
+        Err(LoadFault::NoMemory) => Err(SourceFault::NoMemory),
     }
 }

@@ -2,7 +2,7 @@
 ghost use Rattle.std.specs.Prelude.{◌≡◌, ◌≢◌};
 ghost use Rattle.ft_command.specs.Asked.{run_view};
 ghost use Rattle.ft_types.specs.Spellable.{IsSpellable};
-ghost use Rattle.ft_tool.specs.Answers.{checked, tried, run_checked};
+ghost use Rattle.ft_tool.specs.Answers.{ChecksObject, RunsObject, TriesObject};
 ghost use Rattle.ft_tool.specs.Endings.{Ends, Puts};
 
 use crate::ending::{Ending, refuse_check};
@@ -18,7 +18,7 @@ use std::alloc::Global;
 /// Checks an object.
 pub(crate) fn check_object<K: Sink>(alloc: Global, object: &Object, out: &mut K) -> Ending
     requires { IsSpellable object.now }
-    ensures ends { Ends result (λ a. a ≡ checked object.now)
+    ensures ends { Ends result (ChecksObject object.now)
         (K.written out.old) (K.written out.new) (K.faults out.old) (K.faults out.new) ⊥ }
     ensures puts { Puts result (K.puts out.old) (K.puts out.new) }
     ensures faults { result ≢ Ending.WriteFault → K.faults out.new ≡ K.faults out.old }
@@ -35,7 +35,7 @@ pub(crate) fn check_object<K: Sink>(alloc: Global, object: &Object, out: &mut K)
 /// Runs an object that is accepted.
 pub(crate) fn run_object<K: Sink>(alloc: Global, object: &Object, run: &Run, out: &mut K) -> Ending
     requires { IsSpellable object.now }
-    ensures ends { Ends result (λ a. a ≡ run_checked (run_view run.now) object.now)
+    ensures ends { Ends result (RunsObject (run_view run.now) object.now)
         (K.written out.old) (K.written out.new) (K.faults out.old) (K.faults out.new) ⊥ }
     ensures puts { Puts result (K.puts out.old) (K.puts out.new) }
     ensures faults { result ≢ Ending.WriteFault → K.faults out.new ≡ K.faults out.old }
@@ -62,7 +62,7 @@ pub(crate) fn run_object<K: Sink>(alloc: Global, object: &Object, run: &Run, out
 /// Runs an object without checking it.
 pub(crate) fn try_object<K: Sink>(alloc: Global, object: &Object, run: &Run, out: &mut K) -> Ending
     requires { IsSpellable object.now }
-    ensures ends { Ends result (λ a. a ≡ tried (run_view run.now) object.now)
+    ensures ends { Ends result (TriesObject (run_view run.now) object.now)
         (K.written out.old) (K.written out.new) (K.faults out.old) (K.faults out.new) ⊥ }
     ensures puts { Puts result (K.puts out.old) (K.puts out.new) }
     ensures faults { result ≢ Ending.WriteFault → K.faults out.new ≡ K.faults out.old }

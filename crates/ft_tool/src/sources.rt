@@ -1,25 +1,95 @@
 //! What commands do with the text of a source.
-ghost use Rattle.std.specs.Prelude.{◌≡◌, ◌≢◌};
-ghost use Rattle.ft_command.specs.Commands.{Means};
-ghost use Rattle.ft_command.specs.Asked.{meaning_view};
-ghost use Rattle.ft_tool.specs.Answers.{Answers, FailsIn};
+ghost use Rattle.std.specs.Prelude.{◌≡◌, ◌≢◌, [], None};
+ghost use Rattle.ft_edge.specs.Puts.{one_more};
+ghost use Rattle.ft_types.specs.Run.{run};
+ghost use Rattle.ft_types.specs.Spellable.{IsSpellable};
+ghost use Rattle.ft_command.specs.Commands.{Compiles, Executes, Means};
+ghost use Rattle.ft_command.specs.Asked.{execution_view, meaning_view};
+ghost use Rattle.ft_tool.specs.Answers.{OverSource, FailsIn};
 ghost use Rattle.ft_tool.specs.Endings.{Ends, Puts};
-ghost use Rattle.ft_tool.specs.Sources.{MeansText};
+ghost use Rattle.ft_tool.specs.Replies.{ran};
+ghost use Rattle.ft_tool.specs.Sources.{OverText, CompilesProgram, ExecutesProgram, MeansProgram};
 
-use crate::ending::{Ending, refuse_source};
-use ft_command::Meaning;
-use ft_edge::{Load, LoadFault, Shelf, Sink};
+use crate::ending::{Ending, refuse_long_source, refuse_source};
+use crate::load::load_source;
+use ft_checker::check;
+use ft_command::{Execution, Meaning};
+use ft_compile::compile;
+use ft_edge::{Shelf, Sink};
+use ft_inject::Clean;
+use ft_isa::Plan;
+use ft_machine::RunEnd;
 use ft_meaning::{MeanEnd, mean};
+use ft_object::encode;
 use ft_scope::resolve;
-use ft_syntax::{SourceError, parse};
+use ft_syntax::parse;
+use ft_types::Object;
 use std::alloc::Global;
 
-/// The most bytes of a file that are read as a source.
-const SOURCE_LIMIT: usize = 1_048_576;
+/// Compiles a source and puts its object.
+fn compile_text<K: Sink>(alloc: Global, text: &[u8], out: &mut K) -> Ending
+    ensures ends { Ends result (OverText CompilesProgram text.now)
+        (K.written out.old) (K.written out.new) (K.faults out.old) (K.faults out.new) ⊥ }
+    ensures puts { Puts result (K.puts out.old) (K.puts out.new) }
+    ensures faults { result ≢ Ending.WriteFault → K.faults out.new ≡ K.faults out.old }
+    ensures one_put { result ≡ Ending.Done → K.puts out.new ≡ one_more (K.puts out.old) }
+{
+    let object = match compile(alloc, text) {
+        Ok(object) => object,
+        Err(error) => return refuse_source(error, out),
+    };
+    let Ok(bytes) = encode(alloc, &object) else {
+        return Ending::NoMemory;
+    };
+    match out.put(bytes.as_slice()) {
+        Ok(()) => Ending::Done,
+        Err(_) => Ending::WriteFault,
+    }
+}
+
+/// Runs an object that is accepted, without a strike and without answers to wild loads.
+fn run_accepted<K: Sink>(alloc: Global, object: &Object, steps: u64, out: &mut K) -> Ending
+    requires spellable { IsSpellable object.now }
+    ensures ends { Ends result (λ a. a ≡ ran object.now (run object.now None [] steps))
+        (K.written out.old) (K.written out.new) (K.faults out.old) (K.faults out.new) ⊥ }
+    ensures puts { Puts result (K.puts out.old) (K.puts out.new) }
+    ensures faults { result ≢ Ending.WriteFault → K.faults out.new ≡ K.faults out.old }
+{
+    let Ok(checked) = check(alloc, object) else {
+        return Ending::NoMemory;
+    };
+    let Ok(clean) = Clean::start(alloc, &checked) else {
+        return Ending::NoMemory;
+    };
+    let plan = Plan {
+        strike: None,
+        wild: &[],
+    };
+    match ft_inject::run(clean, plan, steps, out) {
+        RunEnd::Done => Ending::Done,
+        RunEnd::Detected => Ending::Detected,
+        RunEnd::OutOfSteps => Ending::OutOfSteps,
+        RunEnd::WriteFault => Ending::WriteFault,
+    }
+}
+
+/// Compiles a source and runs its object.
+fn execute_text<K: Sink>(alloc: Global, text: &[u8], steps: u64, out: &mut K) -> Ending
+    ensures ends { Ends result (OverText (ExecutesProgram steps) text.now)
+        (K.written out.old) (K.written out.new) (K.faults out.old) (K.faults out.new) ⊥ }
+    ensures puts { Puts result (K.puts out.old) (K.puts out.new) }
+    ensures faults { result ≢ Ending.WriteFault → K.faults out.new ≡ K.faults out.old }
+{
+    match compile(alloc, text) {
+        Ok(object) => run_accepted(alloc, &object, steps, out),
+        Err(error) => refuse_source(error, out),
+    }
+}
 
 /// Gives the meaning of a source.
 fn mean_text<K: Sink>(alloc: Global, text: &[u8], turns: u64, out: &mut K) -> Ending
-    ensures ends { Ends result (MeansText turns text.now) (K.written out.old) (K.written out.new) (K.faults out.old) (K.faults out.new) ⊥ }
+    ensures ends { Ends result (OverText (MeansProgram turns) text.now)
+        (K.written out.old) (K.written out.new) (K.faults out.old) (K.faults out.new) ⊥ }
     ensures puts { Puts result (K.puts out.old) (K.puts out.new) }
     ensures faults { result ≢ Ending.WriteFault → K.faults out.new ≡ K.faults out.old }
 {
@@ -39,6 +109,47 @@ fn mean_text<K: Sink>(alloc: Global, text: &[u8], turns: u64, out: &mut K) -> En
     }
 }
 
+/// Loads a source and compiles it.
+pub(crate) fn compile_file<F: Shelf, K: Sink>(
+    alloc: Global,
+    name: &str,
+    shelf: &mut F,
+    out: &mut K,
+) -> Ending
+    ensures ends { Ends result (OverSource CompilesProgram name.now (F.files shelf.old))
+        (K.written out.old) (K.written out.new) (K.faults out.old) (K.faults out.new)
+        (FailsIn (Compiles name.now) (F.files shelf.old) (F.faults shelf.old) (F.faults shelf.new) (F.failed_name shelf.new)) }
+    ensures puts { Puts result (K.puts out.old) (K.puts out.new) }
+    ensures faults { result ≢ Ending.WriteFault → K.faults out.new ≡ K.faults out.old }
+    ensures load_faults { result ≢ Ending.LoadFault → (F.faults shelf.new ≡ F.faults shelf.old) × (F.failed_name shelf.new ≡ F.failed_name shelf.old) }
+    ensures one_put { result ≡ Ending.Done → K.puts out.new ≡ one_more (K.puts out.old) }
+{
+    match load_source(alloc, name, shelf) {
+        Ok(text) => compile_text(alloc, text.as_slice(), out),
+        Err(fault) => refuse_long_source(fault, out),
+    }
+}
+
+/// Loads a source, compiles it, and runs its object.
+pub(crate) fn execute_file<F: Shelf, K: Sink>(
+    alloc: Global,
+    asked: &Execution,
+    shelf: &mut F,
+    out: &mut K,
+) -> Ending
+    ensures ends { Ends result (OverSource (ExecutesProgram asked.now.steps) asked.now.source.now (F.files shelf.old))
+        (K.written out.old) (K.written out.new) (K.faults out.old) (K.faults out.new)
+        (FailsIn (Executes (execution_view asked.now)) (F.files shelf.old) (F.faults shelf.old) (F.faults shelf.new) (F.failed_name shelf.new)) }
+    ensures puts { Puts result (K.puts out.old) (K.puts out.new) }
+    ensures faults { result ≢ Ending.WriteFault → K.faults out.new ≡ K.faults out.old }
+    ensures load_faults { result ≢ Ending.LoadFault → (F.faults shelf.new ≡ F.faults shelf.old) × (F.failed_name shelf.new ≡ F.failed_name shelf.old) }
+{
+    match load_source(alloc, asked.source, shelf) {
+        Ok(text) => execute_text(alloc, text.as_slice(), asked.steps, out),
+        Err(fault) => refuse_long_source(fault, out),
+    }
+}
+
 /// Loads a source and gives its meaning.
 pub(crate) fn mean_file<F: Shelf, K: Sink>(
     alloc: Global,
@@ -46,18 +157,15 @@ pub(crate) fn mean_file<F: Shelf, K: Sink>(
     shelf: &mut F,
     out: &mut K,
 ) -> Ending
-    ensures ends { Ends result (Answers (Means (meaning_view asked.now)) (F.files shelf.old))
+    ensures ends { Ends result (OverSource (MeansProgram asked.now.turns) asked.now.source.now (F.files shelf.old))
         (K.written out.old) (K.written out.new) (K.faults out.old) (K.faults out.new)
         (FailsIn (Means (meaning_view asked.now)) (F.files shelf.old) (F.faults shelf.old) (F.faults shelf.new) (F.failed_name shelf.new)) }
     ensures puts { Puts result (K.puts out.old) (K.puts out.new) }
     ensures faults { result ≢ Ending.WriteFault → K.faults out.new ≡ K.faults out.old }
     ensures load_faults { result ≢ Ending.LoadFault → (F.faults shelf.new ≡ F.faults shelf.old) × (F.failed_name shelf.new ≡ F.failed_name shelf.old) }
 {
-    let mut text = Vec::new(alloc);
-    match shelf.load(asked.source, SOURCE_LIMIT, &mut text) {
-        Ok(Load::Whole) => mean_text(alloc, text.as_slice(), asked.turns, out),
-        Ok(Load::TooLong) => refuse_source(SourceError::TooLong, out),
-        Err(LoadFault::Failed) => Ending::LoadFault,
-        Err(LoadFault::NoMemory) => Ending::NoMemory,
+    match load_source(alloc, asked.source, shelf) {
+        Ok(text) => mean_text(alloc, text.as_slice(), asked.turns, out),
+        Err(fault) => refuse_long_source(fault, out),
     }
 }

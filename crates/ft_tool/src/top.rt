@@ -1,24 +1,25 @@
 //! The top call.
-ghost use Rattle.std.specs.Prelude.{◌≡◌, ◌≢◌, ◌≤◌, map, string_bytes, IsTrue};
+ghost use Rattle.std.specs.Prelude.{◌≡◌, ◌≢◌, ◌≤◌, ◌⊎◌, map, string_bytes, IsTrue};
 ghost use Rattle.ft_edge.specs.Causes.{Rose};
 ghost use Rattle.ft_edge.specs.Puts.{one_more};
-ghost use Rattle.ft_command.specs.Commands.{Asks, Usage, Checks, Runs, Tries, Strikes, Surveys};
+ghost use Rattle.ft_command.specs.Commands.{Debugging as Session, Asks, Usage, Checks, Runs, Tries, Strikes, Surveys, Debugs};
 ghost use Rattle.ft_command.specs.Asked.{run_view, campaign_view};
-ghost use Rattle.ft_tool.specs.Answers.{Answers, IsAnswer, Concludes, BreaksOff, FailsIn, FailedToLoad, is_status};
+ghost use Rattle.ft_tool.specs.Answers.{ChecksObject, RunsObject, TriesObject, StrikesObject, SurveysObject, OverFile, IsAnswer, Concludes, BreaksOff, FailsIn, FailedToLoad, FailedToTake, is_status};
 ghost use Rattle.ft_tool.specs.Endings.{Ends, Puts};
 
 use crate::campaigns::{strike_object, survey_object};
+use crate::debugging::debug_file;
 use crate::ending::{Ending, put_usage, refuse_object};
 use crate::load::load_object;
 use crate::objects::{check_object, run_object, try_object};
-use crate::sources::mean_file;
+use crate::sources::{compile_file, execute_file, mean_file};
 use ft_command::{Campaign, Command, Run, command_of};
 use ft_edge::{Shelf, Sink, Source};
 use std::alloc::Global;
 
 /// Loads an object and checks it.
 fn check_file<F: Shelf, K: Sink>(alloc: Global, name: &str, shelf: &mut F, out: &mut K) -> Ending
-    ensures ends { Ends result (Answers (Checks name.now) (F.files shelf.old))
+    ensures ends { Ends result (OverFile ChecksObject name.now (F.files shelf.old))
         (K.written out.old) (K.written out.new) (K.faults out.old) (K.faults out.new)
         (FailsIn (Checks name.now) (F.files shelf.old) (F.faults shelf.old) (F.faults shelf.new) (F.failed_name shelf.new)) }
     ensures puts { Puts result (K.puts out.old) (K.puts out.new) }
@@ -33,7 +34,7 @@ fn check_file<F: Shelf, K: Sink>(alloc: Global, name: &str, shelf: &mut F, out: 
 
 /// Loads an object and runs it, if it is accepted.
 fn run_file<F: Shelf, K: Sink>(alloc: Global, run: &Run, shelf: &mut F, out: &mut K) -> Ending
-    ensures ends { Ends result (Answers (Runs (run_view run.now)) (F.files shelf.old))
+    ensures ends { Ends result (OverFile (RunsObject (run_view run.now)) run.now.object.now (F.files shelf.old))
         (K.written out.old) (K.written out.new) (K.faults out.old) (K.faults out.new)
         (FailsIn (Runs (run_view run.now)) (F.files shelf.old) (F.faults shelf.old) (F.faults shelf.new) (F.failed_name shelf.new)) }
     ensures puts { Puts result (K.puts out.old) (K.puts out.new) }
@@ -48,7 +49,7 @@ fn run_file<F: Shelf, K: Sink>(alloc: Global, run: &Run, shelf: &mut F, out: &mu
 
 /// Loads an object and runs it without checking it.
 fn try_file<F: Shelf, K: Sink>(alloc: Global, run: &Run, shelf: &mut F, out: &mut K) -> Ending
-    ensures ends { Ends result (Answers (Tries (run_view run.now)) (F.files shelf.old))
+    ensures ends { Ends result (OverFile (TriesObject (run_view run.now)) run.now.object.now (F.files shelf.old))
         (K.written out.old) (K.written out.new) (K.faults out.old) (K.faults out.new)
         (FailsIn (Tries (run_view run.now)) (F.files shelf.old) (F.faults shelf.old) (F.faults shelf.new) (F.failed_name shelf.new)) }
     ensures puts { Puts result (K.puts out.old) (K.puts out.new) }
@@ -69,7 +70,7 @@ fn strike_file<F: Shelf, K: Sink>(
     out: &mut K,
 ) -> Ending
     requires { asked.now.steps ≤ 1000000 }
-    ensures ends { Ends result (Answers (Strikes (campaign_view asked.now)) (F.files shelf.old))
+    ensures ends { Ends result (OverFile (StrikesObject (campaign_view asked.now) (F.files shelf.old)) asked.now.object.now (F.files shelf.old))
         (K.written out.old) (K.written out.new) (K.faults out.old) (K.faults out.new)
         (FailsIn (Strikes (campaign_view asked.now)) (F.files shelf.old) (F.faults shelf.old) (F.faults shelf.new) (F.failed_name shelf.new)) }
     ensures puts { Puts result (K.puts out.old) (K.puts out.new) }
@@ -90,7 +91,7 @@ fn survey_file<F: Shelf, K: Sink>(
     out: &mut K,
 ) -> Ending
     requires { asked.now.steps ≤ 1000000 }
-    ensures ends { Ends result (Answers (Surveys (campaign_view asked.now)) (F.files shelf.old))
+    ensures ends { Ends result (OverFile (SurveysObject (campaign_view asked.now) (F.files shelf.old)) asked.now.object.now (F.files shelf.old))
         (K.written out.old) (K.written out.new) (K.faults out.old) (K.faults out.new)
         (FailsIn (Surveys (campaign_view asked.now)) (F.files shelf.old) (F.faults shelf.old) (F.faults shelf.new) (F.failed_name shelf.new)) }
     ensures puts { Puts result (K.puts out.old) (K.puts out.new) }
@@ -104,19 +105,23 @@ fn survey_file<F: Shelf, K: Sink>(
 }
 
 /// Does what the words ask for.
-fn carry_out<F: Shelf, K: Sink>(
+fn carry_out<F: Shelf, I: Source, K: Sink>(
     alloc: Global,
     words: &[String],
     shelf: &mut F,
+    script: &mut I,
     out: &mut K,
 ) -> Ending
-    ensures ends { Ends result (IsAnswer (map string_bytes words.now) (F.files shelf.old))
+    ensures ends { Ends result (IsAnswer (map string_bytes words.now) (F.files shelf.old) (I.left script.old))
         (K.written out.old) (K.written out.new) (K.faults out.old) (K.faults out.new)
-        (FailedToLoad (map string_bytes words.now) (F.files shelf.old) (F.faults shelf.old) (F.faults shelf.new) (F.failed_name shelf.new)) }
+        (FailedToLoad (map string_bytes words.now) (F.files shelf.old) (F.faults shelf.old) (F.faults shelf.new) (F.failed_name shelf.new)
+            ⊎ FailedToTake (map string_bytes words.now) (F.files shelf.old) (I.faults script.old) (I.faults script.new)) }
     ensures usage { result ≡ Ending.Usage → Asks (map string_bytes words.now) Usage }
     ensures puts { Puts result (K.puts out.old) (K.puts out.new) }
     ensures faults { result ≢ Ending.WriteFault → K.faults out.new ≡ K.faults out.old }
     ensures load_faults { result ≢ Ending.LoadFault → (F.faults shelf.new ≡ F.faults shelf.old) × (F.failed_name shelf.new ≡ F.failed_name shelf.old) }
+    ensures script { ((debugging : Session) × Asks (map string_bytes words.now) (Debugs debugging)) ⊎ (script.new ≡ script.old) }
+    ensures script_faults { result ≢ Ending.LoadFault → I.faults script.new ≡ I.faults script.old }
 {
     match command_of(alloc, words) {
         Ok(Command::Usage) => put_usage(out),
@@ -125,36 +130,43 @@ fn carry_out<F: Shelf, K: Sink>(
         Ok(Command::Trial(run)) => try_file(alloc, &run, shelf, out),
         Ok(Command::Campaign(asked)) => strike_file(alloc, &asked, shelf, out),
         Ok(Command::Survey(asked)) => survey_file(alloc, &asked, shelf, out),
+        Ok(Command::Compile(name)) => compile_file(alloc, name, shelf, out),
+        Ok(Command::Exec(asked)) => execute_file(alloc, &asked, shelf, out),
         Ok(Command::Mean(asked)) => mean_file(alloc, &asked, shelf, out),
+        Ok(Command::Debug(asked)) => debug_file(alloc, &asked, shelf, script, out),
         Err(_) => Ending::NoMemory,
     }
 }
 
 /// Does what the words ask for, over the files of a shelf, and answers the program's status. The
-/// script is for commands that read one.
+/// script is taken by `debug` alone.
 pub fn tool<F: Shelf, I: Source, K: Sink>(
     alloc: Global,
     words: &[String],
     shelf: &mut F,
-    _script: &mut I,
+    script: &mut I,
     out: &mut K,
 ) -> u8
     ensures status { IsTrue (is_status result) }
 
-    // Text and status are the answer of the command that the words ask for.
-    ensures exact { result ≢ 3 → result ≢ 4 → result ≢ 5 →
-        Concludes (IsAnswer (map string_bytes words.now) (F.files shelf.old)) result (K.written out.old) (K.written out.new) }
+    // Text and status are the answer of the command that the words ask for. So a source is compiled exactly where its
+    // text has a program: to an object that is accepted and whose run commits what the program means and ends when it
+    // ends. And the run of an accepted object has under its plan after each number of steps exactly what the run
+    // without the strike has, or it is detected and has a prefix of that.
+    ensures headline { result ≢ 3 → result ≢ 4 → result ≢ 5 →
+        Concludes (IsAnswer (map string_bytes words.now) (F.files shelf.old) (I.left script.old)) result (K.written out.old) (K.written out.new) }
     ensures usage { result ≡ 2 → Asks (map string_bytes words.now) Usage }
 
-    // A load of the command's own file failed, and nothing was written.
-    ensures load_fault { result ≡ 3 → FailedToLoad (map string_bytes words.now) (F.files shelf.old)
-        (F.faults shelf.old) (F.faults shelf.new) (F.failed_name shelf.new) }
+    // A load of the command's own file failed, or a take of its script, and nothing was written.
+    ensures load_fault { result ≡ 3 →
+        FailedToLoad (map string_bytes words.now) (F.files shelf.old) (F.faults shelf.old) (F.faults shelf.new) (F.failed_name shelf.new)
+            ⊎ FailedToTake (map string_bytes words.now) (F.files shelf.old) (I.faults script.old) (I.faults script.new) }
     ensures load_fault_writes_nothing { result ≡ 3 → K.written out.new ≡ K.written out.old }
 
     // A put failed, and a prefix of the answer's text was written.
     ensures write_fault { result ≡ 4 → Rose (K.faults out.old) (K.faults out.new) }
     ensures write_fault_writes_prefix { result ≡ 4 →
-        BreaksOff (IsAnswer (map string_bytes words.now) (F.files shelf.old)) (K.written out.old) (K.written out.new) }
+        BreaksOff (IsAnswer (map string_bytes words.now) (F.files shelf.old) (I.left script.old)) (K.written out.old) (K.written out.new) }
 
     // There was no memory left, and nothing was written.
     ensures no_memory_writes_nothing { result ≡ 5 → K.written out.new ≡ K.written out.old }
@@ -169,11 +181,12 @@ pub fn tool<F: Shelf, I: Source, K: Sink>(
     ensures load_fault_puts_nothing { result ≡ 3 → K.puts out.new ≡ K.puts out.old }
     ensures no_memory_puts_nothing { result ≡ 5 → K.puts out.new ≡ K.puts out.old }
 
-    // No load failed where the answer is another, and the script stays as it is.
+    // No load and no take failed where the answer is another, and the script stays as it is but in a session.
     ensures load_faults { result ≢ 3 → (F.faults shelf.new ≡ F.faults shelf.old) × (F.failed_name shelf.new ≡ F.failed_name shelf.old) }
-    ensures script { _script.new ≡ _script.old }
+    ensures script { ((debugging : Session) × Asks (map string_bytes words.now) (Debugs debugging)) ⊎ (script.new ≡ script.old) }
+    ensures script_faults { result ≢ 3 → I.faults script.new ≡ I.faults script.old }
 {
-    match carry_out(alloc, words, shelf, out) {
+    match carry_out(alloc, words, shelf, script, out) {
         Ending::Done => 0,
         Ending::Detected => 1,
         Ending::Usage => 2,

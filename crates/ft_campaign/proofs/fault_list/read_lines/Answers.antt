@@ -4,7 +4,8 @@ use Rattle.std.proofs.lemmas.List.{length-append}
 use Rattle.std.proofs.lemmas.Slice.Zip.{AllZip-long}
 use Rattle.ft_isa.specs.PlanText.{IsStrikeText}
 use Rattle.ft_isa.specs.declared.plan.Strike.{Strike}
-use Rattle.ft_campaign.specs.FaultList.{lines_of, AreStrikeTexts}
+use Rattle.ft_text.specs.Lines.{lines_of}
+use Rattle.ft_campaign.specs.FaultList.{AreStrikeTexts}
 use Rattle.ft_campaign.proofs.Faults.{read_more, goes_on}
 use Rattle.ft_campaign.proofs.fault_list.read_lines.Goals as goal
 

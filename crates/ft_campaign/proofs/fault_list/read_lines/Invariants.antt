@@ -1,5 +1,6 @@
 use Rattle.std.proofs.Common.{◌≡◌, ◌≤◌, ◌++◌, List, ℕ, length}
-use Rattle.ft_campaign.specs.FaultList.{lines_of, AreStrikeTexts}
+use Rattle.ft_text.specs.Lines.{lines_of}
+use Rattle.ft_campaign.specs.FaultList.{AreStrikeTexts}
 use Rattle.ft_campaign.proofs.fault_list.read_lines.Given as goal
 
 abbrev pub invariant-loop-line : goal.invariant-loop-line

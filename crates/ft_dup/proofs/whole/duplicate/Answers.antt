@@ -5,6 +5,7 @@ use Rattle.ft_lower.specs.Flow.{blocks_of}
 use Rattle.ft_dup.specs.Shape.{HasTarget}
 use Rattle.ft_dup.specs.Images.{starts, blocks_images}
 use Rattle.ft_dup.proofs.Places.{targets_there, images_there}
+use Rattle.ft_dup.proofs.Laying.{blocks_length}
 use Rattle.ft_dup.proofs.Following.{runs_as}
 use Rattle.ft_dup.proofs.whole.duplicate.Goals as goal
 
@@ -20,3 +21,9 @@ returns-clause-instrs c =
 
 pub returns-clause-runs : goal.returns-clause-runs
 returns-clause-runs c = runs_as c.args.flow.now.vars c.args.flow.now.cells (blocks_of c.args.flow.now)
+
+pub returns-clause-size : goal.returns-clause-size
+returns-clause-size c =
+    ap length c.in_ok-instrs.ensures
+    ∙ ap (λ l. length (blocks_images (slice_index c.deref-2.result.now) (map (λ b. b.items) l))) c.deref-3.ensures.value
+    ∙ blocks_length (slice_index c.deref-2.result.now) (blocks_of c.args.flow.now)

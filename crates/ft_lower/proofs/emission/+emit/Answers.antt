@@ -45,9 +45,9 @@ emit_statement-returns-in_ok-put-in-While-3-clause-steps t c =
     let e = plain_expression same_slot c.in-While.test in
     let is = matched_while same_slot c.args.s.now c.in-While.test c.in-While.body xs none c.in-While.is c.deref.ensures.value in
     let top = loop_stack below _ _ c.next_count.result e (plain_list same_slot xs) (c.requires.counted.1 ∙ ap (λ st. below ++ body_counts st) is) c.next_count.ensures in
-    let n = c.args.n in
-    let b = c.args.b in
-    loop_steps _ _ _ _ _ _ n b _ e (plain_list same_slot xs) (omega (arith, top.1)) c.in_ok-put-in-While.ensures c.in_ok-emit_expression-in-While.ensures c.in_ok-put-in-While-2.ensures c.in_ok-emit_statements-in-While.ensures.steps c.in_ok-put-in-While-3.ensures
+    let n = c.args.spare in
+    let b = c.args.block in
+    loop_steps _ _ _ _ _ _ n b _ e (plain_list same_slot xs) (omega (arith, top.1)) c.in_ok-put-in-While.ensures c.in_ok-emit_expression-in-While.ensures (c.in_ok-put-in-While-2.ensures ∙ ap (λ x. c.emit_expression-in-While.new.steps.items ++ x ∷ []) c.exit_step.ensures) c.in_ok-emit_statements-in-While.ensures.steps c.in_ok-put-in-While-3.ensures
     ∙ ap (λ st. c.args.steps.now.items ++ statement_steps n b st) (sym is)
 
 pub emit_statement-returns-in_ok-put-in-While-3-clause-counts : goal.emit_statement-returns-in_ok-put-in-While-3-clause-counts
@@ -154,9 +154,9 @@ emit_statement-returns-in_ok-put-in-If-3-clause-steps t c =
     let is = matched_if same_slot c.args.s.now c.in-If.test c.in-If.yes c.in-If.no xs ys none c.in-If.is c.deref-in-If.ensures.value c.deref-in-If-2.ensures.value in
     let top = choice_stack below _ _ c.next_count-in-If.result e (plain_list same_slot xs) (plain_list same_slot ys) (c.requires.counted.1 ∙ ap (λ st. below ++ body_counts st) is) c.next_count-in-If.ensures in
     let next = same_from_push _ _ _ _ (sym c.next_count-in-If-2.ensures ∙ top.0) in
-    let n = c.args.n in
-    let b = c.args.b in
-    choice_steps _ _ _ _ _ _ _ n b _ _ e (plain_list same_slot xs) (plain_list same_slot ys) (omega (arith, top.1)) (omega (arith, top.1, next.1)) c.in_ok-emit_expression-in-If.ensures c.in_ok-put-in-If.ensures c.in_ok-emit_statements-in-If.ensures.steps c.in_ok-put-in-If-2.ensures c.in_ok-emit_statements-in-If-2.ensures.steps c.in_ok-put-in-If-3.ensures
+    let n = c.args.spare in
+    let b = c.args.block in
+    choice_steps _ _ _ _ _ _ _ n b _ _ e (plain_list same_slot xs) (plain_list same_slot ys) (omega (arith, top.1)) (omega (arith, top.1, next.1)) c.in_ok-emit_expression-in-If.ensures (c.in_ok-put-in-If.ensures ∙ ap (λ x. c.emit_expression-in-If.new.steps.items ++ x ∷ []) c.exit_step-in-If.ensures) c.in_ok-emit_statements-in-If.ensures.steps c.in_ok-put-in-If-2.ensures c.in_ok-emit_statements-in-If-2.ensures.steps c.in_ok-put-in-If-3.ensures
     ∙ ap (λ st. c.args.steps.now.items ++ statement_steps n b st) (sym is)
 
 pub emit_statement-returns-in_ok-put-in-If-3-clause-counts : goal.emit_statement-returns-in_ok-put-in-If-3-clause-counts
@@ -187,7 +187,7 @@ emit_statement-returns-in_ok-put-in-If-3-clause-block t c =
 pub emit_statement-returns-in_ok-put-in-Assign-clause-steps : goal.emit_statement-returns-in_ok-put-in-Assign-clause-steps
 emit_statement-returns-in_ok-put-in-Assign-clause-steps t c =
     let to = c.in-Assign.to in
-    let n = c.args.n in
+    let n = c.args.spare in
     let old = c.args.steps.now.items in
     let e = expression_steps (n + 1) (plain_expression same_slot c.in-Assign.value) in
     let is = ap (λ s. plain_statement same_slot s none) c.in-Assign.is ∙ assign_form same_slot to c.in-Assign.value none in
@@ -195,7 +195,7 @@ emit_statement-returns-in_ok-put-in-Assign-clause-steps t c =
     ∙ ap (λ w. c.emit_expression.new.steps.items ++ w ∷ []) c.write_step.ensures
     ∙ ap (λ z. z ++ write n to ∷ []) c.in_ok-emit_expression-in-Assign.ensures
     ∙ append_assoc old e (write n to ∷ [])
-    ∙ ap (λ st. old ++ statement_steps n c.args.b st) (sym is)
+    ∙ ap (λ st. old ++ statement_steps n c.args.block st) (sym is)
 
 pub emit_statement-returns-in_ok-put-in-Assign-clause-counts : goal.emit_statement-returns-in_ok-put-in-Assign-clause-counts
 emit_statement-returns-in_ok-put-in-Assign-clause-counts t c =
@@ -225,12 +225,12 @@ emit_statements-loop-s-preserved t c =
     let s = c.s-item.result in
     let e = count_left xs i s c.loop-s-test.true c.s-item.is in
     let d = need_left xs i s c.loop-s-test.true c.s-item.is in
-    let l = steps_left xs i s c.loop-s-test.true c.s-item.is c.args.n c.loop-s.at c.in_ok-at.at c.in_ok-at.ensures.block in
-    let rest = statement_steps c.args.n c.in_ok-at.at (plain_list same_slot (drop (i + 1) xs)) in
+    let l = steps_left xs i s c.loop-s-test.true c.s-item.is c.args.spare c.loop-s.at c.in_ok-at.at c.in_ok-at.ensures.block in
+    let rest = statement_steps c.args.spare c.in_ok-at.at (plain_list same_slot (drop (i + 1) xs)) in
     let own = body_counts (plain_statement same_slot s none) in
     let others = body_counts (plain_list same_slot (drop (i + 1) xs)) in
     record {
-      steps = ap (λ z. z ++ rest) c.in_ok-at.ensures.steps ∙ append_assoc c.loop-s.steps.items (statement_steps c.args.n c.loop-s.at (plain_statement same_slot s none)) rest ∙ ap (λ z. c.loop-s.steps.items ++ z) (sym l) ∙ c.loop-s.invariant.steps;
+      steps = ap (λ z. z ++ rest) c.in_ok-at.ensures.steps ∙ append_assoc c.loop-s.steps.items (statement_steps c.args.spare c.loop-s.at (plain_statement same_slot s none)) rest ∙ ap (λ z. c.loop-s.steps.items ++ z) (sym l) ∙ c.loop-s.invariant.steps;
       block = omega (arith, e, c.in_ok-at.ensures.block, c.loop-s.invariant.block);
       counts = λ below h. append_cancel_right c.emit_statement.new.counts.items (below ++ others) own
           (sym c.in_ok-at.ensures.counts ∙ c.loop-s.invariant.counts below h ∙ ap (λ z. below ++ z) (counts_left xs i s c.loop-s-test.true c.s-item.is) ∙ sym (append_assoc below others own));
@@ -239,7 +239,7 @@ emit_statements-loop-s-preserved t c =
 
 pub emit_statements-returns-clause-steps : goal.emit_statements-returns-clause-steps
 emit_statements-returns-clause-steps t c =
-    let over = ap (statement_steps c.args.n c.loop-s.at) (none_left c.args.all.now c.loop-s.s-index c.loop-s-test.false) in
+    let over = ap (statement_steps c.args.spare c.loop-s.at) (none_left c.args.all.now c.loop-s.s-index c.loop-s-test.false) in
     sym (append-nil c.loop-s.steps.items) ∙ ap (λ z. c.loop-s.steps.items ++ z) (sym over) ∙ c.loop-s.invariant.steps
 
 pub emit_statements-returns-clause-counts : goal.emit_statements-returns-clause-counts

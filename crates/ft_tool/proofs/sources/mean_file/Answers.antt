@@ -1,21 +1,27 @@
-use Rattle.std.proofs.Common.{Ok, subst}
-use Rattle.ft_edge.specs.Loads.{Loads}
-use Rattle.ft_syntax.specs.declared.source_error.SourceError.TheVariants.{TooLong}
+use Rattle.std.proofs.Common.{◌≡◌, ℕ, Some, Vec, Global, refl, subst}
+use Rattle.ft_edge.specs.Causes.{Rose}
 use Rattle.ft_command.specs.Asked.{meaning_view}
 use Rattle.ft_command.specs.Commands.{Means}
-use Rattle.ft_tool.specs.Sources.{IsSourceRefused}
-use Rattle.ft_tool.specs.Answers.{Answers, FailsIn}
+use Rattle.ft_tool.specs.declared.load.SourceFault.TheVariants.{Failed}
+use Rattle.ft_tool.specs.Answers.{OverSource, FailsIn}
+use Rattle.ft_tool.specs.Files.{IsTooLongBy}
+use Rattle.ft_tool.specs.Sources.{OverText, MeansProgram}
 use Rattle.ft_tool.proofs.Answered.{Ends-map}
-use Rattle.ft_tool.proofs.Meant.{too_long_source}
+use Rattle.ft_tool.proofs.Meant.{over_source, over_long_source, source_failed}
 use Rattle.ft_tool.proofs.sources.mean_file.Goals as goal
 
-pub returns-in-Ok-TooLong-clause-ends : goal.returns-in-Ok-TooLong-clause-ends
-returns-in-Ok-TooLong-clause-ends g c =
-    let m = meaning_view c.args.asked.now in
+pub returns-in-Ok-clause-ends : goal.returns-in-Ok-clause-ends
+returns-in-Ok-clause-ends g c =
     let files = g.F.Shelf.files c.args.shelf.now in
-    let told = (subst (λ x. Loads files m.source 1048576 c.load.new.into.items (Ok x)) c.in-Ok-TooLong.field-0-is c.in-Ok-TooLong.ensures.loads).1 in
-    Ends-map c.refuse_source.result (IsSourceRefused TooLong) (Answers (Means m) files)
-    (g.K.Sink.written c.args.out.now) (g.K.Sink.written c.refuse_source.new.out) (g.K.Sink.faults c.args.out.now) (g.K.Sink.faults c.refuse_source.new.out)
-    ⊥ (FailsIn (Means m) files (g.F.Shelf.faults c.args.shelf.now) (g.F.Shelf.faults c.load.new.self) (g.F.Shelf.failed_name c.load.new.self))
-    (too_long_source files m told) (λ x. absurd x)
-    c.refuse_source.ensures.ends
+    Ends-map c.mean_text.result (OverText (MeansProgram c.args.asked.now.turns) c.as_slice.result.now) (OverSource (MeansProgram c.args.asked.now.turns) c.args.asked.now.source.now files) _ _ _ _ ⊥
+    (FailsIn (Means (meaning_view c.args.asked.now)) files (g.F.Shelf.faults c.args.shelf.now) (g.F.Shelf.faults c.load_source.new.shelf) (g.F.Shelf.failed_name c.load_source.new.shelf))
+    (λ a is. over_source {V = Vec ℕ Global} (λ v. v.items) (MeansProgram c.args.asked.now.turns) files c.args.asked.now.source.now c.in-Ok.text c.in-Ok.ensures.loads a (subst (λ text. OverText (MeansProgram c.args.asked.now.turns) text a) c.as_slice.ensures.value is))
+    (λ x. absurd x) c.mean_text.ensures.ends
+
+pub returns-in-Err-clause-ends : goal.returns-in-Err-clause-ends
+returns-in-Err-clause-ends g c =
+    let files = g.F.Shelf.files c.args.shelf.now in
+    Ends-map c.refuse_long_source.result (IsTooLongBy c.in-Err.fault) (OverSource (MeansProgram c.args.asked.now.turns) c.args.asked.now.source.now files) _ _ _ _ (c.in-Err.fault ≡ Failed)
+    (FailsIn (Means (meaning_view c.args.asked.now)) files (g.F.Shelf.faults c.args.shelf.now) (g.F.Shelf.faults c.load_source.new.shelf) (g.F.Shelf.failed_name c.load_source.new.shelf))
+    (λ a is. over_long_source {V = Vec ℕ Global} (λ v. v.items) (MeansProgram c.args.asked.now.turns) files c.args.asked.now.source.now c.in-Err.fault c.in-Err.ensures.loads a is)
+    (λ e. let h = source_failed (Vec ℕ Global) _ _ _ _ c.args.asked.now.source.now c.in-Err.fault c.in-Err.ensures.cause e in record { rose = h.0; file = c.args.asked.now.source.now; comes = refl; name = h.1 }) c.refuse_long_source.ensures.ends

@@ -2,7 +2,7 @@ use Rattle.std.proofs.Common.{refl}
 use Rattle.ft_syntax.specs.TreeOf.{tree_of}
 use Rattle.ft_scope.specs.ProgramOf.{program_of}
 use Rattle.ft_meaning.specs.Meaning.{meaning}
-use Rattle.ft_tool.specs.Sources.{MeansText, IsSourceRefused}
+use Rattle.ft_tool.specs.Sources.{OverText, MeansProgram, IsSourceRefused}
 use Rattle.ft_tool.proofs.Answered.{Ends-map}
 use Rattle.ft_tool.proofs.Meant.{tree_refused, meaning_ended, meaning_cut, meaning_broken}
 use Rattle.ft_tool.proofs.sources.mean_text.Goals as goal
@@ -11,7 +11,7 @@ pub returns-in-Err-resolve-clause-ends : goal.returns-in-Err-resolve-clause-ends
 returns-in-Err-resolve-clause-ends g c =
     let t = tree_of c.in-Ok.tree in
     let e = c.in-Err-resolve.error in
-    Ends-map c.refuse_source-in-Err-resolve.result (IsSourceRefused e) (MeansText c.args.turns c.args.text.now)
+    Ends-map c.refuse_source-in-Err-resolve.result (IsSourceRefused e) (OverText (MeansProgram c.args.turns) c.args.text.now)
     (g.K.Sink.written c.args.out.now) (g.K.Sink.written c.refuse_source-in-Err-resolve.new.out) (g.K.Sink.faults c.args.out.now) (g.K.Sink.faults c.refuse_source-in-Err-resolve.new.out) ⊥ ⊥
     (tree_refused c.args.turns c.args.text.now t e c.in-Ok.ensures.ok c.in-Err-resolve.ensures.err) (λ x. x)
     c.refuse_source-in-Err-resolve.ensures.ends

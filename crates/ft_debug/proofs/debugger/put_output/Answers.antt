@@ -1,0 +1,26 @@
+use Rattle.std.proofs.Common.{◌≡◌, ◌⊎◌, ⊎_elim, [], sym, subst, refl, arith, List, ℕ}
+use Rattle.ft_text.specs.Puts.{PutsLines}
+use Rattle.ft_text.proofs.PutLines.{puts_none}
+use Rattle.ft_types.specs.declared.object.Object.{Object}
+use Rattle.ft_machine.specs.declared.machine.Stepped.{Stepped}
+use Rattle.ft_machine.specs.declared.machine.Stepped.TheVariants.{Commit, Quiet, Done, Detected}
+use Rattle.ft_debug.specs.Inside.{committed_lines}
+use Rattle.ft_debug.proofs.debugger.put_output.Goals as goal
+
+-- a step that committed nothing has no line
+no_line : (o : Object) (stepped : Stepped) → (stepped ≡ Quiet) ⊎ ((stepped ≡ Done) ⊎ (stepped ≡ Detected)) → committed_lines o stepped ≡ []
+no_line o (Commit x) h = absurd (⊎_elim (λ (e : Commit x ≡ Quiet). cc) (⊎_elim (λ (e : Commit x ≡ Done). cc) (λ (e : Commit x ≡ Detected). cc)) h)
+no_line o Quiet h = refl
+no_line o Done h = refl
+no_line o Detected h = refl
+
+pub returns-in-Quiet : goal.returns-in-Quiet
+returns-in-Quiet g c =
+    let o = g.P.Program.object c.args.program.now in
+    record {
+      puts =
+          subst (λ (ls : List (List ℕ)). PutsLines ls (g.K.Sink.written c.args.out.now) (g.K.Sink.written c.args.out.now) (g.K.Sink.puts c.args.out.now) (g.K.Sink.puts c.args.out.now)) (sym (no_line o c.args.stepped c.in-Quiet.is))
+          (puts_none (g.K.Sink.written c.args.out.now) (g.K.Sink.puts c.args.out.now));
+      count = omega arith;
+      cause = refl;
+    }

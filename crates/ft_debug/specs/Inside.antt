@@ -1,0 +1,87 @@
+-- What the debugger's parts hold, against the session of the definition: private to the code.
+use Rattle.std.specs.Prelude.{◌≡◌, ℕ, ◌+◌, ◌-◌, ◌<◌, ◌≤◌, Bool, true, false, ◌&&◌, not, List, [], ◌∷◌, length, slice_get, All, Option, Some, Result, Ok, Err}
+use Rattle.std.specs.List.{AllByRecursion}
+use Rattle.ft_edge.specs.Causes.{Rose}
+use Rattle.ft_edge.specs.declared.failed.Failed.{Failed}
+use Rattle.ft_isa.specs.declared.plan.Strike.{Strike}
+use Rattle.ft_isa.specs.declared.plan.Wild.{Wild}
+use Rattle.ft_text.specs.Puts.{PutsLines, BreaksOff}
+use Rattle.ft_types.specs.declared.object.Object.{Object}
+use Rattle.ft_types.specs.State.{State, HasCells}
+use Rattle.ft_types.specs.Strike.{is_running}
+use Rattle.ft_types.specs.Texts.{line_at}
+use Rattle.ft_machine.specs.declared.machine.Stepped.{Stepped}
+use Rattle.ft_machine.specs.declared.machine.Stepped.TheVariants.{Commit, Quiet, Done, Detected}
+use Rattle.ft_debug.specs.declared.moment.Moment.{Moment}
+use Rattle.ft_debug.specs.declared.debugger.Debugger.{Debugger}
+use Rattle.ft_debug.specs.Commands.{Command, Step, Go, IsCount}
+use Rattle.ft_debug.specs.Kept.{HasMomentCells, IsFull}
+use Rattle.ft_debug.specs.Sessions.{Session, Shown, Reply, shown, present, further, step_lines, never, is_at_break}
+
+-- the moment of what is shown
+abbrev pub moment_of : ℕ → Shown → Moment
+moment_of p now = record { machine = now.state; wild = now.wild; position = p }
+
+-- the moment of a position
+abbrev pub moment_at : Object → List Wild → List Strike → ℕ → Moment
+moment_at o w strikes p = moment_of p (shown o w strikes p)
+
+-- a strike was made at this position or before it
+abbrev pub IsMadeBy : ℕ → Strike → Type 0
+IsMadeBy p strike = strike.step ≤ p
+
+-- the ring is full, and all machines have the object's cells
+pub record Ready (o : Object) (d : Debugger) : Type 0 where
+  pub full : IsFull d.history
+  pub past : All (HasMomentCells (length o.cells)) d.history.moments.items
+  pub cells : HasCells (length o.cells) d.present.machine
+
+-- the line of what a step committed, if it committed something
+abbrev pub committed_lines : Object → Stepped → List (List ℕ)
+committed_lines o (Commit output) = line_at o output ∷ []
+committed_lines o Quiet = []
+committed_lines o Done = []
+committed_lines o Detected = []
+
+-- the debugger holds a session: what it shows, what it showed at the positions from the low-water mark on, and its
+-- break places
+pub record Holds (o : Object) (w : List Wild) (s : Session) (d : Debugger) : Type 0 where
+  pub present : d.present ≡ moment_at o w s.strikes s.position
+  pub kept : s.low + d.history.count ≡ s.position
+  pub past : (i : ℕ) → 4096 ≤ i + d.history.count → i < 4096 → slice_get d.history.moments.items i ≡ Some (moment_at o w s.strikes (s.position + i - 4096))
+  pub breaks : d.breaks ≡ s.breaks
+  pub made : AllByRecursion (IsMadeBy s.position) s.strikes
+
+-- these lines were put, up to one whose put failed
+abbrev pub Puts : Result (Unit {0}) Failed → List (List ℕ) → Option (List ℕ) → Option (List ℕ) → Option ℕ → Option ℕ → Type 0
+Puts (Ok done) lines old new before now = PutsLines lines old new before now
+Puts (Err failed) lines old new before now = BreaksOff lines old new before now
+
+-- whatever session was held, its reply was put, and the session after it is held
+abbrev pub Does : (List Wild → Session → Reply) → Object → Debugger → Debugger → Result (Unit {0}) Failed → Option (List ℕ) → Option (List ℕ) → Option ℕ → Option ℕ → Type 0
+Does go o d e (Ok done) old new before now = (w : List Wild) (s : Session) → Holds o w s d → Holds o w (go w s).session e × PutsLines (go w s).lines old new before now
+Does go o d e (Err failed) old new before now = (w : List Wild) (s : Session) → Holds o w s d → BreaksOff (go w s).lines old new before now
+
+-- only a count that rose excuses a failed put
+abbrev pub Excused : Result (Unit {0}) Failed → ℕ → ℕ → Type 0
+Excused (Ok done) before now = now ≡ before
+Excused (Err failed) before now = Rose before now
+
+-- one step, of a machine that runs
+abbrev pub advances : Object → List Wild → Session → Reply
+advances o w s = record { session = further s; lines = step_lines o (present o w s) }
+
+-- where to halt: at break places, or nowhere
+abbrev pub halting : Bool → List ℕ → State → Bool
+halting true breaks = is_at_break breaks
+halting false breaks = never
+
+-- whether the machine is to take one more step
+abbrev pub goes_on : Bool → List ℕ → State → Bool
+goes_on halts breaks s = not (halting halts breaks s) && is_running s.status
+
+-- a command takes at most 1,000,000 steps
+abbrev pub IsSmall : Command → Type 0
+IsSmall (Step n) = IsCount n
+IsSmall (Go n) = IsCount n
+IsSmall command = Unit {0}

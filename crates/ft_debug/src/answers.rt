@@ -1,0 +1,285 @@
+//! What each command does and puts.
+ghost use Rattle.std.specs.Prelude.{◌≡◌, ◌≤◌, ◌<◌, ◌+◌, ◌^◌, ◌∷◌, [], length, IfSome};
+ghost use Rattle.ft_types.specs.Spellable.{IsSpellable};
+ghost use Rattle.ft_debug.specs.Commands as commands;
+ghost use Rattle.ft_debug.specs.Sessions.{reply, coloured_in, at_line, named_cell, queue_lines};
+ghost use Rattle.ft_debug.specs.Inside.{Ready, Puts, Does, Excused, IsSmall};
+ghost use Rattle.ft_debug.specs.Reads.{command_of};
+
+use crate::code_places::break_address;
+use crate::command::Command;
+use crate::debugger::Debugger;
+use crate::lines::{at_line, entry_line, register_line, where_line, word_line};
+use crate::put::put_text;
+use crate::register::Register;
+use crate::words::is_same;
+use ft_edge::{Failed, Sink};
+use ft_isa::{Colour, Coloured, Site};
+use ft_queue::StoreQueue;
+use ft_types::Program;
+
+/// How many break places there may be.
+const BREAK_LIMIT: usize = 64;
+
+/// The number of the cell of a name, if there is one; it takes a look at each cell.
+fn named_cell<P: Program>(program: &P, name: &[u8]) -> Option<u32>
+    requires { IsSpellable (P.object program.now) }
+    ensures found { result ≡ named_cell (P.object program.now) name.now }
+    ensures there { IfSome result (λ k. k < length (P.object program.now).cells) }
+    ensures short { IfSome result (λ k. length name.now ≤ 32) }
+{
+    for k in 0..program.counts().cells {
+        if is_same(program.name(k), name) {
+            return Some(k);
+        }
+    }
+    None
+}
+
+/// Puts a line for each pending store, oldest first.
+fn put_queue<K: Sink>(queue: &StoreQueue, out: &mut K) -> Result<(), Failed>
+    ensures puts { Puts result (queue_lines queue.now) (K.written out.old) (K.written out.new) (K.puts out.old) (K.puts out.new) }
+    ensures count { K.faults out.old ≤ K.faults out.new }
+    ensures cause { Excused result (K.faults out.old) (K.faults out.new) }
+{
+    if queue.is_empty() {
+        return put_text(b"empty\n", out);
+    }
+    for i in 0..queue.len() {
+        let Some(entry) = queue.get(i) else {
+            unreachable!();
+        };
+        put_text(entry_line(entry).as_bytes(), out)?;
+    }
+    Ok(())
+}
+
+impl<'w> Debugger<'w> {
+    /// What a register holds.
+    fn coloured(&self, register: Register) -> Coloured
+        ensures { result ≡ coloured_in self.now.present.machine register }
+    {
+        let machine = &self.present.machine;
+        match register {
+            Register::R(reg) => machine.reg(reg),
+            Register::D => Coloured {
+                colour: Colour::Green,
+                word: machine.d(),
+            },
+            Register::PcG => Coloured {
+                colour: Colour::Green,
+                word: machine.pc(Colour::Green),
+            },
+            Register::PcB => Coloured {
+                colour: Colour::Blue,
+                word: machine.pc(Colour::Blue),
+            },
+        }
+    }
+
+    /// Puts the position.
+    fn put_at<K: Sink>(&self, out: &mut K) -> Result<(), Failed>
+        ensures puts { Puts result (at_line self.now.present.position self.now.present.machine ∷ []) (K.written out.old) (K.written out.new) (K.puts out.old) (K.puts out.new) }
+        ensures count { K.faults out.old ≤ K.faults out.new }
+        ensures cause { Excused result (K.faults out.old) (K.faults out.new) }
+    {
+        put_text(at_line(&self.present).as_bytes(), out)
+    }
+
+    /// Takes so many steps, up to the stop.
+    fn answer_step<P: Program, K: Sink>(
+        &mut self,
+        program: &P,
+        count: u64,
+        out: &mut K,
+    ) -> Result<(), Failed>
+        requires spellable { IsSpellable (P.object program.now) }
+        requires ready { Ready (P.object program.now) self.old }
+        requires room { self.old.present.position + count < 2 ^ 63 }
+        ensures ready { Ready (P.object program.now) self.new }
+        ensures does { Does (λ w. reply (P.object program.now) w (commands.Step count)) (P.object program.now) self.old self.new result (K.written out.old) (K.written out.new) (K.puts out.old) (K.puts out.new) }
+        ensures count { K.faults out.old ≤ K.faults out.new }
+        ensures cause { Excused result (K.faults out.old) (K.faults out.new) }
+    {
+        self.walk(program, false, count, out)?;
+        self.put_at(out)
+    }
+
+    /// Takes so many steps, up to the stop or a break place.
+    fn answer_go<P: Program, K: Sink>(
+        &mut self,
+        program: &P,
+        count: u64,
+        out: &mut K,
+    ) -> Result<(), Failed>
+        requires spellable { IsSpellable (P.object program.now) }
+        requires ready { Ready (P.object program.now) self.old }
+        requires room { self.old.present.position + count < 2 ^ 63 }
+        ensures ready { Ready (P.object program.now) self.new }
+        ensures does { Does (λ w. reply (P.object program.now) w (commands.Go count)) (P.object program.now) self.old self.new result (K.written out.old) (K.written out.new) (K.puts out.old) (K.puts out.new) }
+        ensures count { K.faults out.old ≤ K.faults out.new }
+        ensures cause { Excused result (K.faults out.old) (K.faults out.new) }
+    {
+        self.go(program, count, out)?;
+        self.put_at(out)
+    }
+
+    /// Goes back so many steps, if they are kept.
+    fn answer_back<P: Program, K: Sink>(
+        &mut self,
+        program: &P,
+        count: u64,
+        out: &mut K,
+    ) -> Result<(), Failed>
+        requires ready { Ready (P.object program.now) self.old }
+        ensures ready { Ready (P.object program.now) self.new }
+        ensures does { Does (λ w. reply (P.object program.now) w (commands.Back count)) (P.object program.now) self.old self.new result (K.written out.old) (K.written out.new) (K.puts out.old) (K.puts out.new) }
+        ensures count { K.faults out.old ≤ K.faults out.new }
+        ensures cause { Excused result (K.faults out.old) (K.faults out.new) }
+    {
+        if count > self.history.len() as u64 {
+            return put_text(b"no history\n", out);
+        }
+        self.rewind(count);
+        self.put_at(out)
+    }
+
+    /// Strikes the machine now, where the site is there.
+    fn answer_zap<P: Program, K: Sink>(
+        &mut self,
+        program: &P,
+        site: Site,
+        value: u64,
+        out: &mut K,
+    ) -> Result<(), Failed>
+        requires ready { Ready (P.object program.now) self.old }
+        ensures ready { Ready (P.object program.now) self.new }
+        ensures does { Does (λ w. reply (P.object program.now) w (commands.Zap site value)) (P.object program.now) self.old self.new result (K.written out.old) (K.written out.new) (K.puts out.old) (K.puts out.new) }
+        ensures count { K.faults out.old ≤ K.faults out.new }
+        ensures cause { Excused result (K.faults out.old) (K.faults out.new) }
+    {
+        if self.zap(site, value) {
+            put_text(b"zapped\n", out)
+        } else {
+            put_text(b"nothing there\n", out)
+        }
+    }
+
+    /// Shows a register.
+    fn answer_reg<P: Program, K: Sink>(
+        &self,
+        program: &P,
+        register: Register,
+        out: &mut K,
+    ) -> Result<(), Failed>
+        ensures does { Does (λ w. reply (P.object program.now) w (commands.Reg register)) (P.object program.now) self.now self.now result (K.written out.old) (K.written out.new) (K.puts out.old) (K.puts out.new) }
+        ensures count { K.faults out.old ≤ K.faults out.new }
+        ensures cause { Excused result (K.faults out.old) (K.faults out.new) }
+    {
+        let _program = program;
+        put_text(
+            register_line(register, self.coloured(register)).as_bytes(),
+            out,
+        )
+    }
+
+    /// Shows the pending stores.
+    fn answer_queue<P: Program, K: Sink>(&self, program: &P, out: &mut K) -> Result<(), Failed>
+        ensures does { Does (λ w. reply (P.object program.now) w commands.Queue) (P.object program.now) self.now self.now result (K.written out.old) (K.written out.new) (K.puts out.old) (K.puts out.new) }
+        ensures count { K.faults out.old ≤ K.faults out.new }
+        ensures cause { Excused result (K.faults out.old) (K.faults out.new) }
+    {
+        let _program = program;
+        put_queue(self.present.machine.queue(), out)
+    }
+
+    /// Shows the cell of a name.
+    fn answer_cell<P: Program, K: Sink>(
+        &self,
+        program: &P,
+        name: &[u8],
+        out: &mut K,
+    ) -> Result<(), Failed>
+        requires spellable { IsSpellable (P.object program.now) }
+        requires ready { Ready (P.object program.now) self.now }
+        ensures does { Does (λ w. reply (P.object program.now) w (commands.Cell name.now)) (P.object program.now) self.now self.now result (K.written out.old) (K.written out.new) (K.puts out.old) (K.puts out.new) }
+        ensures count { K.faults out.old ≤ K.faults out.new }
+        ensures cause { Excused result (K.faults out.old) (K.faults out.new) }
+    {
+        match named_cell(program, name) {
+            Some(k) => {
+                let word = self.present.machine.cell(k);
+                put_text(word_line(name, word).as_bytes(), out)
+            }
+            None => put_text(b"no cell\n", out),
+        }
+    }
+
+    /// Shows where the machine is.
+    fn answer_where<P: Program, K: Sink>(&self, program: &P, out: &mut K) -> Result<(), Failed>
+        requires { IsSpellable (P.object program.now) }
+        ensures does { Does (λ w. reply (P.object program.now) w commands.Where) (P.object program.now) self.now self.now result (K.written out.old) (K.written out.new) (K.puts out.old) (K.puts out.new) }
+        ensures count { K.faults out.old ≤ K.faults out.new }
+        ensures cause { Excused result (K.faults out.old) (K.faults out.new) }
+    {
+        put_text(where_line(program, &self.present).as_bytes(), out)
+    }
+
+    /// Sets a break place.
+    fn answer_break<P: Program, K: Sink>(
+        &mut self,
+        program: &P,
+        block: u64,
+        index: u64,
+        out: &mut K,
+    ) -> Result<(), Failed>
+        requires spellable { IsSpellable (P.object program.now) }
+        requires ready { Ready (P.object program.now) self.old }
+        ensures ready { Ready (P.object program.now) self.new }
+        ensures does { Does (λ w. reply (P.object program.now) w (commands.Break block index)) (P.object program.now) self.old self.new result (K.written out.old) (K.written out.new) (K.puts out.old) (K.puts out.new) }
+        ensures count { K.faults out.old ≤ K.faults out.new }
+        ensures cause { Excused result (K.faults out.old) (K.faults out.new) }
+    {
+        let Some(address) = break_address(program, block, index) else {
+            return put_text(b"no place\n", out);
+        };
+        if self.breaks.contains(address) {
+            return put_text(b"break set\n", out);
+        }
+        if self.breaks.len() >= BREAK_LIMIT {
+            return put_text(b"too many breaks\n", out);
+        }
+        self.breaks.add(address);
+        put_text(b"break set\n", out)
+    }
+
+    /// Does what a command asks, and puts what it answers. After a put that failed nothing is put.
+    pub fn answer<P: Program, K: Sink>(
+        &mut self,
+        program: &P,
+        command: Command<'_>,
+        out: &mut K,
+    ) -> Result<(), Failed>
+        requires spellable { IsSpellable (P.object program.now) }
+        requires ready { Ready (P.object program.now) self.old }
+        requires room { self.old.present.position < 2 ^ 62 }
+        requires small { IsSmall (command_of command) }
+        ensures ready { Ready (P.object program.now) self.new }
+        ensures does { Does (λ w. reply (P.object program.now) w (command_of command.entry)) (P.object program.now) self.old self.new result (K.written out.old) (K.written out.new) (K.puts out.old) (K.puts out.new) }
+        ensures count { K.faults out.old ≤ K.faults out.new }
+        ensures cause { Excused result (K.faults out.old) (K.faults out.new) }
+    {
+        match command {
+            Command::Step(count) => self.answer_step(program, count, out),
+            Command::Go(count) => self.answer_go(program, count, out),
+            Command::Back(count) => self.answer_back(program, count, out),
+            Command::Zap { site, value } => self.answer_zap(program, site, value, out),
+            Command::Reg(register) => self.answer_reg(program, register, out),
+            Command::Queue => self.answer_queue(program, out),
+            Command::Cell(name) => self.answer_cell(program, name, out),
+            Command::Where => self.answer_where(program, out),
+            Command::Break { block, index } => self.answer_break(program, block, index, out),
+            Command::Bad => put_text(b"bad command\n", out),
+        }
+    }
+}

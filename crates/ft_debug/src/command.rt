@@ -1,0 +1,28 @@
+//! The commands of a script.
+use crate::register::Register;
+use ft_isa::Site;
+
+/// The command of a line.
+#[derive(Clone, Copy)]
+pub enum Command<'s> {
+    /// Takes so many steps, up to the stop.
+    Step(u64),
+    /// Takes so many steps, up to the stop or a break place.
+    Go(u64),
+    /// Goes back so many steps.
+    Back(u64),
+    /// Strikes a site.
+    Zap { site: Site, value: u64 },
+    /// Shows a register.
+    Reg(Register),
+    /// Shows the pending stores.
+    Queue,
+    /// Shows the cell of a name.
+    Cell(&'s [u8]),
+    /// Shows where the machine is.
+    Where,
+    /// Sets a break place: an instruction of a block.
+    Break { block: u64, index: u64 },
+    /// Any other line.
+    Bad,
+}

@@ -1,0 +1,72 @@
+//! Whole sessions.
+ghost use Rattle.std.specs.Prelude.{◌≡◌, ◌≤◌, ◌<◌, length, map};
+ghost use Rattle.std.specs.List.{AllByRecursion};
+ghost use Rattle.ft_types.specs.Spellable.{IsSpellable};
+ghost use Rattle.ft_debug.specs.Ends.{EndsAs, IsExcused};
+ghost use Rattle.ft_debug.specs.Sessions.{session_lines, first_session};
+ghost use Rattle.ft_debug.specs.Reads.{command_of};
+ghost use Rattle.ft_debug.specs.Inside.{Ready, Holds, Puts, Excused, IsSmall};
+
+use crate::command::Command;
+use crate::debug_end::DebugEnd;
+use crate::debugger::Debugger;
+use crate::script::read_script;
+use ft_edge::{Failed, Sink};
+use ft_isa::Wild;
+use ft_types::Program;
+use std::alloc::Global;
+
+/// Answers commands one after the other, from the first.
+fn answer_all<P: Program, K: Sink>(
+    debugger: &mut Debugger<'_>,
+    program: &P,
+    wild: &[Wild],
+    commands: &[Command<'_>],
+    out: &mut K,
+) -> Result<(), Failed>
+    requires spellable { IsSpellable (P.object program.now) }
+    requires ready { Ready (P.object program.now) debugger.old }
+    requires holds { Holds (P.object program.now) wild.now first_session debugger.old }
+    requires small { AllByRecursion IsSmall (map command_of commands.now) }
+    requires few { length commands.now ≤ 1048576 }
+    ensures puts { Puts result (session_lines (P.object program.now) wild.now (map command_of commands.now)) (K.written out.old) (K.written out.new) (K.puts out.old) (K.puts out.new) }
+    ensures count { K.faults out.old ≤ K.faults out.new }
+    ensures cause { Excused result (K.faults out.old) (K.faults out.new) }
+{
+    for command in commands {
+        debugger.answer(program, *command, out)?;
+    }
+    Ok(())
+}
+
+/// Carries out a script on a program's machine from its start, with the answers to wild loads: puts the
+/// lines of the session, each by one put. `WriteFault` comes only where a put failed, and nothing is put
+/// after it; `NoMemory` before the first put.
+///
+/// A line of the script is `step N`, `go N`, `back N`, `zap SITE V`, `reg R`, `queue`, `cell NAME`,
+/// `where` or `break B I`; N is at most 1,000,000. The last 4,096 states are kept: they, and the
+/// commands, are all the memory that is taken. A step costs one machine step and one copy of a state.
+pub fn session<P: Program, K: Sink>(
+    alloc: Global,
+    program: &P,
+    wild: &[Wild],
+    script: &[u8],
+    out: &mut K,
+) -> DebugEnd
+    requires spellable { IsSpellable (P.object program.now) }
+    requires short { length script.now ≤ 1048576 }
+    ensures ends { EndsAs result (P.object program.now) wild.now script.now (K.written out.old) (K.written out.new) (K.puts out.old) (K.puts out.new) }
+    ensures count { K.faults out.old ≤ K.faults out.new }
+    ensures cause { IsExcused result (K.faults out.old) (K.faults out.new) }
+{
+    let Ok(commands) = read_script(alloc, script) else {
+        return DebugEnd::NoMemory;
+    };
+    let Ok(mut debugger) = Debugger::new(alloc, program, wild) else {
+        return DebugEnd::NoMemory;
+    };
+    match answer_all(&mut debugger, program, wild, &commands, out) {
+        Ok(()) => DebugEnd::Ended,
+        Err(_) => DebugEnd::WriteFault,
+    }
+}

@@ -1,0 +1,112 @@
+//! A plain interpreter of flows.
+use ft_isa::apply;
+use ft_lower::{Flow, Step3};
+use std::test::Fail;
+
+/// Where a run is: the words of the pairs and the cells, the block and the place of the next step, the outputs
+/// so far as cells and words, and whether the run is done.
+#[derive(Drop)]
+pub struct FlowRun {
+    pairs: Vec<u64>,
+    cells: Vec<u64>,
+    block: usize,
+    index: usize,
+    pub out: Vec<(u32, u64)>,
+    pub done: bool,
+}
+
+/// The word at a place, 0 where there is none.
+fn word_at(words: &[u64], at: usize) -> u64 {
+    match words.get(at) {
+        Some(word) => *word,
+        None => 0,
+    }
+}
+
+/// Puts a word at a place, where there is one.
+fn set(words: &mut Vec<u64>, at: usize, word: u64) {
+    if at < words.len() {
+        words[at] = word;
+    }
+}
+
+impl FlowRun {
+    /// A run at its start.
+    pub fn new(rt: &impl AllocGlobal, cells: &[u64]) -> Result<FlowRun, Fail> {
+        Ok(FlowRun {
+            pairs: Vec::from_elem(rt.alloc(), 0, 32)?,
+            cells: Vec::from_slice(rt.alloc(), cells)?,
+            block: 0,
+            index: 0,
+            out: Vec::new(rt.alloc()),
+            done: false,
+        })
+    }
+
+    /// The word of a pair.
+    fn pair(&self, p: u8) -> u64 {
+        word_at(&self.pairs, usize::from(p))
+    }
+
+    /// The word of a cell.
+    fn cell(&self, k: u32) -> u64 {
+        word_at(&self.cells, k as usize)
+    }
+
+    /// Puts a word into a pair.
+    fn put(&mut self, p: u8, word: u64) {
+        set(&mut self.pairs, usize::from(p), word);
+    }
+
+    /// On to the first step of a block.
+    fn go(&mut self, to: u32) {
+        self.block = to as usize;
+        self.index = 0;
+    }
+
+    /// Runs one step.
+    fn act(&mut self, step: Step3) -> Result<(), Fail> {
+        self.index = self.index.wrapping_add(1);
+        match step {
+            Step3::Put { p, word } => self.put(p, word),
+            Step3::Copy { p, q } => self.put(p, self.pair(q)),
+            Step3::Op { op, p, q, s } => self.put(p, apply(op, self.pair(q), self.pair(s))),
+            Step3::Load { p, cell } => self.put(p, self.cell(cell)),
+            Step3::Store { cell, q, spare } => {
+                let word = self.pair(q);
+                set(&mut self.cells, cell as usize, word);
+                self.out.push((cell, word))?;
+                self.put(spare, 0);
+            }
+            Step3::Exit { q, spare, to } => {
+                if self.pair(q) == 0 {
+                    self.go(to);
+                }
+                self.put(spare, 0);
+            }
+            Step3::Go { spare, to } => {
+                self.go(to);
+                self.put(spare, 0);
+            }
+            Step3::Stop => self.done = true,
+        }
+        Ok(())
+    }
+
+    /// Runs at most so many steps, up to the end.
+    pub fn run(&mut self, flow: &Flow, limit: usize) -> Result<(), Fail> {
+        for _ in 0..limit {
+            if self.done {
+                return Ok(());
+            }
+            let Some(block) = flow.blocks.get(self.block) else {
+                return Ok(());
+            };
+            let Some(step) = block.get(self.index) else {
+                return Ok(());
+            };
+            self.act(*step)?;
+        }
+        Ok(())
+    }
+}

@@ -1,0 +1,142 @@
+//! Sources with their outputs, and flows with their sizes.
+use crate::flow_run::FlowRun;
+use ft_lower::{Flow, Step3, lower};
+use ft_scope::resolve;
+use ft_syntax::parse;
+use std::process::Abort;
+use std::test::Fail;
+
+/// A source, and its outputs as numbers of cells and words.
+type Row = (&'static [u8], &'static [(u32, u64)]);
+
+/// The Fibonacci program of the documents.
+const FIBONACCI: &[u8] =
+    b"cell out = 0; var a; var b; var t; var i; b = 1; while (i < 10) { out = a; t = a + b; a = b; b = t; i = i + 1; }";
+
+/// A source's flow, and the initial words of its cells.
+fn lowered(rt: &(impl AllocGlobal + Abort), text: &[u8]) -> Result<(Flow, Vec<u64>), Fail> {
+    let Ok(tree) = parse(rt.alloc(), text) else {
+        panic!(rt; "a tree");
+    };
+    let Ok(prog) = resolve(rt.alloc(), tree) else {
+        panic!(rt; "a program");
+    };
+    let Ok(flow) = lower(rt.alloc(), &prog) else {
+        panic!(rt; "a flow");
+    };
+    Ok((flow, Vec::from_slice(rt.alloc(), &prog.inits)?))
+}
+
+/// How many instructions a step becomes.
+fn size(step: Step3) -> usize {
+    match step {
+        Step3::Put { .. } | Step3::Copy { .. } | Step3::Op { .. } => 2,
+        Step3::Load { .. } | Step3::Store { .. } | Step3::Exit { .. } | Step3::Go { .. } => 4,
+        Step3::Stop => 1,
+    }
+}
+
+/// How many instructions a flow becomes.
+fn flow_size(flow: &Flow) -> usize {
+    let mut whole: usize = 0;
+    for block in &flow.blocks {
+        for step in block {
+            whole = whole.wrapping_add(size(*step));
+        }
+    }
+    whole
+}
+
+#[test]
+fn sources_put_out_what_they_mean(rt: HostRuntime) -> Result<(), Fail> {
+    let rows: &[Row] = &[
+        (b"", &[]),
+        (b"cell out = 0; out = 7;", &[(0, 7)]),
+        (b"cell c = 0; c = 7; c = 7;", &[(0, 7), (0, 7)]),
+        (
+            b"cell a = 5; cell b = 3; b = a - b; a = b - 7;",
+            &[(1, 2), (0, 18446744073709551611)],
+        ),
+        (
+            b"cell a = 1; cell b = 2; cell d = 4; d = a + b * d; b = d; a = b == 9;",
+            &[(2, 9), (1, 9), (0, 1)],
+        ),
+        (
+            b"cell c = 0; var x; x = 1 - (2 - (3 - (4 - 5))); c = x;",
+            &[(0, 3)],
+        ),
+        (
+            b"cell c = 1; var x; x = 2 + 3 * 4; c = x; if (c == 14) { c = 1; } else { c = 2; } c = c + 10;",
+            &[(0, 14), (0, 1), (0, 11)],
+        ),
+        (b"cell c = 9; if (0) { c = 1; } c = 2;", &[(0, 2)]),
+        (
+            b"cell c = 9; if (c < 5) { } else { while (c < 11) { c = c + 1; } } c = 0;",
+            &[(0, 10), (0, 11), (0, 0)],
+        ),
+        (
+            b"cell c = 0; var i; var j; while (i < 3) { j = 0; while (j < i) { c = i * 10 + j; j = j + 1; } i = i + 1; }",
+            &[(0, 10), (0, 20), (0, 21)],
+        ),
+        (
+            FIBONACCI,
+            &[
+                (0, 0),
+                (0, 1),
+                (0, 1),
+                (0, 2),
+                (0, 3),
+                (0, 5),
+                (0, 8),
+                (0, 13),
+                (0, 21),
+                (0, 34),
+            ],
+        ),
+    ];
+    for row in rows {
+        let (text, out) = *row;
+        let (flow, cells) = lowered(&rt, text)?;
+        let mut run = FlowRun::new(&rt, &cells)?;
+        run.run(&flow, 412)?;
+        assert!(&rt; run.done, "done");
+        assert!(&rt; run.out.as_slice() == out, "outputs");
+    }
+    Ok(())
+}
+
+#[test]
+fn an_endless_loop_puts_out_all_its_numbers(rt: HostRuntime) -> Result<(), Fail> {
+    let (flow, cells) = lowered(&rt, b"cell out = 0; while (1) { out = out + 1; }")?;
+    let mut run = FlowRun::new(&rt, &cells)?;
+    run.run(&flow, 116)?;
+    assert!(&rt; !run.done);
+    let mut next: u64 = 1;
+    for (cell, word) in &run.out {
+        assert!(&rt; *cell == 0 && *word == next);
+        next = next.wrapping_add(1);
+    }
+    assert!(&rt; next > 6);
+    Ok(())
+}
+
+#[test]
+fn the_fibonacci_flow_is_small(rt: HostRuntime) -> Result<(), Fail> {
+    let (flow, _) = lowered(&rt, FIBONACCI)?;
+    assert!(&rt; flow.vars == 4);
+    assert!(&rt; flow.cells == 1);
+    assert!(&rt; flow.blocks.len() == 3);
+    assert!(&rt; flow_size(&flow) <= 69);
+    Ok(())
+}
+
+#[test]
+fn the_empty_source_only_stops(rt: HostRuntime) -> Result<(), Fail> {
+    let (flow, _) = lowered(&rt, b"")?;
+    assert!(&rt; flow.blocks.len() == 1);
+    match flow.blocks.first() {
+        Some(block) => assert!(&rt; block.as_slice() == [Step3::Stop].as_slice()),
+        None => panic!(&rt; "a block"),
+    }
+    Ok(())
+}

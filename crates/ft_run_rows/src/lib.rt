@@ -1,0 +1,21 @@
+//! Worked rows of the commands `check`, `run`, `trial` and `debug`, over files in memory, and of words that are no
+//! command.
+//!
+//! The crate holds tests alone: for each row the words, the text that is written and the status. The
+//! values come from the definitions and from another implementation, not from this one's output.
+#![tactic(auto)]
+
+#[cfg(test)]
+mod altered_objects;
+#[cfg(test)]
+mod checks;
+#[cfg(test)]
+mod failing_calls;
+#[cfg(test)]
+mod refusals;
+#[cfg(test)]
+mod runs;
+#[cfg(test)]
+mod sessions;
+#[cfg(test)]
+mod words;

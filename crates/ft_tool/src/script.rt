@@ -1,0 +1,55 @@
+//! What the script of a command holds.
+ghost use Rattle.std.specs.Prelude.{◌≡◌};
+ghost use Rattle.ft_edge.specs.Streams.{ConsumesAtMost};
+ghost use Rattle.ft_tool.specs.Scripts.{TakesScript, TakeCause};
+
+use ft_edge::Source;
+use std::alloc::Global;
+use thiserror::Error;
+
+/// The most bytes that are taken as a script.
+const SCRIPT_LIMIT: usize = 1_048_576;
+
+/// How many bytes are taken at once at most.
+const PIECE: usize = 4096;
+
+/// Why there is no script.
+#[derive(Clone, Copy, Debug, PartialEq, Eq, Error)]
+pub(crate) enum ScriptFault {
+    /// The script has more than 1,048,576 bytes.
+    #[error("the script is too long")]
+    TooLong,
+    /// The script could not be taken.
+    #[error("the script could not be taken")]
+    Failed,
+    /// There was no memory left.
+    #[error("out of memory")]
+    NoMemory,
+}
+
+/// Takes the script to its end, or to one byte past the limit.
+pub(crate) fn take_script<I: Source>(
+    alloc: Global,
+    script: &mut I,
+) -> Result<Vec<u8>, ScriptFault>
+    ensures takes { TakesScript (λ v. v.items) (I.left script.old) result }
+    ensures cause { TakeCause (I.faults script.old) (I.faults script.new) result }
+    ensures taken { ConsumesAtMost (I.left script.old) (I.left script.new) 1048577 }
+{
+    let mut text = Vec::new(alloc);
+    let mut piece = [0u8; PIECE];
+    while text.len() <= SCRIPT_LIMIT {
+        let room = (SCRIPT_LIMIT - text.len()).min(PIECE - 1) + 1;
+        let count = match script.take(&mut piece[..room]) {
+            Ok(count) => count,
+            Err(_) => return Err(ScriptFault::Failed),
+        };
+        if count == 0 {
+            return Ok(text);
+        }
+        if text.extend_from_slice(&piece[..count]).is_err() {
+            return Err(ScriptFault::NoMemory);
+        }
+    }
+    Err(ScriptFault::TooLong)
+}
