@@ -20,9 +20,6 @@ use ft_isa::{Colour, Coloured, Site};
 use ft_queue::StoreQueue;
 use ft_types::Program;
 
-/// How many break places there may be.
-const BREAK_LIMIT: usize = 64;
-
 /// The number of the cell of a name, if there is one; it takes a look at each cell.
 fn named_cell<P: Program>(program: &P, name: &[u8]) -> Option<u32>
     requires { IsSpellable (P.object program.now) }
@@ -228,7 +225,7 @@ impl<'w> Debugger<'w> {
         if self.breaks.contains(address) {
             return put_text(b"break set\n", out);
         }
-        if self.breaks.len() >= BREAK_LIMIT {
+        if self.breaks.is_full() {
             return put_text(b"too many breaks\n", out);
         }
         self.breaks.add(address);

@@ -1,4 +1,4 @@
-use Rattle.ft_debug.proofs.Gone.{answers, answers_bad}
+use Rattle.ft_debug.proofs.Answered.{answers, answers_bad}
 use Rattle.ft_debug.proofs.debugger.Debugger.answer.Goals as goal
 
 pub returns-in-Back-clause-ready : goal.returns-in-Back-clause-ready

@@ -1,5 +1,5 @@
 use Rattle.std.proofs.Common.{arith}
-use Rattle.ft_debug.proofs.Gone.{back_refused, back_taken}
+use Rattle.ft_debug.proofs.Answered.{back_refused, back_taken}
 use Rattle.ft_debug.proofs.debugger.Debugger.answer_back.Goals as goal
 
 pub returns-then-count-len-clause-does : goal.returns-then-count-len-clause-does

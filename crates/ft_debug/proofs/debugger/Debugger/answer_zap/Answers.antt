@@ -1,5 +1,5 @@
 use Rattle.std.proofs.Common.{◌∙◌, sym, true, false}
-use Rattle.ft_debug.proofs.Gone.{does_zap}
+use Rattle.ft_debug.proofs.Answered.{does_zap}
 use Rattle.ft_debug.proofs.debugger.Debugger.answer_zap.Goals as goal
 
 pub returns-then-zap-clause-ready : goal.returns-then-zap-clause-ready
