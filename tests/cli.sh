@@ -47,6 +47,15 @@ expect 'a meaning' 0 'out 0\nout 1\nout 1\nout 2\nout 3\nout 5\nout 8\nout 13\no
 expect 'another meaning' 0 'out 15\n' mean "$top/examples/sum.src"
 expect 'a meaning that is cut' 9 'out 1\nout 2\nout 3\n' mean "$top/examples/endless.src" --turns 3
 expect 'a source that is refused' 6 'source 7 20\n' mean "$top/examples/unknown.src"
+numbers='out 0\nout 1\nout 1\nout 2\nout 3\nout 5\nout 8\nout 13\nout 21\nout 34\n'
+"$top/talft" compile "$top/examples/fibonacci.src" >fibonacci.obj
+report 'a source that is compiled' 0 $?
+expect 'its object' 0 'accepted\n' check fibonacci.obj
+expect 'the run of its object' 0 "$numbers" run fibonacci.obj
+expect 'a struck run of its object' 1 'out 0\nout 1\nout 1\n' run fibonacci.obj --fault 296:r32:7
+expect 'an execution' 0 "$numbers" exec "$top/examples/fibonacci.src"
+expect 'an execution that is cut' 9 'out 1\nout 2\n' exec "$top/examples/endless.src" --steps 100
+expect 'a source that is not compiled' 6 'source 7 20\n' compile "$top/examples/unknown.src"
 head -c 1048577 /dev/zero >long.src
 expect 'a source above the limit' 6 'source 1 1048576\n' mean long.src
 head -c 1048576 /dev/zero >longest.src

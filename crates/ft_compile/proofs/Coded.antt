@@ -39,6 +39,7 @@ module _ (vars : ℕ) (start : ℕ → ℕ) where
   row_coded scope w [] = []
   row_coded scope w (i ∷ is) = coded_step start (jump_subst vars w) i ++ row_coded scope (step_noted vars scope w i) is
 
+  -- the substitutions that a row adds
   abbrev pub row_added : ℕ → Noted → List Step3 → List Subst
   row_added scope w [] = []
   row_added scope w (i ∷ is) = step_added w i ++ row_added scope (step_noted vars scope w i) is
@@ -48,6 +49,7 @@ module _ (vars : ℕ) (start : ℕ → ℕ) where
   rows_coded b w [] = []
   rows_coded b w (x ∷ xs) = row_coded (scope_of_block vars b) (begun w) x ∷ rows_coded (suc b) (block_noted vars b w x) xs
 
+  -- the substitutions that blocks add
   abbrev pub blocks_added : ℕ → Noted → Blocks → List Subst
   blocks_added b w [] = []
   blocks_added b w (x ∷ xs) = row_added (scope_of_block vars b) (begun w) x ++ blocks_added (suc b) (block_noted vars b w x) xs
@@ -59,6 +61,7 @@ module _ (vars : ℕ) (start : ℕ → ℕ) where
 
   -- WHAT IS ADDED
 
+  -- what is noted after a step has its substitution at the end
   added_step : (scope : ℕ) (w : Noted) (i : Step3) → (step_noted vars scope w i).substs ≡ w.substs ++ step_added w i
   added_step scope w (Put p v) = sym (append-nil w.substs)
   added_step scope w (Copy p q) = sym (append-nil w.substs)
@@ -69,12 +72,14 @@ module _ (vars : ℕ) (start : ℕ → ℕ) where
   added_step scope w (Go spare to) = refl
   added_step scope w Stop = sym (append-nil w.substs)
 
+  -- after a row, those of its steps
   added_row : (scope : ℕ) (w : Noted) (is : List Step3) → (row_noted vars scope w is).substs ≡ w.substs ++ row_added scope w is
   added_row scope w [] = sym (append-nil w.substs)
   added_row scope w (i ∷ is) =
       let v = step_noted vars scope w i in
       added_row scope v is ∙ ap (λ l. l ++ row_added scope v is) (added_step scope w i) ∙ append_assoc w.substs (step_added w i) (row_added scope v is)
 
+  -- after blocks, those of their rows
   pub added_blocks : (b : ℕ) (w : Noted) (xs : Blocks) → (blocks_noted vars b w xs).substs ≡ w.substs ++ blocks_added b w xs
   added_blocks b w [] = sym (append-nil w.substs)
   added_blocks b w (x ∷ xs) =
@@ -84,6 +89,7 @@ module _ (vars : ℕ) (start : ℕ → ℕ) where
 
   -- WHAT IS PLACED
 
+  -- a step's substitution is taken by its own instructions
   placed_step : (w : Noted) (i : Step3) (us : List Subst) (more : List Instr) → placed (step_added w i ++ us) (image start i ++ more) ≡ coded_step start (jump_subst vars w) i ++ placed us more
   placed_step w (Put p v) us more = refl
   placed_step w (Copy p q) us more = refl
@@ -94,6 +100,7 @@ module _ (vars : ℕ) (start : ℕ → ℕ) where
   placed_step w (Go spare to) us more = refl
   placed_step w Stop us more = refl
 
+  -- a row's substitutions by those of the row
   placed_row : (scope : ℕ) (w : Noted) (is : List Step3) (us : List Subst) (more : List Instr) → placed (row_added scope w is ++ us) (row_images start is ++ more) ≡ row_coded scope w is ++ placed us more
   placed_row scope w [] us more = refl
   placed_row scope w (i ∷ is) us more =
@@ -104,6 +111,7 @@ module _ (vars : ℕ) (start : ℕ → ℕ) where
       ∙ ap (λ l. coded_step start (jump_subst vars w) i ++ l) (placed_row scope v is us more)
       ∙ sym (append_assoc (coded_step start (jump_subst vars w) i) (row_coded scope v is) (placed us more))
 
+  -- so the instructions of all blocks have each its own
   pub placed_blocks : (b : ℕ) (w : Noted) (xs : Blocks) → placed (blocks_added b w xs) (blocks_images start xs) ≡ joined (rows_coded b w xs)
   placed_blocks b w [] = refl
   placed_blocks b w (x ∷ xs) =
@@ -113,6 +121,7 @@ module _ (vars : ℕ) (start : ℕ → ℕ) where
 
   -- LENGTHS
 
+  -- substitutions leave a step as many instructions as it becomes
   step_length : (u : Subst) (i : Step3) → length (coded_step start u i) ≡ size i
   step_length u (Put p v) = refl
   step_length u (Copy p q) = refl
@@ -123,6 +132,7 @@ module _ (vars : ℕ) (start : ℕ → ℕ) where
   step_length u (Go spare to) = refl
   step_length u Stop = refl
 
+  -- so they leave a row
   row_length : (scope : ℕ) (w : Noted) (is : List Step3) → length (row_coded scope w is) ≡ row_size is
   row_length scope w [] = refl
   row_length scope w (i ∷ is) =
@@ -131,6 +141,7 @@ module _ (vars : ℕ) (start : ℕ → ℕ) where
       ∙ ap (λ n. n + length (row_coded scope v is)) (step_length (jump_subst vars w) i)
       ∙ ap (λ n. size i + n) (row_length scope v is)
 
+  -- and all blocks
   pub joined_length : (b : ℕ) (w : Noted) (xs : Blocks) → length (joined (rows_coded b w xs)) ≡ blocks_size xs
   joined_length b w [] = refl
   joined_length b w (x ∷ xs) =
@@ -145,6 +156,7 @@ module _ (vars : ℕ) (start : ℕ → ℕ) where
   offsets n [] = []
   offsets n (r ∷ rs) = n ∷ offsets (n + length r) rs
 
+  -- the rows begin where the blocks do
   pub offsets_are_starts : (n b : ℕ) (w : Noted) (xs : Blocks) → offsets n (rows_coded b w xs) ≡ starts_from n xs
   offsets_are_starts n b w [] = refl
   offsets_are_starts n b w (x ∷ xs) =
@@ -158,9 +170,11 @@ module _ (vars : ℕ) (start : ℕ → ℕ) where
   abbrev row_end : ℕ → List (List Instr) → ℕ → ℕ → ℕ
   row_end n rs b whole = unwrap_or (slice_get (offsets n rs) (suc b)) whole
 
+  -- where row b begins
   abbrev row_start : ℕ → List (List Instr) → ℕ → ℕ
   row_start n rs b = unwrap_or (slice_get (offsets n rs) b) 0
 
+  -- a row is cut out by its place and its length
   cut_first : (front r rest : List Instr) (n e : ℕ) → n ≡ length front → e ≡ n + length r → slice_range (front ++ (r ++ rest)) n e ≡ r
   cut_first front r rest n e p q =
       let z : e - n ≡ length r = omega arith in
@@ -169,6 +183,7 @@ module _ (vars : ℕ) (start : ℕ → ℕ) where
       ∙ ap (take (length r)) (drop-append_seam front (r ++ rest))
       ∙ take-append_seam r rest
 
+  -- row b is cut out, where some instructions stand before all rows
   cut_from : (front : List Instr) (rs : List (List Instr)) (n b whole : ℕ) (r : List Instr) → n ≡ length front → whole ≡ length (front ++ joined rs) → slice_get rs b ≡ Some r → slice_range (front ++ joined rs) (row_start n rs b) (row_end n rs b whole) ≡ r
   cut_from front [] n b whole r p q e = cc
   cut_from front (x ∷ []) n zero whole r p q e =

@@ -19,9 +19,11 @@ use Rattle.ft_compile.proofs.Walked.{block_noted, RowsAreFine}
 
 -- NODES AND ROWS
 
+-- one node more is within any bound of one or more
 pushes_one : (ns : List Node) (x : Node) (n : ℕ) → 1 ≤ n → length (ns ++ x ∷ []) ≤ length ns + n
 pushes_one ns x n h = let l = length_more ns x in omega arith
 
+-- two nodes more are within any bound of two or more
 pushes_two : (ns : List Node) (x y : Node) (n : ℕ) → 2 ≤ n → length ((ns ++ x ∷ []) ++ y ∷ []) ≤ length ns + n
 pushes_two ns x y n h = let l = length_more ns x in let m = length_more (ns ++ x ∷ []) y in omega arith
 
@@ -36,10 +38,12 @@ nodes_step vars scope w (Exit q spare to) = omega arith
 nodes_step vars scope w (Go spare to) = omega arith
 nodes_step vars scope w Stop = omega arith
 
+-- so does each instruction of a row
 pub nodes_row : (vars scope : ℕ) (w : Noted) (is : List Step3) → length (row_noted vars scope w is).nodes ≤ length w.nodes + row_size is
 nodes_row vars scope w [] = omega arith
 nodes_row vars scope w (i ∷ is) = omega (arith, nodes_step vars scope w i, nodes_row vars scope (step_noted vars scope w i) is)
 
+-- and of all blocks
 pub nodes_blocks : (vars b : ℕ) (w : Noted) (xs : Blocks) → length (blocks_noted vars b w xs).nodes ≤ length w.nodes + blocks_size xs
 nodes_blocks vars b w [] = omega arith
 nodes_blocks vars b w (x ∷ xs) = omega (arith, nodes_row vars (scope_of_block vars b) (begun w) x, nodes_blocks vars (suc b) (block_noted vars b w x) xs)
@@ -48,6 +52,7 @@ nodes_blocks vars b w (x ∷ xs) = omega (arith, nodes_row vars (scope_of_block 
 rows_jump : (vars : ℕ) (w : Noted) → vars ≤ 32 → length (with_jump vars w).rows ≤ length w.rows + 32
 rows_jump vars w few = let l = length-append w.rows (take vars w.pairs) in let m = length-take vars w.pairs in omega arith
 
+-- so a step gives at most eight rows for each of its instructions
 pub rows_step : (vars scope : ℕ) (w : Noted) (i : Step3) → vars ≤ 32 → length (step_noted vars scope w i).rows ≤ length w.rows + 8 * size i
 rows_step vars scope w (Put p v) few = omega arith
 rows_step vars scope w (Copy p q) few = omega arith
@@ -58,10 +63,12 @@ rows_step vars scope w (Exit q spare to) few = rows_jump vars w few
 rows_step vars scope w (Go spare to) few = rows_jump vars w few
 rows_step vars scope w Stop few = omega arith
 
+-- and a row
 pub rows_row : (vars scope : ℕ) (w : Noted) (is : List Step3) → vars ≤ 32 → length (row_noted vars scope w is).rows ≤ length w.rows + 8 * row_size is
 rows_row vars scope w [] few = omega arith
 rows_row vars scope w (i ∷ is) few = omega (arith, rows_step vars scope w i few, rows_row vars scope (step_noted vars scope w i) is few)
 
+-- and all blocks
 pub rows_blocks : (vars b : ℕ) (w : Noted) (xs : Blocks) → vars ≤ 32 → length (blocks_noted vars b w xs).rows ≤ length w.rows + 8 * blocks_size xs
 rows_blocks vars b w [] few = omega arith
 rows_blocks vars b w (x ∷ xs) few = omega (arith, rows_row vars (scope_of_block vars b) (begun w) x few, rows_blocks vars (suc b) (block_noted vars b w x) xs few)
@@ -88,6 +95,7 @@ abbrev pub HaveSome : Blocks → Type 0
 HaveSome [] = Unit {0}
 HaveSome (x ∷ xs) = (0 < row_size x) × HaveSome xs
 
+-- each of the blocks that are well formed has an instruction
 pub fine_have_some : (vars cells blocks b : ℕ) (xs : Blocks) → RowsAreFine vars cells blocks b xs → HaveSome xs
 fine_have_some vars cells blocks b [] h = tt
 fine_have_some vars cells blocks b (x ∷ xs) h = (block_has_some x h.0.ended, fine_have_some vars cells blocks (suc b) xs h.1)
@@ -97,17 +105,13 @@ pub blocks_few : (xs : Blocks) → HaveSome xs → length xs ≤ blocks_size xs
 blocks_few [] h = omega arith
 blocks_few (x ∷ xs) h = omega (arith, h.0, blocks_few xs h.1)
 
--- how many places there are
-pub starts_many : (n : ℕ) (xs : Blocks) → length (starts_from n xs) ≡ length xs
-starts_many n [] = refl
-starts_many n (x ∷ xs) = ap suc (starts_many (n + row_size x) xs)
-
 -- the place of a block's first instruction
 pub start_there : (n : ℕ) (xs : Blocks) (b : ℕ) → b < length xs → slice_get (starts_from n xs) b ≡ Some (n + start_of xs b)
 start_there n [] b h = absurd (omega (arith, h))
 start_there n (x ∷ xs) zero h = let z : n ≡ n + 0 = omega arith in ap Some z
 start_there n (x ∷ xs) (suc b) h = let z : n + row_size x + start_of xs b ≡ n + (row_size x + start_of xs b) = omega arith in start_there (n + row_size x) xs b (omega (arith, h)) ∙ ap Some z
 
+-- a block begins within all instructions
 pub start_within : (xs : Blocks) (b : ℕ) → start_of xs b ≤ blocks_size xs
 start_within [] b = omega arith
 start_within (x ∷ xs) zero = omega arith

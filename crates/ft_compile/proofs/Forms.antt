@@ -19,6 +19,7 @@ use Rattle.ft_compile.specs.Emitted.{node}
 
 -- REGISTERS
 
+-- the register of a number below 64 has this number
 reg_number : (n : ℕ) (b : Bool) (e : nat_lt n 64 ≡ b) → b ≡ true → (unwrap_or (reg_if n b e) register_zero).number ≡ n
 reg_number n true e h = refl
 reg_number n false e h = cc
@@ -27,24 +28,29 @@ reg_number n false e h = cc
 pub green_number : (p : ℕ) → p < 64 → (green p).number ≡ p
 green_number p lt = reg_number p (nat_lt p 64) refl (lt-ltb p 64 lt)
 
+-- the blue register of a pair has the number 32 above
 pub blue_number : (p : ℕ) → p < 32 → (blue p).number ≡ 32 + p
 blue_number p lt = reg_number (32 + p) (nat_lt (32 + p) 64) refl (lt-ltb (32 + p) 64 (omega arith))
 
 -- FORMS
 
 module _ (o : Object) (N : AreNodes o.nodes) (n scope : ℕ) where
+  -- the form of a word is the constant
   pub word_form : (w : ℕ) → slice_get o.nodes n ≡ Some (node scope (shape.Word w)) → integer_form_of o n ≡ constant w
   unfolding integer_form_of
   word_form w e = ap (λ t. norm_integer (integer_part t)) (tree_at-row o.nodes n (node scope (shape.Word w)) N e)
 
+  -- that of an operation is made of the forms of its operands
   pub operation_form : (p : Op) (a b : ℕ) → slice_get o.nodes n ≡ Some (node scope (shape.Op p a b)) → integer_form_of o n ≡ norm_op p (integer_form_of o a) (integer_form_of o b)
   unfolding integer_form_of
   operation_form p a b e = ap (λ t. norm_integer (integer_part t)) (tree_at-row o.nodes n (node scope (shape.Op p a b)) N e)
 
+  -- that of a word of a memory is made of the forms of memory and address
   pub sel_form : (m a : ℕ) → slice_get o.nodes n ≡ Some (node scope (shape.Sel m a)) → integer_form_of o n ≡ norm_sel (memory_form_of o m) (integer_form_of o a)
   unfolding integer_form_of memory_form_of
   sel_form m a e = ap (λ t. norm_integer (integer_part t)) (tree_at-row o.nodes n (node scope (shape.Sel m a)) N e)
 
+  -- that of an update is made of the forms of its parts
   pub upd_form : (m a v : ℕ) → slice_get o.nodes n ≡ Some (node scope (shape.Upd m a v)) → memory_form_of o n ≡ norm_upd (memory_form_of o m) (integer_form_of o a) (integer_form_of o v)
   unfolding integer_form_of memory_form_of
   upd_form m a v e = ap (λ t. norm_memory (memory_part t)) (tree_at-row o.nodes n (node scope (shape.Upd m a v)) N e)
@@ -54,6 +60,7 @@ module _ (o : Object) (N : AreNodes o.nodes) (n scope : ℕ) where
   unfolding integer_form_after
   variable_after i x e = ap (λ t. norm_under (integer_part t) x.integers x.memory) (tree_at-row o.nodes n (node scope (shape.Var i)) N e)
 
+  -- and so is the memory variable
   pub memory_after : (x : Replacement) → slice_get o.nodes n ≡ Some (node scope shape.Memory) → memory_form_after o x n ≡ x.memory
   unfolding memory_form_after
   memory_after x e = ap (λ t. norm_memory_under (memory_part t) x.integers x.memory) (tree_at-row o.nodes n (node scope shape.Memory) N e)

@@ -63,14 +63,17 @@ abbrev pub AreRows : ℕ → List RegType → Type 0
 AreRows n [] = Unit {0}
 AreRows n (x ∷ xs) = ((i : ℕ) × (i < n) × ((x ≡ green_row i) ⊎ (x ≡ blue_row i))) × AreRows n xs
 
+-- the blue rows are those of variables
 blue_rows : (n a k : ℕ) → a + k ≤ n → AreRows n (map blue_row (range_with_len a k))
 blue_rows n a zero h = tt
 blue_rows n a (suc k) h = ((a, omega (arith, h), inr refl), blue_rows n (a + 1) k (omega (arith, h)))
 
+-- and the green ones before them
 green_rows : (n a k : ℕ) (rest : List RegType) → a + k ≤ n → AreRows n rest → AreRows n (map green_row (range_with_len a k) ++ rest)
 green_rows n a zero rest h r = r
 green_rows n a (suc k) rest h r = ((a, omega (arith, h), inl refl), green_rows n (a + 1) k rest (omega (arith, h)) r)
 
+-- the rows of code type 1 are those of variables
 pub type_rows : (n : ℕ) → AreRows n (map green_row (range_with_len 0 n) ++ map blue_row (range_with_len 0 n))
 type_rows n = green_rows n 0 n (map blue_row (range_with_len 0 n)) (omega arith) (blue_rows n 0 n (omega arith))
 
@@ -92,10 +95,12 @@ module _ (o : Object) (vars : ℕ) (T : HasTypes o vars) (scope : ℕ) (pairs : 
   abbrev HasVariables : Context → Type 0
   HasVariables c = (q : ℕ) → q < vars → (typed c (green q).number ≡ Some (ty Green int (integer_form_of o (slice_index pairs q)))) × (typed c (blue q).number ≡ Some (ty Blue int (integer_form_of o (slice_index pairs q))))
 
+  -- the forms that are put are those of the variables' nodes
   put_rows : PutsThese → (replacement o u).integers ≡ map (integer_form_of o) (take vars pairs)
   unfolding replacement
   put_rows P = ap (map (integer_form_of o)) P.rows
 
+  -- and that of the memory's
   put_memory : PutsThese → (replacement o u).memory ≡ memory_form_of o memory
   unfolding replacement
   put_memory P = ap (memory_form_of o) P.memory_is
@@ -115,6 +120,7 @@ module _ (o : Object) (vars : ℕ) (T : HasTypes o vars) (scope : ℕ) (pairs : 
       ∙ get_or-map f (take vars pairs) q 0
       ∙ ap f (get_or-take vars pairs q 0 lt)
 
+  -- the register of each row is as the row wants it
   row_like : PutsThese → (c : Context) (q : ℕ) (x : RegType) → q < vars → HasVariables c → (x ≡ green_row q) ⊎ (x ≡ blue_row q) → is_like o (replacement o u) (typed c x.reg.number) x ≡ true
   unfolding is_like same_colour is_seen_as same_basic
   row_like P c q x lt h (inl e) =
@@ -126,14 +132,17 @@ module _ (o : Object) (vars : ℕ) (T : HasTypes o vars) (scope : ℕ) (pairs : 
       subst (λ z. is_like o (replacement o u) (typed c z.reg.number) z ≡ true) (sym e)
       (ap (λ t. is_like o (replacement o u) t (blue_row q)) (h q lt).1 ∙ ap (same_polynomial y) (put_variable P q lt) ∙ same_itself y)
 
+  -- so are all
   rows_like : PutsThese → (c : Context) (xs : List RegType) → HasVariables c → AreRows vars xs → are_like o (replacement o u) c xs ≡ true
   rows_like P c [] h r = refl
   rows_like P c (x ∷ xs) h r = and_from (is_like o (replacement o u) (typed c x.reg.number) x) (are_like o (replacement o u) c xs) (row_like P c r.0.0 x r.0.1 h r.0.2) (rows_like P c xs h r.1)
 
+  -- nothing waits, as code type 1 wants it
   queue_like : (q : List FormPair) → q ≡ [] → is_queue_like o (replacement o u) q (queue_rows o 1) ≡ true
   unfolding is_queue_like
   queue_like q e = rw (e, T.queue) refl
 
+  -- the memory is what is put for it
   memory_like : PutsThese → (m : Updates) → m ≡ memory_form_of o memory → same_updates m (memory_form_after o (replacement o u) (memory_of o 1)) ≡ true
   memory_like P m e =
       (equal_updates m (memory_form_after o (replacement o u) (memory_of o 1))).1
@@ -143,9 +152,11 @@ module _ (o : Object) (vars : ℕ) (T : HasTypes o vars) (scope : ℕ) (pairs : 
   named_scope : (n : ℕ) (sort : Bool) (m : ℕ) → MayName o.nodes n scope sort m → nat_le (scope_of o m) scope ≡ true
   named_scope n sort m h = le-leb (scope_of o m) scope (let e : scope_of o m ≡ h.node.scope = ap (λ x. unwrap_or (option_map scope_of_node x) 0) h.found in let w = h.scope_within in omega arith)
 
+  -- as many as code type 1 has integer variables
   abbrev as_many : ℕ → Bool
   as_many m = m == ints_of o 1
 
+  -- the substitution has a row for each variable, within the scope
   annotated : PutsThese → (k : Known) (n : ℕ) (spare ints : ℕ) → IsNamed o.nodes scope k n pairs memory → KeepsVariables vars k spare → ints ≡ scope → is_annotated o ints u 1 ≡ true
   unfolding is_annotated
   annotated P k n spare ints h keeps e =
@@ -167,22 +178,27 @@ module _ (o : Object) (vars : ℕ) (T : HasTypes o vars) (scope : ℕ) (pairs : 
 
 -- JUMPS
 
+-- the row of a green branch, where d is 0
 branch_green_row : (o : Object) (c : Context) (rz rd : Reg) (z a : Polynomial) → typed c rz.number ≡ Some (ty Green int z) → typed c rd.number ≡ Some (ty Green code_one a) → c.d ≡ d_zero → row o c (instr.BzG rz rd) ≡ Goes (record c { d = d_conditional z 1 a })
 unfolding need for_typed for_code_over for_zero same_colour
 branch_green_row o c rz rd z a hz hd d = rw (hz, hd, d) refl
 
+-- that of a blue one after it
 branch_blue_row : (o : Object) (c : Context) (rz rd : Reg) (u : Subst) (z a : Polynomial) → typed c rz.number ≡ Some (ty Blue int z) → typed c rd.number ≡ Some (ty Blue code_one a) → leads o u 1 (record c { d = d_conditional z 1 a }) (Goes (record c { d = d_zero })) ≡ Goes (record c { d = d_zero }) → row o (record c { d = d_conditional z 1 a }) (instr.BzB rz rd u) ≡ Goes (record c { d = d_zero })
 unfolding need for_typed for_code_over for_conditional same_colour
 branch_blue_row o c rz rd u z a hz hd l = rw (hz, hd) (rw (same_itself z) (rw (same_itself a) l))
 
+-- the row of a green jump, where d is 0
 jump_green_row : (o : Object) (c : Context) (rd : Reg) (a : Polynomial) → typed c rd.number ≡ Some (ty Green code_one a) → c.d ≡ d_zero → row o c (instr.JmpG rd) ≡ Goes (record c { d = d_code 1 a })
 unfolding need for_typed for_code_over for_zero same_colour
 jump_green_row o c rd a hd d = rw (hd, d) refl
 
+-- that of a blue one after it
 jump_blue_row : (o : Object) (c : Context) (rd : Reg) (u : Subst) (a : Polynomial) → typed c rd.number ≡ Some (ty Blue code_one a) → leads o u 1 (record c { d = d_code 1 a }) Ends ≡ Ends → row o (record c { d = d_code 1 a }) (instr.JmpB rd u) ≡ Ends
 unfolding need for_typed for_code_over for_target same_colour
 jump_blue_row o c rd u a hd l = rw hd (rw (same_itself a) l)
 
+-- the row of a halt, where d is 0 and nothing waits
 halt_row : (o : Object) (c : Context) → c.d ≡ d_zero → c.queue ≡ [] → row o c instr.Halt ≡ Ends
 unfolding need for_zero is_empty
 halt_row o c d q = rw (d, q) refl
@@ -305,13 +321,16 @@ module _ (o : Object) (vars : ℕ) (T : HasTypes o vars) (cells blocks : ℕ) (s
   last_applies scope k w c (Go spare to) e fits ps reads sr h G = go_applies scope k w c spare to fits (ps 0 0 (omega arith)) reads sr h G
   last_applies scope k w c Stop e fits ps reads sr h G = last_row (halt_row o c G.zero G.queue)
 
+  -- a step ends its block, or it does not
   last_or_not : (b : Bool) → (b ≡ true) ⊎ (b ≡ false)
   last_or_not true = inl refl
   last_or_not false = inr refl
 
+  -- after a step that ends its block nothing is left of it
   block_ends : (i : Step3) (is : List Step3) → is_last i ≡ true → IsBlock (i ∷ is) → is ≡ []
   block_ends i is e h = subst (λ b. elim b as (λ x. Type 0) [ true ↦ is ≡ [] | false ↦ IsBlock is ]) e h
 
+  -- after another one a block is left
   block_goes_on : (i : Step3) (is : List Step3) → is_last i ≡ false → IsBlock (i ∷ is) → IsBlock is
   block_goes_on i is e h = subst (λ b. elim b as (λ x. Type 0) [ true ↦ is ≡ [] | false ↦ IsBlock is ]) e h
 
@@ -346,6 +365,7 @@ row_later o m (x ∷ xs) r t e h = row_later o (finite.insert m x.reg.number (ty
     here true f = ap Some (h 0 x refl (eqb-true r x.reg.number f))
     here false f = e
 
+-- a register has what its row says
 row_there : (o : Object) (m : TypedRegisters) (xs : List RegType) (r : ℕ) (t : Typed) (n : ℕ) (x : RegType) → slice_get xs n ≡ Some x → r ≡ x.reg.number → ((n : ℕ) (x : RegType) → slice_get xs n ≡ Some x → r ≡ x.reg.number → typed_row o x ≡ t) → finite.get (registers_after o m xs) r ≡ Some t
 unfolding registers_after
 row_there o m [] r t n x f e h = cc
@@ -362,11 +382,13 @@ green_there a zero i rest lt = absurd (omega (arith, lt))
 green_there a (suc n) zero rest lt = let z : a ≡ a + 0 = omega arith in ap (λ j. Some (green_row j)) z
 green_there a (suc n) (suc i) rest lt = let z : a + 1 + i ≡ a + suc i = omega arith in green_there (a + 1) n i rest (omega (arith, lt)) ∙ ap (λ j. Some (green_row j)) z
 
+-- and the blue one
 blue_there : (a n i : ℕ) → i < n → slice_get (map blue_row (range_with_len a n)) i ≡ Some (blue_row (a + i))
 blue_there a zero i lt = absurd (omega (arith, lt))
 blue_there a (suc n) zero lt = let z : a ≡ a + 0 = omega arith in ap (λ j. Some (blue_row j)) z
 blue_there a (suc n) (suc i) lt = let z : a + 1 + i ≡ a + suc i = omega arith in blue_there (a + 1) n i (omega (arith, lt)) ∙ ap (λ j. Some (blue_row j)) z
 
+-- after the green rows come the blue ones
 after_green : (a n : ℕ) (rest : List RegType) (i : ℕ) → slice_get (map green_row (range_with_len a n) ++ rest) (n + i) ≡ slice_get rest i
 after_green a zero rest i = let z : 0 + i ≡ i = omega arith in ap (slice_get rest) z
 after_green a (suc n) rest i = let z : suc n + i ≡ suc (n + i) = omega arith in ap (slice_get (map green_row (range_with_len a (suc n)) ++ rest)) z ∙ after_green (a + 1) n rest i
@@ -378,6 +400,7 @@ row_at n (y ∷ ys) zero x h e = let f : y ≡ x = cc in subst (λ z. (i : ℕ) 
 row_at n (y ∷ ys) (suc k) x h e = row_at n ys k x h.1 e
 
 module _ (o : Object) (vars : ℕ) (T : HasTypes o vars) where
+  -- the rows of code type 1
   abbrev all_rows : List RegType
   all_rows = map green_row (range_with_len 0 vars) ++ map blue_row (range_with_len 0 vars)
 
@@ -395,6 +418,7 @@ module _ (o : Object) (vars : ℕ) (T : HasTypes o vars) where
           ap (typed_row o) g ∙ ap (λ j. ty Green int (integer_form_of o (1 + j))) same
       go (i, li, inr g) = absurd (green_is_not_blue i q (omega (arith, few, li)) (omega (arith, few, lt)) (f ∙ ap (λ (z : RegType). z.reg.number) g))
 
+  -- and the blue ones
   blue_only : (q : ℕ) → q < vars → (n : ℕ) (x : RegType) → slice_get all_rows n ≡ Some x → (blue q).number ≡ x.reg.number → typed_row o x ≡ ty Blue int (integer_form_of o (1 + q))
   blue_only q lt n x e f = go (row_at vars all_rows n x (type_rows vars) e)
     where

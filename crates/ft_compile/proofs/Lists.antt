@@ -6,9 +6,11 @@ use Rattle.std.proofs.lemmas.List.{append-nil}
 abbrev pub Starts : {X : Type 0} → List X → List X → Type 0
 Starts {X} xs ys = (rest : List X) × (xs ++ rest ≡ ys)
 
+-- a list begins itself
 pub starts_refl : {X : Type 0} (xs : List X) → Starts xs xs
 starts_refl xs = ([], append-nil xs)
 
+-- what begins a beginning begins the whole
 pub starts_trans : {X : Type 0} (xs ys zs : List X) → Starts xs ys → Starts ys zs → Starts xs zs
 starts_trans xs ys zs p q = (p.0 ++ q.0, sym (append_assoc xs p.0 q.0) ∙ ap (λ l. l ++ q.0) p.1 ∙ q.1)
 
@@ -16,6 +18,7 @@ starts_trans xs ys zs p q = (p.0 ++ q.0, sym (append_assoc xs p.0 q.0) ∙ ap (�
 pub starts_length : {X : Type 0} (xs ys : List X) → Starts xs ys → length xs ≤ length ys
 starts_length xs ys p = let e = length-append xs p.0 in let f = ap length p.1 in omega arith
 
+-- what stands in a list stands there with others after it
 get_front : {X : Type 0} (xs rest : List X) (k : ℕ) (x : X) → slice_get xs k ≡ Some x → slice_get (xs ++ rest) k ≡ Some x
 get_front [] rest k x e = cc
 get_front (y ∷ ys) rest zero x e = e

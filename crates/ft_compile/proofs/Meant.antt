@@ -1,8 +1,7 @@
 -- The run of an object that carries a program's blocks, and the meaning of the program.
-use Rattle.std.proofs.Common.{◌≡◌, ◌≢◌, ℕ, zero, suc, ◌+◌, ◌-◌, ◌*◌, ◌≤◌, Bool, true, false, cond, List, [], ◌++◌, Option, Some, None, inl, inr, refl, sym, ap, ◌∙◌, subst, arith}
+use Rattle.std.proofs.Common.{◌≡◌, ◌≢◌, ℕ, zero, suc, ◌+◌, ◌-◌, ◌*◌, ◌≤◌, Bool, true, false, cond, [], ◌++◌, Option, Some, None, inl, inr, refl, sym, ap, ◌∙◌, subst, arith}
 use Rattle.std.specs.Option.{option_to_list}
 use Rattle.std.proofs.lemmas.Bool.{cases_lt}
-use Rattle.ft_isa.specs.declared.output.Output.{Output}
 use Rattle.ft_types.specs.declared.status.Status.{Status}
 use Rattle.ft_types.specs.declared.status.Status.TheVariants.{Running, Done, Detected}
 use Rattle.ft_types.specs.declared.object.Object.{Object}
@@ -11,6 +10,7 @@ use Rattle.ft_types.specs.Run.{Ran, extended, run}
 use Rattle.ft_scope.specs.Resolved.{Program}
 use Rattle.ft_meaning.specs.Meaning.{State, Outcome, Ended, outputs, meaning}
 use Rattle.ft_meaning.specs.Begins.{Begins}
+use Rattle.ft_meaning.proofs.Longer.{begins_refl, begins_trans}
 use Rattle.ft_lower.specs.declared.step3.Step3.{Step3}
 use Rattle.ft_lower.specs.declared.step3.Step3.TheVariants.{Put, Copy, Op, Load, Store, Exit, Go, Stop}
 use Rattle.ft_lower.specs.Flow.{Blocks, FlowState, flow_step, flow_run, flow_start}
@@ -21,17 +21,6 @@ use Rattle.ft_dup.specs.Doubles.{words_of, cost, cost_if, Doubles}
 use Rattle.ft_compile.specs.StandsFor.{RunsAsMeant}
 use Rattle.ft_compile.specs.Laws.{CarriedBlocksRunAsMeant}
 use Rattle.std.proofs.lemmas.List.{append-nil}
-use Rattle.std.proofs.Common.{append_assoc}
-
--- LISTS OF OUTPUTS
-
--- a list begins itself
-begins_refl : (a : List Output) → Begins a a
-begins_refl a = ([], append-nil a)
-
--- what begins a beginning begins the whole
-begins_trans : (a b c : List Output) → Begins a b → Begins b c → Begins a c
-begins_trans a b c p q = (p.0 ++ q.0, sym (append_assoc a p.0 q.0) ∙ ap (λ l. l ++ q.0) p.1 ∙ q.1)
 
 -- MACHINE RUNS
 
@@ -107,18 +96,23 @@ cost_most bs (suc k) f = omega (arith, cost_if_most f.done (flow.step_at bs f.pl
 
 -- STATUSES
 
+-- a machine that is done has stopped
 stopped_done : (x : Status) → x ≡ Done → Stopped x
 stopped_done x e = subst Stopped (sym e) tt
 
+-- so has one that is detected
 stopped_detected : (x : Status) → x ≡ Detected → Stopped x
 stopped_detected x e = subst Stopped (sym e) tt
 
+-- no status is two
 done_undetected : (x : Status) → x ≡ Done → x ≡ Detected → ⊥
 done_undetected x p q = cc
 
+-- running is not detected
 running_undetected : (x : Status) → x ≡ Running → x ≡ Detected → ⊥
 running_undetected x p q = cc
 
+-- running is not done
 running_undone : (x : Status) → x ≡ Running → x ≡ Done → ⊥
 running_undone x p q = cc
 
@@ -129,9 +123,11 @@ module _ (p : Program) (o : Object) (vars : ℕ) (bs : Blocks) (L : Lowers p bs)
   abbrev at : ℕ → FlowState
   at k = flow_run bs p.inits k
 
+  -- what the first k steps cost
   abbrev spent : ℕ → ℕ
   spent k = cost bs k (flow_start (words_of o))
 
+  -- the flow over the object is the flow over the program
   is_run : (k : ℕ) → flow_run bs (words_of o) k ≡ at k
   is_run k = ap (λ ws. flow_run bs ws k) same
 
@@ -139,9 +135,11 @@ module _ (p : Program) (o : Object) (vars : ℕ) (bs : Blocks) (L : Lowers p bs)
   out_at : (k : ℕ) → (ran o (spent k)).outputs ≡ (at k).out
   out_at k = (D.after k).out ∙ ap (λ (f : FlowState). f.out) (is_run k)
 
+  -- the status after the cost of k steps
   status_at : (k : ℕ) → (ran o (spent k)).state.status ≡ cond (at k).done Done Running
   status_at k = (D.after k).status ∙ ap (λ (f : FlowState). cond f.done Done Running) (is_run k)
 
+  -- a running flow has cost at least a machine step for each of its steps
   pace_at : (k : ℕ) → (at k).done ≡ false → k ≤ spent k
   pace_at k e = D.pace k (ap (λ (f : FlowState). f.done) (is_run k) ∙ e)
 
@@ -188,6 +186,7 @@ module _ (p : Program) (o : Object) (vars : ℕ) (bs : Blocks) (L : Lowers p bs)
         running = λ e. begins_trans (ran o n).outputs (ran o c).outputs _ (later_begins o n c le) (subst (λ x. Begins x (outputs (meaning p n))) (sym (out_at n)) R);
       }
 
+  -- so it is in either case
   seen_by : (n : ℕ) (b : Bool) → (at n).done ≡ b → Seen n
   seen_by n true e = seen_done n e
   seen_by n false e = seen_running n e

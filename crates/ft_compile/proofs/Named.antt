@@ -20,6 +20,7 @@ use Rattle.ft_compile.proofs.Lists.{Starts, starts_trans, get_starts, get_last, 
 pub learned : (k : Known) (p q : ℕ) → q ≢ p → learn p k q ≡ true → k q ≡ true
 learned k p q ne h = sym (ap (λ b. cond b true (k q)) (ne_eqb q p ne)) ∙ h
 
+-- what is known without a pair is another, and was known
 pub kept : (k : Known) (p q : ℕ) → forget p k q ≡ true → (q ≢ p) × (k q ≡ true)
 kept k p q h = elim (cases_eq q p) [ inl e ↦ absurd (no (sym (ap (λ b. cond b false (k q)) (eq-eqb q p e)) ∙ h)) | inr ne ↦ (ne, sym (ap (λ b. cond b false (k q)) (ne_eqb q p ne)) ∙ h) ]
   where
@@ -31,6 +32,7 @@ module _ (F : List Node) where
   abbrev pub AreFine : List Node → Type 0
   AreFine ns = (n : ℕ) (x : Node) → slice_get ns n ≡ Some x → IsNode F n x
 
+  -- one more lawful node leaves them lawful
   pub fine_push : (ns : List Node) (x : Node) → AreFine ns → IsNode F (length ns) x → AreFine (ns ++ x ∷ [])
   fine_push ns x h new n y e = elim (get_push ns x n y e) [ inl f ↦ h n y f | inr f ↦ subst (λ z. IsNode F n z) f.1 (subst (λ m. IsNode F m x) (sym f.0) new) ]
 

@@ -34,9 +34,11 @@ use Rattle.ft_compile.specs.Cells.{IsCellName, AreCells}
 letters_same : (b : ℕ) → is_letter b ≡ spell.is_letter b
 letters_same b = ap (λ x. x || (b == 95)) (or_comm (nat_le 97 b && nat_le b 122) (nat_le 65 b && nat_le b 90))
 
+-- the bytes of names are the same in sources and objects
 name_bytes_same : (b : ℕ) → is_name_byte b ≡ spell.is_name_byte b
 name_bytes_same b = ap (λ x. x || is_digit b) (letters_same b)
 
+-- so are lists of them
 all_same : (bs : List ℕ) → list_all is_name_byte bs ≡ list_all spell.is_name_byte bs
 all_same [] = refl
 all_same (b ∷ bs) = ap (λ x. x && list_all is_name_byte bs) (name_bytes_same b) ∙ ap (λ x. spell.is_name_byte b && x) (all_same bs)
@@ -46,6 +48,7 @@ abbrev is_word : List ℕ → Bool
 is_word [] = false
 is_word (b ∷ bs) = is_letter b && list_all is_name_byte bs
 
+-- and names
 words_same : (t : List ℕ) → is_word t ≡ spell.is_name t
 words_same [] = refl
 words_same (b ∷ bs) = ap (λ x. x && list_all is_name_byte bs) (letters_same b) ∙ ap (λ x. spell.is_letter b && x) (all_same bs)
@@ -65,33 +68,38 @@ pub record IsFit (l : Lexeme) : Type 0 where
   pub name_fits : l.kind ≡ kinds.Name → IsCellName l.text
   pub number_fits : l.kind ≡ kinds.Number → IsWord (numeral 0 l.text)
 
--- all tokens of a scan are so
+-- a scan of which all tokens are so
 data AreFit : Scan → Type 0 where
   over_fits : AreFit over
   fault_fits : {e : LexError} → AreFit (fault e)
   token_fits : {l : Lexeme} {rest : Scan} → IsFit l → AreFit rest → AreFit (token l rest)
 
+-- the first token of such a scan is so, and the rest is such a scan
 token_parts : (l : Lexeme) (rest : Scan) → AreFit (token l rest) → IsFit l × AreFit rest
 token_parts l rest (token_fits a b) = (a, b)
 
--- neither a name nor a number
+-- the kind of neither a name nor a number
 abbrev IsPlain : Kind → Type 0
 IsPlain kinds.Name = ⊥
 IsPlain kinds.Number = ⊥
 IsPlain _ = Unit {0}
 
-abbrev is_no_number : Kind → Type 0
-is_no_number kinds.Number = ⊥
-is_no_number _ = Unit {0}
+-- a kind other than that of numbers
+abbrev IsNoNumber : Kind → Type 0
+IsNoNumber kinds.Number = ⊥
+IsNoNumber _ = Unit {0}
 
+-- a lexeme that is neither name nor number is fit
 plain_fits : (k : Kind) (t : List ℕ) (at : ℕ) → IsPlain k → IsFit (record { kind = k; text = t; at = at })
 plain_fits k t at h = record { name_fits = λ e. absurd (subst IsPlain e h); number_fits = λ e. absurd (subst IsPlain e h) }
 
+-- a choice of two such scans is one
 if_fits : (c : Bool) (x y : Scan) → AreFit x → AreFit y → AreFit (if c then x else y)
 if_fits true x y h k = h
 if_fits false x y h k = k
 
-word_choice : (a b c d e : Bool) → is_no_number (if a then kinds.Cell else (if b then kinds.Var else (if c then kinds.While else (if d then kinds.If else (if e then kinds.Else else kinds.Name)))))
+-- the kinds of words are other ones
+word_choice : (a b c d e : Bool) → IsNoNumber (if a then kinds.Cell else (if b then kinds.Var else (if c then kinds.While else (if d then kinds.If else (if e then kinds.Else else kinds.Name)))))
 word_choice true b c d e = tt
 word_choice false true c d e = tt
 word_choice false false true d e = tt
@@ -99,19 +107,23 @@ word_choice false false false true e = tt
 word_choice false false false false true = tt
 word_choice false false false false false = tt
 
-word_kind_plain : (t : List ℕ) → is_no_number (word_kind t)
+-- so the kind of a word is another
+word_kind_plain : (t : List ℕ) → IsNoNumber (word_kind t)
 unfolding word_kind
 word_kind_plain t = word_choice (bytes_eq t (codes "cell")) (bytes_eq t (codes "var")) (bytes_eq t (codes "while")) (bytes_eq t (codes "if")) (bytes_eq t (codes "else"))
 
-abbrev is_plain_sign : Option Kind → Type 0
-is_plain_sign None = Unit {0}
-is_plain_sign (Some k) = IsPlain k
+-- nothing, or the kind of neither a name nor a number
+abbrev IsPlainSign : Option Kind → Type 0
+IsPlainSign None = Unit {0}
+IsPlainSign (Some k) = IsPlain k
 
-if_plain : (c : Bool) (k : Kind) (o : Option Kind) → IsPlain k → is_plain_sign o → is_plain_sign (if c then Some k else o)
+-- so is a choice of a sign and other kinds
+if_plain : (c : Bool) (k : Kind) (o : Option Kind) → IsPlain k → IsPlainSign o → IsPlainSign (if c then Some k else o)
 if_plain true k o h g = h
 if_plain false k o h g = g
 
-sign_kind_plain : (b : ℕ) → is_plain_sign (sign_kind b)
+-- the kind of a sign is neither
+sign_kind_plain : (b : ℕ) → IsPlainSign (sign_kind b)
 unfolding sign_kind
 sign_kind_plain b =
     let eight = if b == 60 then Some kinds.Less else None in
@@ -140,6 +152,7 @@ MayEnd (name start t) = (is_word t ≡ true) × (length t ≤ 32)
 MayEnd (number start t) = Unit {0}
 MayEnd (equals start) = Unit {0}
 
+-- a number that is told is a word
 number_token_fits : (b : Bool) (start : ℕ) (t : List ℕ) (rest : Scan) → nat_lt (numeral 0 t) (2 ^ 64) ≡ b → AreFit rest → AreFit (number_token b start t rest)
 number_token_fits true start t rest e h = token_fits (record { name_fits = λ f. absurd (no f); number_fits = λ f. ltb-true (numeral 0 t) (2 ^ 64) e }) h
   where
@@ -147,17 +160,20 @@ number_token_fits true start t rest e h = token_fits (record { name_fits = λ f.
     no f = cc
 number_token_fits false start t rest e h = fault_fits
 
+-- what ends leaves a fit scan
 ends_fits : (m : Mode) (rest : Scan) → MayEnd m → AreFit rest → AreFit (ends m rest)
 ends_fits gap rest m h = h
 ends_fits comment rest m h = h
-ends_fits (name start t) rest m h = token_fits (record { name_fits = λ e. record { bytes = sym (words_same t) ∙ m.0; short = m.1 }; number_fits = λ e. absurd (subst is_no_number e (word_kind_plain t)) }) h
+ends_fits (name start t) rest m h = token_fits (record { name_fits = λ e. record { bytes = sym (words_same t) ∙ m.0; short = m.1 }; number_fits = λ e. absurd (subst IsNoNumber e (word_kind_plain t)) }) h
 ends_fits (number start t) rest m h = number_token_fits (nat_lt (numeral 0 t) (2 ^ 64)) start t rest refl h
 ends_fits (equals start) rest m h = token_fits (plain_fits kinds.Assign (61 ∷ []) start tt) h
 
-sign_fits : (o : Option Kind) (at b : ℕ) (rest : Scan) → is_plain_sign o → AreFit rest → AreFit (sign_at o at b rest)
+-- so does a sign
+sign_fits : (o : Option Kind) (at b : ℕ) (rest : Scan) → IsPlainSign o → AreFit rest → AreFit (sign_at o at b rest)
 sign_fits None at b rest p h = fault_fits
 sign_fits (Some k) at b rest p h = token_fits (plain_fits k (b ∷ []) at p) h
 
+-- a choice of six such scans is one
 begins_choice : (a b c d e : Bool) (u v w x y z : Scan) → AreFit u → AreFit v → (c ≡ true → AreFit w) → AreFit x → AreFit y → AreFit z → AreFit (if a then u else (if b then v else (if c then w else (if d then x else (if e then y else z)))))
 begins_choice true b c d e u v w x y z hu hv hw hx hy hz = hu
 begins_choice false true c d e u v w x y z hu hv hw hx hy hz = hv
@@ -166,17 +182,20 @@ begins_choice false false false true e u v w x y z hu hv hw hx hy hz = hx
 begins_choice false false false false true u v w x y z hu hv hw hx hy hz = hy
 begins_choice false false false false false u v w x y z hu hv hw hx hy hz = hz
 
+-- what a byte begins leaves a fit scan
 begins_fits : (at b : ℕ) (after : Mode → Scan) → ((n : Mode) → MayEnd n → AreFit (after n)) → AreFit (begins at b after)
 begins_fits at b after h =
     begins_choice (is_blank b) (b == 35) (is_letter b) (is_digit b) (b == 61) (after gap) (after comment) (after (name at (b ∷ []))) (after (number at (b ∷ []))) (after (equals at)) (sign_at (sign_kind b) at b (after gap))
     (h gap tt) (h comment tt) (λ e. h (name at (b ∷ [])) (and_from (is_letter b) true e refl, omega arith)) (h (number at (b ∷ [])) tt) (h (equals at) tt)
     (sign_fits (sign_kind b) at b (after gap) (sign_kind_plain b) (h gap tt))
 
+-- so does a byte after a name
 in_name_fits : (goes long : Bool) (at : ℕ) (more end : Scan) → (goes ≡ true → long ≡ false → AreFit more) → AreFit end → AreFit (in_name goes long at more end)
 in_name_fits false long at more end h k = k
 in_name_fits true false at more end h k = h refl refl
 in_name_fits true true at more end h k = fault_fits
 
+-- so does each byte
 reads_fits : (m : Mode) (at b : ℕ) (after : Mode → Scan) (other : Scan) → MayEnd m → ((n : Mode) → MayEnd n → AreFit (after n)) → AreFit other → AreFit (reads m at b after other)
 reads_fits gap at b after other m h k = k
 reads_fits comment at b after other m h k = if_fits (b == 10) (after gap) (after comment) (h gap tt) (h comment tt)
@@ -187,6 +206,7 @@ reads_fits (name start t) at b after other m h k =
 reads_fits (number start t) at b after other m h k = if_fits (is_digit b) (after (number start (t ++ b ∷ []))) (ends (number start t) other) (h (number start (t ++ b ∷ [])) tt) (ends_fits (number start t) other tt k)
 reads_fits (equals start) at b after other m h k = if_fits (b == 61) (token (record { kind = kinds.EqEq; text = 61 ∷ 61 ∷ []; at = start }) (after gap)) (ends (equals start) other) (token_fits (plain_fits kinds.EqEq (61 ∷ 61 ∷ []) start tt) (h gap tt)) (ends_fits (equals start) other tt k)
 
+-- all tokens of a scan are fit
 scan_fits : (m : Mode) (at : ℕ) (bs : List ℕ) → MayEnd m → AreFit (scan_from m at bs)
 scan_fits m at [] h = ends_fits m over h over_fits
 scan_fits m at (b ∷ bs) h =
@@ -199,6 +219,7 @@ abbrev AllFit : List Lexeme → Type 0
 AllFit [] = Unit {0}
 AllFit (l ∷ ls) = IsFit l × AllFit ls
 
+-- so are the lexemes of a scan without a fault
 lexemes_fit : (s : Scan) (ts : List Lexeme) → AreFit s → all_of s ≡ Ok ts → AllFit ts
 lexemes_fit over ts h e = let f : [] ≡ ts = cc in subst AllFit f tt
 lexemes_fit (fault x) ts h e = absurd (no e)
@@ -218,10 +239,12 @@ abbrev IsFitDeclaration : Declared → Type 0
 IsFitDeclaration (cell n w) = IsCellName n.text × IsWord w
 IsFitDeclaration (var n) = Unit {0}
 
+-- the lexemes of a declaration make it fit
 declaration_fits : (d : Declaration) (rest : List Lexeme) → AllFit (declaration_then d rest) → IsFitDeclaration (declaration_tree d) × AllFit rest
 declaration_fits (a_cell w n l v r) rest h = ((h.1.0.name_fits refl, h.1.1.1.0.number_fits refl), h.1.1.1.1.1)
 declaration_fits (a_var w n r) rest h = (tt, h.1.1.1)
 
+-- and those of declarations
 declarations_fit : (ds : Declarations) (rest : List Lexeme) → AllFit (declarations_then ds rest) → AllByRecursion IsFitDeclaration (declarations_tree ds) × AllFit rest
 declarations_fit undeclared rest h = (tt, h)
 declarations_fit (declared_then before d) rest h =
@@ -233,16 +256,19 @@ declarations_fit (declared_then before d) rest h =
     push [] x a b = (b, tt)
     push (y ∷ ys) x a b = (a.0, push ys x a.1 b)
 
+-- the cells of fit declarations have lawful names
 names_fit : (ds : List Declared) → AllByRecursion IsFitDeclaration ds → All IsCellName (cell_names ds)
 names_fit [] h = All-nil IsCellName
 names_fit (cell n w ∷ ds) h = All-cons IsCellName n.text (cell_names ds) h.0.0 (names_fit ds h.1)
 names_fit (var n ∷ ds) h = names_fit ds h.1
 
+-- and words
 words_fit : (ds : List Declared) → AllByRecursion IsFitDeclaration ds → All IsWord (cell_words ds)
 words_fit [] h = All-nil IsWord
 words_fit (cell n w ∷ ds) h = All-cons IsWord w (cell_words ds) h.0.1 (words_fit ds h.1)
 words_fit (var n ∷ ds) h = words_fit ds h.1
 
+-- there are as many names as words
 as_many : (ds : List Declared) → length (cell_names ds) ≡ length (cell_words ds)
 as_many [] = refl
 as_many (cell n w ∷ ds) = ap suc (as_many ds)
@@ -255,19 +281,23 @@ abbrev is_seen : List Declared → List ℕ → Bool
 is_seen [] t = false
 is_seen (d ∷ ds) t = bytes_eq (declared_name d).text t || is_seen ds t
 
+-- what is found first, or later, is found
 seen_or : (b : Bool) (s : Slot) (o : Option Slot) (c : Bool) → is_some o ≡ c → is_some (cond b (Some s) o) ≡ (b || c)
 seen_or true s o c e = refl
 seen_or false s o c e = e
 
+-- neither of two tests holds
 or_from : (x y : Bool) → x ≡ false → y ≡ false → (x || y) ≡ false
 or_from true y e f = e
 or_from false y e f = f
 
+-- a text is found where it is declared
 found_is_seen : (c v : ℕ) (ds : List Declared) (t : List ℕ) → is_some (found_after c v ds t) ≡ is_seen ds t
 found_is_seen c v [] t = refl
 found_is_seen c v (cell n w ∷ ds) t = seen_or (bytes_eq n.text t) (Cell c) (found_after (c + 1) v ds t) (is_seen ds t) (found_is_seen (c + 1) v ds t)
 found_is_seen c v (var n ∷ ds) t = seen_or (bytes_eq n.text t) (Var v) (found_after c (v + 1) ds t) (is_seen ds t) (found_is_seen c (v + 1) ds t)
 
+-- a text that is not among declarations is among none of them
 seen_push : (xs : List Declared) (d : Declared) (t : List ℕ) → is_seen (xs ++ d ∷ []) t ≡ false → (is_seen xs t ≡ false) × (bytes_eq (declared_name d).text t ≡ false)
 seen_push [] d t e = (refl, (or_parts (bytes_eq (declared_name d).text t) false e).0)
 seen_push (x ∷ xs) d t e =
@@ -280,6 +310,7 @@ record AreNew (before ds : List Declared) : Type 0 where
   unseen : All (λ t. is_seen before t ≡ false) (cell_names ds)
   differ : AllPairs (λ x y. x ≢ y) (cell_names ds)
 
+-- texts that differ by the test differ
 not_equal : (x y : List ℕ) → bytes_eq x y ≡ false → x ≢ y
 not_equal x y e f = no (sym e ∙ (bytes_eq-Decides x y).1 f)
   where
@@ -291,6 +322,7 @@ unrepeated : (b : Bool) (at : ℕ) (o : Option ℕ) → cond b (Some at) o ≡ N
 unrepeated true at o e = cc
 unrepeated false at o e = (refl, e)
 
+-- names that are not repeated are new
 are_new : (before ds : List Declared) → repeated before ds ≡ None → AreNew before ds
 are_new before [] e = record { unseen = All-nil (λ t. is_seen before t ≡ false); differ = λ i j d h k. absurd (omega (arith, k)) }
 are_new before (cell n w ∷ ds) e =
@@ -314,6 +346,7 @@ record IsResolved (ds : List Declared) (p : Program) : Type 0 where
   words : p.inits ≡ cell_words ds
   few : length p.inits ≤ 1024
 
+-- a program within the limits is itself, and has few cells
 limited_program : (q p : Program) → limited q ≡ Ok p → (q ≡ p) × (length q.inits ≤ 1024)
 limited_program q p e =
     let a = below 1024 (length q.inits) (errors.Cells (length q.inits)) _ p e in
@@ -331,6 +364,7 @@ limited_program q p e =
     same : ◌≡◌ {A = Result Program SourceError} (Ok q) (Ok p) → q ≡ p
     same f = cc
 
+-- so it is of the program that a tree is
 resolved_program : (t : SyntaxTree) (p : Program) → resolved t ≡ Ok p → IsResolved t.decls p
 resolved_program t p e = first (repeated [] t.decls) refl e
   where

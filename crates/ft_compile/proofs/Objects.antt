@@ -25,6 +25,7 @@ use Rattle.ft_lower.specs.Flow.{Blocks}
 use Rattle.ft_lower.specs.Size.{blocks_size}
 use Rattle.ft_lower.specs.Well.{IsTarget, IsWell, known_first}
 use Rattle.ft_dup.specs.Doubles.{bare, init_of_cell, words_of}
+use Rattle.ft_dup.proofs.Places.{starts_length}
 use Rattle.ft_dup.specs.Images.{starts, start_of, doubled, ref_int, code_one}
 use Rattle.ft_compile.specs.StandsFor.{IsIntCell}
 use Rattle.ft_compile.specs.Cells.{IsCellName, AreCells}
@@ -33,7 +34,7 @@ use Rattle.ft_compile.specs.Laws.{IsEmission, EmittedObjectsAreAccepted}
 use Rattle.ft_compile.proofs.Lists.{Starts, starts_refl, starts_trans, get_starts}
 use Rattle.ft_compile.proofs.Walked.{block_noted, block_grows, blocks_grow, RowsAreFine, well_rows, chain_covers, IsSound, begun_lawful, scope_within, noted_sound, row_sound, first_fine}
 use Rattle.ft_compile.proofs.Coded.{row_coded, rows_coded, joined, added_blocks, placed_blocks, joined_length, offsets, offsets_are_starts, cut_out}
-use Rattle.ft_compile.proofs.Counted.{nodes_blocks, rows_blocks, HaveSome, fine_have_some, blocks_few, starts_many, start_within, places_of_blocks, find_block}
+use Rattle.ft_compile.proofs.Counted.{nodes_blocks, rows_blocks, HaveSome, fine_have_some, blocks_few, start_within, places_of_blocks, find_block}
 use Rattle.ft_compile.proofs.Spelled.{instrs_blocks, substs_blocks, types_lawful, reg_rows_few, queue_rows_few, blocks_in_order, blocks_begin, blocks_typed, blocks_many}
 use Rattle.ft_compile.proofs.Leading.{HasTypes, row_applies, type_of_block, begins_good}
 use Rattle.std.proofs.lemmas.List.FromFn.{length-map-range_with_len}
@@ -41,27 +42,32 @@ use Rattle.ft_compile.specs.Emitted.{node, variable_node}
 
 -- CELLS
 
+-- the cells have the names
 names_of_cells : (names : List (List ℕ)) (inits : List ℕ) → length names ≡ length inits → map name_of (map cell_from (zip names inits)) ≡ names
 names_of_cells [] inits e = refl
 names_of_cells (n ∷ ns) [] e = absurd (omega (arith, e))
 names_of_cells (n ∷ ns) (w ∷ ws) e = ap (λ l. n ∷ l) (names_of_cells ns ws (omega (arith, e)))
 
+-- and the initial words
 words_of_cells : (names : List (List ℕ)) (inits : List ℕ) → length names ≡ length inits → map init_of_cell (map cell_from (zip names inits)) ≡ inits
 words_of_cells [] [] e = refl
 words_of_cells [] (w ∷ ws) e = absurd (omega (arith, e))
 words_of_cells (n ∷ ns) [] e = absurd (omega (arith, e))
 words_of_cells (n ∷ ns) (w ∷ ws) e = ap (λ l. w ∷ l) (words_of_cells ns ws (omega (arith, e)))
 
+-- and are as many
 many_cells : (names : List (List ℕ)) (inits : List ℕ) → length names ≡ length inits → length (map cell_from (zip names inits)) ≡ length inits
 many_cells [] [] e = refl
 many_cells [] (w ∷ ws) e = absurd (omega (arith, e))
 many_cells (n ∷ ns) [] e = absurd (omega (arith, e))
 many_cells (n ∷ ns) (w ∷ ws) e = ap suc (many_cells ns ws (omega (arith, e)))
 
+-- each has the type `int`
 int_cells : (xs : List (List ℕ × ℕ)) → All IsIntCell (map cell_from xs)
 int_cells [] = All-nil IsIntCell
 int_cells (x ∷ xs) = All-cons IsIntCell (cell_from x) (map cell_from xs) refl (int_cells xs)
 
+-- each obeys the rules
 lawful_cells : (names : List (List ℕ)) (inits : List ℕ) → All IsCellName names → All IsWord inits → All (IsCell 2) (map cell_from (zip names inits))
 lawful_cells [] inits h k = All-nil (IsCell 2)
 lawful_cells (n ∷ ns) [] h k = All-nil (IsCell 2)
@@ -71,11 +77,13 @@ lawful_cells (n ∷ ns) (w ∷ ws) h k =
     (record { name = a.bytes; name_length = a.short; basic = record { refs = omega arith; base = tt }; init = All-head IsWord w ws k })
     (lawful_cells ns ws (All-tail IsCellName n ns h) (All-tail IsWord w ws k))
 
+-- so does the cell at a place
 cell_is_int : (xs : List (List ℕ × ℕ)) (k : ℕ) (c : Cell) → slice_get (map cell_from xs) k ≡ Some c → c.basic ≡ int
 cell_is_int [] k c e = cc
 cell_is_int (x ∷ xs) zero c e = let f : cell_from x ≡ c = cc in sym (ap basic_of f)
 cell_is_int (x ∷ xs) (suc k) c e = cell_is_int xs k c e
 
+-- each number of a cell is one of type `int`
 cell_there : (names : List (List ℕ)) (inits : List ℕ) (k : ℕ) → length names ≡ length inits → k < length inits → option_map basic_of (slice_get (map cell_from (zip names inits)) k) ≡ Some int
 cell_there [] [] k e lt = absurd (omega (arith, lt))
 cell_there [] (w ∷ ws) k e lt = absurd (omega (arith, e))
@@ -100,12 +108,14 @@ bare_subst (instr.BzB rz rd t) [] = refl
 bare_subst (instr.BzB rz rd t) (u ∷ us) = refl
 bare_subst instr.Halt us = refl
 
+-- nor do all of them
 bare_placed : (us : List Subst) (is : List Instr) → map bare (placed us is) ≡ map bare is
 bare_placed us [] = refl
 bare_placed us (i ∷ is) = ap (λ x. x ∷ map bare (placed (substs_left i us) is)) (bare_subst i us) ∙ ap (λ l. bare i ∷ l) (bare_placed (substs_left i us) is)
 
 -- BLOCKS
 
+-- a block has the code type of its place
 code_type_is : (o : Object) (vars : ℕ) (T : HasTypes o vars) (ss : List ℕ) (b : ℕ) (x : Block) → slice_get (blocks_at ss) b ≡ Some x → x.code_type ≡ type_of_block o vars T b
 code_type_is o vars T [] b x e = cc
 code_type_is o vars T (s ∷ ss) zero x e = let f : Rattle.std.proofs.Common.◌≡◌ {A = Block} (record { start = s; code_type = 0 }) x = cc in sym (ap code_type_of f)
@@ -116,10 +126,12 @@ code_type_is o vars T (s ∷ ss) (suc b) x e = others ss b x e
     others (t ∷ ts) zero y f = let g : block_from t ≡ y = cc in sym (ap code_type_of g)
     others (t ∷ ts) (suc k) y f = others ts k y f
 
+-- the first block has code type 0
 first_type : (ss : List ℕ) → unwrap_or (option_map code_type_of (slice_get (blocks_at ss) 0)) 0 ≡ 0
 first_type [] = refl
 first_type (s ∷ ss) = refl
 
+-- blocks have an instruction, where there is one
 first_there : (bs : Blocks) → HaveSome bs → 0 < length bs → 0 < blocks_size bs
 first_there [] h lt = absurd (omega (arith, lt))
 first_there (x ∷ xs) h lt = omega (arith, h.0)
@@ -131,21 +143,27 @@ target_found (x ∷ xs) zero h t = absurd (omega (arith, t.no_entry))
 target_found (x ∷ xs) (suc b) h t = ap (option_map code_type_of) (find_block x xs b h.0 (omega (arith, t.there)))
 
 module _ (names : List (List ℕ)) (inits : List ℕ) (vars : ℕ) (bs : Blocks) (C : AreCells names inits) (W : IsWell vars (length inits) bs) where
+  -- the object
   abbrev o : Object
   o = emitted names inits vars bs
 
+  -- where its blocks begin
   abbrev start : ℕ → ℕ
   start = start_of bs
 
+  -- the instructions of its blocks
   abbrev rows : List (List Instr)
   rows = rows_coded vars start 0 (at_first vars) bs
 
+  -- its blocks are well formed one after another
   fine : RowsAreFine vars (length inits) (length bs) 0 bs
   fine = well_rows vars (length inits) bs W
 
+  -- each has an instruction
   some : HaveSome bs
   some = fine_have_some vars (length inits) (length bs) 0 bs fine
 
+  -- what is noted of them is sound
   sound : IsSound o.nodes o.substs (noted vars bs)
   sound = noted_sound vars (length inits) bs C.few W
 
@@ -153,18 +171,22 @@ module _ (names : List (List ℕ)) (inits : List ℕ) (vars : ℕ) (bs : Blocks)
   instrs_are : o.instrs ≡ joined vars start rows
   instrs_are = ap (λ us. placed us (doubled bs)) (added_blocks vars start 0 (at_first vars) bs) ∙ placed_blocks vars start 0 (at_first vars) bs
 
+  -- so there are as many as the blocks become
   instrs_many : length o.instrs ≡ blocks_size bs
   instrs_many = ap length instrs_are ∙ joined_length vars start 0 (at_first vars) bs
 
+  -- the nodes obey the rules
   nodes_lawful : AreNodes o.nodes
   nodes_lawful = record {
     few = let n = nodes_blocks vars 0 (at_first vars) bs in let m : length (at_first vars).nodes ≡ suc vars = ap suc (length-map-range_with_len (variable_node vars) 0 vars) in let s = W.short in let f = W.few_variables in omega arith;
     each = sound.fine;
   }
 
+  -- the first ones are the memory and the variables
   first_nodes : Starts (at_first vars).nodes o.nodes
   first_nodes = (blocks_grow vars 0 (at_first vars) bs).nodes
 
+  -- the two code types are there
   types : HasTypes o vars
   types = record {
     few = W.few_variables;
@@ -184,21 +206,27 @@ module _ (names : List (List ℕ)) (inits : List ℕ) (vars : ℕ) (bs : Blocks)
   address_words : (b : ℕ) → IsWord (code_address (start b))
   address_words b = let s = start_within bs b in let t = W.short in omega arith
 
+  -- the substitutions of the instructions are those that were noted
   substs_are : substs_of o.instrs ≡ (noted vars bs).substs
   substs_are = ap substs_of instrs_are ∙ substs_blocks vars start 0 (at_first vars) bs ∙ sym (added_blocks vars start 0 (at_first vars) bs)
 
+  -- there are as many blocks
   block_count : length o.blocks ≡ length bs
-  block_count = blocks_many (starts bs) ∙ starts_many 0 bs
+  block_count = blocks_many (starts bs) ∙ starts_length 0 bs
 
+  -- its cells have the names
   names_are : map name_of o.cells ≡ names
   names_are = names_of_cells names inits C.as_many
 
+  -- and the initial words
   words_are : words_of o ≡ inits
   words_are = words_of_cells names inits C.as_many
 
+  -- and are as many
   cell_count : length o.cells ≡ length inits
   cell_count = many_cells names inits C.as_many
 
+  -- its tables obey their rules
   spelled : IsSpellable o
   spelled = record {
     few_cells = let c = cell_count in let f = C.few in omega arith;
@@ -225,6 +253,7 @@ module _ (names : List (List ℕ)) (inits : List ℕ) (vars : ℕ) (bs : Blocks)
 
   -- ACCEPTED
 
+  -- a cell's address has the type of one
   refs : (c : ℕ) → c < length inits → has_type o (cell_address c) ref_int ≡ true
   unfolding cell_of
   refs c lt =
@@ -235,6 +264,7 @@ module _ (names : List (List ℕ)) (inits : List ℕ) (vars : ℕ) (bs : Blocks)
       ∙ cell_there names inits c C.as_many lt in
       (has_type_decides o (cell_address c) ref_int).1 e
 
+  -- the code address of a jump's target has that of a block of code type 1
   targets : (b : ℕ) → IsTarget (length bs) b → has_type o (code_address (start b)) code_one ≡ true
   unfolding block_at
   targets b t = (has_type_decides o (code_address (start b)) code_one).1 (target_found bs b some t)
@@ -270,6 +300,7 @@ module _ (names : List (List ℕ)) (inits : List ℕ) (vars : ℕ) (bs : Blocks)
       (record { rows = h.covered.rows; chain = h.covered.chain }))
       j r e)
 
+  -- each block has its row
   row_of_block : (b : ℕ) (w : Noted) (xs : Blocks) (j : ℕ) → j < length xs → (r : List Instr) × (slice_get (rows_coded vars start b w xs) j ≡ Some r)
   row_of_block b w [] j lt = absurd (omega (arith, lt))
   row_of_block b w (x ∷ xs) zero lt = (row_coded vars start (scope_of_block vars b) (begun w) x, refl)
@@ -287,6 +318,7 @@ module _ (names : List (List ℕ)) (inits : List ℕ) (vars : ℕ) (bs : Blocks)
       ∙ ap (λ l. slice_range l (unwrap_or (slice_get (offsets vars start 0 rows) b) 0) (unwrap_or (slice_get (offsets vars start 0 rows) (suc b)) (length l))) instrs_are
       ∙ cut_out vars start rows b r e
 
+  -- so the rows of the instructions of each block apply
   blocks_apply : (b : ℕ) (x : Block) → slice_get o.blocks b ≡ Some x → Applies o (start_context o x.code_type) (block_instrs o b)
   blocks_apply b x e =
       let lt : b < length bs = let c = block_count in omega (arith, slice_get_within o.blocks b x e) in
@@ -299,6 +331,7 @@ module _ (names : List (List ℕ)) (inits : List ℕ) (vars : ℕ) (bs : Blocks)
       (subst (λ l. Applies o (start_context o (type_of_block o vars types b)) l) (sym (block_is_row b R.0 R.1))
       (subst (λ n. Applies o (start_context o (type_of_block o vars types n)) R.0) z h))
 
+  -- a run may begin with the type of the entry
   entry_lawful : IsEntryType o (block_type o o.entry)
   entry_lawful = subst (IsEntryType o) (sym (first_type (starts bs))) (record {
     ints = refl;
@@ -307,9 +340,11 @@ module _ (names : List (List ℕ)) (inits : List ℕ) (vars : ℕ) (bs : Blocks)
     memory = record { node = node 0 shape.Memory; found = get_starts (at_first vars).nodes o.nodes 0 (node 0 shape.Memory) first_nodes refl; shape = refl };
   })
 
+  -- each initial word has the type of its cell
   cells_typed : (k : ℕ) (x : Cell) → slice_get o.cells k ≡ Some x → HasType o x.init x.basic
   cells_typed k x e = subst (HasType o x.init) (sym (cell_is_int (zip names inits) k x e)) tt
 
+  -- all of it
   emission_of : IsEmission names inits bs o
   emission_of = record {
     names_are = names_are;

@@ -27,16 +27,20 @@ use Rattle.ft_compile.proofs.Forms.{green_number, blue_number}
 
 -- INSTRUCTIONS
 
+-- the three basic types of moves and cells are lawful
 int_is_basic : IsBasic 2 int
 int_is_basic = record { refs = omega arith; base = tt }
 
+-- the type of addresses of cells
 ref_int_is_basic : IsBasic 2 ref_int
 ref_int_is_basic = record { refs = omega arith; base = tt }
 
+-- the type of addresses of blocks
 code_one_is_basic : IsBasic 2 code_one
 code_one_is_basic = record { refs = omega arith; base = omega arith }
 
 module _ (vars : ℕ) (start : ℕ → ℕ) (cells blocks : ℕ) (small : cells ≤ 1024) (words : (b : ℕ) → IsWord (code_address (start b))) where
+  -- the instructions of a step obey the rules
   instrs_step : (u : Subst) (i : Step3) → StepFits cells blocks i → AllByRecursion (IsInstr 2) (coded_step start u i)
   instrs_step u (Put p v) fits = ((fits, int_is_basic), ((fits, int_is_basic), tt))
   instrs_step u (Copy p q) fits = ((let z : IsWord 0 = omega arith in z), ((let z : IsWord 0 = omega arith in z), tt))
@@ -47,6 +51,7 @@ module _ (vars : ℕ) (start : ℕ → ℕ) (cells blocks : ℕ) (small : cells 
   instrs_step u (Go spare to) fits = ((words to, code_one_is_basic), ((words to, code_one_is_basic), (tt, (tt, tt))))
   instrs_step u Stop fits = (tt, tt)
 
+  -- those of a row
   instrs_row : (scope : ℕ) (k : Known) (w : Noted) (is : List Step3) → RowIsWell vars cells blocks k is → All (IsInstr 2) (row_coded vars start scope w is)
   instrs_row scope k w [] h = All-nil (IsInstr 2)
   instrs_row scope k w (i ∷ is) h =
@@ -55,6 +60,7 @@ module _ (vars : ℕ) (start : ℕ → ℕ) (cells blocks : ℕ) (small : cells 
       (All-from_recursion (IsInstr 2) here (instrs_step (jump_subst vars w) i h.0))
       (instrs_row scope (known_after i k) (step_noted vars scope w i) is h.2)
 
+  -- those of all blocks
   pub instrs_blocks : (b : ℕ) (w : Noted) (xs : Blocks) → RowsAreFine vars cells blocks b xs → All (IsInstr 2) (joined vars start (rows_coded vars start b w xs))
   instrs_blocks b w [] h = All-nil (IsInstr 2)
   instrs_blocks b w (x ∷ xs) h =
@@ -65,6 +71,7 @@ module _ (vars : ℕ) (start : ℕ → ℕ) (cells blocks : ℕ) (small : cells 
 -- SUBSTITUTIONS
 
 module _ (vars : ℕ) (start : ℕ → ℕ) where
+  -- the instructions of a step carry the substitution that it adds
   substs_step : (w : Noted) (i : Step3) (rest : List Instr) → substs_of (coded_step start (jump_subst vars w) i ++ rest) ≡ step_added vars start w i ++ substs_of rest
   substs_step w (Put p v) rest = refl
   substs_step w (Copy p q) rest = refl
@@ -75,6 +82,7 @@ module _ (vars : ℕ) (start : ℕ → ℕ) where
   substs_step w (Go spare to) rest = refl
   substs_step w Stop rest = refl
 
+  -- those of a row
   substs_row : (scope : ℕ) (w : Noted) (is : List Step3) (rest : List Instr) → substs_of (row_coded vars start scope w is ++ rest) ≡ row_added vars start scope w is ++ substs_of rest
   substs_row scope w [] rest = refl
   substs_row scope w (i ∷ is) rest =
@@ -94,12 +102,14 @@ module _ (vars : ℕ) (start : ℕ → ℕ) where
 
 -- CODE TYPES
 
+-- the registers of the blue rows rise
 blue_rising : (least a n : ℕ) → least ≤ 32 + a → a + n ≤ 32 → AreRising least (map blue_row (range_with_len a n))
 blue_rising least a zero h k = tt
 blue_rising least a (suc n) h k =
     let e = blue_number a (omega arith) in
     (omega arith, blue_rising (suc (blue a).number) (a + 1) n (omega arith) (omega arith))
 
+-- and of the green ones before them
 green_rising : (least a n m : ℕ) → least ≤ a → a + n ≤ 32 → m ≤ 32 → AreRising least (map green_row (range_with_len a n) ++ map blue_row (range_with_len 0 m))
 green_rising least a zero m h k l = blue_rising least 0 m (omega arith) (omega arith)
 green_rising least a (suc n) m h k l =
@@ -107,6 +117,7 @@ green_rising least a (suc n) m h k l =
     (omega arith, green_rising (suc (green a).number) (a + 1) n m (omega arith) (omega arith) l)
 
 module _ (nodes : List Node) (vars : ℕ) (few : vars ≤ 32) (s : Starts (at_first vars).nodes nodes) where
+  -- the memory's node may be named
   first_memory : (scope : ℕ) → IsNodeIn nodes scope true 0
   first_memory scope = record {
     lower = let l = starts_length (at_first vars).nodes nodes s in omega arith;
@@ -116,6 +127,7 @@ module _ (nodes : List Node) (vars : ℕ) (few : vars ≤ 32) (s : Starts (at_fi
     scope_within = omega arith;
   }
 
+  -- a variable's node may be named
   first_variable : (i : ℕ) → i < vars → IsNodeIn nodes vars false (1 + i)
   first_variable i lt =
       let l = starts_length (at_first vars).nodes nodes s in
@@ -129,9 +141,11 @@ module _ (nodes : List Node) (vars : ℕ) (few : vars ≤ 32) (s : Starts (at_fi
         scope_within = omega arith;
       })
 
+  -- what is so of each number below the variables is so of their list
   range_all : (P : ℕ → Type 0) → ((i : ℕ) → i < vars → P i) → All P (range_with_len 0 vars)
   range_all P h k d lt = let l = length-range_with_len 0 vars in let kv : k < vars = omega arith in let z : k ≡ 0 + k = omega arith in subst P (z ∙ sym (get_or-range_with_len 0 vars k d kv)) (h k kv)
 
+  -- the two code types obey the rules
   pub types_lawful : All (IsCodeType 2 nodes) (entry_type ∷ variables_type vars ∷ [])
   types_lawful = All-from_recursion (IsCodeType 2 nodes) (entry_type ∷ variables_type vars ∷ []) (
     record {
@@ -157,6 +171,7 @@ module _ (nodes : List Node) (vars : ℕ) (few : vars ≤ 32) (s : Starts (at_fi
     ),
   )
 
+-- they have few register rows
 pub reg_rows_few : (vars : ℕ) → vars ≤ 32 → reg_row_count (entry_type ∷ variables_type vars ∷ []) ≤ 262144
 reg_rows_few vars few =
     let l = length-append (map green_row (range_with_len 0 vars)) (map blue_row (range_with_len 0 vars)) in
@@ -164,11 +179,13 @@ reg_rows_few vars few =
     let n = length-map-range_with_len blue_row 0 vars in
     omega arith
 
+-- and few queue rows
 pub queue_rows_few : (vars : ℕ) → queue_row_count (entry_type ∷ variables_type vars ∷ []) ≤ 32768
 queue_rows_few vars = omega arith
 
 -- BLOCKS
 
+-- blocks but the first are in order
 later_blocks : (end least n : ℕ) (xs : Blocks) → least ≤ n → n + blocks_size xs ≤ end → HaveSome xs → AreBlocks end least (map block_from (starts_from n xs))
 later_blocks end least n [] h k some = tt
 later_blocks end least n (x ∷ xs) h k some = (h, omega (arith, k, some.0), later_blocks end (suc n) (n + row_size x) xs (omega (arith, some.0)) (omega (arith, k)) some.1)
@@ -178,14 +195,17 @@ pub blocks_in_order : (end : ℕ) (xs : Blocks) → blocks_size xs ≤ end → H
 blocks_in_order end [] k some = tt
 blocks_in_order end (x ∷ xs) k some = (omega arith, omega (arith, k, some.0), later_blocks end 1 (0 + row_size x) xs (omega (arith, some.0)) (omega (arith, k)) some.1)
 
+-- the first begins at 0
 pub blocks_begin : (xs : Blocks) → 0 < length xs → BeginAtZero (blocks_at (starts_from 0 xs))
 blocks_begin [] h = absurd (omega (arith, h))
 blocks_begin (x ∷ xs) h = refl
 
+-- each has one of the two code types
 pub blocks_typed : (ss : List ℕ) → All (HasCodeType 2) (blocks_at ss)
 blocks_typed [] = All-nil (HasCodeType 2)
 blocks_typed (s ∷ ss) = All-cons (HasCodeType 2) (record { start = s; code_type = 0 }) (map block_from ss) (let z : 0 < 2 = omega arith in z) (All-map (HasCodeType 2) block_from ss (λ k d lt. let z : 1 < 2 = omega arith in z))
 
+-- there are as many as places
 pub blocks_many : (ss : List ℕ) → length (blocks_at ss) ≡ length ss
 blocks_many [] = refl
 blocks_many (s ∷ ss) = ap suc (others ss)

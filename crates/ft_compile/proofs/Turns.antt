@@ -23,6 +23,7 @@ abbrev pub blocks_with : ℕ → List ℕ → List Block
 blocks_with t [] = []
 blocks_with t (s ∷ ss) = record { start = s; code_type = t } ∷ blocks_with 1 ss
 
+-- with code type 0 these are all blocks
 pub blocks_with_zero : (ss : List ℕ) → blocks_with 0 ss ≡ blocks_at ss
 blocks_with_zero [] = refl
 blocks_with_zero (s ∷ ss) = ap (λ l. record { start = s; code_type = 0 } ∷ l) (others ss)
@@ -42,6 +43,7 @@ pairs_step vars scope w (Exit q spare to) = refl
 pairs_step vars scope w (Go spare to) = refl
 pairs_step vars scope w Stop = refl
 
+-- and over a row
 pairs_row : (vars scope : ℕ) (w : Noted) (is : List Step3) → length (row_noted vars scope w is).pairs ≡ length w.pairs
 pairs_row vars scope w [] = refl
 pairs_row vars scope w (i ∷ is) = pairs_row vars scope (step_noted vars scope w i) is ∙ pairs_step vars scope w i
@@ -62,6 +64,7 @@ room_next vars scope w i is few h = record {
 pub room_block : (w : Noted) (x : List Step3) (xs : Blocks) → HasRoom w (blocks_size (x ∷ xs)) → HasRoom (begun w) (row_size x)
 room_block w x xs h = record { nodes = omega (arith, h.nodes); rows = omega (arith, h.rows); pairs = refl }
 
+-- and for the others after it
 pub room_blocks : (vars scope : ℕ) (w : Noted) (x : List Step3) (xs : Blocks) → vars ≤ 32 → HasRoom w (blocks_size (x ∷ xs)) → HasRoom (row_noted vars scope (begun w) x) (blocks_size xs)
 room_blocks vars scope w x xs few h = record {
   nodes = omega (arith, h.nodes, nodes_row vars scope (begun w) x);
@@ -79,6 +82,7 @@ green_more new regs old i reg expr e f g h =
     ∙ ap (λ x. old ++ (map green_row (range_with_len 0 i) ++ x ∷ [])) row
     ∙ ap (λ l. old ++ l) (sym (map-range_with_len_more green_row 0 i i z))
 
+-- and in blue
 pub blue_more : (new regs old : List RegType) (i : ℕ) (reg : Reg) (expr : ℕ) → new ≡ regs ++ record { reg = reg; colour = Blue; basic = int; expr = expr } ∷ [] → regs ≡ old ++ map blue_row (range_with_len 0 i) → reg ≡ blue i → expr ≡ 1 + i → new ≡ old ++ map blue_row (range_with_len 0 (i + 1))
 blue_more new regs old i reg expr e f g h =
     let row : record { reg = reg; colour = Blue; basic = int; expr = expr } ≡ blue_row i = λ j. record { reg = g j; colour = Blue; basic = int; expr = h j } in

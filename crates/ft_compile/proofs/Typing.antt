@@ -40,15 +40,19 @@ use Rattle.ft_compile.proofs.Forms.{green_number, blue_number, word_form, operat
 abbrev pub ty : Colour → Basic → Polynomial → Typed
 ty k b x = record { colour = k; basic = b; form = x }
 
+-- what is known of a register after one is set
 typed_with : (c : Context) (r : ℕ) (t : Typed) (q : ℕ) → typed (with_type r t c) q ≡ cond (q == r) (Some t) (typed c q)
 typed_with c r t q = get-insert c.registers r t q
 
+-- of this one
 pub typed_same : (c : Context) (r : ℕ) (t : Typed) → typed (with_type r t c) r ≡ Some t
 typed_same c r t = typed_with c r t r ∙ ap (λ b. cond b (Some t) (typed c r)) (eq-eqb r r refl)
 
+-- of another one
 pub typed_other : (c : Context) (r : ℕ) (t : Typed) (q : ℕ) → q ≢ r → typed (with_type r t c) q ≡ typed c q
 typed_other c r t q ne = typed_with c r t q ∙ ap (λ b. cond b (Some t) (typed c q)) (ne_eqb q r ne)
 
+-- a colour is the same as itself
 pub same_colours : (k : Colour) → same_colour k k ≡ true
 unfolding same_colour
 same_colours Green = refl
@@ -58,6 +62,7 @@ same_colours Blue = refl
 pub same_itself : (p : Polynomial) → same_polynomial p p ≡ true
 same_itself p = (equal_polynomials p p).1 refl
 
+-- each word has the type `int`
 has_int : (o : Object) (v : ℕ) → has_type o v int ≡ true
 unfolding has_type
 has_int o v = refl
@@ -65,30 +70,37 @@ has_int o v = refl
 -- ROWS, WHERE THEIR PREMISES HOLD
 
 module _ (o : Object) where
+  -- a move
   pub mov_row : (c : Context) (rd : Reg) (v : ℕ) (k : Colour) (b : Basic) → has_type o v b ≡ true → row o c (instr.Mov rd (record { colour = k; word = v }) b) ≡ Goes (with_type rd.number (ty k b (constant v)) c)
   unfolding need
   mov_row c rd v k b h = rw h refl
 
+  -- an operation on two registers
   op_row : (c : Context) (p : Operator) (rd rs rt : Reg) (k : Colour) (a b : Basic) (x y : Polynomial) → typed c rs.number ≡ Some (ty k a x) → typed c rt.number ≡ Some (ty k b y) → row o c (instr.OpReg p rd rs rt) ≡ Goes (with_type rd.number (ty k int (norm_op p x y)) c)
   unfolding need for_typed
   op_row c p rd rs rt k a b x y hs ht = rw (hs, ht, same_colours k) refl
 
+  -- an operation with a word
   op_word_row : (c : Context) (p : Operator) (rd rs : Reg) (v : ℕ) (k : Colour) (a : Basic) (x : Polynomial) → typed c rs.number ≡ Some (ty k a x) → row o c (instr.OpWord p rd rs (record { colour = k; word = v })) ≡ Goes (with_type rd.number (ty k int (norm_op p x (constant v))) c)
   unfolding need for_typed
   op_word_row c p rd rs v k a x hs = rw (hs, same_colours k) refl
 
+  -- a green load, where nothing waits
   load_green_row : (c : Context) (rd rs : Reg) (x : Polynomial) → c.queue ≡ [] → typed c rs.number ≡ Some (ty Green ref_int x) → row o c (instr.Ld Green rd rs) ≡ Goes (with_type rd.number (ty Green int (norm_sel c.memory x)) c)
   unfolding need for_typed for_ref_over same_colour pending_memory
   load_green_row c rd rs x q hs = rw (hs, q) refl
 
+  -- a blue load
   load_blue_row : (c : Context) (rd rs : Reg) (x : Polynomial) → typed c rs.number ≡ Some (ty Blue ref_int x) → row o c (instr.Ld Blue rd rs) ≡ Goes (with_type rd.number (ty Blue int (norm_sel c.memory x)) c)
   unfolding need for_typed for_ref_over same_colour
   load_blue_row c rd rs x hs = rw hs refl
 
+  -- a green store, where nothing waits
   store_green_row : (c : Context) (rd rs : Reg) (a x : Polynomial) → c.queue ≡ [] → typed c rd.number ≡ Some (ty Green ref_int a) → typed c rs.number ≡ Some (ty Green int x) → row o c (instr.St Green rd rs) ≡ Goes (record c { queue = (a, x) ∷ [] })
   unfolding need for_typed for_ref_over is_seen_as same_basic same_colour
   store_green_row c rd rs a x q hd hs = rw (hd, hs, q) refl
 
+  -- a blue store, where the same waits
   store_blue_row : (c : Context) (rd rs : Reg) (a x : Polynomial) → c.queue ≡ (a, x) ∷ [] → typed c rd.number ≡ Some (ty Blue ref_int a) → typed c rs.number ≡ Some (ty Blue int x) → row o c (instr.St Blue rd rs) ≡ Goes (record c { queue = []; memory = norm_upd c.memory a x })
   unfolding need for_typed for_ref_over is_seen_as same_basic same_colour for_oldest
   store_blue_row c rd rs a x q hd hs = rw (hd, hs, q) (rw (same_itself a) (rw (same_itself x) refl))
@@ -103,24 +115,31 @@ both p b x c = with_type (blue p).number (ty Blue b x) (with_type (green p).numb
 pub greens_differ : (p q : ℕ) → p < 32 → q < 32 → q ≢ p → (green q).number ≢ (green p).number
 greens_differ p q lp lq ne e = ne (sym (green_number q (omega arith)) ∙ e ∙ green_number p (omega arith))
 
+-- blue ones too
 pub blues_differ : (p q : ℕ) → p < 32 → q < 32 → q ≢ p → (blue q).number ≢ (blue p).number
 blues_differ p q lp lq ne e = let f = sym (blue_number q lq) ∙ e ∙ blue_number p lp in ne (omega arith)
 
+-- a green one is no blue one
 pub green_is_not_blue : (p q : ℕ) → p < 32 → q < 32 → (green q).number ≢ (blue p).number
 green_is_not_blue p q lp lq e = let f = sym (green_number q (omega arith)) ∙ e ∙ blue_number p lp in (let g : q ≡ 32 + p = f in omega arith)
 
+-- nor the other way round
 pub blue_is_not_green : (p q : ℕ) → p < 32 → q < 32 → (blue q).number ≢ (green p).number
 blue_is_not_green p q lp lq e = green_is_not_blue q p lq lp (sym e)
 
+-- the green register of the pair that was set
 pub both_green : (p : ℕ) (b : Basic) (x : Polynomial) (c : Context) → p < 32 → typed (both p b x c) (green p).number ≡ Some (ty Green b x)
 both_green p b x c lt = typed_other (with_type (green p).number (ty Green b x) c) (blue p).number (ty Blue b x) (green p).number (green_is_not_blue p p lt lt) ∙ typed_same c (green p).number (ty Green b x)
 
+-- and its blue one
 pub both_blue : (p : ℕ) (b : Basic) (x : Polynomial) (c : Context) → typed (both p b x c) (blue p).number ≡ Some (ty Blue b x)
 both_blue p b x c = typed_same (with_type (green p).number (ty Green b x) c) (blue p).number (ty Blue b x)
 
+-- the green register of another pair
 pub other_green : (p q : ℕ) (b : Basic) (x : Polynomial) (c : Context) → p < 32 → q < 32 → q ≢ p → typed (both p b x c) (green q).number ≡ typed c (green q).number
 other_green p q b x c lp lq ne = typed_other (with_type (green p).number (ty Green b x) c) (blue p).number (ty Blue b x) (green q).number (green_is_not_blue p q lp lq) ∙ typed_other c (green p).number (ty Green b x) (green q).number (greens_differ p q lp lq ne)
 
+-- and its blue one
 pub other_blue : (p q : ℕ) (b : Basic) (x : Polynomial) (c : Context) → p < 32 → q < 32 → q ≢ p → typed (both p b x c) (blue q).number ≡ typed c (blue q).number
 other_blue p q b x c lp lq ne = typed_other (with_type (green p).number (ty Green b x) c) (blue p).number (ty Blue b x) (blue q).number (blues_differ p q lp lq ne) ∙ typed_other c (green p).number (ty Green b x) (blue q).number (blue_is_not_green p q lp lq)
 
@@ -141,6 +160,7 @@ pub record IsGood (o : Object) (scope : ℕ) (k : Known) (pairs : List ℕ) (mem
 abbrev pub Others : Object → Known → List ℕ → ℕ → Context → Type 0
 Others o k pairs p c = (q : ℕ) → q ≢ p → k q ≡ true → (typed c (green q).number ≡ Some (ty Green int (integer_form_of o (slice_index pairs q)))) × (typed c (blue q).number ≡ Some (ty Blue int (integer_form_of o (slice_index pairs q)))) × (q < 32)
 
+-- it is so of all known pairs
 pub others_of : (o : Object) (scope : ℕ) (k : Known) (pairs : List ℕ) (memory p : ℕ) (c : Context) → IsGood o scope k pairs memory c → Others o k pairs p c
 others_of o scope k pairs memory p c G q ne h = (G.green_pair q h, G.blue_pair q h, G.small q h)
 

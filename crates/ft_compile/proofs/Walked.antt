@@ -31,12 +31,15 @@ pub record Grows (w v : Noted) : Type 0 where
   pub nodes : Starts w.nodes v.nodes
   pub rows : Starts w.rows v.rows
 
+-- a walk grows to itself
 pub grows_refl : (w : Noted) → Grows w w
 grows_refl w = record { nodes = starts_refl w.nodes; rows = starts_refl w.rows }
 
+-- and to what it grows to
 pub grows_trans : (u v w : Noted) → Grows u v → Grows v w → Grows u w
 grows_trans u v w p q = record { nodes = starts_trans u.nodes v.nodes w.nodes p.nodes q.nodes; rows = starts_trans u.rows v.rows w.rows p.rows q.rows }
 
+-- a step adds at the ends
 pub step_grows : (vars scope : ℕ) (w : Noted) (i : Step3) → Grows w (step_noted vars scope w i)
 step_grows vars scope w (Put p v) = record { nodes = (node scope (shape.Word v) ∷ [], refl); rows = starts_refl w.rows }
 step_grows vars scope w (Copy p q) = record { nodes = starts_trans w.nodes (w.nodes ++ node scope (shape.Word 0) ∷ []) _ (_, refl) (_, refl); rows = starts_refl w.rows }
@@ -47,6 +50,7 @@ step_grows vars scope w (Exit q spare to) = record { nodes = starts_refl w.nodes
 step_grows vars scope w (Go spare to) = record { nodes = starts_refl w.nodes; rows = (take vars w.pairs, refl) }
 step_grows vars scope w Stop = grows_refl w
 
+-- so does a row
 pub row_grows : (vars scope : ℕ) (w : Noted) (is : List Step3) → Grows w (row_noted vars scope w is)
 row_grows vars scope w [] = grows_refl w
 row_grows vars scope w (i ∷ is) = grows_trans w (step_noted vars scope w i) _ (step_grows vars scope w i) (row_grows vars scope (step_noted vars scope w i) is)
@@ -55,9 +59,11 @@ row_grows vars scope w (i ∷ is) = grows_trans w (step_noted vars scope w i) _ 
 abbrev pub block_noted : ℕ → ℕ → Noted → List Step3 → Noted
 block_noted vars b w x = row_noted vars (scope_of_block vars b) (begun w) x
 
+-- so does a block
 pub block_grows : (vars b : ℕ) (w : Noted) (x : List Step3) → Grows w (block_noted vars b w x)
 block_grows vars b w x = let g = row_grows vars (scope_of_block vars b) (begun w) x in record { nodes = g.nodes; rows = g.rows }
 
+-- so do blocks
 pub blocks_grow : (vars b : ℕ) (w : Noted) (xs : Blocks) → Grows w (blocks_noted vars b w xs)
 blocks_grow vars b w [] = grows_refl w
 blocks_grow vars b w (x ∷ xs) = grows_trans w (block_noted vars b w x) _ (block_grows vars b w x) (blocks_grow vars (suc b) (block_noted vars b w x) xs)
@@ -75,6 +81,7 @@ abbrev pub RowsAreFine : ℕ → ℕ → ℕ → ℕ → Blocks → Type 0
 RowsAreFine vars cells blocks b [] = Unit {0}
 RowsAreFine vars cells blocks b (x ∷ xs) = RowIsFine vars cells blocks b x × RowsAreFine vars cells blocks (suc b) xs
 
+-- it is so of blocks of which each is well formed
 rows_from : (vars cells blocks b : ℕ) (xs : Blocks) → ((j : ℕ) → j < length xs → IsBlock (block_of xs j)) → ((j : ℕ) → j < length xs → RowIsWell vars cells blocks (known_first vars (b + j)) (block_of xs j)) → PairsBelow 32 xs → RowsAreFine vars cells blocks b xs
 rows_from vars cells blocks b [] e w p = tt
 rows_from vars cells blocks b (x ∷ xs) e w p =
@@ -95,6 +102,7 @@ module _ (F : List Node) (R : List ℕ) where
   Chain first [] last = first ≡ last
   Chain first (s ∷ ss) last = IsSubst F (length R) first s × Chain s.past ss last
 
+  -- one more substitution at the end
   chain_push : (first : ℕ) (ss : List Subst) (last : ℕ) (s : Subst) → Chain first ss last → IsSubst F (length R) last s → Chain first (ss ++ s ∷ []) s.past
   chain_push first [] last s e h = (subst (λ n. IsSubst F (length R) n s) (sym e) h, refl)
   chain_push first (t ∷ ss) last s e h = (e.0, chain_push t.past ss last s e.1 h)
@@ -133,6 +141,7 @@ module _ (F : List Node) (R : List ℕ) where
             }));
       }
 
+  -- so they are after each step
   step_covered : (vars scope : ℕ) (k : Known) (w : Noted) (i : Step3) → vars ≤ 32 → scope ≤ 128 → ReadsKnown vars k i → Starts w.nodes F → Starts (step_noted vars scope w i).rows R → IsNamed F scope k (length w.nodes) w.pairs w.memory → IsCovered w → IsCovered (step_noted vars scope w i)
   step_covered vars scope k w (Put p v) few le reads sn sr h c = record { rows = c.rows; chain = c.chain }
   step_covered vars scope k w (Copy p q) few le reads sn sr h c = record { rows = c.rows; chain = c.chain }
@@ -148,6 +157,7 @@ module _ (F : List Node) (R : List ℕ) where
     pub fine : AreFine F w.nodes
     pub covered : IsCovered w
 
+  -- after the steps of a row
   pub row_sound : (vars scope cells blocks : ℕ) (k : Known) (w : Noted) (is : List Step3) → vars ≤ 32 → scope ≤ 128 → cells ≤ 1024 → RowIsWell vars cells blocks k is → All (λ i. All (λ p. p < 32) (pairs_of i)) is → Starts (row_noted vars scope w is).nodes F → Starts (row_noted vars scope w is).rows R → IsLawful F scope k w → IsCovered w → IsSound (row_noted vars scope w is)
   row_sound vars scope cells blocks k w [] few le small well ps sn sr h c = record { fine = h.fine; covered = c }
   row_sound vars scope cells blocks k w (i ∷ is) few le small well ps sn sr h c =
@@ -229,11 +239,13 @@ module _ (F : List Node) where
 
 -- ALL BLOCKS
 
+-- the scope of a block is one of a node
 pub scope_within : (vars b : ℕ) → vars ≤ 32 → scope_of_block vars b ≤ 128
 scope_within vars zero few = omega arith
 scope_within vars (suc b) few = omega arith
 
 module _ (F : List Node) (R : List ℕ) where
+  -- after blocks
   blocks_sound : (vars cells blocks b : ℕ) (w : Noted) (xs : Blocks) → vars ≤ 32 → cells ≤ 1024 → RowsAreFine vars cells blocks b xs → Starts (at_first vars).nodes w.nodes → Starts (blocks_noted vars b w xs).nodes F → Starts (blocks_noted vars b w xs).rows R → IsSound F R w → IsSound F R (blocks_noted vars b w xs)
   blocks_sound vars cells blocks b w [] few small rows s sn sr h = h
   blocks_sound vars cells blocks b w (x ∷ xs) few small rows s sn sr h =
