@@ -18,7 +18,7 @@ use Rattle.ft_debug.specs.declared.moment.Moment.{Moment}
 use Rattle.ft_debug.specs.declared.debugger.Debugger.{Debugger}
 use Rattle.ft_debug.specs.declared.history.History.{History}
 use Rattle.ft_debug.specs.Kept.{IsFull, HasMomentCells, HasCellsOf}
-use Rattle.ft_debug.specs.Sessions.{Session, Shown, first_session, shown, present, further, earlier, with_strike, says, strikes}
+use Rattle.ft_debug.specs.Sessions.{Session, Shown, first_session, shown, present, further, earlier, with_strike, says, zaps}
 use Rattle.ft_debug.specs.Inside.{moment_of, moment_at, IsMadeBy, Ready, Holds}
 use Rattle.ft_debug.proofs.Shown.{shown-zero, shown_next, shown_before, shown_struck, shown_filtered, made_filtered, made_later, made_push}
 
@@ -181,7 +181,7 @@ struck_by o w s d e site value a b false t full h em ew ep eh eb =
 
 pub holds_struck : (o : Object) (w : List Wild) (s : Session) (d e : Debugger) (site : Site) (value : ℕ) → IsFull d.history → Holds o w s d
     → e.present.machine ≡ struck_state d.present.machine site value → e.present.wild ≡ d.present.wild → e.present.position ≡ d.present.position → e.history ≡ d.history → e.breaks ≡ d.breaks
-    → Holds o w (strikes o w site value s).session e
+    → Holds o w (zaps o w site value s).session e
 holds_struck o w s d e site value full h em ew ep eh eb = struck_by o w s d e site value (codes "zapped\n") (codes "nothing there\n") (is_there (present o w s).state site) refl full h em ew ep eh eb
 
 -- CELLS

@@ -4,5 +4,7 @@ pub mod Shown
 pub mod Held
 pub mod Advanced
 pub mod Gone
+pub mod Answered
 pub mod Listed
 pub mod Replied
+pub mod One

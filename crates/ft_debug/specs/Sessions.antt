@@ -214,8 +214,8 @@ abbrev pub with_strike : Site → ℕ → Session → Session
 with_strike site value s = record s { strikes = s.strikes ++ record { step = s.position; site = site; value = value } ∷ [] }
 
 -- a strike, where the site is there
-abbrev pub strikes : Object → List Wild → Site → ℕ → Session → Reply
-strikes o w site value s = if is_there (present o w s).state site then says (codes "zapped\n") (with_strike site value s) else says (codes "nothing there\n") s
+abbrev pub zaps : Object → List Wild → Site → ℕ → Session → Reply
+zaps o w site value s = if is_there (present o w s).state site then says (codes "zapped\n") (with_strike site value s) else says (codes "nothing there\n") s
 
 -- the code address of an instruction of a block, if it is there
 abbrev pub break_address : Object → ℕ → ℕ → Option ℕ
@@ -235,7 +235,7 @@ abbrev pub reply : Object → List Wild → Command → Session → Reply
 reply o w (commands.Step n) s = reports o w (walks o w never n s)
 reply o w (commands.Go n) s = reports o w (goes o w n s)
 reply o w (commands.Back n) s = goes_back o w n s
-reply o w (commands.Zap site value) s = strikes o w site value s
+reply o w (commands.Zap site value) s = zaps o w site value s
 reply o w (commands.Reg r) s = says (register_line (present o w s).state r) s
 reply o w commands.Queue s = record { session = s; lines = queue_lines (present o w s).state.queue }
 reply o w (commands.Cell name) s = says (cell_line name (present o w s).state (named_cell o name)) s

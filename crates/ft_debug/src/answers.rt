@@ -1,6 +1,8 @@
 //! What each command does and puts.
 ghost use Rattle.std.specs.Prelude.{◌≡◌, ◌≤◌, ◌<◌, ◌+◌, ◌^◌, ◌∷◌, [], length, IfSome};
 ghost use Rattle.ft_types.specs.Spellable.{IsSpellable};
+ghost use Rattle.ft_types.specs.declared.object.Object.{Object};
+ghost use Rattle.ft_debug.specs.Kept.{IsFull};
 ghost use Rattle.ft_debug.specs.Commands as commands;
 ghost use Rattle.ft_debug.specs.Sessions.{reply, coloured_in, at_line, named_cell, queue_lines};
 ghost use Rattle.ft_debug.specs.Inside.{Ready, Puts, Does, Excused, IsSmall};
@@ -17,9 +19,6 @@ use ft_edge::{Failed, Sink};
 use ft_isa::{Colour, Coloured, Site};
 use ft_queue::StoreQueue;
 use ft_types::Program;
-
-/// How many break places there may be.
-const BREAK_LIMIT: usize = 64;
 
 /// The number of the cell of a name, if there is one; it takes a look at each cell.
 fn named_cell<P: Program>(program: &P, name: &[u8]) -> Option<u32>
@@ -125,15 +124,10 @@ impl<'w> Debugger<'w> {
     }
 
     /// Goes back so many steps, if they are kept.
-    fn answer_back<P: Program, K: Sink>(
-        &mut self,
-        program: &P,
-        count: u64,
-        out: &mut K,
-    ) -> Result<(), Failed>
-        requires ready { Ready (P.object program.now) self.old }
-        ensures ready { Ready (P.object program.now) self.new }
-        ensures does { Does (λ w. reply (P.object program.now) w (commands.Back count)) (P.object program.now) self.old self.new result (K.written out.old) (K.written out.new) (K.puts out.old) (K.puts out.new) }
+    fn answer_back<K: Sink>(&mut self, count: u64, out: &mut K) -> Result<(), Failed>
+        requires { IsFull self.old.history }
+        ensures ready { (o : Object) → Ready o self.old → Ready o self.new }
+        ensures does { (o : Object) → Does (λ w. reply o w (commands.Back count)) o self.old self.new result (K.written out.old) (K.written out.new) (K.puts out.old) (K.puts out.new) }
         ensures count { K.faults out.old ≤ K.faults out.new }
         ensures cause { Excused result (K.faults out.old) (K.faults out.new) }
     {
@@ -145,16 +139,10 @@ impl<'w> Debugger<'w> {
     }
 
     /// Strikes the machine now, where the site is there.
-    fn answer_zap<P: Program, K: Sink>(
-        &mut self,
-        program: &P,
-        site: Site,
-        value: u64,
-        out: &mut K,
-    ) -> Result<(), Failed>
-        requires ready { Ready (P.object program.now) self.old }
-        ensures ready { Ready (P.object program.now) self.new }
-        ensures does { Does (λ w. reply (P.object program.now) w (commands.Zap site value)) (P.object program.now) self.old self.new result (K.written out.old) (K.written out.new) (K.puts out.old) (K.puts out.new) }
+    fn answer_zap<K: Sink>(&mut self, site: Site, value: u64, out: &mut K) -> Result<(), Failed>
+        requires { IsFull self.old.history }
+        ensures ready { (o : Object) → Ready o self.old → Ready o self.new }
+        ensures does { (o : Object) → Does (λ w. reply o w (commands.Zap site value)) o self.old self.new result (K.written out.old) (K.written out.new) (K.puts out.old) (K.puts out.new) }
         ensures count { K.faults out.old ≤ K.faults out.new }
         ensures cause { Excused result (K.faults out.old) (K.faults out.new) }
     {
@@ -166,30 +154,21 @@ impl<'w> Debugger<'w> {
     }
 
     /// Shows a register.
-    fn answer_reg<P: Program, K: Sink>(
-        &self,
-        program: &P,
-        register: Register,
-        out: &mut K,
-    ) -> Result<(), Failed>
-        ensures does { Does (λ w. reply (P.object program.now) w (commands.Reg register)) (P.object program.now) self.now self.now result (K.written out.old) (K.written out.new) (K.puts out.old) (K.puts out.new) }
+    fn answer_reg<K: Sink>(&self, register: Register, out: &mut K) -> Result<(), Failed>
+        ensures does { (o : Object) → Does (λ w. reply o w (commands.Reg register)) o self.now self.now result (K.written out.old) (K.written out.new) (K.puts out.old) (K.puts out.new) }
         ensures count { K.faults out.old ≤ K.faults out.new }
         ensures cause { Excused result (K.faults out.old) (K.faults out.new) }
     {
-        let _program = program;
-        put_text(
-            register_line(register, self.coloured(register)).as_bytes(),
-            out,
-        )
+        let line = register_line(register, self.coloured(register));
+        put_text(line.as_bytes(), out)
     }
 
     /// Shows the pending stores.
-    fn answer_queue<P: Program, K: Sink>(&self, program: &P, out: &mut K) -> Result<(), Failed>
-        ensures does { Does (λ w. reply (P.object program.now) w commands.Queue) (P.object program.now) self.now self.now result (K.written out.old) (K.written out.new) (K.puts out.old) (K.puts out.new) }
+    fn answer_queue<K: Sink>(&self, out: &mut K) -> Result<(), Failed>
+        ensures does { (o : Object) → Does (λ w. reply o w commands.Queue) o self.now self.now result (K.written out.old) (K.written out.new) (K.puts out.old) (K.puts out.new) }
         ensures count { K.faults out.old ≤ K.faults out.new }
         ensures cause { Excused result (K.faults out.old) (K.faults out.new) }
     {
-        let _program = program;
         put_queue(self.present.machine.queue(), out)
     }
 
@@ -246,7 +225,7 @@ impl<'w> Debugger<'w> {
         if self.breaks.contains(address) {
             return put_text(b"break set\n", out);
         }
-        if self.breaks.len() >= BREAK_LIMIT {
+        if self.breaks.is_full() {
             return put_text(b"too many breaks\n", out);
         }
         self.breaks.add(address);
@@ -272,10 +251,10 @@ impl<'w> Debugger<'w> {
         match command {
             Command::Step(count) => self.answer_step(program, count, out),
             Command::Go(count) => self.answer_go(program, count, out),
-            Command::Back(count) => self.answer_back(program, count, out),
-            Command::Zap { site, value } => self.answer_zap(program, site, value, out),
-            Command::Reg(register) => self.answer_reg(program, register, out),
-            Command::Queue => self.answer_queue(program, out),
+            Command::Back(count) => self.answer_back(count, out),
+            Command::Zap { site, value } => self.answer_zap(site, value, out),
+            Command::Reg(register) => self.answer_reg(register, out),
+            Command::Queue => self.answer_queue(out),
             Command::Cell(name) => self.answer_cell(program, name, out),
             Command::Where => self.answer_where(program, out),
             Command::Break { block, index } => self.answer_break(program, block, index, out),

@@ -1,5 +1,5 @@
 //! Break places.
-ghost use Rattle.std.specs.Prelude.{◌≡◌, ◌<◌, ◌++◌, ◌∷◌, [], length, IfOk};
+ghost use Rattle.std.specs.Prelude.{◌≡◌, ◌<◌, ◌++◌, ◌∷◌, [], not, nat_lt, length, IfOk};
 ghost use Rattle.ft_debug.specs.Sessions.{is_set};
 
 use ft_isa::NoMemory;
@@ -36,11 +36,11 @@ impl BreakPlaces {
         })
     }
 
-    /// How many places there are.
-    pub fn len(&self) -> usize
-        ensures { result ≡ length self.now }
+    /// Whether there are 64 places.
+    pub fn is_full(&self) -> bool
+        ensures { result ≡ not (nat_lt (length self.now) 64) }
     {
-        self.addresses.len()
+        self.addresses.len() >= ROOM
     }
 
     /// Whether an address is one of the places.

@@ -3,7 +3,7 @@ ghost use Rattle.std.specs.Prelude.{◌≡◌, ◌≤◌, ◌<◌, ◌+◌, ◌^
 ghost use Rattle.ft_edge.specs.Causes.{Rose};
 ghost use Rattle.ft_isa.specs.declared.plan.Wild.{Wild as Answer};
 ghost use Rattle.ft_types.specs.Spellable.{IsSpellable};
-ghost use Rattle.ft_debug.specs.Sessions.{Session, first_session, is_at_break, walks, goes, goes_back, earlier, strikes, sets_break, break_address};
+ghost use Rattle.ft_debug.specs.Sessions.{Session, first_session, is_at_break, walks, goes, goes_back, earlier, zaps, sets_break, break_address};
 ghost use Rattle.ft_types.specs.declared.object.Object.{Object};
 ghost use Rattle.ft_types.specs.Strike.{is_running, is_there};
 ghost use Rattle.ft_isa.specs.declared.output.Output as outputs;
@@ -162,7 +162,7 @@ impl<'w> Debugger<'w> {
         requires { IsFull self.old.history }
         ensures there { result ≡ is_there self.old.present.machine site }
         ensures ready { (o : Object) → Ready o self.old → Ready o self.new }
-        ensures holds { (o : Object) (w : List Answer) (s : Session) → Holds o w s self.old → Holds o w (strikes o w site value s).session self.new }
+        ensures holds { (o : Object) (w : List Answer) (s : Session) → Holds o w s self.old → Holds o w (zaps o w site value s).session self.new }
     {
         self.present.machine.strike(site, value)
     }

@@ -13,6 +13,7 @@ mod command;
 mod debug_end;
 mod debugger;
 mod history;
+mod laws;
 mod lines;
 mod moment;
 mod put;
@@ -23,4 +24,5 @@ mod sessions;
 mod words;
 
 pub use debug_end::DebugEnd;
+pub use laws::commands_are_one;
 pub use sessions::session;

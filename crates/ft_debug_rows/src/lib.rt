@@ -5,6 +5,6 @@
 #![tactic(auto)]
 
 #[cfg(test)]
-mod objects;
+mod scripts;
 #[cfg(test)]
-mod tests;
+mod sessions;

@@ -1,5 +1,5 @@
 -- What a command answers over an object and a script.
-use Rattle.std.specs.Prelude.{◌≡◌, ◌⊎◌, ℕ, ◌<◌, ◌≤◌, List, [], length, Option, Some, None, IfSome, Result, Ok, Err}
+use Rattle.std.specs.Prelude.{◌≡◌, ℕ, ◌<◌, ◌≤◌, List, length, Option, Some, None, Result, Ok, Err}
 use Rattle.std.specs.List.{concat}
 use Rattle.ft_edge.specs.Causes.{Rose}
 use Rattle.ft_types.specs.declared.object.Object.{Object}

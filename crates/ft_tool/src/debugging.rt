@@ -72,7 +72,7 @@ pub(crate) fn debug_file<F: Shelf, I: Source, K: Sink>(
     ensures ends { Ends result (OverFile (DebugsObject (debugging_view asked.now) (I.left script.old)) asked.now.object.now (F.files shelf.old))
         (K.written out.old) (K.written out.new) (K.faults out.old) (K.faults out.new)
         (FailsIn (Debugs (debugging_view asked.now)) (F.files shelf.old) (F.faults shelf.old) (F.faults shelf.new) (F.failed_name shelf.new)
-            ⊎ FailsAtScript (debugging_view asked.now) (F.files shelf.old) (I.faults script.old) (I.faults script.new)) }
+        ⊎ FailsAtScript (debugging_view asked.now) (F.files shelf.old) (I.faults script.old) (I.faults script.new)) }
     ensures puts { Puts result (K.puts out.old) (K.puts out.new) }
     ensures faults { result ≢ Ending.WriteFault → K.faults out.new ≡ K.faults out.old }
     ensures load_faults { result ≢ Ending.LoadFault → (F.faults shelf.new ≡ F.faults shelf.old) × (F.failed_name shelf.new ≡ F.failed_name shelf.old) }

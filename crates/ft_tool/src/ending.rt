@@ -9,8 +9,8 @@ ghost use Rattle.ft_tool.specs.Scripts.{IsScriptRefusedBy};
 ghost use Rattle.ft_tool.specs.Endings.{Ends, Puts};
 
 use crate::load::{ListFault, ObjectFault, SourceFault};
-use crate::script::ScriptFault;
 use crate::refused::{cell_line, entry_line, list_line, object_line, place_line, source_line};
+use crate::script::ScriptFault;
 use ft_checker::CheckError;
 use ft_edge::Sink;
 use ft_syntax::SourceError;

@@ -28,10 +28,7 @@ pub(crate) enum ScriptFault {
 }
 
 /// Takes the script to its end, or to one byte past the limit.
-pub(crate) fn take_script<I: Source>(
-    alloc: Global,
-    script: &mut I,
-) -> Result<Vec<u8>, ScriptFault>
+pub(crate) fn take_script<I: Source>(alloc: Global, script: &mut I) -> Result<Vec<u8>, ScriptFault>
     ensures takes { TakesScript (λ v. v.items) (I.left script.old) result }
     ensures cause { TakeCause (I.faults script.old) (I.faults script.new) result }
     ensures taken { ConsumesAtMost (I.left script.old) (I.left script.new) 1048577 }

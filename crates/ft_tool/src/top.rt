@@ -115,7 +115,7 @@ fn carry_out<F: Shelf, I: Source, K: Sink>(
     ensures ends { Ends result (IsAnswer (map string_bytes words.now) (F.files shelf.old) (I.left script.old))
         (K.written out.old) (K.written out.new) (K.faults out.old) (K.faults out.new)
         (FailedToLoad (map string_bytes words.now) (F.files shelf.old) (F.faults shelf.old) (F.faults shelf.new) (F.failed_name shelf.new)
-            ⊎ FailedToTake (map string_bytes words.now) (F.files shelf.old) (I.faults script.old) (I.faults script.new)) }
+        ⊎ FailedToTake (map string_bytes words.now) (F.files shelf.old) (I.faults script.old) (I.faults script.new)) }
     ensures usage { result ≡ Ending.Usage → Asks (map string_bytes words.now) Usage }
     ensures puts { Puts result (K.puts out.old) (K.puts out.new) }
     ensures faults { result ≢ Ending.WriteFault → K.faults out.new ≡ K.faults out.old }
@@ -160,7 +160,7 @@ pub fn tool<F: Shelf, I: Source, K: Sink>(
     // A load of the command's own file failed, or a take of its script, and nothing was written.
     ensures load_fault { result ≡ 3 →
         FailedToLoad (map string_bytes words.now) (F.files shelf.old) (F.faults shelf.old) (F.faults shelf.new) (F.failed_name shelf.new)
-            ⊎ FailedToTake (map string_bytes words.now) (F.files shelf.old) (I.faults script.old) (I.faults script.new) }
+        ⊎ FailedToTake (map string_bytes words.now) (F.files shelf.old) (I.faults script.old) (I.faults script.new) }
     ensures load_fault_writes_nothing { result ≡ 3 → K.written out.new ≡ K.written out.old }
 
     // A put failed, and a prefix of the answer's text was written.

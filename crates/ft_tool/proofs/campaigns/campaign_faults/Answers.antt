@@ -1,7 +1,6 @@
-use Rattle.std.proofs.Common.{refl, sym, ap, ◌∙◌, length, ◌*◌}
+use Rattle.std.proofs.Common.{length, ◌*◌}
 use Rattle.ft_command.specs.Asked.{campaign_view}
 use Rattle.ft_types.proofs.Acceptance.{accepted_is_unrefused}
-use Rattle.ft_campaign.specs.declared.totals.Totals.{Totals}
 use Rattle.ft_campaign.proofs.Judged.{none_corrupt as never_corrupt}
 use Rattle.ft_tool.specs.Lists.{NoneCorrupt}
 use Rattle.ft_tool.proofs.Tried.{at_most, tried_concludes, tried_breaks_off, none_corrupt}

@@ -1,5 +1,4 @@
-use Rattle.std.proofs.Common.{◌≡◌, ℕ, Some, Vec, Global, refl, subst}
-use Rattle.ft_edge.specs.Causes.{Rose}
+use Rattle.std.proofs.Common.{◌≡◌, ℕ, Vec, Global, refl, subst}
 use Rattle.ft_command.specs.Commands.{Compiles}
 use Rattle.ft_tool.specs.declared.load.SourceFault.TheVariants.{Failed}
 use Rattle.ft_tool.specs.Answers.{OverSource, FailsIn}

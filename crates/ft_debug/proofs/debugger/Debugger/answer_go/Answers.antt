@@ -1,6 +1,6 @@
 use Rattle.ft_debug.specs.Sessions.{goes, reports}
 use Rattle.ft_debug.proofs.Advanced.{does_err}
-use Rattle.ft_debug.proofs.Gone.{does_report, report_breaks}
+use Rattle.ft_debug.proofs.Answered.{does_report, report_breaks}
 use Rattle.ft_debug.proofs.debugger.Debugger.answer_go.Goals as goal
 
 pub returns-in_err-go-clause-does : goal.returns-in_err-go-clause-does

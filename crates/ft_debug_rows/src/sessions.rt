@@ -1,9 +1,10 @@
 //! Sessions, and what they write.
-use crate::objects::{A, BREAKS, HALT, J, L, LOOP};
+use crate::scripts::{BREAKS, HALT};
 use ft_debug::{DebugEnd, session};
 use ft_edge::MemSink;
 use ft_isa::Wild;
 use ft_object::decode;
+use ft_worked_objects::{A, J, L, LOOP};
 use std::process::Abort;
 use std::test::Fail;
 
