@@ -5,10 +5,10 @@ use Rattle.ft_types.specs.declared.object.Object.{Object}
 use Rattle.ft_object.specs.declared.decode_error.DecodeError.{DecodeError}
 use Rattle.ft_object.specs.declared.decode_error.DecodeError.TheVariants as whys
 use Rattle.ft_object.specs.Judged.{Judges, Gives}
-use Rattle.ft_object.specs.Broken.{broken, object_of}
-use Rattle.ft_object.specs.Format.{AreBytes, Spells}
-use Rattle.ft_object.proofs.ReadWhole.{read_spells}
-use Rattle.ft_object.proofs.Write.{spells_unbroken, spells_read}
+use Rattle.ft_format.specs.Broken.{broken, object_of}
+use Rattle.ft_format.specs.Format.{AreBytes, Spells}
+use Rattle.ft_format.proofs.ReadWhole.{read_spells}
+use Rattle.ft_format.proofs.Write.{spells_unbroken, spells_read}
 
 -- what is given is spelled
 pub spelled : (bytes : List ℕ) (r : Result Object DecodeError) → AreBytes bytes → Judges r (broken bytes) → IfOk r (λ o. o ≡ object_of bytes) → IfOk r (Spells bytes)

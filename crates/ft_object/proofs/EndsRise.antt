@@ -3,17 +3,17 @@ use Rattle.std.proofs.Common.{length, ◌≡◌, ℕ, zero, suc, ◌+◌, ◌-�
 use Rattle.std.specs.Int.{Width}
 use Rattle.std.proofs.lemmas.List.{drop-drop, map-append}
 use Rattle.ft_types.specs.declared.object.RegType.{RegType}
-use Rattle.ft_object.specs.Values.{regs_end_of, queue_end_of, memory_of, ints_of, types_of}
-use Rattle.ft_object.specs.Layout.{size, numbers, rows, type_layout}
+use Rattle.ft_format.specs.Values.{regs_end_of, queue_end_of, memory_of, ints_of, types_of}
+use Rattle.ft_format.specs.Layout.{size, numbers, rows, type_layout}
 use Rattle.std.proofs.lemmas.Bool.Decides.{nat_tests}
 use Rattle.ft_static.specs.declared.node.Node.{Node}
-use Rattle.ft_object.specs.declared.header.Header.{Header}
-use Rattle.ft_object.specs.Rules.{type_broken}
-use Rattle.ft_object.specs.Broken.{types_broken}
+use Rattle.ft_format.specs.declared.header.Header.{Header}
+use Rattle.ft_format.specs.Rules.{type_broken}
+use Rattle.ft_format.specs.Broken.{types_broken}
 use Rattle.ft_object.specs.Ends.{AreEnds}
-use Rattle.ft_object.proofs.Unbroken.{both}
-use Rattle.ft_object.proofs.Shapes.{shape_7}
-use Rattle.ft_object.proofs.Layouts.{rows_more}
+use Rattle.ft_format.proofs.Unbroken.{both}
+use Rattle.ft_format.proofs.Shapes.{shape_7}
+use Rattle.ft_format.proofs.Layouts.{rows_more, rows_plus}
 
 -- the end that the first record tells
 pub first_end : (end_of : List ℕ → ℕ) (all start : ℕ) (ws : List Width) (m n : ℕ) (bs row : List ℕ) → m ≡ suc n → row ≡ numbers ws (take (size ws) bs)
@@ -21,18 +21,6 @@ pub first_end : (end_of : List ℕ → ℕ) (all start : ℕ) (ws : List Width) 
 unfolding AreEnds
 first_end end_of all start ws m n bs row e is h =
     subst (AreEnds end_of all start) (rows_more ws m n bs e ∙ ap (λ r. r ∷ rows ws n (drop (size ws) bs)) (sym is)) h
-
--- some records, and then others
-pub rows_plus : (ws : List Width) (a b : ℕ) (bs : List ℕ) → rows ws (a + b) bs ≡ rows ws a bs ++ rows ws b (drop (size ws * a) bs)
-unfolding rows
-rows_plus ws zero b bs =
-    let e : 0 + b ≡ b = omega arith in
-    let k : size ws * 0 ≡ 0 = omega arith in
-    rw (e, k) refl
-rows_plus ws (suc a) b bs =
-    let e : suc a + b ≡ suc (a + b) = omega arith in
-    let k : size ws * suc a ≡ size ws + size ws * a = omega arith in
-    rw (e, k, ← drop-drop (size ws * a) (size ws) bs) (ap (λ l. numbers ws (take (size ws) bs) ∷ l) (rows_plus ws a b (drop (size ws) bs)))
 
 -- the values of some records, and then those of others
 pub gives_more : {A : Type 0} (f : List ℕ → A) (ws : List Width) (a b m : ℕ) (bs : List ℕ) (done all : List A) → m ≡ a + b

@@ -4,8 +4,8 @@ use Rattle.std.specs.Int.{Width}
 use Rattle.std.specs.List.{flat_map}
 use Rattle.std.proofs.lemmas.List.Concat.{flat_map-append}
 use Rattle.std.proofs.lemmas.List.{append-nil, map-append, at_drop_more, at_drop_all}
-use Rattle.ft_object.specs.Layout.{written, spelled}
-use Rattle.ft_object.specs.Puts.{Puts}
+use Rattle.ft_format.specs.Layout.{written, spelled}
+use Rattle.ft_format.specs.Puts.{Puts}
 
 -- a piece that was put
 pub put_goes : {X : Type 0} (gives after : List X → List ℕ) (xs : List X) (i : ℕ) (x : X) (piece out out' all : List ℕ) → i < length xs → x ≡ get_or xs i x

@@ -1,6 +1,6 @@
 -- What a reader answers, against the rules.
 use Rattle.std.specs.Prelude.{◌≡◌, Option, None, Some, Result, Ok, Err}
-use Rattle.ft_object.specs.declared.object_error.ObjectError.{ObjectError}
+use Rattle.ft_format.specs.declared.object_error.ObjectError.{ObjectError}
 use Rattle.ft_object.specs.declared.decode_error.DecodeError.{DecodeError}
 use Rattle.ft_object.specs.declared.decode_error.DecodeError.TheVariants.{Object, NoMemory}
 

@@ -1,12 +1,4 @@
-pub mod Layout
-pub mod Rows
-pub mod Rules
-pub mod Values
-pub mod Broken
-pub mod Format
 pub mod Judged
-pub mod Fields
-pub mod Puts
 pub mod Ends
 pub mod Places
 pub mod Written

@@ -1,8 +1,8 @@
 -- Where the code takes the sections to begin.
-use Rattle.std.specs.Prelude.{◌≡◌}
-use Rattle.ft_object.specs.declared.header.Header.{Header}
+use Rattle.std.specs.Prelude.{◌≡◌, ℕ, List, length}
+use Rattle.ft_format.specs.declared.header.Header.{Header}
 use Rattle.ft_object.specs.declared.places.Places.{Places}
-use Rattle.ft_object.specs.Broken.{nodes_at, types_at, regs_at, queue_at, blocks_at, instrs_at, substs_at, names_at, total}
+use Rattle.ft_format.specs.Broken.{IsSmall, nodes_at, types_at, regs_at, queue_at, blocks_at, instrs_at, substs_at, names_at, total}
 
 -- these are the places that the counts of a header give
 pub record ArePlaces (h : Header) (p : Places) : Type 0 where
@@ -15,3 +15,8 @@ pub record ArePlaces (h : Header) (p : Places) : Type 0 where
   pub substs : p.substs ≡ substs_at h
   pub names : p.names ≡ names_at h
   pub end : p.end ≡ total h
+
+-- counts within their limits, and as many bytes as they give
+pub record IsWhole (h : Header) (bytes : List ℕ) : Type 0 where
+  pub small : IsSmall h
+  pub whole : length bytes ≡ total h

@@ -4,8 +4,8 @@ use Rattle.ft_isa.specs.declared.instr.Instr.{Instr}
 use Rattle.ft_static.specs.declared.node.Node.{Node}
 use Rattle.ft_types.specs.declared.object.Block.{Block}
 use Rattle.ft_types.specs.declared.object.RegType.{RegType}
-use Rattle.ft_object.specs.Layout.{written, code_layout, reg_layout, pair_layout, subst_layout}
-use Rattle.ft_object.specs.Rows.{node_row, reg_row, queue_row, block_row, instr_row, subst_row}
+use Rattle.ft_format.specs.Layout.{written, code_layout, reg_layout, pair_layout, subst_layout}
+use Rattle.ft_format.specs.Rows.{node_row, reg_row, queue_row, block_row, instr_row, subst_row}
 
 abbrev pub node_bytes : Node → List ℕ
 node_bytes n = written code_layout (node_row n)

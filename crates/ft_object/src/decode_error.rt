@@ -1,5 +1,5 @@
 //! Why an object was not read.
-use crate::object_error::ObjectError;
+use ft_format::ObjectError;
 use thiserror::Error;
 
 /// Why an object was not read.

@@ -1,10 +1,11 @@
 //! Where the sections begin.
-ghost use Rattle.ft_object.specs.Broken.{IsSmall};
+ghost use Rattle.std.specs.Prelude.{◌≡◌, ◌≤◌, length, drop};
+ghost use Rattle.ft_format.specs.Broken.{IsSmall};
 
-use crate::header::Header;
+use ft_format::Header;
 
 /// Where each section after the cells begins, and where the last one ends.
-#[derive(Clone, Copy, Debug, PartialEq, Eq)]
+#[derive(Clone, Copy)]
 pub(crate) struct Places {
     pub(crate) nodes: usize,
     pub(crate) types: usize,
@@ -46,4 +47,12 @@ impl Places {
             end,
         }
     }
+}
+
+/// The bytes from a place on.
+pub(crate) fn part(bytes: &[u8], at: usize) -> &[u8]
+    requires { at ≤ length bytes.now }
+    ensures { result.now ≡ drop at bytes.now }
+{
+    bytes.split_at(at).1
 }

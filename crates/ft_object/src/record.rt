@@ -1,15 +1,12 @@
 //! Records that are written one after the other.
 ghost use Rattle.std.specs.Prelude.{◌≡◌, ◌∷◌, [], OnOk};
 ghost use Rattle.std.specs.List.{flat_map};
-ghost use Rattle.ft_object.specs.Layout.{written, subst_layout};
-ghost use Rattle.ft_object.specs.Fields.{code_numbers};
-ghost use Rattle.ft_object.specs.Rows.{colour_code, op_code, base_code, base_type, basic_number, high_half, low_half, shape_row, node_row, instr_row};
-ghost use Rattle.ft_object.specs.Puts.{Puts};
+ghost use Rattle.ft_format.specs.Layout.{written};
+ghost use Rattle.ft_format.specs.Fields.{code_numbers};
+ghost use Rattle.ft_format.specs.Rows.{colour_code, op_code, base_code, base_type, basic_number, high_half, low_half, shape_row, instr_row};
+ghost use Rattle.ft_format.specs.Puts.{Puts};
 
-use crate::numbers::put_u32;
-use crate::rows::code_row::CodeRow;
-use crate::rows::pair_row::PairRow;
-use crate::rows::reg_row::RegRow;
+use ft_format::{CodeRow, PairRow, RegRow, SubstRow};
 use ft_isa::{Base, Basic, Colour, Coloured, Instr, NoMemory, Op, Reg, Subst};
 use ft_static::{Node, Shape};
 use ft_types::{Block, RegType};
@@ -17,7 +14,7 @@ use ft_types::{Block, RegType};
 /// What is written in a record of its own.
 pub(crate) trait Record {
     ghost use Rattle.std.specs.Prelude.{ℕ, List, OnOk};
-    ghost use Rattle.ft_object.specs.Puts.{Puts};
+    ghost use Rattle.ft_format.specs.Puts.{Puts};
 
     ghost bytes: { Self → List ℕ };
 
@@ -274,8 +271,7 @@ impl Record for u32 {
 
     ghost bytes = { subst_bytes };
 
-    #[tactic(auto, unfolding(crate::specs::Layout::written))]
     fn write(&self, out: &mut Vec<u8>) -> Result<(), NoMemory> {
-        put_u32(out, *self)
+        SubstRow { node: *self }.write(out)
     }
 }

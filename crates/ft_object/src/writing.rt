@@ -1,22 +1,20 @@
 //! Writing objects.
-ghost use Rattle.std.specs.Prelude.{◌≡◌, ◌≤◌, None, length, sum_by, IfOk, OnOk};
+ghost use Rattle.std.specs.Prelude.{◌≡◌, ◌≤◌, ◌++◌, ℕ, [], List, None, length, sum_by, IfOk, OnOk};
 ghost use Rattle.std.specs.List.{flat_map};
+ghost use Rattle.ft_types.specs.declared.object.Object.{Object};
 ghost use Rattle.ft_types.specs.Objects.{name_of, regs_of, queue_of};
 ghost use Rattle.ft_types.specs.Spellable.{IsSpellable};
-ghost use Rattle.ft_object.specs.Layout.{spelled, cell_layout, type_layout};
-ghost use Rattle.ft_object.specs.Broken.{IsSmall, broken, object_of};
-ghost use Rattle.ft_object.specs.Rows.{cell_rows, type_rows, header_row, spelling};
-ghost use Rattle.ft_object.specs.Fields.{header_numbers};
-ghost use Rattle.ft_object.specs.Format.{Spells};
-ghost use Rattle.ft_object.specs.Puts.{Puts};
+ghost use Rattle.ft_format.specs.Layout.{spelled, cell_layout, type_layout};
+ghost use Rattle.ft_format.specs.Broken.{IsSmall, broken, object_of};
+ghost use Rattle.ft_format.specs.Rows.{cell_rows, type_rows, header_row, spelling};
+ghost use Rattle.ft_format.specs.Fields.{header_numbers};
+ghost use Rattle.ft_format.specs.Format.{Spells};
+ghost use Rattle.ft_format.specs.Puts.{Puts};
 ghost use Rattle.ft_object.specs.Written.{reg_bytes, pair_bytes};
 
-use crate::header::Header;
-use crate::numbers::put;
 use crate::places::Places;
 use crate::record::{base_code, base_type, write_all};
-use crate::rows::cell_row::CellRow;
-use crate::rows::type_row::TypeRow;
+use ft_format::{CellRow, Header, MAGIC, TypeRow};
 use ft_isa::NoMemory;
 use ft_types::{Cell, CodeType, Object};
 use std::alloc::Global;
@@ -64,7 +62,7 @@ fn header_of(object: &Object) -> Header
     ensures small { IsSmall result }
 {
     Header {
-        magic: 0x54414c4654000001,
+        magic: MAGIC,
         cells: object.cells.len() as u32,
         nodes: object.nodes.len() as u32,
         types: object.types.len() as u32,
@@ -148,7 +146,7 @@ fn write_names(cells: &[Cell], out: &mut Vec<u8>) -> Result<(), NoMemory>
     ensures { OnOk result (Puts out.old.items out.new.items (flat_map name_of cells.now)) }
 {
     for cell in cells {
-        put(out, cell.name.as_slice())?;
+        out.extend_from_slice(cell.name.as_slice())?;
     }
     Ok(())
 }
@@ -161,6 +159,8 @@ pub fn encode(alloc: Global, object: &Object) -> Result<Vec<u8>, NoMemory>
     // It breaks no rule, and decoding it gives the object back.
     ensures unbroken { IfOk result (λ bytes. broken bytes.items ≡ None) }
     ensures back { IfOk result (λ bytes. Spells bytes.items object.now × (object_of bytes.items ≡ object.now)) }
+    // It begins no other spelling.
+    ensures apart { IfOk result (λ bytes. (rest : List ℕ) (other : Object) → Spells (bytes.items ++ rest) other → rest ≡ []) }
 {
     let header = header_of(object);
     let mut out = Vec::with_capacity(alloc, Places::of(header).end)?;

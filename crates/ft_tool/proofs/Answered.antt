@@ -14,8 +14,8 @@ use Rattle.ft_types.proofs.Acceptance.{accepted_is_unrefused}
 use Rattle.ft_inject.proofs.Masking.{tolerant}
 use Rattle.ft_isa.specs.declared.plan.Strike.{Strike}
 use Rattle.ft_types.specs.Texts.{lines}
-use Rattle.ft_object.specs.Broken.{broken}
-use Rattle.ft_object.specs.declared.object_error.ObjectError.TheVariants.{Length}
+use Rattle.ft_format.specs.Broken.{broken}
+use Rattle.ft_format.specs.declared.object_error.ObjectError.TheVariants.{Length}
 use Rattle.ft_command.specs.Options.{Word}
 use Rattle.ft_command.specs.Commands.{Run}
 use Rattle.ft_tool.specs.declared.load.ObjectFault.{ObjectFault}

@@ -3,7 +3,7 @@ use Rattle.std.proofs.Common.{◌≡◌, ◌≢◌, ℕ, List, Option, inl, inr,
 use Rattle.std.specs.Io.KnownBytes.{append_known}
 use Rattle.ft_edge.specs.Causes.{AddsPrefix}
 use Rattle.ft_types.specs.declared.object.Object.{Object}
-use Rattle.ft_object.specs.Format.{Spells}
+use Rattle.ft_format.specs.Format.{Spells}
 use Rattle.ft_syntax.specs.declared.source_error.SourceError.{SourceError}
 use Rattle.ft_syntax.specs.declared.source_error.SourceError.TheVariants.{NoMemory}
 use Rattle.ft_scope.specs.Resolved.{Program}

@@ -10,9 +10,9 @@ use Rattle.ft_types.specs.declared.object.Object.{Object}
 use Rattle.ft_types.specs.Agrees.{Agrees}
 use Rattle.ft_types.specs.Run.{run, outputs_after, status_after}
 use Rattle.ft_types.specs.Accepted.{Refusal, refusal}
-use Rattle.ft_object.specs.declared.object_error.ObjectError.{ObjectError}
-use Rattle.ft_object.specs.Format.{Spells}
-use Rattle.ft_object.specs.Broken.{broken}
+use Rattle.ft_format.specs.declared.object_error.ObjectError.{ObjectError}
+use Rattle.ft_format.specs.Format.{Spells}
+use Rattle.ft_format.specs.Broken.{broken}
 use Rattle.ft_command.specs.Options.{Word}
 use Rattle.ft_command.specs.Commands.{Run, Campaign, Debugging, Request, Usage, Checks, Runs, Tries, Strikes, Surveys, Compiles, Executes, Means, Debugs, Asks}
 use Rattle.ft_campaign.specs.declared.verdict.Verdict.{Verdict}

@@ -3,8 +3,8 @@ use Rattle.std.specs.Prelude.{◌≡◌, ℕ, ◌<◌, List, length, Option, Som
 use Rattle.ft_edge.specs.Causes.{Rose}
 use Rattle.ft_edge.specs.Loads.{Files}
 use Rattle.ft_types.specs.declared.object.Object.{Object}
-use Rattle.ft_object.specs.Format.{Spells}
-use Rattle.ft_object.specs.Broken.{broken}
+use Rattle.ft_format.specs.Format.{Spells}
+use Rattle.ft_format.specs.Broken.{broken}
 use Rattle.ft_command.specs.Options.{Word}
 use Rattle.ft_types.specs.Accepted as accepted
 use Rattle.ft_rules.specs.Answers.{premise_of}

@@ -4,8 +4,8 @@ use Rattle.ft_types.specs.Premise.{number_of}
 use Rattle.ft_types.specs.Accepted.{Refusal, EntryType, CellType, Refused}
 use Rattle.ft_syntax.specs.declared.source_error.SourceError.{SourceError}
 use Rattle.ft_syntax.specs.declared.source_error.SourceError.TheVariants as source
-use Rattle.ft_object.specs.declared.object_error.ObjectError.{ObjectError}
-use Rattle.ft_object.specs.declared.object_error.ObjectError.TheVariants.{Magic, Length, Count, Pad, Kind, Index, Order, Name, Entry}
+use Rattle.ft_format.specs.declared.object_error.ObjectError.{ObjectError}
+use Rattle.ft_format.specs.declared.object_error.ObjectError.TheVariants.{Magic, Length, Count, Pad, Kind, Index, Order, Name, Entry}
 
 -- the number of an error of the object format
 abbrev pub error_number : ObjectError → ℕ

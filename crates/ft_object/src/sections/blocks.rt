@@ -1,52 +1,21 @@
 //! Blocks, which begin one after the other.
 ghost use Rattle.std.specs.Prelude.{◌≡◌, ◌+◌, ◌*◌, ◌≤◌, ◌^◌, None, [], length, map, IfOk, OnOk};
 ghost use Rattle.ft_object.specs.Judged.{Judges};
-ghost use Rattle.ft_object.specs.Layout.{rows, pair_layout};
-ghost use Rattle.ft_object.specs.Fields.{pair_numbers};
-ghost use Rattle.ft_object.specs.Rules.{may_begin, block_broken};
-ghost use Rattle.ft_object.specs.Values.{block_of};
-ghost use Rattle.ft_object.specs.Broken.{blocks_broken};
+ghost use Rattle.ft_object.specs.Places.{IsWhole};
+ghost use Rattle.ft_format.specs.Layout.{rows, pair_layout};
+ghost use Rattle.ft_format.specs.Values.{block_of};
+ghost use Rattle.ft_format.specs.Broken.{blocks_broken, blocks_at, blocks_part, blocks_read};
 
 use crate::decode_error::DecodeError;
-use crate::header::Header;
-use crate::memory::push;
-use crate::object_error::ObjectError;
-use crate::rows::pair_row::PairRow;
-use crate::rules::check;
+use crate::memory::{push, reserve};
+use crate::places::{Places, part};
+use ft_format::{Header, PairRow};
+use ft_records::read_block;
 use ft_types::Block;
-
-/// Whether a block may begin here, after a block that begins at the previous place.
-fn may_begin(previous: Option<u32>, start: u32) -> bool
-    ensures { result ≡ may_begin previous start }
-{
-    match previous {
-        None => start == 0,
-        Some(previous) => previous < start,
-    }
-}
-
-/// The block of a record.
-fn read_block(
-    header: Header,
-    previous: Option<u32>,
-    at: usize,
-    row: PairRow,
-) -> Result<Block, DecodeError>
-    requires { at ≤ 2 ^ 27 }
-    ensures judged { Judges result (block_broken header previous at (pair_numbers row)) }
-    ensures read { IfOk result (λ b. b ≡ block_of (pair_numbers row)) }
-{
-    check(may_begin(previous, row.first), ObjectError::Order { at })?;
-    check(row.first < header.instrs, ObjectError::Order { at })?;
-    check(row.second < header.types, ObjectError::Index { at: at + 4 })?;
-    Ok(Block {
-        start: row.first,
-        code_type: row.second,
-    })
-}
+use std::alloc::Global;
 
 /// Reads blocks into an empty vector.
-pub(crate) fn read_blocks(
+fn read_rows(
     header: Header,
     at: usize,
     bytes: &[u8],
@@ -64,11 +33,28 @@ pub(crate) fn read_blocks(
     for _ in 0..header.blocks {
         let (record, after) = rest.split_at(8);
         let row = PairRow::read(record);
-        let block = read_block(header, previous, place, row)?;
+        let block = read_block(header, previous, place, row).map_err(DecodeError::Object)?;
         push(blocks, block)?;
         place += 8;
         previous = Some(row.first);
         rest = after;
     }
     Ok(())
+}
+
+/// The blocks of an object.
+pub(crate) fn read_blocks(
+    alloc: Global,
+    header: Header,
+    bytes: &[u8],
+) -> Result<Vec<Block>, DecodeError>
+    requires { IsWhole header bytes.now }
+    ensures judged { Judges result (blocks_broken header None (blocks_at header) (rows pair_layout header.blocks (blocks_part header bytes.now))) }
+    ensures read { IfOk result (λ blocks. blocks.items ≡ blocks_read header bytes.now) }
+{
+    let at = Places::of(header).blocks;
+    let rows = part(bytes, at);
+    let mut blocks = reserve(alloc, header.blocks)?;
+    read_rows(header, at, rows, &mut blocks)?;
+    Ok(blocks)
 }

@@ -1,18 +1,19 @@
 //! Cells, whose names follow one another in the name bytes.
-ghost use Rattle.std.specs.Prelude.{◌≡◌, ◌+◌, ◌*◌, ◌≤◌, ◌^◌, [], length, IfOk, OnOk};
+ghost use Rattle.std.specs.Prelude.{◌≡◌, ◌+◌, ◌*◌, ◌≤◌, ◌^◌, [], length, sum_by, IfOk, OnOk};
 ghost use Rattle.ft_object.specs.Judged.{Judges, OnlyMemory};
-ghost use Rattle.ft_object.specs.Layout.{rows, cell_layout};
-ghost use Rattle.ft_object.specs.Fields.{cell_numbers};
-ghost use Rattle.ft_object.specs.Rules.{cell_broken};
-ghost use Rattle.ft_object.specs.Values.{cell_of, cells_of};
-ghost use Rattle.ft_object.specs.Broken.{cells_broken};
+ghost use Rattle.ft_object.specs.Places.{IsWhole};
+ghost use Rattle.ft_types.specs.Objects.{name_of};
+ghost use Rattle.ft_format.specs.Layout.{rows, cell_layout};
+ghost use Rattle.ft_format.specs.Fields.{cell_numbers};
+ghost use Rattle.ft_format.specs.Rules.{cell_broken};
+ghost use Rattle.ft_format.specs.Values.{cell_of, cells_of};
+ghost use Rattle.ft_format.specs.Broken.{cells_broken, cells_part, cells_read};
 
 use crate::decode_error::DecodeError;
-use crate::header::Header;
-use crate::memory::push;
-use crate::object_error::ObjectError;
-use crate::rows::cell_row::CellRow;
-use crate::rules::{check, read_basic};
+use crate::memory::{push, reserve};
+use crate::places::{Places, part};
+use ft_format::{CellRow, Header};
+use ft_records::read_cell_type;
 use ft_types::{Cell, Table};
 use std::alloc::Global;
 
@@ -27,8 +28,8 @@ fn copy_name(alloc: Global, name: &[u8]) -> Result<Table<u8>, DecodeError>
     }
 }
 
-/// The cell of a record, whose name begins at `start` in the name bytes.
-fn read_cell(
+/// The cell of a record, with its name, which begins at `start` in the name bytes.
+fn read_named(
     alloc: Global,
     header: Header,
     names: &[u8],
@@ -43,10 +44,7 @@ fn read_cell(
     ensures read { IfOk result (λ c. c ≡ cell_of names.now start (cell_numbers row)) }
     ensures past { OnOk result (row.past ≤ header.names) }
 {
-    check(start < row.past, ObjectError::Order { at })?;
-    check(row.past <= header.names, ObjectError::Order { at })?;
-    check(row.past <= start + 32, ObjectError::Name { at })?;
-    let basic = read_basic(header.types, at + 4, row.refs, row.base, row.code_type)?;
+    let basic = read_cell_type(header, start, at, row).map_err(DecodeError::Object)?;
     let name = copy_name(alloc, &names[start as usize..row.past as usize])?;
     Ok(Cell {
         name,
@@ -56,7 +54,7 @@ fn read_cell(
 }
 
 /// Reads cells into an empty vector.
-pub(crate) fn read_cells(
+fn read_rows(
     alloc: Global,
     header: Header,
     names: &[u8],
@@ -77,11 +75,29 @@ pub(crate) fn read_cells(
     for _ in 0..header.cells {
         let (record, after) = rest.split_at(16);
         let row = CellRow::read(record);
-        let cell = read_cell(alloc, header, names, start, place, row)?;
+        let cell = read_named(alloc, header, names, start, place, row)?;
         push(cells, cell)?;
         place += 16;
         start = row.past;
         rest = after;
     }
     Ok(())
+}
+
+/// The cells of an object, whose names end within the name bytes.
+pub(crate) fn read_cells(
+    alloc: Global,
+    header: Header,
+    bytes: &[u8],
+) -> Result<Vec<Cell>, DecodeError>
+    requires { IsWhole header bytes.now }
+    ensures judged { Judges result (cells_broken header 0 48 (rows cell_layout header.cells (cells_part bytes.now))) }
+    ensures read { IfOk result (λ cells. cells.items ≡ cells_read header bytes.now) }
+    ensures names { IfOk result (λ cells. sum_by (λ c. length (name_of c)) cells.items ≤ header.names) }
+{
+    let names = part(bytes, Places::of(header).names);
+    let rows = part(bytes, 48);
+    let mut cells = reserve(alloc, header.cells)?;
+    read_rows(alloc, header, names, rows, &mut cells)?;
+    Ok(cells)
 }

@@ -1,301 +1,23 @@
 //! Instructions.
-ghost use Rattle.std.specs.Prelude.{◌≡◌, ◌+◌, ◌*◌, ◌/◌, ◌%◌, ◌<◌, ◌≤◌, ◌^◌, true, [], length, map, IfOk, OnOk};
+ghost use Rattle.std.specs.Prelude.{◌≡◌, ◌+◌, ◌*◌, ◌/◌, ◌<◌, ◌≤◌, ◌^◌, [], length, map, IfOk, OnOk};
 ghost use Rattle.ft_isa.specs.declared.instr.Instr.TheVariants as instrs;
 ghost use Rattle.ft_object.specs.Judged.{Judges};
-ghost use Rattle.ft_object.specs.Layout.{rows, code_layout};
-ghost use Rattle.ft_object.specs.Fields.{code_numbers};
-ghost use Rattle.ft_object.specs.Rules.{no_word_broken, basic_number_broken, substitution_broken, transfer_broken, op_reg_broken, op_word_broken, mov_broken, access_broken, jump_broken, branch_broken, halt_broken, fields_broken, instr_broken};
-ghost use Rattle.ft_object.specs.Values.{register_of, colour_of, op_of, basic_of, coloured, jump_of, branch_of, instr_by, instr_of, rows_past, carried, joined};
-ghost use Rattle.ft_object.specs.Broken.{instrs_broken, rows_taken};
+ghost use Rattle.ft_object.specs.Places.{IsWhole};
+ghost use Rattle.ft_format.specs.Layout.{rows, code_layout};
+ghost use Rattle.ft_format.specs.Values.{instr_of, rows_past};
+ghost use Rattle.ft_format.specs.Broken.{instrs_broken, rows_taken, instrs_at, instr_rows_of, instrs_read};
 
 use crate::decode_error::DecodeError;
-use crate::header::Header;
-use crate::memory::push;
-use crate::object_error::ObjectError;
-use crate::rows::code_row::CodeRow;
-use crate::rules::{
-    check, check_node_number, check_zero, read_basic, read_colour, read_op, read_register,
-};
-use crate::sections::nodes::word;
-use ft_isa::{Basic, Colour, Coloured, Instr, Reg, Subst};
+use crate::memory::{push, reserve};
+use crate::places::{Places, part};
+use ft_format::{CodeRow, Header};
+use ft_isa::Instr;
+use ft_records::{read_instr, rows_past};
 use ft_static::Node;
-
-/// The word of a record, which is zero.
-fn check_no_word(at: usize, row: CodeRow) -> Result<(), DecodeError>
-    ensures { Judges result (no_word_broken at row.high row.low) }
-{
-    check_zero(at, row.high)?;
-    check_zero(at, row.low)
-}
-
-/// The word of a record, with its colour.
-fn coloured(colour: Colour, row: CodeRow) -> Coloured
-    ensures { (result.colour ≡ colour) × (result.word ≡ joined row.high row.low) }
-{
-    Coloured {
-        colour,
-        word: word(row.high, row.low),
-    }
-}
-
-fn read_op_reg(at: usize, row: CodeRow) -> Result<Instr, DecodeError>
-    requires { at ≤ 2 ^ 27 }
-    ensures judged { Judges result (op_reg_broken at row.a row.b row.c row.x row.high row.low) }
-    ensures read { IfOk result (λ i. i ≡ instr_by 0 row.a row.b row.c row.x row.high row.low) }
-{
-    let rd = read_register(at + 1, row.a)?;
-    let rs = read_register(at + 2, row.b)?;
-    let rt = read_register(at + 3, row.c)?;
-    let op = read_op(at + 4, row.x)?;
-    check_no_word(at + 8, row)?;
-    Ok(Instr::OpReg { op, rd, rs, rt })
-}
-
-fn read_op_word(at: usize, row: CodeRow) -> Result<Instr, DecodeError>
-    requires { at ≤ 2 ^ 27 }
-    ensures judged { Judges result (op_word_broken at row.a row.b row.c row.x) }
-    ensures read { IfOk result (λ i. i ≡ instr_by 1 row.a row.b row.c row.x row.high row.low) }
-{
-    let rd = read_register(at + 1, row.a)?;
-    let rs = read_register(at + 2, row.b)?;
-    let colour = read_colour(at + 3, row.c)?;
-    let op = read_op(at + 4, row.x)?;
-    let value = coloured(colour, row);
-    Ok(Instr::OpWord { op, rd, rs, value })
-}
-
-/// The basic type that x spells.
-fn read_basic_number(types: u32, at: usize, x: u32) -> Result<Basic, DecodeError>
-    requires { at ≤ 2 ^ 28 }
-    ensures judged { Judges result (basic_number_broken types at x) }
-    ensures read { IfOk result (λ b. b ≡ basic_of (x / 2 ^ 24) (x / 2 ^ 16 % 2 ^ 8) (x % 2 ^ 16)) }
-{
-    let refs = (x / 16777216) as u8;
-    let base = (x / 65536 % 256) as u8;
-    let code_type = (x % 65536) as u16;
-    read_basic(types, at, refs, base, code_type)
-}
-
-fn read_mov(types: u32, at: usize, row: CodeRow) -> Result<Instr, DecodeError>
-    requires { at ≤ 2 ^ 27 }
-    ensures judged { Judges result (mov_broken types at row.a row.b row.c row.x) }
-    ensures read { IfOk result (λ i. i ≡ instr_by 2 row.a row.b row.c row.x row.high row.low) }
-{
-    let rd = read_register(at + 1, row.a)?;
-    check_zero(at + 2, u32::from(row.b))?;
-    let colour = read_colour(at + 3, row.c)?;
-    let basic = read_basic_number(types, at + 4, row.x)?;
-    let value = coloured(colour, row);
-    Ok(Instr::Mov { rd, value, basic })
-}
-
-/// A load or a store: two registers and a colour.
-fn read_access(at: usize, row: CodeRow) -> Result<(Colour, Reg, Reg), DecodeError>
-    requires { at ≤ 2 ^ 27 }
-    ensures judged { Judges result (access_broken at row.a row.b row.c row.x row.high row.low) }
-    ensures read { IfOk result (λ x. x ≡ (colour_of row.c, register_of row.a, register_of row.b)) }
-{
-    let rd = read_register(at + 1, row.a)?;
-    let rs = read_register(at + 2, row.b)?;
-    let colour = read_colour(at + 3, row.c)?;
-    check_zero(at + 4, row.x)?;
-    check_no_word(at + 8, row)?;
-    Ok((colour, rd, rs))
-}
-
-/// The substitution of a blue jump or branch, at its first field.
-fn read_substitution(
-    header: Header,
-    nodes: &[Node],
-    first: u32,
-    at: usize,
-    row: CodeRow,
-) -> Result<Subst, DecodeError>
-    requires places { at ≤ 2 ^ 28 }
-    requires first { first ≤ 2 ^ 27 }
-    ensures judged { Judges result (substitution_broken header nodes.now first at row.x row.high row.low) }
-    ensures read { IfOk result (λ s. (s.first ≡ row.x) × (s.past ≡ row.high) × (s.memory ≡ row.low)) }
-{
-    check(row.x == first, ObjectError::Order { at })?;
-    check(row.x <= row.high, ObjectError::Order { at: at + 4 })?;
-    check(row.high <= header.substs, ObjectError::Order { at: at + 4 })?;
-    check(row.high <= first + 128, ObjectError::Count { at: at + 4 })?;
-    check_node_number(nodes, true, at + 8, row.low)?;
-    Ok(Subst {
-        first: row.x,
-        past: row.high,
-        memory: row.low,
-    })
-}
-
-/// What a jump or branch carries, at field x: nothing where it is green, a substitution where it is
-/// blue.
-fn read_transfer(
-    header: Header,
-    nodes: &[Node],
-    first: u32,
-    at: usize,
-    row: CodeRow,
-) -> Result<Option<Subst>, DecodeError>
-    requires places { at ≤ 2 ^ 28 }
-    requires first { first ≤ 2 ^ 27 }
-    ensures judged { Judges result (transfer_broken header nodes.now first at row.c row.x row.high row.low) }
-    ensures read { IfOk result (λ s. s ≡ carried row.c row.x row.high row.low) }
-{
-    if row.c == 0 {
-        check_zero(at, row.x)?;
-        check_no_word(at + 4, row)?;
-        Ok(None)
-    } else {
-        let subst = read_substitution(header, nodes, first, at, row)?;
-        Ok(Some(subst))
-    }
-}
-
-fn jump(rd: Reg, subst: Option<Subst>) -> Instr
-    ensures { result ≡ jump_of rd subst }
-{
-    match subst {
-        None => Instr::JmpG { rd },
-        Some(subst) => Instr::JmpB { rd, subst },
-    }
-}
-
-fn branch(rz: Reg, rd: Reg, subst: Option<Subst>) -> Instr
-    ensures { result ≡ branch_of rz rd subst }
-{
-    match subst {
-        None => Instr::BzG { rz, rd },
-        Some(subst) => Instr::BzB { rz, rd, subst },
-    }
-}
-
-fn read_jump(
-    header: Header,
-    nodes: &[Node],
-    first: u32,
-    at: usize,
-    row: CodeRow,
-) -> Result<Instr, DecodeError>
-    requires places { at ≤ 2 ^ 27 }
-    requires first { first ≤ 2 ^ 27 }
-    ensures judged { Judges result (jump_broken header nodes.now first at row.a row.b row.c row.x row.high row.low) }
-    ensures read { IfOk result (λ i. i ≡ instr_by 5 row.a row.b row.c row.x row.high row.low) }
-{
-    let rd = read_register(at + 1, row.a)?;
-    check_zero(at + 2, u32::from(row.b))?;
-    read_colour(at + 3, row.c)?;
-    let subst = read_transfer(header, nodes, first, at + 4, row)?;
-    let instr = jump(rd, subst);
-    Ok(instr)
-}
-
-fn read_branch(
-    header: Header,
-    nodes: &[Node],
-    first: u32,
-    at: usize,
-    row: CodeRow,
-) -> Result<Instr, DecodeError>
-    requires places { at ≤ 2 ^ 27 }
-    requires first { first ≤ 2 ^ 27 }
-    ensures judged { Judges result (branch_broken header nodes.now first at row.a row.b row.c row.x row.high row.low) }
-    ensures read { IfOk result (λ i. i ≡ instr_by 6 row.a row.b row.c row.x row.high row.low) }
-{
-    let rz = read_register(at + 1, row.a)?;
-    let rd = read_register(at + 2, row.b)?;
-    read_colour(at + 3, row.c)?;
-    let subst = read_transfer(header, nodes, first, at + 4, row)?;
-    let instr = branch(rz, rd, subst);
-    Ok(instr)
-}
-
-fn read_halt(at: usize, row: CodeRow) -> Result<Instr, DecodeError>
-    requires { at ≤ 2 ^ 27 }
-    ensures judged { Judges result (halt_broken at row.a row.b row.c row.x row.high row.low) }
-    ensures read { IfOk result (λ i. i ≡ instrs.Halt) }
-{
-    check_zero(at + 1, u32::from(row.a))?;
-    check_zero(at + 2, u32::from(row.b))?;
-    check_zero(at + 3, u32::from(row.c))?;
-    check_zero(at + 4, row.x)?;
-    check_no_word(at + 8, row)?;
-    Ok(Instr::Halt)
-}
-
-fn read_ld(at: usize, row: CodeRow) -> Result<Instr, DecodeError>
-    requires { at ≤ 2 ^ 27 }
-    ensures judged { Judges result (access_broken at row.a row.b row.c row.x row.high row.low) }
-    ensures read { IfOk result (λ i. i ≡ instrs.Ld (colour_of row.c) (register_of row.a) (register_of row.b)) }
-{
-    let (colour, rd, rs) = read_access(at, row)?;
-    Ok(Instr::Ld { colour, rd, rs })
-}
-
-fn read_st(at: usize, row: CodeRow) -> Result<Instr, DecodeError>
-    requires { at ≤ 2 ^ 27 }
-    ensures judged { Judges result (access_broken at row.a row.b row.c row.x row.high row.low) }
-    ensures read { IfOk result (λ i. i ≡ instrs.St (colour_of row.c) (register_of row.a) (register_of row.b)) }
-{
-    let (colour, rd, rs) = read_access(at, row)?;
-    Ok(Instr::St { colour, rd, rs })
-}
-
-/// The fields of an instruction after its kind, which is below 8.
-fn read_fields(
-    header: Header,
-    nodes: &[Node],
-    first: u32,
-    at: usize,
-    row: CodeRow,
-) -> Result<Instr, DecodeError>
-    requires places { at ≤ 2 ^ 27 }
-    requires first { first ≤ 2 ^ 27 }
-    ensures judged { Judges result (fields_broken header nodes.now first at row.kind row.a row.b row.c row.x row.high row.low) }
-    ensures read { IfOk result (λ i. i ≡ instr_by row.kind row.a row.b row.c row.x row.high row.low) }
-{
-    match row.kind {
-        0 => read_op_reg(at, row),
-        1 => read_op_word(at, row),
-        2 => read_mov(header.types, at, row),
-        3 => read_ld(at, row),
-        4 => read_st(at, row),
-        5 => read_jump(header, nodes, first, at, row),
-        6 => read_branch(header, nodes, first, at, row),
-        _ => read_halt(at, row),
-    }
-}
-
-/// The instruction of a record, where the substitutions before took the rows up to `first`.
-fn read_instr(
-    header: Header,
-    nodes: &[Node],
-    first: u32,
-    at: usize,
-    row: CodeRow,
-) -> Result<Instr, DecodeError>
-    requires places { at ≤ 2 ^ 27 }
-    requires first { first ≤ 2 ^ 27 }
-    ensures judged { Judges result (instr_broken header nodes.now first at (code_numbers row)) }
-    ensures read { IfOk result (λ i. i ≡ instr_of (code_numbers row)) }
-{
-    check(row.kind <= 7, ObjectError::Kind { at })?;
-    let instr = read_fields(header, nodes, first, at, row)?;
-    Ok(instr)
-}
-
-/// The row after those that the substitutions up to this instruction take.
-fn rows_past(first: u32, row: CodeRow) -> u32
-    ensures { result ≡ rows_past first (code_numbers row) }
-{
-    match row.kind {
-        5 | 6 => { if row.c == 0 { first } else { row.high } }
-        _ => first,
-    }
-}
+use std::alloc::Global;
 
 /// Reads instructions into an empty vector, and tells how many substitution rows they take.
-pub(crate) fn read_instrs(
+fn read_rows(
     header: Header,
     nodes: &[Node],
     at: usize,
@@ -317,11 +39,31 @@ pub(crate) fn read_instrs(
     for _ in 0..header.instrs {
         let (record, after) = rest.split_at(16);
         let row = CodeRow::read(record);
-        let instr = read_instr(header, nodes, first, place, row)?;
+        let instr = read_instr(header, nodes, first, place, row).map_err(DecodeError::Object)?;
         push(instrs, instr)?;
         place += 16;
         first = rows_past(first, row);
         rest = after;
     }
     Ok(first)
+}
+
+/// The instructions of an object, and how many substitution rows they take.
+pub(crate) fn read_instrs(
+    alloc: Global,
+    header: Header,
+    nodes: &[Node],
+    bytes: &[u8],
+) -> Result<(Vec<Instr>, u32), DecodeError>
+    requires { IsWhole header bytes.now }
+    ensures judged { Judges result (instrs_broken header nodes.now 0 (instrs_at header) (instr_rows_of header bytes.now)) }
+    ensures read { IfOk result (λ r. r.0.items ≡ instrs_read header bytes.now) }
+    ensures taken { IfOk result (λ r. r.1 ≡ rows_taken 0 (instr_rows_of header bytes.now)) }
+    ensures few { IfOk result (λ r. r.1 ≤ header.substs) }
+{
+    let at = Places::of(header).instrs;
+    let rows = part(bytes, at);
+    let mut instrs = reserve(alloc, header.instrs)?;
+    let taken = read_rows(header, nodes, at, rows, &mut instrs)?;
+    Ok((instrs, taken))
 }

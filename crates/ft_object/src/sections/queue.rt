@@ -1,32 +1,19 @@
 //! Queue rows: what each type says of the stores that wait.
-ghost use Rattle.std.specs.Prelude.{◌≡◌, ◌+◌, ◌*◌, ◌≤◌, ◌^◌, [], ◌++◌, false, length, drop, map, IfOk, OnOk};
+ghost use Rattle.std.specs.Prelude.{◌≡◌, ◌+◌, ◌*◌, ◌≤◌, ◌^◌, [], ◌++◌, length, drop, map, IfOk, OnOk};
 ghost use Rattle.ft_object.specs.Judged.{Judges};
-ghost use Rattle.ft_object.specs.Layout.{rows, pair_layout, type_layout};
-ghost use Rattle.ft_object.specs.Fields.{pair_numbers};
-ghost use Rattle.ft_object.specs.Rules.{queue_broken};
-ghost use Rattle.ft_object.specs.Values.{queue_end_of, pair_of};
-ghost use Rattle.ft_object.specs.Broken.{type_queue_broken, queues_broken};
+ghost use Rattle.ft_object.specs.Places.{IsWhole};
+ghost use Rattle.ft_format.specs.Layout.{rows, pair_layout, type_layout};
+ghost use Rattle.ft_format.specs.Values.{queue_end_of, pair_of};
+ghost use Rattle.ft_format.specs.Broken.{type_queue_broken, queues_broken, type_rows_of, queue_at, queue_part, queue_read};
 ghost use Rattle.ft_object.specs.Ends.{AreEnds};
 
 use crate::decode_error::DecodeError;
-use crate::header::Header;
-use crate::memory::push;
-use crate::object_error::ObjectError;
-use crate::rows::pair_row::PairRow;
-use crate::rows::type_row::TypeRow;
-use crate::rules::{check, check_named};
+use crate::memory::{push, reserve};
+use crate::places::{Places, part};
+use ft_format::{Header, ObjectError, PairRow, TypeRow};
+use ft_records::{check, read_queue_row};
 use ft_static::Node;
-
-/// The queue row of a record, in a type of so many variables.
-fn read_pair(nodes: &[Node], ints: u8, at: usize, row: PairRow) -> Result<(u32, u32), DecodeError>
-    requires { at ≤ 2 ^ 27 }
-    ensures judged { Judges result (queue_broken nodes.now ints at (pair_numbers row)) }
-    ensures read { IfOk result (λ q. q ≡ pair_of (pair_numbers row)) }
-{
-    check_named(nodes, ints, false, at, row.first)?;
-    check_named(nodes, ints, false, at + 4, row.second)?;
-    Ok((row.first, row.second))
-}
+use std::alloc::Global;
 
 /// Reads the queue rows of one type after those that are there, and tells the bytes after them.
 fn read_type_queue<'a>(
@@ -48,7 +35,7 @@ fn read_type_queue<'a>(
     for _ in 0..count {
         let (record, after) = rest.split_at(8);
         let row = PairRow::read(record);
-        let pair = read_pair(nodes, ints, place, row)?;
+        let pair = read_queue_row(nodes, ints, place, row).map_err(DecodeError::Object)?;
         push(queue, pair)?;
         place += 8;
         rest = after;
@@ -57,7 +44,7 @@ fn read_type_queue<'a>(
 }
 
 /// Reads the queue rows of all types into an empty vector.
-pub(crate) fn read_queue(
+fn read_rows(
     header: Header,
     nodes: &[Node],
     at: usize,
@@ -86,5 +73,25 @@ pub(crate) fn read_queue(
         start = row.queue;
         heads = after;
     }
-    check(start == header.queue, ObjectError::Order { at: place })
+    check(start == header.queue, ObjectError::Order { at: place }).map_err(DecodeError::Object)
+}
+
+/// The queue rows of all types of an object.
+pub(crate) fn read_queue(
+    alloc: Global,
+    header: Header,
+    nodes: &[Node],
+    bytes: &[u8],
+) -> Result<Vec<(u32, u32)>, DecodeError>
+    requires whole { IsWhole header bytes.now }
+    requires ends { AreEnds queue_end_of header.queue 0 (type_rows_of header bytes.now) }
+    ensures judged { Judges result (queues_broken header nodes.now 0 (queue_at header) (type_rows_of header bytes.now) (queue_part header bytes.now)) }
+    ensures read { IfOk result (λ queue. queue.items ≡ queue_read header bytes.now) }
+{
+    let at = Places::of(header);
+    let types = part(bytes, at.types);
+    let rows = part(bytes, at.queue);
+    let mut queue = reserve(alloc, header.queue)?;
+    read_rows(header, nodes, at.queue, types, rows, &mut queue)?;
+    Ok(queue)
 }

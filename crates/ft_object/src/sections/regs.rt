@@ -1,51 +1,20 @@
 //! Register rows: what each type says of registers.
-ghost use Rattle.std.specs.Prelude.{◌≡◌, ◌+◌, ◌*◌, ◌≤◌, ◌^◌, [], ◌++◌, ◌<◌, false, length, drop, map, IfOk, OnOk};
+ghost use Rattle.std.specs.Prelude.{◌≡◌, ◌+◌, ◌*◌, ◌≤◌, ◌^◌, [], ◌++◌, ◌<◌, length, drop, map, IfOk, OnOk};
 ghost use Rattle.ft_object.specs.Judged.{Judges};
-ghost use Rattle.ft_object.specs.Layout.{rows, reg_layout, type_layout};
-ghost use Rattle.ft_object.specs.Fields.{reg_numbers};
-ghost use Rattle.ft_object.specs.Rules.{reg_broken};
-ghost use Rattle.ft_object.specs.Values.{regs_end_of, reg_type_of};
-ghost use Rattle.ft_object.specs.Broken.{type_regs_broken, regs_broken};
+ghost use Rattle.ft_object.specs.Places.{IsWhole};
+ghost use Rattle.ft_format.specs.Layout.{rows, reg_layout, type_layout};
+ghost use Rattle.ft_format.specs.Values.{regs_end_of, reg_type_of};
+ghost use Rattle.ft_format.specs.Broken.{type_regs_broken, regs_broken, type_rows_of, regs_at, regs_part, regs_read};
 ghost use Rattle.ft_object.specs.Ends.{AreEnds};
 
 use crate::decode_error::DecodeError;
-use crate::header::Header;
-use crate::memory::push;
-use crate::object_error::ObjectError;
-use crate::rows::reg_row::RegRow;
-use crate::rows::type_row::TypeRow;
-use crate::rules::{check, check_named, check_zero, read_basic, read_colour, read_register};
+use crate::memory::{push, reserve};
+use crate::places::{Places, part};
+use ft_format::{Header, ObjectError, RegRow, TypeRow};
+use ft_records::{check, read_reg};
 use ft_static::Node;
 use ft_types::RegType;
-
-/// The register row of a record, in a type of so many variables whose rows before leave registers from
-/// `least` on.
-fn read_reg(
-    types: u32,
-    nodes: &[Node],
-    ints: u8,
-    least: u8,
-    at: usize,
-    row: RegRow,
-) -> Result<RegType, DecodeError>
-    requires { at ≤ 2 ^ 27 }
-    ensures judged { Judges result (reg_broken types nodes.now ints least at (reg_numbers row)) }
-    ensures read { IfOk result (λ r. r ≡ reg_type_of (reg_numbers row)) }
-    ensures small { OnOk result (row.reg < 64) }
-{
-    let reg = read_register(at, row.reg)?;
-    check(least <= row.reg, ObjectError::Order { at })?;
-    let colour = read_colour(at + 1, row.colour)?;
-    check_zero(at + 2, u32::from(row.pad))?;
-    let basic = read_basic(types, at + 4, row.refs, row.base, row.code_type)?;
-    check_named(nodes, ints, false, at + 8, row.expr)?;
-    Ok(RegType {
-        reg,
-        colour,
-        basic,
-        expr: row.expr,
-    })
-}
+use std::alloc::Global;
 
 /// Reads the register rows of one type after those that are there, and tells the bytes after them.
 fn read_type_regs<'a>(
@@ -69,7 +38,7 @@ fn read_type_regs<'a>(
     for _ in 0..count {
         let (record, after) = rest.split_at(12);
         let row = RegRow::read(record);
-        let reg = read_reg(types, nodes, ints, least, place, row)?;
+        let reg = read_reg(types, nodes, ints, least, place, row).map_err(DecodeError::Object)?;
         push(regs, reg)?;
         place += 12;
         least = row.reg + 1;
@@ -79,7 +48,7 @@ fn read_type_regs<'a>(
 }
 
 /// Reads the register rows of all types into an empty vector.
-pub(crate) fn read_regs(
+fn read_rows(
     header: Header,
     nodes: &[Node],
     at: usize,
@@ -108,5 +77,25 @@ pub(crate) fn read_regs(
         start = row.regs;
         heads = after;
     }
-    check(start == header.regs, ObjectError::Order { at: place })
+    check(start == header.regs, ObjectError::Order { at: place }).map_err(DecodeError::Object)
+}
+
+/// The register rows of all types of an object.
+pub(crate) fn read_regs(
+    alloc: Global,
+    header: Header,
+    nodes: &[Node],
+    bytes: &[u8],
+) -> Result<Vec<RegType>, DecodeError>
+    requires whole { IsWhole header bytes.now }
+    requires ends { AreEnds regs_end_of header.regs 0 (type_rows_of header bytes.now) }
+    ensures judged { Judges result (regs_broken header nodes.now 0 (regs_at header) (type_rows_of header bytes.now) (regs_part header bytes.now)) }
+    ensures read { IfOk result (λ regs. regs.items ≡ regs_read header bytes.now) }
+{
+    let at = Places::of(header);
+    let types = part(bytes, at.types);
+    let rows = part(bytes, at.regs);
+    let mut regs = reserve(alloc, header.regs)?;
+    read_rows(header, nodes, at.regs, types, rows, &mut regs)?;
+    Ok(regs)
 }

@@ -1,17 +1,18 @@
 //! Substitution rows.
-ghost use Rattle.std.specs.Prelude.{◌≡◌, ◌+◌, ◌*◌, ◌≤◌, ◌^◌, [], false, length, map, OnOk};
+ghost use Rattle.std.specs.Prelude.{◌≡◌, ◌+◌, ◌*◌, ◌≤◌, ◌^◌, [], false, length, map, IfOk, OnOk};
 ghost use Rattle.ft_object.specs.Judged.{Judges};
-ghost use Rattle.ft_object.specs.Layout.{rows, subst_layout};
-ghost use Rattle.ft_object.specs.Values.{subst_of};
-ghost use Rattle.ft_object.specs.Broken.{subst_rows_broken, substs_broken};
+ghost use Rattle.ft_object.specs.Places.{IsWhole};
+ghost use Rattle.ft_format.specs.Layout.{rows, subst_layout};
+ghost use Rattle.ft_format.specs.Values.{subst_of};
+ghost use Rattle.ft_format.specs.Broken.{subst_rows_broken, substs_broken, substs_at, substs_part, substs_read};
 
 use crate::decode_error::DecodeError;
-use crate::header::Header;
-use crate::memory::push;
-use crate::numbers::read_u32;
-use crate::object_error::ObjectError;
-use crate::rules::{check, check_node_number};
+use crate::memory::{push, reserve};
+use crate::places::{Places, part};
+use ft_format::{Header, ObjectError, SubstRow};
+use ft_records::{check, check_node_number};
 use ft_static::Node;
+use std::alloc::Global;
 
 /// Reads so many rows into an empty vector.
 fn read_rows(
@@ -31,36 +32,33 @@ fn read_rows(
     let mut rest = bytes;
     for _ in 0..count {
         let (record, after) = rest.split_at(4);
-        let (node, _) = read_u32(record);
-        check_node_number(nodes, false, place, node)?;
-        push(substs, node)?;
+        let row = SubstRow::read(record);
+        check_node_number(nodes, false, place, row.node).map_err(DecodeError::Object)?;
+        push(substs, row.node)?;
         place += 4;
         rest = after;
     }
     Ok(())
 }
 
-/// Reads the rows that substitutions take, which are all there are, into an empty vector.
+/// The substitution rows of an object, all of which its substitutions take.
 pub(crate) fn read_substs(
+    alloc: Global,
     header: Header,
     nodes: &[Node],
     taken: u32,
-    at: usize,
     bytes: &[u8],
-    substs: &mut Vec<u32>,
-) -> Result<(), DecodeError>
+) -> Result<Vec<u32>, DecodeError>
+    requires whole { IsWhole header bytes.now }
     requires taken { taken ≤ header.substs }
-    requires there { 4 * header.substs ≤ length bytes.now }
-    requires places { at + 4 * header.substs ≤ 2 ^ 27 }
-    requires empty { substs.old.items ≡ [] }
-    ensures judged { Judges result (substs_broken header nodes.now taken at bytes.now) }
-    ensures read { OnOk result (substs.new.items ≡ map subst_of (rows subst_layout header.substs bytes.now)) }
+    ensures judged { Judges result (substs_broken header nodes.now taken (substs_at header) (substs_part header bytes.now)) }
+    ensures read { IfOk result (λ substs. substs.items ≡ substs_read header bytes.now) }
 {
-    read_rows(nodes, at, taken, bytes, substs)?;
-    check(
-        taken == header.substs,
-        ObjectError::Order {
-            at: at + 4 * taken as usize,
-        },
-    )
+    let at = Places::of(header).substs;
+    let rows = part(bytes, at);
+    let mut substs = reserve(alloc, header.substs)?;
+    read_rows(nodes, at, taken, rows, &mut substs)?;
+    let end = at + 4 * taken as usize;
+    check(taken == header.substs, ObjectError::Order { at: end }).map_err(DecodeError::Object)?;
+    Ok(substs)
 }

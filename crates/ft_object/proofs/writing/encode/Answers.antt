@@ -3,13 +3,13 @@ use Rattle.std.specs.List.{sum_by}
 use Rattle.std.proofs.lemmas.List.Sums.{sum_by-le}
 use Rattle.ft_types.specs.declared.object.Cell.{Cell}
 use Rattle.ft_types.specs.Objects.{name_of, regs_of, queue_of}
-use Rattle.ft_object.specs.Puts.{Puts}
-use Rattle.ft_object.specs.Layout.{written, spelled, header_layout, cell_layout, code_layout, type_layout, reg_layout, pair_layout, subst_layout}
-use Rattle.ft_object.specs.Rows.{header_row, cell_rows, node_row, type_rows, reg_row, queue_row, block_row, instr_row, subst_row, all_regs, all_queue, all_names, spelling}
+use Rattle.ft_format.specs.Puts.{Puts}
+use Rattle.ft_format.specs.Layout.{written, spelled, header_layout, cell_layout, code_layout, type_layout, reg_layout, pair_layout, subst_layout}
+use Rattle.ft_format.specs.Rows.{header_row, cell_rows, node_row, type_rows, reg_row, queue_row, block_row, instr_row, subst_row, all_regs, all_queue, all_names, spelling}
 use Rattle.ft_object.proofs.Puts.{spelled_map, spelled_parts}
-use Rattle.ft_object.specs.Format.{Spells}
-use Rattle.ft_object.proofs.Write.{spells_unbroken, spells_read}
-use Rattle.ft_object.proofs.Written.{before}
+use Rattle.ft_format.specs.Format.{Spells}
+use Rattle.ft_format.proofs.Write.{spells_unbroken, spells_read, spells_apart}
+use Rattle.ft_format.proofs.Written.{before}
 use Rattle.ft_object.proofs.writing.encode.Goals as goal
 
 pub write_cells-requires : goal.write_cells-requires
@@ -41,4 +41,4 @@ returns c =
     let all = before p0 (before p1 (before p2 (before p3 (before p4 (before p5 (before p6 (before p7 (before p8 p9)))))))) in
     let is : c.write_names.new.out.items ≡ spelling o = rw c.in_ok-out.ensures.items at all.added in
     let spells : Spells c.write_names.new.out.items o = record { spellable = c.requires; spelled = is } in
-    record { spelled = is; unbroken = spells_unbroken c.write_names.new.out.items o spells; back = (spells, spells_read c.write_names.new.out.items o spells) }
+    record { spelled = is; unbroken = spells_unbroken c.write_names.new.out.items o spells; back = (spells, spells_read c.write_names.new.out.items o spells); apart = λ rest other q. spells_apart c.write_names.new.out.items rest o other spells q }

@@ -1,8 +1,8 @@
 use Rattle.std.proofs.Common.{◌≡◌, ◌++◌, length, take, drop}
 use Rattle.std.specs.List.{sum_by}
 use Rattle.ft_types.specs.Objects.{name_of}
-use Rattle.ft_object.specs.Layout.{spelled, cell_layout}
-use Rattle.ft_object.specs.Rows.{cell_rows}
+use Rattle.ft_format.specs.Layout.{spelled, cell_layout}
+use Rattle.ft_format.specs.Rows.{cell_rows}
 use Rattle.ft_object.proofs.writing.write_cells.Given as goal
 
 abbrev pub invariant-loop-cell : goal.invariant-loop-cell

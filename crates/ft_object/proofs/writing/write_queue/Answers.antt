@@ -2,7 +2,7 @@ use Rattle.std.proofs.Common.{List, ℕ, refl}
 use Rattle.std.specs.List.{flat_map}
 use Rattle.ft_types.specs.declared.object.CodeType.{CodeType}
 use Rattle.ft_types.specs.Objects.{queue_of}
-use Rattle.ft_object.specs.Puts.{Puts}
+use Rattle.ft_format.specs.Puts.{Puts}
 use Rattle.ft_object.specs.Written.{pair_bytes}
 use Rattle.ft_object.proofs.Puts.{put_goes}
 use Rattle.ft_object.proofs.writing.write_queue.Goals as goal

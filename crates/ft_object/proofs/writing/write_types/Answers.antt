@@ -1,9 +1,9 @@
 use Rattle.std.proofs.Common.{◌+◌, length, refl, ap, arith}
 use Rattle.std.proofs.lemmas.List.Sums.{sum_by_more}
 use Rattle.ft_types.specs.Objects.{regs_of, queue_of}
-use Rattle.ft_object.specs.Layout.{spelled, written, type_layout}
-use Rattle.ft_object.specs.Rows.{type_row, type_rows}
-use Rattle.ft_object.specs.Puts.{Puts}
+use Rattle.ft_format.specs.Layout.{spelled, written, type_layout}
+use Rattle.ft_format.specs.Rows.{type_row, type_rows}
+use Rattle.ft_format.specs.Puts.{Puts}
 use Rattle.ft_object.proofs.Puts.{put_goes}
 use Rattle.ft_object.proofs.writing.write_types.Goals as goal
 

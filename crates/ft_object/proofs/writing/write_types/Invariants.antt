@@ -1,8 +1,8 @@
 use Rattle.std.proofs.Common.{◌≡◌, ◌++◌, length, take, drop}
 use Rattle.std.specs.List.{sum_by}
 use Rattle.ft_types.specs.Objects.{regs_of, queue_of}
-use Rattle.ft_object.specs.Layout.{spelled, type_layout}
-use Rattle.ft_object.specs.Rows.{type_rows}
+use Rattle.ft_format.specs.Layout.{spelled, type_layout}
+use Rattle.ft_format.specs.Rows.{type_rows}
 use Rattle.ft_object.proofs.writing.write_types.Given as goal
 
 abbrev pub invariant-loop-code_type : goal.invariant-loop-code_type

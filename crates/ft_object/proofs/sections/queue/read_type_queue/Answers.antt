@@ -2,12 +2,13 @@ use Rattle.std.proofs.Common.{◌≡◌, ◌+◌, ◌-◌, ℕ, suc, None, List,
 use Rattle.std.proofs.lemmas.List.{length-drop}
 use Rattle.std.proofs.lemmas.Result.{err_from_is_err_and}
 use Rattle.ft_object.specs.Judged.{IsError}
-use Rattle.ft_object.specs.Layout.{numbers, pair_layout}
-use Rattle.ft_object.specs.Fields.{pair_numbers}
-use Rattle.ft_object.specs.Rules.{queue_broken}
-use Rattle.ft_object.specs.Values.{pair_of}
-use Rattle.ft_object.specs.Broken.{type_queue_broken}
-use Rattle.ft_object.proofs.Loops.{goes, halts, ends, gives, given, past_more}
+use Rattle.ft_format.specs.Layout.{numbers, pair_layout}
+use Rattle.ft_format.specs.Fields.{pair_numbers}
+use Rattle.ft_format.specs.Rules.{queue_broken}
+use Rattle.ft_format.specs.Values.{pair_of}
+use Rattle.ft_format.specs.Broken.{type_queue_broken}
+use Rattle.ft_format.proofs.Loops.{goes, ends, gives, given, past_more}
+use Rattle.ft_object.proofs.Judging.{halts, found, found_none, of_read}
 use Rattle.ft_object.proofs.sections.queue.read_type_queue.Goals as goal
 
 pub returns-in_err-pair-clause-judged : goal.returns-in_err-pair-clause-judged
@@ -17,7 +18,8 @@ returns-in_err-pair-clause-judged c =
     let bs = c.loop.rest.now in
     let row : List ℕ = pair_numbers c.read-row.result in
     let is : row ≡ numbers pair_layout (take 8 bs) = c.read-row.ensures ∙ ap (numbers pair_layout) c.split_at.ensures.front in
-    let rule : IsError c.in_err-pair.field-0.0 (queue_broken c.args.nodes.now c.args.ints c.loop.place row) = c.in_err-pair.ensures.judged in
+    let rule : IsError c.in_err-pair.field-0.0 (queue_broken c.args.nodes.now c.args.ints c.loop.place row) =
+    found c.read_queue_row.result c.in_err-pair.field-0.0 (queue_broken c.args.nodes.now c.args.ints c.loop.place row) c.in_err-pair.ensures.cases c.read_queue_row.ensures.judged in
     let p = err_from_is_err_and c.from_residual.result c.from_residual.ensures.1 in
     rw (p.1, p.2) (halts pair_layout _ _ bs row (queue_broken c.args.nodes.now c.args.ints c.loop.place row) _ c.in_err-pair.field-0.0 (type_queue_broken c.args.nodes.now c.args.ints c.loop.place) (type_queue_broken c.args.nodes.now c.args.ints (c.loop.place + 8)) one_more is (λ rest. refl) rule c.loop.invariant.broken)
 
@@ -28,13 +30,15 @@ loop-preserved c =
     let bs = c.loop.rest.now in
     let row : List ℕ = pair_numbers c.read-row.result in
     let is : row ≡ numbers pair_layout (take 8 bs) = c.read-row.ensures ∙ ap (numbers pair_layout) c.split_at.ensures.front in
-    let rule : (queue_broken c.args.nodes.now c.args.ints c.loop.place row) ≡ None = c.in_ok-pair.ensures.judged in
+    let rule : (queue_broken c.args.nodes.now c.args.ints c.loop.place row) ≡ None =
+    found_none c.read_queue_row.result c.in_ok-pair.pair (queue_broken c.args.nodes.now c.args.ints c.loop.place row) c.in_ok-pair.ensures.cases c.read_queue_row.ensures.judged in
+    let read : c.in_ok-pair.pair ≡ pair_of row = of_read c.read_queue_row.result c.in_ok-pair.pair (λ x. x ≡ pair_of row) c.in_ok-pair.ensures.cases c.read_queue_row.ensures.read in
     rw (c.in_ok-push.ensures.ok, c.split_at.ensures.back) (record {
       there = omega (arith, length-drop 8 bs);
       places = omega arith;
       rest = past_more 8 c.loop.counter c.args.bytes.now bs c.loop.invariant.rest;
       broken = goes pair_layout _ _ bs row (queue_broken c.args.nodes.now c.args.ints c.loop.place row) _ (type_queue_broken c.args.nodes.now c.args.ints c.loop.place) (type_queue_broken c.args.nodes.now c.args.ints (c.loop.place + 8)) one_more is (λ rest. refl) rule c.loop.invariant.broken;
-      read = gives pair_layout _ _ bs row c.loop.queue.items _ c.in_ok-pair.pair (map pair_of) (map pair_of) one_more is (λ rest. rw c.in_ok-pair.ensures.read refl) c.loop.invariant.read;
+      read = gives pair_layout _ _ bs row c.loop.queue.items _ c.in_ok-pair.pair (map pair_of) (map pair_of) one_more is (λ rest. rw read refl) c.loop.invariant.read;
     })
 
 pub returns-clause-judged : goal.returns-clause-judged

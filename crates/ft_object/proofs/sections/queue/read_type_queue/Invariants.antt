@@ -1,7 +1,7 @@
 use Rattle.std.proofs.Common.{◌≡◌, ◌+◌, ◌-◌, ◌*◌, ◌^◌, ◌≤◌, ◌++◌, length, drop, map}
-use Rattle.ft_object.specs.Layout.{rows, pair_layout}
-use Rattle.ft_object.specs.Values.{pair_of}
-use Rattle.ft_object.specs.Broken.{type_queue_broken}
+use Rattle.ft_format.specs.Layout.{rows, pair_layout}
+use Rattle.ft_format.specs.Values.{pair_of}
+use Rattle.ft_format.specs.Broken.{type_queue_broken}
 use Rattle.ft_object.proofs.sections.queue.read_type_queue.Given as goal
 
 abbrev pub invariant-loop : goal.invariant-loop

@@ -1,7 +1,7 @@
 use Rattle.std.proofs.Common.{◌≡◌, ◌+◌, ◌-◌, ◌*◌, ◌^◌, ◌≤◌, ◌++◌, length, drop, map}
-use Rattle.ft_object.specs.Layout.{rows, reg_layout}
-use Rattle.ft_object.specs.Values.{reg_type_of}
-use Rattle.ft_object.specs.Broken.{type_regs_broken}
+use Rattle.ft_format.specs.Layout.{rows, reg_layout}
+use Rattle.ft_format.specs.Values.{reg_type_of}
+use Rattle.ft_format.specs.Broken.{type_regs_broken}
 use Rattle.ft_object.proofs.sections.regs.read_type_regs.Given as goal
 
 abbrev pub invariant-loop : goal.invariant-loop

@@ -1,7 +1,7 @@
 use Rattle.std.proofs.Common.{◌≡◌, ◌+◌, ◌-◌, ◌*◌, ◌^◌, ◌≤◌, ◌++◌, length, map}
-use Rattle.ft_object.specs.Layout.{rows, subst_layout}
-use Rattle.ft_object.specs.Values.{subst_of}
-use Rattle.ft_object.specs.Broken.{subst_rows_broken}
+use Rattle.ft_format.specs.Layout.{rows, subst_layout}
+use Rattle.ft_format.specs.Values.{subst_of}
+use Rattle.ft_format.specs.Broken.{subst_rows_broken}
 use Rattle.ft_object.proofs.sections.substs.read_rows.Given as goal
 
 abbrev pub invariant-loop : goal.invariant-loop

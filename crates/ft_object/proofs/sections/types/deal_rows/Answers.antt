@@ -1,11 +1,11 @@
 use Rattle.std.proofs.Common.{◌≡◌, ◌+◌, ◌-◌, ℕ, suc, List, drop, length, refl, ap, ◌∙◌, arith, take}
 use Rattle.std.proofs.lemmas.List.{length-drop}
 use Rattle.ft_types.specs.declared.object.CodeType.{CodeType}
-use Rattle.ft_object.specs.Layout.{numbers, type_layout}
-use Rattle.ft_object.specs.Fields.{type_numbers}
-use Rattle.ft_object.specs.Values.{regs_end_of, queue_end_of, types_of}
+use Rattle.ft_format.specs.Layout.{numbers, type_layout}
+use Rattle.ft_format.specs.Fields.{type_numbers}
+use Rattle.ft_format.specs.Values.{regs_end_of, queue_end_of, types_of}
 use Rattle.ft_object.proofs.EndsRise.{first_end, types_more}
-use Rattle.ft_object.proofs.Loops.{gives, given}
+use Rattle.ft_format.proofs.Loops.{gives, given}
 use Rattle.ft_object.proofs.sections.types.deal_rows.Goals as goal
 
 pub slice_bounds-copy-count : goal.slice_bounds-copy-count

@@ -1,6 +1,6 @@
 use Rattle.std.proofs.Common.{◌≡◌, ◌-◌, ◌*◌, ◌≤◌, ◌++◌, length, drop}
-use Rattle.ft_object.specs.Layout.{rows, type_layout}
-use Rattle.ft_object.specs.Values.{regs_end_of, queue_end_of, types_of}
+use Rattle.ft_format.specs.Layout.{rows, type_layout}
+use Rattle.ft_format.specs.Values.{regs_end_of, queue_end_of, types_of}
 use Rattle.ft_object.specs.Ends.{AreEnds}
 use Rattle.ft_object.proofs.sections.types.deal_rows.Given as goal
 

@@ -1,0 +1,166 @@
+-- Fields of records: tests that hold, codes, registers, basic types and words, both ways.
+use Rattle.std.proofs.Common.{◌≡◌, ℕ, zero, suc, ◌+◌, ◌^◌, ◌<◌, ◌≤◌, Bool, true, false, None, Some, refl, sym, ap, arith}
+use Rattle.std.specs.Prelude.{◌==◌, nat_lt, nat_le}
+use Rattle.std.proofs.lemmas.Bool.{true≢false, lt-ltb}
+use Rattle.std.proofs.lemmas.Bool.Decides.{nat_tests}
+use Rattle.std.proofs.Math.Bridge.{le_prop}
+use borrow.Author.Tests.{ltb-true}
+use Rattle.ft_isa.specs.declared.reg.Reg.{Reg}
+use Rattle.ft_isa.specs.declared.colour.Colour.{Colour}
+use Rattle.ft_isa.specs.declared.colour.Colour.TheVariants.{Green, Blue}
+use Rattle.ft_isa.specs.declared.op.Op.{Op}
+use Rattle.ft_isa.specs.declared.op.Op.TheVariants.{Add, Sub, Mul, Ltu, Eq}
+use Rattle.ft_isa.specs.declared.basic.Base.{Base}
+use Rattle.ft_isa.specs.declared.basic.Base.TheVariants.{Int, Code}
+use Rattle.ft_isa.specs.declared.basic.Basic.{Basic}
+use Rattle.ft_isa.specs.Registers.{reg_if}
+use Rattle.ft_types.specs.Spellable.{IsBase, IsBasic}
+use Rattle.ft_format.specs.declared.object_error.ObjectError.{ObjectError}
+use Rattle.ft_format.specs.declared.object_error.ObjectError.TheVariants as errors
+use Rattle.ft_format.specs.Rules.{must, ◌next◌, colour_broken, op_broken, register_broken, code_type_broken, basic_broken}
+use Rattle.ft_format.specs.Rows.{colour_code, op_code, base_code, base_type, high_half, low_half}
+use Rattle.ft_format.specs.Values.{or_first, register_of, colour_of, op_of, base_of, basic_of, joined}
+use Rattle.ft_format.proofs.Unbroken.{held, both}
+
+-- what a test that must hold says, and that it holds
+pub le_held : (n m : ℕ) (e : ObjectError) → must (nat_le n m) e ≡ None → n ≤ m
+le_held n m e h = grind (arith, nat_tests, held (nat_le n m) e h)
+
+pub lt_held : (n m : ℕ) (e : ObjectError) → must (nat_lt n m) e ≡ None → n < m
+lt_held n m e h = grind (arith, nat_tests, held (nat_lt n m) e h)
+
+pub eq_held : (n m : ℕ) (e : ObjectError) → must (n == m) e ≡ None → n ≡ m
+eq_held n m e h = grind (arith, nat_tests, held (n == m) e h)
+
+pub le_true : (n m : ℕ) → n ≤ m → nat_le n m ≡ true
+le_true n m h = grind (arith, nat_tests)
+
+pub lt_true : (n m : ℕ) → n < m → nat_lt n m ≡ true
+lt_true n m h = grind (arith, nat_tests)
+
+pub eq_true : (n m : ℕ) → n ≡ m → (n == m) ≡ true
+eq_true n m h = grind (arith, nat_tests)
+
+pub eq_false : (n m : ℕ) → (n ≡ m → ⊥) → (n == m) ≡ false
+eq_false n m h = grind (arith, nat_tests)
+
+-- a number of so few, case by case
+pub up_to_1 : (P : ℕ → Type 0) → P 0 → P 1 → (n : ℕ) → n ≤ 1 → P n
+up_to_1 P a b zero h = a
+up_to_1 P a b (suc zero) h = b
+up_to_1 P a b (suc (suc n)) h = absurd (omega arith)
+
+pub up_to_4 : (P : ℕ → Type 0) → P 0 → P 1 → P 2 → P 3 → P 4 → (n : ℕ) → n ≤ 4 → P n
+up_to_4 P a b c d e zero h = a
+up_to_4 P a b c d e (suc zero) h = b
+up_to_4 P a b c d e (suc (suc zero)) h = c
+up_to_4 P a b c d e (suc (suc (suc zero))) h = d
+up_to_4 P a b c d e (suc (suc (suc (suc zero)))) h = e
+up_to_4 P a b c d e (suc (suc (suc (suc (suc n))))) h = absurd (omega arith)
+
+pub up_to_5 : (P : ℕ → Type 0) → P 0 → P 1 → P 2 → P 3 → P 4 → P 5 → (n : ℕ) → n ≤ 5 → P n
+up_to_5 P a b c d e f zero h = a
+up_to_5 P a b c d e f (suc zero) h = b
+up_to_5 P a b c d e f (suc (suc zero)) h = c
+up_to_5 P a b c d e f (suc (suc (suc zero))) h = d
+up_to_5 P a b c d e f (suc (suc (suc (suc zero)))) h = e
+up_to_5 P a b c d e f (suc (suc (suc (suc (suc zero))))) h = f
+up_to_5 P a b c d e f (suc (suc (suc (suc (suc (suc n)))))) h = absurd (omega arith)
+
+pub up_to_7 : (P : ℕ → Type 0) → P 0 → P 1 → P 2 → P 3 → P 4 → P 5 → P 6 → P 7 → (n : ℕ) → n ≤ 7 → P n
+up_to_7 P a b c d e f g k zero h = a
+up_to_7 P a b c d e f g k (suc zero) h = b
+up_to_7 P a b c d e f g k (suc (suc zero)) h = c
+up_to_7 P a b c d e f g k (suc (suc (suc zero))) h = d
+up_to_7 P a b c d e f g k (suc (suc (suc (suc zero)))) h = e
+up_to_7 P a b c d e f g k (suc (suc (suc (suc (suc zero))))) h = f
+up_to_7 P a b c d e f g k (suc (suc (suc (suc (suc (suc zero)))))) h = g
+up_to_7 P a b c d e f g k (suc (suc (suc (suc (suc (suc (suc zero))))))) h = k
+up_to_7 P a b c d e f g k (suc (suc (suc (suc (suc (suc (suc (suc n)))))))) h = absurd (omega arith)
+
+-- colours
+pub colour_again : (at n : ℕ) → colour_broken at n ≡ None → colour_code (colour_of n) ≡ n
+colour_again at n h = up_to_1 (λ k. colour_code (colour_of k) ≡ k) refl refl n (le_held n 1 (errors.Kind at) h)
+
+pub colour_back : (c : Colour) → colour_of (colour_code c) ≡ c
+colour_back Green = refl
+colour_back Blue = refl
+
+pub colour_fine : (at : ℕ) (c : Colour) → colour_broken at (colour_code c) ≡ None
+colour_fine at Green = refl
+colour_fine at Blue = refl
+
+-- operations
+pub op_again : (at n : ℕ) → op_broken at n ≡ None → op_code (op_of n) ≡ n
+op_again at n h = up_to_4 (λ k. op_code (op_of k) ≡ k) refl refl refl refl refl n (le_held n 4 (errors.Kind at) h)
+
+pub op_back : (o : Op) → op_of (op_code o) ≡ o
+op_back Add = refl
+op_back Sub = refl
+op_back Mul = refl
+op_back Ltu = refl
+op_back Eq = refl
+
+pub op_fine : (at : ℕ) (o : Op) → op_broken at (op_code o) ≡ None
+op_fine at Add = refl
+op_fine at Sub = refl
+op_fine at Mul = refl
+op_fine at Ltu = refl
+op_fine at Eq = refl
+
+-- registers
+same_reg : (n : ℕ) (h : n < 64) (b : Bool) (e : nat_lt n 64 ≡ b) → b ≡ true → reg_if n b e ≡ Some (record { number = n; in_range = h })
+same_reg n h true e t = ap (λ p. Some (record { number = n; in_range = p })) (le_prop (ltb-true n 64 e) h)
+same_reg n h false e t = absurd (true≢false (sym t))
+
+pub register_again : (at n : ℕ) → register_broken at n ≡ None → (register_of n).number ≡ n
+register_again at n h =
+    let lt : n < 64 = lt_held n 64 (errors.Index at) h in
+    ap (λ r. (or_first r).number) (same_reg n lt (nat_lt n 64) refl (lt-ltb n 64 lt))
+
+pub register_back : (r : Reg) → register_of r.number ≡ r
+register_back r = ap or_first (same_reg r.number r.in_range (nat_lt r.number 64) refl (lt-ltb r.number 64 r.in_range))
+
+pub register_fine : (at : ℕ) (r : Reg) → register_broken at r.number ≡ None
+register_fine at r = rw (lt_true r.number 64 r.in_range) refl
+
+-- basic types
+pub record BasicAgain (types refs base code_type : ℕ) : Type 0 where
+  pub basic : IsBasic types (basic_of refs base code_type)
+  pub code : base_code (base_of base code_type) ≡ base
+  pub own : base_type (base_of base code_type) ≡ code_type
+
+code_type_again : (types at refs : ℕ) → refs ≤ 8 → (base : ℕ) → base ≤ 1 → (code_type : ℕ) → code_type_broken types at base code_type ≡ None → BasicAgain types refs base code_type
+code_type_again types at refs few = up_to_1 (λ base. (code_type : ℕ) → code_type_broken types at base code_type ≡ None → BasicAgain types refs base code_type)
+    (λ t h. record { basic = record { refs = few; base = tt }; code = refl; own = sym (eq_held t 0 (errors.Pad at) h) })
+    (λ t h. record { basic = record { refs = few; base = lt_held t types (errors.Index at) h }; code = refl; own = refl })
+
+pub basic_again : (types at refs base code_type : ℕ) → basic_broken types at refs base code_type ≡ None → BasicAgain types refs base code_type
+basic_again types at refs base code_type h =
+    let a = both (must (nat_le refs 8) (errors.Kind at)) (must (nat_le base 1) (errors.Kind (at + 1)) next code_type_broken types (at + 2) base code_type) h in
+    let b = both (must (nat_le base 1) (errors.Kind (at + 1))) (code_type_broken types (at + 2) base code_type) a.1 in
+    code_type_again types (at + 2) refs (le_held refs 8 (errors.Kind at) a.0) base (le_held base 1 (errors.Kind (at + 1)) b.0) code_type b.1
+
+basic_parts : (types at refs : ℕ) (base : Base) → nat_le refs 8 ≡ true → IsBase types base → basic_broken types at refs (base_code base) (base_type base) ≡ None
+basic_parts types at refs Int few h = rw few refl
+basic_parts types at refs (Code t) few h = rw (few, lt_true t types h) refl
+
+pub basic_fine : (types at : ℕ) (b : Basic) → IsBasic types b → basic_broken types at b.refs (base_code b.base) (base_type b.base) ≡ None
+basic_fine types at b h = basic_parts types at b.refs b.base (le_true b.refs 8 h.refs) h.base
+
+pub base_back : (b : Base) → base_of (base_code b) (base_type b) ≡ b
+base_back Int = refl
+base_back (Code t) = refl
+
+pub basic_back : (b : Basic) → basic_of b.refs (base_code b.base) (base_type b.base) ≡ b
+basic_back b = ap (λ x. record { refs = b.refs; base = x }) (base_back b.base)
+
+-- words in two halves
+pub high_back : (high low : ℕ) → low < 2 ^ 32 → high_half (joined high low) ≡ high
+high_back high low h = omega arith
+
+pub low_back : (high low : ℕ) → low < 2 ^ 32 → low_half (joined high low) ≡ low
+low_back high low h = omega arith
+
+pub word_back : (w : ℕ) → joined (high_half w) (low_half w) ≡ w
+word_back w = omega arith

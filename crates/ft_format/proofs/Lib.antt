@@ -1,0 +1,17 @@
+pub mod Cells
+pub mod Codes
+pub mod Instrs
+pub mod Layouts
+pub mod Loops
+pub mod NameBytes
+pub mod Nodes
+pub mod Read
+pub mod ReadWhole
+pub mod References
+pub mod Shapes
+pub mod SmallRows
+pub mod Substitutions
+pub mod Types
+pub mod Unbroken
+pub mod Write
+pub mod Written

@@ -1,0 +1,27 @@
+-- What follows where no rule is broken.
+use Rattle.std.proofs.Common.{◌≡◌, Bool, true, false, Option, None, Some, refl}
+use Rattle.ft_format.specs.declared.object_error.ObjectError.{ObjectError}
+use Rattle.ft_format.specs.Rules.{must, ◌next◌}
+
+-- a test that must hold holds
+pub held : (b : Bool) (e : ObjectError) → must b e ≡ None → b ≡ true
+held true e h = refl
+held false e h = absurd (cc)
+
+-- none of the first rules is broken, and none of the next
+pub both : (a b : Option ObjectError) → (a next b) ≡ None → (a ≡ None) × (b ≡ None)
+both None b h = (refl, h)
+both (Some e) b h = absurd (cc)
+
+-- the first rule holds, and the next ones
+pub first_held : (b : Bool) (e : ObjectError) (rest : Option ObjectError) → (must b e next rest) ≡ None → (b ≡ true) × (rest ≡ None)
+first_held true e rest h = (refl, h)
+first_held false e rest h = absurd (cc)
+
+-- none of the rules after three is broken
+pub after_three : (a b c rest : Option ObjectError) → (a next b next c next rest) ≡ None → rest ≡ None
+after_three a b c rest h = (both c rest (both b (c next rest) (both a (b next c next rest) h).1).1).1
+
+-- no rule of either is broken
+pub neither : (a b : Option ObjectError) → a ≡ None → b ≡ None → (a next b) ≡ None
+neither a b p q = rw p q

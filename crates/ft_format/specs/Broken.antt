@@ -1,0 +1,258 @@
+-- The first rule that bytes break, with its place.
+use Rattle.std.specs.Prelude.{ℕ, ◌+◌, ◌-◌, ◌*◌, min, not, ◌≤◌, ◌==◌, nat_le, List, [], ◌∷◌, ◌++◌, length, drop, map, Option, Some, None}
+use Rattle.std.specs.List.{list_any}
+use Rattle.std.specs.Str.{bytes_eq}
+use Rattle.ft_static.specs.declared.node.Node.{Node}
+use Rattle.ft_types.specs.declared.object.Object.{Object}
+use Rattle.ft_types.specs.declared.object.Cell.{Cell}
+use Rattle.ft_types.specs.declared.object.CodeType.{CodeType}
+use Rattle.ft_types.specs.declared.object.RegType.{RegType}
+use Rattle.ft_types.specs.declared.object.Block.{Block}
+use Rattle.ft_isa.specs.declared.instr.Instr.{Instr}
+use Rattle.ft_types.specs.Spellable.{is_letter, is_name_byte}
+use Rattle.ft_format.specs.declared.object_error.ObjectError.{ObjectError}
+use Rattle.ft_format.specs.declared.object_error.ObjectError.TheVariants as errors
+use Rattle.ft_format.specs.declared.header.Header.{Header}
+use Rattle.ft_format.specs.Layout.{numbers, rows, header_layout, cell_layout, code_layout, type_layout, reg_layout, pair_layout, subst_layout}
+use Rattle.ft_format.specs.Rules.{must, ◌next◌, header_broken, cell_broken, node_broken, type_broken, reg_broken, queue_broken, block_broken, instr_broken, subst_broken}
+use Rattle.ft_format.specs.Values.{past_of, cells_of, node_of, regs_end_of, queue_end_of, ints_of, types_of, reg_type_of, pair_of, block_of, instr_of, rows_past, subst_of, header_of}
+
+-- the number that stands first in a row
+abbrev pub first_of_row : List ℕ → ℕ
+first_of_row (n ∷ rest) = n
+first_of_row [] = 0
+
+-- cells, whose names begin at `start`
+unfoldable pub cells_broken : Header → ℕ → ℕ → List (List ℕ) → Option ObjectError
+cells_broken h start at [] = None
+cells_broken h start at (row ∷ rest) = cell_broken h start at row next cells_broken h (past_of row) (at + 16) rest
+
+-- nodes, after earlier ones
+unfoldable pub nodes_broken : List Node → ℕ → List (List ℕ) → Option ObjectError
+nodes_broken earlier at [] = None
+nodes_broken earlier at (row ∷ rest) = node_broken earlier at row next nodes_broken (earlier ++ node_of row ∷ []) (at + 16) rest
+
+-- types, whose register rows and queue rows begin at these numbers
+unfoldable pub types_broken : Header → List Node → ℕ → ℕ → ℕ → List (List ℕ) → Option ObjectError
+types_broken h nodes regs queue at [] = None
+types_broken h nodes regs queue at (row ∷ rest) = type_broken h nodes regs queue at row next types_broken h nodes (regs_end_of row) (queue_end_of row) (at + 16) rest
+
+-- register rows of one type
+unfoldable pub type_regs_broken : ℕ → List Node → ℕ → ℕ → ℕ → List (List ℕ) → Option ObjectError
+type_regs_broken types nodes ints least at [] = None
+type_regs_broken types nodes ints least at (row ∷ rest) = reg_broken types nodes ints least at row next type_regs_broken types nodes ints (first_of_row row + 1) (at + 12) rest
+
+-- the register rows of types, from row `start` on; a row that is left is nobody's
+unfoldable pub regs_broken : Header → List Node → ℕ → ℕ → List (List ℕ) → List ℕ → Option ObjectError
+regs_broken h nodes start at [] bytes = must (start == h.regs) (errors.Order at)
+regs_broken h nodes start at (row ∷ rest) bytes =
+    type_regs_broken h.types nodes (ints_of row) 0 at (rows reg_layout (regs_end_of row - start) bytes)
+    next regs_broken h nodes (regs_end_of row) (at + 12 * (regs_end_of row - start)) rest (drop (12 * (regs_end_of row - start)) bytes)
+
+-- queue rows of one type
+unfoldable pub type_queue_broken : List Node → ℕ → ℕ → List (List ℕ) → Option ObjectError
+type_queue_broken nodes ints at [] = None
+type_queue_broken nodes ints at (row ∷ rest) = queue_broken nodes ints at row next type_queue_broken nodes ints (at + 8) rest
+
+-- the queue rows of types, from row `start` on; a row that is left is nobody's
+unfoldable pub queues_broken : Header → List Node → ℕ → ℕ → List (List ℕ) → List ℕ → Option ObjectError
+queues_broken h nodes start at [] bytes = must (start == h.queue) (errors.Order at)
+queues_broken h nodes start at (row ∷ rest) bytes =
+    type_queue_broken nodes (ints_of row) at (rows pair_layout (queue_end_of row - start) bytes)
+    next queues_broken h nodes (queue_end_of row) (at + 8 * (queue_end_of row - start)) rest (drop (8 * (queue_end_of row - start)) bytes)
+
+-- blocks, after a block that begins at the previous place
+unfoldable pub blocks_broken : Header → Option ℕ → ℕ → List (List ℕ) → Option ObjectError
+blocks_broken h previous at [] = None
+blocks_broken h previous at (row ∷ rest) = block_broken h previous at row next blocks_broken h (Some (first_of_row row)) (at + 8) rest
+
+-- instructions, where the substitutions before took the rows up to `first`
+unfoldable pub instrs_broken : Header → List Node → ℕ → ℕ → List (List ℕ) → Option ObjectError
+instrs_broken h nodes first at [] = None
+instrs_broken h nodes first at (row ∷ rest) = instr_broken h nodes first at row next instrs_broken h nodes (rows_past first row) (at + 16) rest
+
+-- how many substitution rows the substitutions of instructions take
+unfoldable pub rows_taken : ℕ → List (List ℕ) → ℕ
+rows_taken first [] = first
+rows_taken first (row ∷ rest) = rows_taken (rows_past first row) rest
+
+-- substitution rows
+unfoldable pub subst_rows_broken : List Node → ℕ → List (List ℕ) → Option ObjectError
+subst_rows_broken nodes at [] = None
+subst_rows_broken nodes at (row ∷ rest) = subst_broken nodes at row next subst_rows_broken nodes (at + 4) rest
+
+-- the substitution rows that substitutions take; a row that is left is nobody's
+abbrev pub substs_broken : Header → List Node → ℕ → ℕ → List ℕ → Option ObjectError
+substs_broken h nodes taken at bytes =
+    subst_rows_broken nodes at (rows subst_layout taken bytes)
+    next must (taken == h.substs) (errors.Order (at + 4 * taken))
+
+-- the bytes of a name after its first
+unfoldable pub name_rest_broken : ℕ → List ℕ → Option ObjectError
+name_rest_broken at [] = None
+name_rest_broken at (b ∷ bs) = must (is_name_byte b) (errors.Name at) next name_rest_broken (at + 1) bs
+
+-- the bytes of a name
+unfoldable pub name_bytes_broken : ℕ → List ℕ → Option ObjectError
+name_bytes_broken at [] = None
+name_bytes_broken at (b ∷ bs) = must (is_letter b) (errors.Name at) next name_rest_broken (at + 1) bs
+
+-- a name, after those of earlier cells
+abbrev pub name_broken : List Cell → ℕ → List ℕ → Option ObjectError
+name_broken earlier at name = name_bytes_broken at name next must (not (list_any (λ c. bytes_eq name c.name) earlier)) (errors.Name at)
+
+-- the names of cells, after those of earlier ones, up to the end; a byte that is left is nobody's
+unfoldable pub names_broken : ℕ → List Cell → ℕ → List Cell → Option ObjectError
+names_broken end earlier at [] = must (at == end) (errors.Order at)
+names_broken end earlier at (c ∷ cs) = name_broken earlier at c.name next names_broken end (earlier ++ c ∷ []) (at + length c.name) cs
+
+-- where the sections begin
+abbrev pub nodes_at : Header → ℕ
+nodes_at h = 48 + 16 * h.cells
+
+abbrev pub types_at : Header → ℕ
+types_at h = nodes_at h + 16 * h.nodes
+
+abbrev pub regs_at : Header → ℕ
+regs_at h = types_at h + 16 * h.types
+
+abbrev pub queue_at : Header → ℕ
+queue_at h = regs_at h + 12 * h.regs
+
+abbrev pub blocks_at : Header → ℕ
+blocks_at h = queue_at h + 8 * h.queue
+
+abbrev pub instrs_at : Header → ℕ
+instrs_at h = blocks_at h + 8 * h.blocks
+
+abbrev pub substs_at : Header → ℕ
+substs_at h = instrs_at h + 16 * h.instrs
+
+abbrev pub names_at : Header → ℕ
+names_at h = substs_at h + 4 * h.substs
+
+-- how many bytes the counts give
+abbrev pub total : Header → ℕ
+total h = names_at h + h.names
+
+-- counts within their limits
+pub record IsSmall (h : Header) : Type 0 where
+  pub cells : h.cells ≤ 1024
+  pub nodes : h.nodes ≤ 1048576
+  pub types : h.types ≤ 4096
+  pub regs : h.regs ≤ 262144
+  pub queue : h.queue ≤ 32768
+  pub blocks : h.blocks ≤ 65536
+  pub instrs : h.instrs ≤ 65536
+  pub substs : h.substs ≤ 1048576
+  pub names : h.names ≤ 32768
+
+-- the bytes from each section on
+abbrev pub cells_part : List ℕ → List ℕ
+cells_part bytes = drop 48 bytes
+
+abbrev pub nodes_part : Header → List ℕ → List ℕ
+nodes_part h bytes = drop (nodes_at h) bytes
+
+abbrev pub types_part : Header → List ℕ → List ℕ
+types_part h bytes = drop (types_at h) bytes
+
+abbrev pub regs_part : Header → List ℕ → List ℕ
+regs_part h bytes = drop (regs_at h) bytes
+
+abbrev pub queue_part : Header → List ℕ → List ℕ
+queue_part h bytes = drop (queue_at h) bytes
+
+abbrev pub blocks_part : Header → List ℕ → List ℕ
+blocks_part h bytes = drop (blocks_at h) bytes
+
+abbrev pub instrs_part : Header → List ℕ → List ℕ
+instrs_part h bytes = drop (instrs_at h) bytes
+
+abbrev pub substs_part : Header → List ℕ → List ℕ
+substs_part h bytes = drop (substs_at h) bytes
+
+abbrev pub names_part : Header → List ℕ → List ℕ
+names_part h bytes = drop (names_at h) bytes
+
+-- the rows of types and of instructions, which later sections look at
+abbrev pub type_rows_of : Header → List ℕ → List (List ℕ)
+type_rows_of h bytes = rows type_layout h.types (types_part h bytes)
+
+abbrev pub instr_rows_of : Header → List ℕ → List (List ℕ)
+instr_rows_of h bytes = rows code_layout h.instrs (instrs_part h bytes)
+
+-- the cells, nodes, types and so on that the sections spell
+abbrev pub cells_read : Header → List ℕ → List Cell
+cells_read h bytes = cells_of (names_part h bytes) 0 (rows cell_layout h.cells (cells_part bytes))
+
+abbrev pub nodes_read : Header → List ℕ → List Node
+nodes_read h bytes = map node_of (rows code_layout h.nodes (nodes_part h bytes))
+
+abbrev pub regs_read : Header → List ℕ → List RegType
+regs_read h bytes = map reg_type_of (rows reg_layout h.regs (regs_part h bytes))
+
+abbrev pub queue_read : Header → List ℕ → List (ℕ × ℕ)
+queue_read h bytes = map pair_of (rows pair_layout h.queue (queue_part h bytes))
+
+abbrev pub types_read : Header → List ℕ → List CodeType
+types_read h bytes = types_of 0 0 (type_rows_of h bytes) (regs_read h bytes) (queue_read h bytes)
+
+abbrev pub blocks_read : Header → List ℕ → List Block
+blocks_read h bytes = map block_of (rows pair_layout h.blocks (blocks_part h bytes))
+
+abbrev pub instrs_read : Header → List ℕ → List Instr
+instrs_read h bytes = map instr_of (instr_rows_of h bytes)
+
+abbrev pub substs_read : Header → List ℕ → List ℕ
+substs_read h bytes = map subst_of (rows subst_layout h.substs (substs_part h bytes))
+
+-- the object that the sections spell
+unfoldable pub tables_read : Header → List ℕ → Object
+tables_read h bytes = record {
+  cells = cells_read h bytes;
+  nodes = nodes_read h bytes;
+  types = types_read h bytes;
+  blocks = blocks_read h bytes;
+  instrs = instrs_read h bytes;
+  substs = substs_read h bytes;
+  entry = h.entry;
+}
+
+-- the types with their register rows and queue rows
+unfoldable pub code_types_broken : Header → List Node → List ℕ → Option ObjectError
+code_types_broken h nodes bytes =
+    types_broken h nodes 0 0 (types_at h) (type_rows_of h bytes)
+    next regs_broken h nodes 0 (regs_at h) (type_rows_of h bytes) (regs_part h bytes)
+    next queues_broken h nodes 0 (queue_at h) (type_rows_of h bytes) (queue_part h bytes)
+
+-- the nine sections in order
+unfoldable pub tables_broken : Header → List ℕ → Option ObjectError
+tables_broken h bytes =
+    cells_broken h 0 48 (rows cell_layout h.cells (cells_part bytes))
+    next nodes_broken [] (nodes_at h) (rows code_layout h.nodes (nodes_part h bytes))
+    next code_types_broken h (nodes_read h bytes) bytes
+    next blocks_broken h None (blocks_at h) (rows pair_layout h.blocks (blocks_part h bytes))
+    next instrs_broken h (nodes_read h bytes) 0 (instrs_at h) (instr_rows_of h bytes)
+    next substs_broken h (nodes_read h bytes) (rows_taken 0 (instr_rows_of h bytes)) (substs_at h) (substs_part h bytes)
+    next names_broken (total h) [] (names_at h) (cells_read h bytes)
+
+-- the header of bytes
+abbrev pub header_at : List ℕ → Header
+header_at bytes = header_of (numbers header_layout bytes)
+
+-- the rules that come before those of the sections: of the length, of the header, of the total
+abbrev pub front_broken : List ℕ → Option ObjectError
+front_broken bytes =
+    must (nat_le (length bytes) 67108864) (errors.Length 67108864)
+    next must (nat_le 48 (length bytes)) (errors.Length (length bytes))
+    next header_broken (header_at bytes)
+    next must (length bytes == total (header_at bytes)) (errors.Length (min (length bytes) (total (header_at bytes))))
+
+-- the first rule that bytes break
+unfoldable pub broken : List ℕ → Option ObjectError
+broken bytes = front_broken bytes next tables_broken (header_at bytes) bytes
+
+-- the object of bytes that break no rule
+abbrev pub object_of : List ℕ → Object
+object_of bytes = tables_read (header_at bytes) bytes

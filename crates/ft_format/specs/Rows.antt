@@ -1,0 +1,149 @@
+-- The numbers that stand for each part of an object, and the bytes that are written for an object.
+use Rattle.std.specs.Prelude.{ℕ, ◌+◌, ◌*◌, ◌/◌, ◌%◌, ◌^◌, List, [], ◌∷◌, ◌++◌, length, map}
+use Rattle.std.specs.List.{flat_map}
+use Rattle.ft_isa.specs.declared.colour.Colour.{Colour}
+use Rattle.ft_isa.specs.declared.colour.Colour.TheVariants.{Green, Blue}
+use Rattle.ft_isa.specs.declared.op.Op.{Op}
+use Rattle.ft_isa.specs.declared.op.Op.TheVariants.{Add, Sub, Mul, Ltu, Eq}
+use Rattle.ft_isa.specs.declared.basic.Base.{Base}
+use Rattle.ft_isa.specs.declared.basic.Base.TheVariants.{Int, Code}
+use Rattle.ft_isa.specs.declared.basic.Basic.{Basic}
+use Rattle.ft_isa.specs.declared.instr.Instr.{Instr}
+use Rattle.ft_isa.specs.declared.instr.Instr.TheVariants.{OpReg, OpWord, Mov, Ld, St, JmpG, JmpB, BzG, BzB, Halt}
+use Rattle.ft_static.specs.declared.node.Node.{Node}
+use Rattle.ft_static.specs.declared.node.Shape.{Shape}
+use Rattle.ft_static.specs.declared.node.Shape.TheVariants.{Word, Var, Op as OpNode, Sel, Memory, Upd}
+use Rattle.ft_types.specs.declared.object.Object.{Object}
+use Rattle.ft_types.specs.declared.object.Cell.{Cell}
+use Rattle.ft_types.specs.declared.object.Block.{Block}
+use Rattle.ft_types.specs.declared.object.CodeType.{CodeType}
+use Rattle.ft_types.specs.declared.object.RegType.{RegType}
+use Rattle.ft_types.specs.Objects.{name_of, regs_of, queue_of}
+use Rattle.ft_format.specs.Layout.{written, spelled, header_layout, cell_layout, code_layout, type_layout, reg_layout, pair_layout, subst_layout}
+
+-- the code of a colour
+abbrev pub colour_code : Colour → ℕ
+colour_code Green = 0
+colour_code Blue = 1
+
+-- the code of an operation
+abbrev pub op_code : Op → ℕ
+op_code Add = 0
+op_code Sub = 1
+op_code Mul = 2
+op_code Ltu = 3
+op_code Eq = 4
+
+-- the code of a base
+abbrev pub base_code : Base → ℕ
+base_code Int = 0
+base_code (Code t) = 1
+
+-- the code type of a base, 0 for `int`
+abbrev pub base_type : Base → ℕ
+base_type Int = 0
+base_type (Code t) = t
+
+-- the four bytes of a basic type as one number
+abbrev pub basic_number : Basic → ℕ
+basic_number b = b.refs * 2 ^ 24 + base_code b.base * 2 ^ 16 + base_type b.base
+
+-- the upper and the lower four bytes of a word
+abbrev pub high_half : ℕ → ℕ
+high_half w = w / 2 ^ 32
+
+abbrev pub low_half : ℕ → ℕ
+low_half w = w % 2 ^ 32
+
+-- a cell whose name ends at this place in the name bytes
+abbrev pub cell_row : ℕ → Cell → List ℕ
+cell_row past c = past ∷ c.basic.refs ∷ base_code c.basic.base ∷ base_type c.basic.base ∷ c.init ∷ []
+
+-- cells whose names follow one another from a place in the name bytes on
+abbrev pub cell_rows : ℕ → List Cell → List (List ℕ)
+cell_rows start [] = []
+cell_rows start (c ∷ cs) = cell_row (start + length c.name) c ∷ cell_rows (start + length c.name) cs
+
+-- a node of a scope and a shape
+abbrev pub shape_row : ℕ → Shape → List ℕ
+shape_row scope (Word w) = 0 ∷ 0 ∷ scope ∷ 0 ∷ 0 ∷ high_half w ∷ low_half w ∷ []
+shape_row scope (Var i) = 1 ∷ 0 ∷ scope ∷ 0 ∷ i ∷ 0 ∷ 0 ∷ []
+shape_row scope (OpNode op a b) = 2 ∷ op_code op ∷ scope ∷ 0 ∷ a ∷ b ∷ 0 ∷ []
+shape_row scope (Sel memory at) = 3 ∷ 0 ∷ scope ∷ 0 ∷ memory ∷ at ∷ 0 ∷ []
+shape_row scope Memory = 4 ∷ 0 ∷ scope ∷ 0 ∷ 0 ∷ 0 ∷ 0 ∷ []
+shape_row scope (Upd memory at value) = 5 ∷ 0 ∷ scope ∷ 0 ∷ memory ∷ at ∷ value ∷ []
+
+abbrev pub node_row : Node → List ℕ
+node_row n = shape_row n.scope n.shape
+
+-- a type whose rows end at these numbers
+abbrev pub type_row : ℕ → ℕ → CodeType → List ℕ
+type_row regs queue t = regs ∷ queue ∷ t.memory ∷ t.ints ∷ 0 ∷ 0 ∷ 0 ∷ []
+
+-- types whose rows follow one another from these numbers on
+abbrev pub type_rows : ℕ → ℕ → List CodeType → List (List ℕ)
+type_rows regs queue [] = []
+type_rows regs queue (t ∷ ts) = type_row (regs + length t.regs) (queue + length t.queue) t ∷ type_rows (regs + length t.regs) (queue + length t.queue) ts
+
+-- a register row
+abbrev pub reg_row : RegType → List ℕ
+reg_row r = r.reg.number ∷ colour_code r.colour ∷ 0 ∷ r.basic.refs ∷ base_code r.basic.base ∷ base_type r.basic.base ∷ r.expr ∷ []
+
+-- a queue row
+abbrev pub queue_row : ℕ × ℕ → List ℕ
+queue_row q = q.0 ∷ q.1 ∷ []
+
+-- a block
+abbrev pub block_row : Block → List ℕ
+block_row b = b.start ∷ b.code_type ∷ []
+
+-- an instruction
+abbrev pub instr_row : Instr → List ℕ
+instr_row (OpReg op rd rs rt) = 0 ∷ rd.number ∷ rs.number ∷ rt.number ∷ op_code op ∷ 0 ∷ 0 ∷ []
+instr_row (OpWord op rd rs value) = 1 ∷ rd.number ∷ rs.number ∷ colour_code value.colour ∷ op_code op ∷ high_half value.word ∷ low_half value.word ∷ []
+instr_row (Mov rd value basic) = 2 ∷ rd.number ∷ 0 ∷ colour_code value.colour ∷ basic_number basic ∷ high_half value.word ∷ low_half value.word ∷ []
+instr_row (Ld colour rd rs) = 3 ∷ rd.number ∷ rs.number ∷ colour_code colour ∷ 0 ∷ 0 ∷ 0 ∷ []
+instr_row (St colour rd rs) = 4 ∷ rd.number ∷ rs.number ∷ colour_code colour ∷ 0 ∷ 0 ∷ 0 ∷ []
+instr_row (JmpG rd) = 5 ∷ rd.number ∷ 0 ∷ 0 ∷ 0 ∷ 0 ∷ 0 ∷ []
+instr_row (JmpB rd s) = 5 ∷ rd.number ∷ 0 ∷ 1 ∷ s.first ∷ s.past ∷ s.memory ∷ []
+instr_row (BzG rz rd) = 6 ∷ rz.number ∷ rd.number ∷ 0 ∷ 0 ∷ 0 ∷ 0 ∷ []
+instr_row (BzB rz rd s) = 6 ∷ rz.number ∷ rd.number ∷ 1 ∷ s.first ∷ s.past ∷ s.memory ∷ []
+instr_row Halt = 7 ∷ 0 ∷ 0 ∷ 0 ∷ 0 ∷ 0 ∷ 0 ∷ []
+
+-- a substitution row
+abbrev pub subst_row : ℕ → List ℕ
+subst_row n = n ∷ []
+
+-- the register rows, the queue rows and the name bytes of an object, in order
+abbrev pub all_regs : Object → List RegType
+all_regs o = flat_map regs_of o.types
+
+abbrev pub all_queue : Object → List (ℕ × ℕ)
+all_queue o = flat_map queue_of o.types
+
+abbrev pub all_names : Object → List ℕ
+all_names o = flat_map name_of o.cells
+
+-- the magic number and the version: `TALFT`, and then 1 in three bytes
+abbrev pub magic : ℕ
+magic = 6071217637612847105
+
+-- the header
+abbrev pub header_row : Object → List ℕ
+header_row o =
+    magic ∷ length o.cells ∷ length o.nodes ∷ length o.types ∷ length (all_regs o) ∷ length (all_queue o)
+    ∷ length o.blocks ∷ length o.instrs ∷ length o.substs ∷ length (all_names o) ∷ o.entry ∷ []
+
+-- the bytes of an object: the header, and nine sections
+unfoldable pub spelling : Object → List ℕ
+spelling o =
+    written header_layout (header_row o)
+    ++ (spelled cell_layout (cell_rows 0 o.cells)
+    ++ (spelled code_layout (map node_row o.nodes)
+    ++ (spelled type_layout (type_rows 0 0 o.types)
+    ++ (spelled reg_layout (map reg_row (all_regs o))
+    ++ (spelled pair_layout (map queue_row (all_queue o))
+    ++ (spelled pair_layout (map block_row o.blocks)
+    ++ (spelled code_layout (map instr_row o.instrs)
+    ++ (spelled subst_layout (map subst_row o.substs)
+    ++ all_names o))))))))

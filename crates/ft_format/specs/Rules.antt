@@ -1,0 +1,294 @@
+-- The rules of each record. A rule that is broken gives its error and its place, and the first one counts.
+use Rattle.std.specs.Prelude.{ℕ, ◌+◌, ◌/◌, ◌%◌, ◌^◌, Bool, true, false, not, ◌==◌, nat_lt, nat_le, List, [], ◌∷◌, length, Option, Some, None, if◌then◌else◌, slice_get}
+use Rattle.ft_static.specs.declared.node.Node.{Node}
+use Rattle.ft_static.specs.NodeRules.{is_memory}
+use Rattle.ft_format.specs.declared.object_error.ObjectError.{ObjectError}
+use Rattle.ft_format.specs.declared.object_error.ObjectError.TheVariants as errors
+use Rattle.ft_format.specs.declared.header.Header.{Header}
+use Rattle.ft_format.specs.Rows.{magic}
+
+-- nothing where the test holds, else the error
+abbrev pub must : Bool → ObjectError → Option ObjectError
+must true e = None
+must false e = Some e
+
+infixr 5 ◌next◌
+-- what the first rules give, and where none of them is broken what the next ones give
+abbrev pub ◌next◌ : Option ObjectError → Option ObjectError → Option ObjectError
+None next rules = rules
+(Some e) next rules = Some e
+
+-- a field that is 0
+abbrev pub zero_broken : ℕ → ℕ → Option ObjectError
+zero_broken at n = must (n == 0) (errors.Pad at)
+
+-- a count of at most so many, and one of at least 1
+abbrev pub count_broken : ℕ → ℕ → ℕ → Option ObjectError
+count_broken most at n = must (nat_le n most) (errors.Count at)
+
+abbrev pub some_broken : ℕ → ℕ → ℕ → Option ObjectError
+some_broken most at n = must (nat_le 1 n) (errors.Count at) next count_broken most at n
+
+-- header, 48 bytes
+abbrev pub header_broken : Header → Option ObjectError
+header_broken h =
+    must (h.magic == magic) (errors.Magic 0)
+    next count_broken 1024 8 h.cells
+    next count_broken 1048576 12 h.nodes
+    next some_broken 4096 16 h.types
+    next count_broken 262144 20 h.regs
+    next count_broken 32768 24 h.queue
+    next some_broken 65536 28 h.blocks
+    next some_broken 65536 32 h.instrs
+    next count_broken 1048576 36 h.substs
+    next count_broken 32768 40 h.names
+    next must (nat_lt h.entry h.blocks) (errors.Entry 44)
+
+-- a colour, an operation, a register
+abbrev pub colour_broken : ℕ → ℕ → Option ObjectError
+colour_broken at n = must (nat_le n 1) (errors.Kind at)
+
+abbrev pub op_broken : ℕ → ℕ → Option ObjectError
+op_broken at n = must (nat_le n 4) (errors.Kind at)
+
+abbrev pub register_broken : ℕ → ℕ → Option ObjectError
+register_broken at n = must (nat_lt n 64) (errors.Index at)
+
+-- the code type of a basic type: zero for `int`, one of so many types for `code`
+abbrev pub code_type_broken : ℕ → ℕ → ℕ → ℕ → Option ObjectError
+code_type_broken types at base n = if base == 0 then zero_broken at n else must (nat_lt n types) (errors.Index at)
+
+-- basic type, 4 bytes
+abbrev pub basic_broken : ℕ → ℕ → ℕ → ℕ → ℕ → Option ObjectError
+basic_broken types at refs base code_type =
+    must (nat_le refs 8) (errors.Kind at)
+    next must (nat_le base 1) (errors.Kind (at + 1))
+    next code_type_broken types (at + 2) base code_type
+
+-- cell, 16 bytes, after a cell whose name ends at `start`
+abbrev pub cell_broken : Header → ℕ → ℕ → List ℕ → Option ObjectError
+cell_broken h start at (past ∷ refs ∷ base ∷ code_type ∷ init ∷ []) =
+    must (nat_lt start past) (errors.Order at)
+    next must (nat_le past h.names) (errors.Order at)
+    next must (nat_le past (start + 32)) (errors.Name at)
+    next basic_broken h.types (at + 4) refs base code_type
+cell_broken h start at _ = None
+
+-- whether a node that is there is of the sort: an integer, or a memory
+abbrev pub is_of_sort : Bool → Option Node → Bool
+is_of_sort memory None = false
+is_of_sort memory (Some n) = if memory then is_memory n.shape else not (is_memory n.shape)
+
+-- whether a node that is there has at most this scope
+abbrev pub is_within : ℕ → Option Node → Bool
+is_within scope None = false
+is_within scope (Some n) = nat_le n.scope scope
+
+-- the number of a node of the sort
+abbrev pub node_number_broken : List Node → Bool → ℕ → ℕ → Option ObjectError
+node_number_broken nodes memory at n =
+    must (nat_lt n (length nodes)) (errors.Index at)
+    next must (is_of_sort memory (slice_get nodes n)) (errors.Kind at)
+
+-- the number of a node of the sort, within a scope
+abbrev pub named_broken : List Node → ℕ → Bool → ℕ → ℕ → Option ObjectError
+named_broken nodes scope memory at n =
+    node_number_broken nodes memory at n
+    next must (is_within scope (slice_get nodes n)) (errors.Index at)
+
+-- the operation of a node, which only kind 2 has
+abbrev pub node_op_broken : ℕ → ℕ → ℕ → Option ObjectError
+node_op_broken at kind op = if kind == 2 then op_broken at op else zero_broken at op
+
+-- a variable: its number is below the scope
+abbrev pub variable_broken : ℕ → ℕ → ℕ → ℕ → ℕ → Option ObjectError
+variable_broken at scope a b c = must (nat_lt a scope) (errors.Index (at + 4)) next zero_broken (at + 8) b next zero_broken (at + 12) c
+
+-- an operation, or a word of a memory: a node of the sort, and an integer
+abbrev pub pair_broken : List Node → Bool → ℕ → ℕ → ℕ → ℕ → ℕ → Option ObjectError
+pair_broken earlier memory at scope a b c =
+    named_broken earlier scope memory (at + 4) a
+    next named_broken earlier scope false (at + 8) b
+    next zero_broken (at + 12) c
+
+-- the memory variable
+abbrev pub memory_broken : ℕ → ℕ → ℕ → ℕ → Option ObjectError
+memory_broken at a b c = zero_broken (at + 4) a next zero_broken (at + 8) b next zero_broken (at + 12) c
+
+-- a memory with another word at one address
+abbrev pub upd_broken : List Node → ℕ → ℕ → ℕ → ℕ → ℕ → Option ObjectError
+upd_broken earlier at scope a b c =
+    named_broken earlier scope true (at + 4) a
+    next named_broken earlier scope false (at + 8) b
+    next named_broken earlier scope false (at + 12) c
+
+-- the parts a, b and c of a node, by its kind; it refers to earlier nodes only
+abbrev pub parts_broken : List Node → ℕ → ℕ → ℕ → ℕ → ℕ → ℕ → Option ObjectError
+parts_broken earlier at kind scope a b c =
+    if kind == 0 then zero_broken (at + 4) a
+    else (if kind == 1 then variable_broken at scope a b c
+    else (if kind == 2 then pair_broken earlier false at scope a b c
+    else (if kind == 3 then pair_broken earlier true at scope a b c
+    else (if kind == 4 then memory_broken at a b c
+    else upd_broken earlier at scope a b c))))
+
+-- node, 16 bytes, after the earlier nodes
+abbrev pub node_broken : List Node → ℕ → List ℕ → Option ObjectError
+node_broken earlier at (kind ∷ op ∷ scope ∷ pad ∷ a ∷ b ∷ c ∷ []) =
+    must (nat_le kind 5) (errors.Kind at)
+    next node_op_broken (at + 1) kind op
+    next count_broken 128 (at + 2) scope
+    next zero_broken (at + 3) pad
+    next parts_broken earlier at kind scope a b c
+node_broken earlier at _ = None
+
+-- type, 16 bytes, after types whose register rows and queue rows end at `regs` and `queue`
+abbrev pub type_broken : Header → List Node → ℕ → ℕ → ℕ → List ℕ → Option ObjectError
+type_broken h nodes regs queue at (regs_end ∷ queue_end ∷ memory ∷ ints ∷ pad0 ∷ pad1 ∷ pad2 ∷ []) =
+    must (nat_le regs regs_end) (errors.Order at)
+    next must (nat_le regs_end h.regs) (errors.Order at)
+    next must (nat_le queue queue_end) (errors.Order (at + 4))
+    next must (nat_le queue_end h.queue) (errors.Order (at + 4))
+    next must (nat_le queue_end (queue + 8)) (errors.Count (at + 4))
+    next named_broken nodes ints true (at + 8) memory
+    next count_broken 128 (at + 12) ints
+    next zero_broken (at + 13) pad0
+    next zero_broken (at + 13) pad1
+    next zero_broken (at + 13) pad2
+type_broken h nodes regs queue at _ = None
+
+-- register row, 12 bytes, of a type of so many variables, where its rows before leave registers from `least` on
+abbrev pub reg_broken : ℕ → List Node → ℕ → ℕ → ℕ → List ℕ → Option ObjectError
+reg_broken types nodes ints least at (reg ∷ colour ∷ pad ∷ refs ∷ base ∷ code_type ∷ expr ∷ []) =
+    register_broken at reg
+    next must (nat_le least reg) (errors.Order at)
+    next colour_broken (at + 1) colour
+    next zero_broken (at + 2) pad
+    next basic_broken types (at + 4) refs base code_type
+    next named_broken nodes ints false (at + 8) expr
+reg_broken types nodes ints least at _ = None
+
+-- queue row, 8 bytes, of a type of so many variables
+abbrev pub queue_broken : List Node → ℕ → ℕ → List ℕ → Option ObjectError
+queue_broken nodes ints at (address ∷ value ∷ []) =
+    named_broken nodes ints false at address
+    next named_broken nodes ints false (at + 4) value
+queue_broken nodes ints at _ = None
+
+-- whether a block may begin here, after a block that begins at that place
+abbrev pub may_begin : Option ℕ → ℕ → Bool
+may_begin None start = start == 0
+may_begin (Some previous) start = nat_lt previous start
+
+-- block, 8 bytes
+abbrev pub block_broken : Header → Option ℕ → ℕ → List ℕ → Option ObjectError
+block_broken h previous at (start ∷ code_type ∷ []) =
+    must (may_begin previous start) (errors.Order at)
+    next must (nat_lt start h.instrs) (errors.Order at)
+    next must (nat_lt code_type h.types) (errors.Index (at + 4))
+block_broken h previous at _ = None
+
+-- v, 8 bytes in two halves, that is zero
+abbrev pub no_word_broken : ℕ → ℕ → ℕ → Option ObjectError
+no_word_broken at high low = zero_broken at high next zero_broken at low
+
+-- the substitution of a blue jump or branch, where the ones before took the rows up to `first`
+abbrev pub substitution_broken : Header → List Node → ℕ → ℕ → ℕ → ℕ → ℕ → Option ObjectError
+substitution_broken h nodes first at x past memory =
+    must (x == first) (errors.Order at)
+    next must (nat_le x past) (errors.Order (at + 4))
+    next must (nat_le past h.substs) (errors.Order (at + 4))
+    next must (nat_le past (x + 128)) (errors.Count (at + 4))
+    next node_number_broken nodes true (at + 8) memory
+
+-- x and v of a jump or branch: zero for a green one, a substitution for a blue one
+abbrev pub transfer_broken : Header → List Node → ℕ → ℕ → ℕ → ℕ → ℕ → ℕ → Option ObjectError
+transfer_broken h nodes first at colour x high low =
+    if colour == 0 then zero_broken at x next no_word_broken (at + 4) high low
+    else substitution_broken h nodes first at x high low
+
+-- the basic type that x spells
+abbrev pub basic_number_broken : ℕ → ℕ → ℕ → Option ObjectError
+basic_number_broken types at x = basic_broken types at (x / 2 ^ 24) (x / 2 ^ 16 % 2 ^ 8) (x % 2 ^ 16)
+
+-- `op rd, rs, rt`
+abbrev pub op_reg_broken : ℕ → ℕ → ℕ → ℕ → ℕ → ℕ → ℕ → Option ObjectError
+op_reg_broken at a b c x high low =
+    register_broken (at + 1) a
+    next register_broken (at + 2) b
+    next register_broken (at + 3) c
+    next op_broken (at + 4) x
+    next no_word_broken (at + 8) high low
+
+-- `op rd, rs, c v`
+abbrev pub op_word_broken : ℕ → ℕ → ℕ → ℕ → ℕ → Option ObjectError
+op_word_broken at a b c x =
+    register_broken (at + 1) a
+    next register_broken (at + 2) b
+    next colour_broken (at + 3) c
+    next op_broken (at + 4) x
+
+-- `mov rd, c v`
+abbrev pub mov_broken : ℕ → ℕ → ℕ → ℕ → ℕ → ℕ → Option ObjectError
+mov_broken types at a b c x =
+    register_broken (at + 1) a
+    next zero_broken (at + 2) b
+    next colour_broken (at + 3) c
+    next basic_number_broken types (at + 4) x
+
+-- `ld_c rd, rs` and `st_c rd, rs`
+abbrev pub access_broken : ℕ → ℕ → ℕ → ℕ → ℕ → ℕ → ℕ → Option ObjectError
+access_broken at a b c x high low =
+    register_broken (at + 1) a
+    next register_broken (at + 2) b
+    next colour_broken (at + 3) c
+    next zero_broken (at + 4) x
+    next no_word_broken (at + 8) high low
+
+-- `jmp_c rd`
+abbrev pub jump_broken : Header → List Node → ℕ → ℕ → ℕ → ℕ → ℕ → ℕ → ℕ → ℕ → Option ObjectError
+jump_broken h nodes first at a b c x high low =
+    register_broken (at + 1) a
+    next zero_broken (at + 2) b
+    next colour_broken (at + 3) c
+    next transfer_broken h nodes first (at + 4) c x high low
+
+-- `bz_c rz, rd`
+abbrev pub branch_broken : Header → List Node → ℕ → ℕ → ℕ → ℕ → ℕ → ℕ → ℕ → ℕ → Option ObjectError
+branch_broken h nodes first at a b c x high low =
+    register_broken (at + 1) a
+    next register_broken (at + 2) b
+    next colour_broken (at + 3) c
+    next transfer_broken h nodes first (at + 4) c x high low
+
+-- `halt`
+abbrev pub halt_broken : ℕ → ℕ → ℕ → ℕ → ℕ → ℕ → ℕ → Option ObjectError
+halt_broken at a b c x high low =
+    zero_broken (at + 1) a
+    next zero_broken (at + 2) b
+    next zero_broken (at + 3) c
+    next zero_broken (at + 4) x
+    next no_word_broken (at + 8) high low
+
+-- the fields a, b, c, x and v of an instruction, by its kind
+abbrev pub fields_broken : Header → List Node → ℕ → ℕ → ℕ → ℕ → ℕ → ℕ → ℕ → ℕ → ℕ → Option ObjectError
+fields_broken h nodes first at kind a b c x high low =
+    if kind == 0 then op_reg_broken at a b c x high low
+    else (if kind == 1 then op_word_broken at a b c x
+    else (if kind == 2 then mov_broken h.types at a b c x
+    else (if nat_le kind 4 then access_broken at a b c x high low
+    else (if kind == 5 then jump_broken h nodes first at a b c x high low
+    else (if kind == 6 then branch_broken h nodes first at a b c x high low
+    else halt_broken at a b c x high low)))))
+
+-- instruction, 16 bytes, where the substitutions before took the rows up to `first`
+abbrev pub instr_broken : Header → List Node → ℕ → ℕ → List ℕ → Option ObjectError
+instr_broken h nodes first at (kind ∷ a ∷ b ∷ c ∷ x ∷ high ∷ low ∷ []) =
+    must (nat_le kind 7) (errors.Kind at)
+    next fields_broken h nodes first at kind a b c x high low
+instr_broken h nodes first at _ = None
+
+-- substitution row, 4 bytes
+abbrev pub subst_broken : List Node → ℕ → List ℕ → Option ObjectError
+subst_broken nodes at (n ∷ []) = node_number_broken nodes false at n
+subst_broken nodes at _ = None

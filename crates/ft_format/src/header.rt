@@ -1,0 +1,82 @@
+//! The numbers of the header: magic and version, the count of each section's records, and the entry
+//! block.
+ghost use Rattle.std.specs.Prelude.{◌≡◌, ◌≤◌, length, OnOk};
+ghost use Rattle.ft_format.specs.Layout.{numbers, written, header_layout};
+ghost use Rattle.ft_format.specs.Puts.{Puts};
+ghost use Rattle.ft_format.specs.Fields.{header_numbers};
+
+use crate::numbers::{put_u32, put_u64, read_u32, read_u64};
+use ft_isa::NoMemory;
+
+/// The magic number and the version: `TALFT`, and 1 in three bytes.
+pub const MAGIC: u64 = 0x54414c4654000001;
+
+/// The numbers of the header: magic and version, the count of each section's records (of bytes, for the
+/// names), and the entry block.
+#[derive(Clone, Copy)]
+pub struct Header {
+    pub magic: u64,
+    pub cells: u32,
+    pub nodes: u32,
+    pub types: u32,
+    pub regs: u32,
+    pub queue: u32,
+    pub blocks: u32,
+    pub instrs: u32,
+    pub substs: u32,
+    pub names: u32,
+    pub entry: u32,
+}
+
+impl Header {
+    /// The numbers of the record in the first 48 bytes.
+    #[tactic(auto, unfolding(crate::specs::Layout::numbers))]
+    pub fn read(bytes: &[u8]) -> Header
+        requires { 48 ≤ length bytes.now }
+        ensures { header_numbers result ≡ numbers header_layout bytes.now }
+    {
+        let (magic, rest) = read_u64(bytes);
+        let (cells, rest) = read_u32(rest);
+        let (nodes, rest) = read_u32(rest);
+        let (types, rest) = read_u32(rest);
+        let (regs, rest) = read_u32(rest);
+        let (queue, rest) = read_u32(rest);
+        let (blocks, rest) = read_u32(rest);
+        let (instrs, rest) = read_u32(rest);
+        let (substs, rest) = read_u32(rest);
+        let (names, rest) = read_u32(rest);
+        let (entry, _) = read_u32(rest);
+        Header {
+            magic,
+            cells,
+            nodes,
+            types,
+            regs,
+            queue,
+            blocks,
+            instrs,
+            substs,
+            names,
+            entry,
+        }
+    }
+
+    /// Puts the record's bytes at the end. Where memory runs out, some of them may stand there.
+    #[tactic(auto, unfolding(crate::specs::Layout::written))]
+    pub fn write(self, out: &mut Vec<u8>) -> Result<(), NoMemory>
+        ensures { OnOk result (Puts out.old.items out.new.items (written header_layout (header_numbers self))) }
+    {
+        put_u64(out, self.magic)?;
+        put_u32(out, self.cells)?;
+        put_u32(out, self.nodes)?;
+        put_u32(out, self.types)?;
+        put_u32(out, self.regs)?;
+        put_u32(out, self.queue)?;
+        put_u32(out, self.blocks)?;
+        put_u32(out, self.instrs)?;
+        put_u32(out, self.substs)?;
+        put_u32(out, self.names)?;
+        put_u32(out, self.entry)?;
+        Ok(())
+    }
+}

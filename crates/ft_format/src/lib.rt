@@ -1,0 +1,23 @@
+//! The object format: which bytes spell which object.
+//!
+//! `specs/Rows.antt` says how an object is written, `specs/Rules.antt` and `specs/Broken.antt` have the
+//! rules in their order, `specs/Format.antt` says which bytes spell which object. The crate promises
+//! that these agree (`src/laws.rt`): bytes break no rule exactly where they spell an object, they spell at
+//! most one, and an object has one spelling. Beside that it has the records as the numbers that stand in them, to be read and written.
+#![tactic(auto)]
+
+mod header;
+mod laws;
+mod numbers;
+mod object_error;
+mod rows;
+
+pub use header::{Header, MAGIC};
+pub use laws::{rules_are_exact, spellings_are_apart, spellings_are_one};
+pub use object_error::ObjectError;
+pub use rows::cell_row::CellRow;
+pub use rows::code_row::CodeRow;
+pub use rows::pair_row::PairRow;
+pub use rows::reg_row::RegRow;
+pub use rows::subst_row::SubstRow;
+pub use rows::type_row::TypeRow;

@@ -1,0 +1,108 @@
+//! Big-endian numbers at the front of bytes, and at the end of those that are written.
+ghost use Rattle.std.specs.Prelude.{◌≡◌, ◌≤◌, ◌+◌, length, drop, OnOk};
+ghost use Rattle.std.specs.Int.{w8, w16, w32, w64};
+ghost use Rattle.ft_format.specs.Puts.{Puts};
+ghost use Rattle.ft_format.specs.Layout.{number_of, bytes_of};
+
+use byteorder::{BigEndian, ByteOrder};
+use ft_isa::NoMemory;
+
+/// A number of one byte, and the bytes after it.
+#[tactic(auto, unfolding(crate::specs::Layout::number_of))]
+pub(crate) fn read_u8(bytes: &[u8]) -> (u8, &[u8])
+    requires { 1 ≤ length bytes.now }
+    ensures number { result.0 ≡ number_of w8 bytes.now }
+    ensures rest { result.1.now ≡ drop 1 bytes.now }
+    ensures left { length bytes.now ≡ length result.1.now + 1 }
+{
+    let (front, rest) = bytes.split_at(1);
+    (front[0], rest)
+}
+
+/// A number of two bytes, and the bytes after it.
+#[tactic(auto, unfolding(crate::specs::Layout::number_of))]
+pub(crate) fn read_u16(bytes: &[u8]) -> (u16, &[u8])
+    requires { 2 ≤ length bytes.now }
+    ensures number { result.0 ≡ number_of w16 bytes.now }
+    ensures rest { result.1.now ≡ drop 2 bytes.now }
+    ensures left { length bytes.now ≡ length result.1.now + 2 }
+{
+    let (front, rest) = bytes.split_at(2);
+    (u16::from_be_bytes([front[0], front[1]]), rest)
+}
+
+/// A number of four bytes, and the bytes after it.
+#[tactic(auto, unfolding(crate::specs::Layout::number_of))]
+pub(crate) fn read_u32(bytes: &[u8]) -> (u32, &[u8])
+    requires { 4 ≤ length bytes.now }
+    ensures number { result.0 ≡ number_of w32 bytes.now }
+    ensures rest { result.1.now ≡ drop 4 bytes.now }
+    ensures left { length bytes.now ≡ length result.1.now + 4 }
+{
+    let (front, rest) = bytes.split_at(4);
+    (
+        u32::from_be_bytes([front[0], front[1], front[2], front[3]]),
+        rest,
+    )
+}
+
+/// A number of eight bytes, and the bytes after it.
+#[tactic(auto, unfolding(crate::specs::Layout::number_of))]
+pub(crate) fn read_u64(bytes: &[u8]) -> (u64, &[u8])
+    requires { 8 ≤ length bytes.now }
+    ensures number { result.0 ≡ number_of w64 bytes.now }
+    ensures rest { result.1.now ≡ drop 8 bytes.now }
+    ensures left { length bytes.now ≡ length result.1.now + 8 }
+{
+    let (front, rest) = bytes.split_at(8);
+    let number = u64::from_be_bytes([
+        front[0], front[1], front[2], front[3], front[4], front[5], front[6], front[7],
+    ]);
+    (number, rest)
+}
+
+/// Puts bytes at the end.
+fn put(out: &mut Vec<u8>, bytes: &[u8]) -> Result<(), NoMemory>
+    ensures { OnOk result (Puts out.old.items out.new.items (bytes.now)) }
+{
+    out.extend_from_slice(bytes)?;
+    Ok(())
+}
+
+/// Puts a number of one byte at the end.
+#[tactic(auto, unfolding(crate::specs::Layout::bytes_of))]
+pub(crate) fn put_u8(out: &mut Vec<u8>, n: u8) -> Result<(), NoMemory>
+    ensures { OnOk result (Puts out.old.items out.new.items (bytes_of w8 n)) }
+{
+    put(out, &[n])
+}
+
+/// Puts a number of two bytes at the end.
+#[tactic(auto, unfolding(crate::specs::Layout::bytes_of))]
+pub(crate) fn put_u16(out: &mut Vec<u8>, n: u16) -> Result<(), NoMemory>
+    ensures { OnOk result (Puts out.old.items out.new.items (bytes_of w16 n)) }
+{
+    let mut bytes = [0; 2];
+    BigEndian::write_u16(&mut bytes, n);
+    put(out, &bytes)
+}
+
+/// Puts a number of four bytes at the end.
+#[tactic(auto, unfolding(crate::specs::Layout::bytes_of))]
+pub(crate) fn put_u32(out: &mut Vec<u8>, n: u32) -> Result<(), NoMemory>
+    ensures { OnOk result (Puts out.old.items out.new.items (bytes_of w32 n)) }
+{
+    let mut bytes = [0; 4];
+    BigEndian::write_u32(&mut bytes, n);
+    put(out, &bytes)
+}
+
+/// Puts a number of eight bytes at the end.
+#[tactic(auto, unfolding(crate::specs::Layout::bytes_of))]
+pub(crate) fn put_u64(out: &mut Vec<u8>, n: u64) -> Result<(), NoMemory>
+    ensures { OnOk result (Puts out.old.items out.new.items (bytes_of w64 n)) }
+{
+    let mut bytes = [0; 8];
+    BigEndian::write_u64(&mut bytes, n);
+    put(out, &bytes)
+}

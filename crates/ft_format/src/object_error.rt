@@ -1,0 +1,35 @@
+//! Why bytes spell no object.
+use thiserror::Error;
+
+/// The first rule of the format that bytes break. `at` is the place of the field that breaks it, counted in
+/// bytes from 0.
+#[derive(Clone, Copy, Debug, PartialEq, Eq, Error)]
+pub enum ObjectError {
+    /// The bytes do not begin with the magic number and the version.
+    #[error("object 1 {at}")]
+    Magic { at: usize },
+    /// There are too many bytes, or more or fewer than the header's counts give.
+    #[error("object 2 {at}")]
+    Length { at: usize },
+    /// A count is out of its range.
+    #[error("object 3 {at}")]
+    Count { at: usize },
+    /// Padding is not zero.
+    #[error("object 4 {at}")]
+    Pad { at: usize },
+    /// A code stands for nothing, or a node is of the wrong sort.
+    #[error("object 5 {at}")]
+    Kind { at: usize },
+    /// The number of a part that is not there, or that may not be named here.
+    #[error("object 6 {at}")]
+    Index { at: usize },
+    /// Ends or beginnings do not rise, or a row is nobody's.
+    #[error("object 7 {at}")]
+    Order { at: usize },
+    /// A name is too long, has a byte that may not stand there, or is another cell's too.
+    #[error("object 8 {at}")]
+    Name { at: usize },
+    /// The entry block is not there.
+    #[error("object 9 {at}")]
+    Entry { at: usize },
+}

@@ -1,0 +1,53 @@
+//! The numbers of a cell's record: where its name ends, its basic type, its initial word.
+ghost use Rattle.std.specs.Prelude.{◌≡◌, ◌≤◌, length, OnOk};
+ghost use Rattle.ft_format.specs.Layout.{numbers, written, cell_layout};
+ghost use Rattle.ft_format.specs.Puts.{Puts};
+ghost use Rattle.ft_format.specs.Fields.{cell_numbers};
+
+use crate::numbers::{put_u8, put_u16, put_u32, put_u64, read_u8, read_u16, read_u32, read_u64};
+use ft_isa::NoMemory;
+
+/// The numbers of a cell's record: where its name ends, its basic type, its initial word.
+#[derive(Clone, Copy)]
+pub struct CellRow {
+    pub past: u32,
+    pub refs: u8,
+    pub base: u8,
+    pub code_type: u16,
+    pub init: u64,
+}
+
+impl CellRow {
+    /// The numbers of the record in the first 16 bytes.
+    #[tactic(auto, unfolding(crate::specs::Layout::numbers))]
+    pub fn read(bytes: &[u8]) -> CellRow
+        requires { 16 ≤ length bytes.now }
+        ensures { cell_numbers result ≡ numbers cell_layout bytes.now }
+    {
+        let (past, rest) = read_u32(bytes);
+        let (refs, rest) = read_u8(rest);
+        let (base, rest) = read_u8(rest);
+        let (code_type, rest) = read_u16(rest);
+        let (init, _) = read_u64(rest);
+        CellRow {
+            past,
+            refs,
+            base,
+            code_type,
+            init,
+        }
+    }
+
+    /// Puts the record's bytes at the end. Where memory runs out, some of them may stand there.
+    #[tactic(auto, unfolding(crate::specs::Layout::written))]
+    pub fn write(self, out: &mut Vec<u8>) -> Result<(), NoMemory>
+        ensures { OnOk result (Puts out.old.items out.new.items (written cell_layout (cell_numbers self))) }
+    {
+        put_u32(out, self.past)?;
+        put_u8(out, self.refs)?;
+        put_u8(out, self.base)?;
+        put_u16(out, self.code_type)?;
+        put_u64(out, self.init)?;
+        Ok(())
+    }
+}

@@ -1,0 +1,63 @@
+//! The numbers of a node's record (kind, operation, scope, padding, a, b, c) or of an instruction's
+//! (kind, a, b, c, x, and the two halves of v).
+ghost use Rattle.std.specs.Prelude.{◌≡◌, ◌≤◌, length, OnOk};
+ghost use Rattle.ft_format.specs.Layout.{numbers, written, code_layout};
+ghost use Rattle.ft_format.specs.Puts.{Puts};
+ghost use Rattle.ft_format.specs.Fields.{code_numbers};
+
+use crate::numbers::{put_u8, put_u32, read_u8, read_u32};
+use ft_isa::NoMemory;
+
+/// The numbers of an instruction's record, with v in two halves. Of a node's record `a` is the operation, `b` the
+/// scope, `c` padding, and `x`, `high` and `low` are its parts a, b and c.
+#[derive(Clone, Copy)]
+pub struct CodeRow {
+    pub kind: u8,
+    pub a: u8,
+    pub b: u8,
+    pub c: u8,
+    pub x: u32,
+    pub high: u32,
+    pub low: u32,
+}
+
+impl CodeRow {
+    /// The numbers of the record in the first 16 bytes.
+    #[tactic(auto, unfolding(crate::specs::Layout::numbers))]
+    pub fn read(bytes: &[u8]) -> CodeRow
+        requires { 16 ≤ length bytes.now }
+        ensures { code_numbers result ≡ numbers code_layout bytes.now }
+    {
+        let (kind, rest) = read_u8(bytes);
+        let (a, rest) = read_u8(rest);
+        let (b, rest) = read_u8(rest);
+        let (c, rest) = read_u8(rest);
+        let (x, rest) = read_u32(rest);
+        let (high, rest) = read_u32(rest);
+        let (low, _) = read_u32(rest);
+        CodeRow {
+            kind,
+            a,
+            b,
+            c,
+            x,
+            high,
+            low,
+        }
+    }
+
+    /// Puts the record's bytes at the end. Where memory runs out, some of them may stand there.
+    #[tactic(auto, unfolding(crate::specs::Layout::written))]
+    pub fn write(self, out: &mut Vec<u8>) -> Result<(), NoMemory>
+        ensures { OnOk result (Puts out.old.items out.new.items (written code_layout (code_numbers self))) }
+    {
+        put_u8(out, self.kind)?;
+        put_u8(out, self.a)?;
+        put_u8(out, self.b)?;
+        put_u8(out, self.c)?;
+        put_u32(out, self.x)?;
+        put_u32(out, self.high)?;
+        put_u32(out, self.low)?;
+        Ok(())
+    }
+}

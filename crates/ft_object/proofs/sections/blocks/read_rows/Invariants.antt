@@ -1,0 +1,13 @@
+use Rattle.std.proofs.Common.{◌≡◌, ◌+◌, ◌-◌, ◌*◌, ◌^◌, ◌≤◌, ◌++◌, length, map, None}
+use Rattle.ft_format.specs.Layout.{rows, pair_layout}
+use Rattle.ft_format.specs.Values.{block_of}
+use Rattle.ft_format.specs.Broken.{blocks_broken}
+use Rattle.ft_object.proofs.sections.blocks.read_rows.Given as goal
+
+abbrev pub invariant-loop : goal.invariant-loop
+invariant-loop l = record {
+  there : 8 * (l.header.blocks - l.counter) ≤ length l.rest;
+  places : l.place + 8 * (l.header.blocks - l.counter) ≤ 2 ^ 27;
+  broken : blocks_broken l.header l.previous l.place (rows pair_layout (l.header.blocks - l.counter) l.rest) ≡ blocks_broken l.header None l.at (rows pair_layout l.header.blocks l.bytes);
+  read : l.blocks.items ++ map block_of (rows pair_layout (l.header.blocks - l.counter) l.rest) ≡ map block_of (rows pair_layout l.header.blocks l.bytes);
+}

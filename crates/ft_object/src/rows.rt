@@ -1,7 +1,0 @@
-//! Records as the numbers that stand in them.
-
-pub(crate) mod cell_row;
-pub(crate) mod code_row;
-pub(crate) mod pair_row;
-pub(crate) mod reg_row;
-pub(crate) mod type_row;

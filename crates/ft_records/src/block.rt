@@ -1,0 +1,41 @@
+//! Blocks, which begin one after the other.
+ghost use Rattle.std.specs.Prelude.{◌≡◌, ◌≤◌, ◌^◌, IfOk};
+ghost use Rattle.ft_records.specs.Found.{Finds};
+ghost use Rattle.ft_format.specs.Fields.{pair_numbers};
+ghost use Rattle.ft_format.specs.Rules.{may_begin, block_broken};
+ghost use Rattle.ft_format.specs.Values.{block_of};
+
+use crate::rules::check;
+use ft_format::{Header, ObjectError, PairRow};
+use ft_types::Block;
+
+/// Whether a block may begin here, after a block that begins at the previous place.
+fn may_begin(previous: Option<u32>, start: u32) -> bool
+    ensures { result ≡ may_begin previous start }
+{
+    match previous {
+        None => start == 0,
+        Some(previous) => previous < start,
+    }
+}
+
+/// The block of the record at a place, after a block that begins at the previous instruction: `Order` where
+/// it does not begin behind that one and within the instructions, `Index` for a type that is not there.
+pub fn read_block(
+    header: Header,
+    previous: Option<u32>,
+    at: usize,
+    row: PairRow,
+) -> Result<Block, ObjectError>
+    requires { at ≤ 2 ^ 27 }
+    ensures judged { Finds result (block_broken header previous at (pair_numbers row)) }
+    ensures read { IfOk result (λ b. b ≡ block_of (pair_numbers row)) }
+{
+    check(may_begin(previous, row.first), ObjectError::Order { at })?;
+    check(row.first < header.instrs, ObjectError::Order { at })?;
+    check(row.second < header.types, ObjectError::Index { at: at + 4 })?;
+    Ok(Block {
+        start: row.first,
+        code_type: row.second,
+    })
+}
