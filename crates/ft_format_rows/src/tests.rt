@@ -1,20 +1,30 @@
 //! Worked objects, whose bytes another implementation of the format made, and altered ones.
-use crate::objects::{OBJECTS, TWO_BLOCKS};
+use crate::altered::{
+    BLOCKS, CELLS, HEADER, LONG_SUBSTITUTIONS, NAMES, NODES, OPERATIONS, QUEUE_ROWS, REGISTER_ROWS,
+    Row, SECOND_CELLS, SUBSTITUTION_ROWS, TRANSFERS, TYPES,
+};
 use ft_object::{DecodeError, ObjectError, decode, encode};
+use ft_worked_objects::{
+    A, A2, J, J64, K, L, M, N, P1, P3, P4, P5, P6, P8, P9, P11, P12, P13, P14, P15, P16, P17, Q, X,
+    X2,
+};
 use std::process::Abort;
 use std::test::Fail;
 
-/// Places with the bytes that are put there, and the error with its place.
-type Row = (&'static [(usize, u8)], ObjectError);
+/// The worked objects.
+const OBJECTS: &[&[u8]] = &[
+    A, A2, J, J64, K, L, M, N, P1, P3, P4, P5, P6, P8, P9, P11, P12, P13, P14, P15, P16, P17, Q, X,
+    X2,
+];
 
 /// Whether the bytes are an object's, and are written again.
-fn is_written_again(rt: &impl AllocGlobal, bytes: &[u8]) -> Result<bool, Fail> {
+fn is_written_again(rt: &impl AllocGlobal, bytes: &[u8]) -> bool {
     match decode(rt.alloc(), bytes) {
         Ok(object) => match encode(rt.alloc(), &object) {
-            Ok(written) => Ok(written.as_slice() == bytes),
-            Err(_) => Ok(false),
+            Ok(written) => written.as_slice() == bytes,
+            Err(_) => false,
         },
-        Err(_) => Ok(false),
+        Err(_) => false,
     }
 }
 
@@ -26,147 +36,86 @@ fn is_refused(rt: &impl AllocGlobal, bytes: &[u8], error: ObjectError) -> bool {
     }
 }
 
-/// The bytes with others at these places.
-fn altered(rt: &impl AllocGlobal, changes: &[(usize, u8)]) -> Result<Vec<u8>, Fail> {
-    let mut bytes = Vec::from_slice(rt.alloc(), TWO_BLOCKS)?;
+/// The bytes with others at these places, all of which are there.
+fn altered(rt: &impl AllocGlobal, bytes: &[u8], changes: &[(usize, u8)]) -> Result<Vec<u8>, Fail> {
+    let mut bytes = Vec::from_slice(rt.alloc(), bytes)?;
     for change in changes {
         let (at, byte) = *change;
-        if at < bytes.len() {
-            bytes[at] = byte;
+        match bytes.get_mut(at) {
+            Some(place) => *place = byte,
+            None => return Err(Fail::new(format_args!("no byte {at}"))),
         }
     }
     Ok(bytes)
 }
 
-fn check_rows(rt: &(impl AllocGlobal + Abort), rows: &[Row]) -> Result<(), Fail> {
+fn check_rows(rt: &(impl AllocGlobal + Abort), object: &[u8], rows: &[Row]) -> Result<(), Fail> {
     for row in rows {
-        let (changes, error) = *row;
-        let bytes = altered(rt, changes)?;
+        let (field, changes, error) = *row;
+        let bytes = altered(rt, object, changes)?;
         assert!(rt;
             is_refused(rt, bytes.as_slice(), error),
-            "refused by {error}"
+            "{field}: refused by {error}"
         );
     }
     Ok(())
 }
 
 #[test]
-fn worked_objects_are_written_again(rt: HostRuntime) -> Result<(), Fail> {
+fn worked_objects_are_written_again(rt: HostRuntime) {
     for object in OBJECTS {
-        assert!(&rt; is_written_again(&rt, object)?);
+        assert!(&rt; is_written_again(&rt, object));
     }
+}
+
+#[test]
+fn a_name_may_be_a_reserved_word(rt: HostRuntime) -> Result<(), Fail> {
+    let bytes = altered(&rt, J, &[(364, b'v'), (365, b'a'), (366, b'r')])?;
+    assert!(&rt; is_written_again(&rt, bytes.as_slice()));
     Ok(())
 }
 
 #[test]
-fn prefixes_are_refused_by_their_length(rt: HostRuntime) -> Result<(), Fail> {
-    for n in 0..TWO_BLOCKS.len() {
-        assert!(&rt; is_refused(&rt, &TWO_BLOCKS[..n], ObjectError::Length { at: n }));
+fn prefixes_are_refused_by_their_length(rt: HostRuntime) {
+    for n in 0..J.len() {
+        assert!(&rt; is_refused(&rt, &J[..n], ObjectError::Length { at: n }));
     }
+}
+
+#[test]
+fn a_byte_more_is_refused_by_the_length(rt: HostRuntime) -> Result<(), Fail> {
+    let mut bytes = Vec::from_slice(rt.alloc(), J)?;
+    bytes.push(0)?;
+    assert!(&rt; is_refused(&rt, bytes.as_slice(), ObjectError::Length { at: 367 }));
     Ok(())
 }
 
 #[test]
-fn altered_records_are_refused_at_their_fields(rt: HostRuntime) -> Result<(), Fail> {
-    check_rows(
-        &rt,
-        &[
-            (&[(0, 55)], ObjectError::Magic { at: 0 }),
-            (&[(10, 5)], ObjectError::Count { at: 8 }),
-            (&[(11, 2)], ObjectError::Length { at: 367 }),
-            (&[(13, 16)], ObjectError::Count { at: 12 }),
-            (&[(19, 0)], ObjectError::Count { at: 16 }),
-            (&[(18, 20)], ObjectError::Count { at: 16 }),
-            (&[(21, 5)], ObjectError::Count { at: 20 }),
-            (&[(25, 1)], ObjectError::Count { at: 24 }),
-            (&[(31, 0)], ObjectError::Count { at: 28 }),
-            (&[(29, 2)], ObjectError::Count { at: 28 }),
-            (&[(35, 0)], ObjectError::Count { at: 32 }),
-            (&[(37, 20)], ObjectError::Count { at: 36 }),
-            (&[(41, 1)], ObjectError::Count { at: 40 }),
-            (&[(47, 2)], ObjectError::Entry { at: 44 }),
-            (&[(51, 0)], ObjectError::Order { at: 48 }),
-            (&[(51, 4)], ObjectError::Order { at: 48 }),
-            (&[(52, 9)], ObjectError::Kind { at: 52 }),
-            (&[(53, 2)], ObjectError::Kind { at: 53 }),
-            (&[(55, 1)], ObjectError::Pad { at: 54 }),
-            (&[(53, 1), (55, 2)], ObjectError::Index { at: 54 }),
-            (&[(64, 6)], ObjectError::Kind { at: 64 }),
-            (&[(65, 1)], ObjectError::Pad { at: 65 }),
-            (&[(66, 129)], ObjectError::Count { at: 66 }),
-            (&[(67, 1)], ObjectError::Pad { at: 67 }),
-            (&[(71, 1)], ObjectError::Pad { at: 68 }),
-            (&[(75, 1)], ObjectError::Pad { at: 72 }),
-            (&[(79, 1)], ObjectError::Pad { at: 76 }),
-            (&[(64, 2)], ObjectError::Index { at: 68 }),
-            (&[(87, 1)], ObjectError::Index { at: 84 }),
-            (&[(91, 1)], ObjectError::Pad { at: 88 }),
-            (&[(95, 1)], ObjectError::Pad { at: 92 }),
-            (&[(103, 1)], ObjectError::Pad { at: 100 }),
-            (&[(96, 2)], ObjectError::Kind { at: 100 }),
-            (&[(96, 2), (97, 5)], ObjectError::Kind { at: 97 }),
-            (&[(96, 2), (103, 1)], ObjectError::Index { at: 100 }),
-            (&[(96, 3)], ObjectError::Kind { at: 104 }),
-            (&[(96, 5)], ObjectError::Kind { at: 104 }),
-            (&[(115, 3)], ObjectError::Order { at: 112 }),
-            (&[(131, 3)], ObjectError::Order { at: 128 }),
-            (&[(119, 1)], ObjectError::Order { at: 116 }),
-            (&[(123, 3)], ObjectError::Index { at: 120 }),
-            (&[(123, 1)], ObjectError::Kind { at: 120 }),
-            (&[(66, 1)], ObjectError::Index { at: 120 }),
-            (&[(124, 129)], ObjectError::Count { at: 124 }),
-            (&[(125, 1)], ObjectError::Pad { at: 125 }),
-            (&[(127, 1)], ObjectError::Pad { at: 125 }),
-            (&[(131, 1)], ObjectError::Order { at: 156 }),
-            (&[(115, 2)], ObjectError::Index { at: 152 }),
-            (&[(144, 64)], ObjectError::Index { at: 144 }),
-            (&[(156, 0)], ObjectError::Order { at: 156 }),
-            (&[(145, 2)], ObjectError::Kind { at: 145 }),
-            (&[(147, 1)], ObjectError::Pad { at: 146 }),
-            (&[(148, 9)], ObjectError::Kind { at: 148 }),
-            (&[(149, 2)], ObjectError::Kind { at: 149 }),
-            (&[(151, 1)], ObjectError::Pad { at: 150 }),
-            (&[(155, 3)], ObjectError::Index { at: 152 }),
-            (&[(155, 0)], ObjectError::Kind { at: 152 }),
-            (&[(171, 1)], ObjectError::Order { at: 168 }),
-            (&[(179, 0)], ObjectError::Order { at: 176 }),
-            (&[(179, 11)], ObjectError::Order { at: 176 }),
-            (&[(175, 2)], ObjectError::Index { at: 172 }),
-            (&[(184, 8)], ObjectError::Kind { at: 184 }),
-            (&[(185, 64)], ObjectError::Index { at: 185 }),
-            (&[(186, 1)], ObjectError::Pad { at: 186 }),
-            (&[(187, 2)], ObjectError::Kind { at: 187 }),
-            (&[(188, 9)], ObjectError::Kind { at: 188 }),
-            (&[(189, 2)], ObjectError::Kind { at: 189 }),
-            (&[(191, 1)], ObjectError::Pad { at: 190 }),
-            (&[(223, 2)], ObjectError::Index { at: 222 }),
-            (&[(184, 0)], ObjectError::Pad { at: 192 }),
-            (&[(184, 1), (191, 5)], ObjectError::Kind { at: 188 }),
-            (&[(250, 1)], ObjectError::Pad { at: 250 }),
-            (&[(251, 2)], ObjectError::Kind { at: 251 }),
-            (&[(255, 1)], ObjectError::Pad { at: 252 }),
-            (&[(259, 1)], ObjectError::Pad { at: 256 }),
-            (&[(263, 1)], ObjectError::Pad { at: 256 }),
-            (&[(271, 1)], ObjectError::Order { at: 268 }),
-            (&[(275, 2)], ObjectError::Order { at: 272 }),
-            (&[(279, 3)], ObjectError::Index { at: 276 }),
-            (&[(279, 1)], ObjectError::Kind { at: 276 }),
-            (&[(275, 0)], ObjectError::Order { at: 360 }),
-            (&[(313, 64)], ObjectError::Index { at: 313 }),
-            (&[(314, 64)], ObjectError::Index { at: 314 }),
-            (&[(315, 2)], ObjectError::Kind { at: 315 }),
-            (&[(319, 1)], ObjectError::Pad { at: 316 }),
-            (&[(323, 1)], ObjectError::Pad { at: 320 }),
-            (&[(327, 1)], ObjectError::Pad { at: 320 }),
-            (&[(345, 1)], ObjectError::Pad { at: 345 }),
-            (&[(346, 1)], ObjectError::Pad { at: 346 }),
-            (&[(347, 1)], ObjectError::Pad { at: 347 }),
-            (&[(351, 1)], ObjectError::Pad { at: 348 }),
-            (&[(359, 1)], ObjectError::Pad { at: 352 }),
-            (&[(363, 3)], ObjectError::Index { at: 360 }),
-            (&[(363, 0)], ObjectError::Kind { at: 360 }),
-            (&[(364, 48)], ObjectError::Name { at: 364 }),
-            (&[(365, 45)], ObjectError::Name { at: 365 }),
-        ],
-    )
+fn too_many_bytes_are_refused_by_their_limit(rt: HostRuntime) -> Result<(), Fail> {
+    let bytes = vec![in rt.alloc(); 0u8; 67108865]?;
+    assert!(&rt; is_refused(&rt, bytes.as_slice(), ObjectError::Length { at: 67108864 }));
+    Ok(())
+}
+
+#[test]
+fn altered_tables_are_refused_at_their_fields(rt: HostRuntime) -> Result<(), Fail> {
+    check_rows(&rt, J, HEADER)?;
+    check_rows(&rt, J, CELLS)?;
+    check_rows(&rt, P9, SECOND_CELLS)?;
+    check_rows(&rt, J, NODES)?;
+    check_rows(&rt, J, TYPES)?;
+    check_rows(&rt, J, REGISTER_ROWS)?;
+    check_rows(&rt, J, QUEUE_ROWS)?;
+    check_rows(&rt, J, NAMES)
+}
+
+#[test]
+fn altered_code_is_refused_at_its_fields(rt: HostRuntime) -> Result<(), Fail> {
+    let mut long = Vec::from_slice(rt.alloc(), J)?;
+    long.extend_from_slice(&[0; 512])?;
+    check_rows(&rt, J, BLOCKS)?;
+    check_rows(&rt, J, OPERATIONS)?;
+    check_rows(&rt, J, TRANSFERS)?;
+    check_rows(&rt, long.as_slice(), LONG_SUBSTITUTIONS)?;
+    check_rows(&rt, J, SUBSTITUTION_ROWS)
 }
