@@ -1,13 +1,19 @@
-//! What `trial` writes of bytes that spell no object.
+//! What `check` and `trial` write of bytes that spell no object.
 use ft_rows::{check_altered, check_file};
 use ft_worked_objects::A;
 use std::test::Fail;
+
+/// Both commands refuse the file with this text.
+fn refused(rt: &impl AllocGlobal, file: &[u8], text: &str) -> Result<(), Fail> {
+    check_file(rt, file, ("check file", text, 7))?;
+    check_file(rt, file, ("trial file", text, 7))
+}
 
 #[test]
 fn objects_that_are_cut_off(rt: HostRuntime) -> Result<(), Fail> {
     for n in 0..A.len() {
         let text = format!(in rt.alloc(); "object 2 {n}\n")?;
-        check_file(&rt, &A[..n], ("trial file", text.as_str(), 7))?;
+        refused(&rt, &A[..n], text.as_str())?;
     }
     Ok(())
 }
@@ -16,7 +22,7 @@ fn objects_that_are_cut_off(rt: HostRuntime) -> Result<(), Fail> {
 fn an_object_with_a_byte_more(rt: HostRuntime) -> Result<(), Fail> {
     let mut longer = A.to_vec(rt.alloc())?;
     longer.push(0)?;
-    check_file(&rt, longer.as_slice(), ("trial file", "object 2 219\n", 7))
+    refused(&rt, longer.as_slice(), "object 2 219\n")
 }
 
 /// Bytes of `A` that are altered, each with the place, the byte that is put there, and what is written.
@@ -35,6 +41,7 @@ const ALTERED: &[(usize, u8, &str)] = &[
 #[test]
 fn objects_with_an_altered_byte(rt: HostRuntime) -> Result<(), Fail> {
     for (place, byte, text) in ALTERED {
+        check_altered(&rt, A, &[(*place, *byte)], ("check file", text, 7))?;
         check_altered(&rt, A, &[(*place, *byte)], ("trial file", text, 7))?;
     }
     Ok(())
