@@ -1,9 +1,10 @@
 //! Whole runs of accepted programs under a plan.
-ghost use Rattle.std.specs.Prelude.{◌≡◌, ◌≤◌, None};
+ghost use Rattle.std.specs.Prelude.{◌≡◌, ◌≤◌, None, length};
 ghost use Rattle.ft_types.specs.Agrees.{Agrees};
 ghost use Rattle.ft_types.specs.Run.{outputs_after, status_after};
 ghost use Rattle.ft_types.specs.Texts.{lines};
-ghost use Rattle.ft_machine.specs.Drives.{EndsAs, Writes, IsExcused};
+ghost use Rattle.ft_edge.specs.Puts.{puts_after};
+ghost use Rattle.ft_machine.specs.Drives.{EndsAs, Writes, IsExcused, Stops};
 
 use crate::clean::Clean;
 use ft_edge::Sink;
@@ -23,6 +24,9 @@ pub fn run<'a, P: Program, K: Sink>(
     ensures ends { EndsAs result (status_after start.entry.object plan.entry.strike plan.entry.wild.now steps) }
     ensures writes { Writes result (K.written out.old) (K.written out.new)
         (lines start.entry.object (outputs_after start.entry.object plan.entry.strike plan.entry.wild.now steps)) }
+    // One put was made for each output, up to the end, or up to a put that failed, which is the last one made.
+    ensures puts { Stops result (λ k. K.puts out.new ≡ puts_after
+        (length (outputs_after start.entry.object plan.entry.strike plan.entry.wild.now k)) (K.puts out.old)) steps }
     ensures count { K.faults out.old ≤ K.faults out.new }
     ensures cause { IsExcused result (K.faults out.old) (K.faults out.new) }
 
