@@ -30,6 +30,3 @@ pub use source_error::SourceError;
 pub use spot::Spot;
 pub use stmt::Stmt;
 pub use tree::Tree;
-
-#[cfg(test)]
-mod tests;

@@ -1,5 +1,6 @@
-use crate::{Expr, SourceError, Stmt, parse};
+//! Texts that are refused at a place, and texts that are trees.
 use ft_isa::Op;
+use ft_syntax::{Expr, SourceError, Stmt, parse};
 use std::alloc::Global;
 use std::test::Fail;
 
