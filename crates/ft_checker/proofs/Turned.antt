@@ -18,7 +18,7 @@ use Rattle.ft_types.specs.Objects.{cell_head_of, start_of, code_type_of, block_t
 use Rattle.ft_types.specs.Premise.{Premise, BlockEnd}
 use Rattle.ft_types.specs.Spellable.{AreBlocks, IsSpellable}
 use Rattle.ft_types.specs.TypingRow.{Outcome, Goes, Ends, Fails, row}
-use Rattle.ft_rules.proofs.Lists.{drop_there, drop_all, range_there, range_past}
+use Rattle.ft_contexts.proofs.Lists.{drop_there, drop_all, range_there, range_past}
 
 -- after a row that goes on
 pub on_last : (x : Outcome) (d : Context) (k : ℕ) (others : List Instr) (next : Context → Option (ℕ × Premise)) → x ≡ Goes d → has_none others ≡ true → after_row x k others next ≡ Some (k, BlockEnd)

@@ -11,7 +11,7 @@ ghost use Rattle.ft_types.specs.Spellable.{IsSpellable};
 ghost use Rattle.ft_types.specs.TypingRow.{row};
 ghost use Rattle.ft_types.specs.declared.object.Block.{Block as Started};
 ghost use Rattle.ft_rules.specs.Answers.{IsInstrOf};
-ghost use Rattle.ft_rules.specs.Contexts.{HoldsForms, NamesTypes, context_in};
+ghost use Rattle.ft_contexts.specs.Contexts.{HoldsForms, NamesTypes, context_in};
 ghost use Rattle.ft_checker.specs.Judges.{IsRefusalOf, Judges, StopsAt, Turns};
 
 use crate::error::CheckError;

@@ -1,26 +1,24 @@
 -- The exits of a row: what comes after a premise that holds, and the refusal of one that fails.
-use Rattle.std.proofs.Common.{◌≡◌, ℕ, suc, eqb, List, [], ◌∷◌, ◌++◌, map, drop, length, Result, Ok, Err, Some, arith, refl, sym, ap, ◌∙◌, subst}
+use Rattle.std.proofs.Common.{◌≡◌, ℕ, suc, eqb, List, [], ◌∷◌, drop, length, Result, Ok, Err, Some, arith, refl, sym, ap, ◌∙◌, subst}
 use Rattle.std.specs.Result.{IsErrAnd}
 use Rattle.ft_static.specs.Form.{Form as Normal, integer_form, memory_form, Polynomial, Updates}
-use Rattle.ft_norm.specs.Held.{held, held as Found, Keeps, IsInteger}
+use Rattle.ft_norm.specs.Held.{held, held as Found, Keeps, IsInteger, IsMemory, updates_held}
 use Rattle.ft_types.specs.Context.{Context as Defined, Typed, FormPair, with_type}
 use Rattle.ft_isa.specs.declared.instr.Instr.{Instr}
 use Rattle.ft_types.specs.Spellable.{IsBase}
-use Rattle.ft_rules.specs.declared.register.RegForm.{RegForm}
+use Rattle.ft_contexts.specs.declared.register.RegForm.{RegForm}
 use Rattle.ft_types.specs.declared.object.Object.{Object}
 use Rattle.ft_types.specs.TypingRow.{Outcome, Goes, Ends, is_empty, row}
 use Rattle.ft_rules.specs.declared.why.RuleError.{RuleError}
 use Rattle.ft_rules.specs.declared.why.RuleError.TheVariants.{NoMemory}
 use Rattle.ft_rules.specs.declared.why.Next.{Next}
 use Rattle.ft_rules.specs.declared.why.Next.TheVariants.{On, Ends as End}
-use Rattle.ft_rules.specs.declared.context.Context.{Context}
-use Rattle.ft_rules.specs.Contexts.{typed_in, pair_in, context_in, HoldsQueue, HoldsForms, NamesTypes}
+use Rattle.ft_contexts.specs.declared.context.Context.{Context}
+use Rattle.ft_contexts.specs.Contexts.{typed_in, context_in, HoldsForms, NamesTypes}
 use Rattle.ft_rules.specs.Answers.{IsRefusal, Passes, Answers, Does}
-use Rattle.ft_rules.proofs.Kept.{polynomial_found, integer_found, updates_found, memory_found, keeps_itself, forms_kept, queue_stays, context_stays}
-use Rattle.ft_rules.proofs.Lists.{get_pushed}
-use Rattle.ft_rules.proofs.Registers.{apart}
+use Rattle.ft_contexts.proofs.Kept.{polynomial_found, integer_found, updates_found, memory_found, forms_kept, context_stays}
+use Rattle.ft_contexts.proofs.Registers.{apart}
 use Rattle.ft_norm.specs.declared.form.Form.{Form}
-use Rattle.std.proofs.lemmas.List.{length-map}
 
 -- a refusal of what comes after the premises that hold is one of the whole
 pub refused : (x y : Outcome) (e : RuleError) → x ≡ y → IsRefusal y e → IsRefusal x e
@@ -87,58 +85,22 @@ does_note x o fs gs c d rd k p goes made base keeps held types noted still named
 -- THE STATIC QUEUE
 
 -- the queue is empty where it has no pair
-pub empty_is : (fs : List Normal) (q : List (Form × Form)) (n : ℕ) → n ≡ length q → eqb n 0 ≡ is_empty (map (pair_in fs) q)
+pub empty_is : (q : List FormPair) (n : ℕ) → length q ≡ n → eqb n 0 ≡ is_empty q
 unfolding is_empty
-empty_is fs [] n e = rw e refl
-empty_is fs (p ∷ q) n e = rw e (apart (suc (length q)) 0 (λ s. absurd (omega arith)))
-
--- as many pairs as the context's queue
-pub count_is : (fs : List Normal) (q : List (Form × Form)) → length q ≡ length (map (pair_in fs) q)
-count_is fs q = sym (length-map q (pair_in fs))
-
--- the pairs but for the oldest
-others_are : (fs : List Normal) (q : List (Form × Form)) → map (pair_in fs) (drop 1 q) ≡ drop 1 (map (pair_in fs) q)
-others_are fs [] = refl
-others_are fs (p ∷ q) = refl
-
--- they are held
-others_held : (fs : List Normal) (q : List (Form × Form)) → HoldsQueue fs q → HoldsQueue fs (drop 1 q)
-others_held fs [] h = h
-others_held fs (p ∷ q) h = λ i y e. h (suc i) y e
-
--- the pairs and one more
-more_are : (fs : List Normal) (q : List (Form × Form)) (p : Form × Form) → map (pair_in fs) (q ++ p ∷ []) ≡ map (pair_in fs) q ++ pair_in fs p ∷ []
-more_are fs [] p = refl
-more_are fs (x ∷ q) p = ap (λ ys. pair_in fs x ∷ ys) (more_are fs q p)
-
--- they are held
-more_held : (fs : List Normal) (q : List (Form × Form)) (p : Form × Form) → HoldsQueue fs q → IsInteger fs p.0 × IsInteger fs p.1 → HoldsQueue fs (q ++ p ∷ [])
-more_held fs q p h k i y e = get_pushed q p i y e (λ _ z. IsInteger fs z.0 × IsInteger fs z.1) k (λ j z f. h j z f)
-
--- a green store
-pub does_pend : (x : Outcome) (o : Object) (fs : List Normal) (c : Context) (p : Form × Form) (q : List (Form × Form))
-    → x ≡ Goes (record (context_in fs c) { queue = (context_in fs c).queue ++ pair_in fs p ∷ [] }) → HoldsForms fs c → NamesTypes o c → IsInteger fs p.0 × IsInteger fs p.1 → q ≡ c.queue ++ p ∷ []
-    → Does x o fs fs c (record c { queue = q }) (Ok On)
-does_pend x o fs c p q goes held types k is =
-    let e : map (pair_in fs) q ≡ map (pair_in fs) c.queue ++ pair_in fs p ∷ [] = ap (map (pair_in fs)) is ∙ more_are fs c.queue p in
-    does_go x o fs fs c (record c { queue = q }) (goes ∙ ap (λ (y : List FormPair). Goes (record (context_in fs c) { queue = y })) (sym e)) (keeps_itself fs)
-    (record { own = held.own; registers = held.registers; d = held.d; queue = rw is (more_held fs c.queue p held.queue k); memory = held.memory })
-    (record { registers = types.registers; d = types.d })
+empty_is [] n e = rw (sym e) refl
+empty_is (p ∷ q) n e = rw (sym e) (apart (suc (length q)) 0 (λ s. absurd (omega arith)))
 
 -- a blue store
-pub does_commit : (x : Outcome) (o : Object) (fs gs : List Normal) (c : Context) (q : List (Form × Form)) (m : Form) (u : Updates)
-    → x ≡ Goes (record (context_in fs c) { queue = drop 1 (context_in fs c).queue; memory = u }) → Keeps fs gs → HoldsForms fs c → NamesTypes o c → q ≡ drop 1 c.queue → Found gs m ≡ Some (memory_form u)
-    → Does x o fs gs c (record c { queue = q; memory = m }) (Ok On)
-does_commit x o fs gs c q m u goes keeps held types is made =
-    let e = context_stays fs gs c keeps held in
-    let h = forms_kept fs gs c keeps held in
-    let pairs : map (pair_in gs) q ≡ drop 1 (map (pair_in fs) c.queue) = ap (map (pair_in gs)) is ∙ others_are gs c.queue ∙ ap (drop 1) (queue_stays fs gs c.queue keeps held.queue) in
-    let memory = updates_found gs m u made in
-    let after : context_in gs (record c { queue = q; memory = m }) ≡ record (context_in fs c) { queue = drop 1 (context_in fs c).queue; memory = u } =
-    λ i. record { ints = c.ints; registers = (e i).registers; d = (e i).d; queue = pairs i; memory = memory i } in
-    does_go x o fs gs c (record c { queue = q; memory = m }) (goes ∙ ap Goes (sym after)) keeps
-    (record { own = h.own; registers = h.registers; d = h.d; queue = rw is (others_held gs c.queue h.queue); memory = memory_found gs m u made })
-    (record { registers = types.registers; d = types.d })
+pub does_commit : (x : Outcome) (o : Object) (fs gs : List Normal) (c d : Context) (m : Form) (u : Updates)
+    → x ≡ Goes (record (context_in fs c) { queue = drop 1 (context_in fs c).queue; memory = u }) → Found gs m ≡ Some (memory_form u) → Keeps fs gs → HoldsForms fs c → NamesTypes o c
+    → context_in gs d ≡ record (context_in gs c) { queue = drop 1 (context_in gs c).queue; memory = updates_held gs m } → (HoldsForms gs c → IsMemory gs m → HoldsForms gs d) → (NamesTypes o c → NamesTypes o d)
+    → Does x o fs gs c d (Ok On)
+does_commit x o fs gs c d m u goes made keeps held types committed still named =
+    let e : context_in gs d ≡ record (context_in fs c) { queue = drop 1 (context_in fs c).queue; memory = u } =
+    committed
+    ∙ ap (λ (k : Defined). record k { queue = drop 1 k.queue; memory = updates_held gs m }) (context_stays fs gs c keeps held)
+    ∙ ap (λ (v : Updates). record (context_in fs c) { queue = drop 1 (context_in fs c).queue; memory = v }) (updates_found gs m u made) in
+    does_go x o fs gs c d (goes ∙ ap Goes (sym e)) keeps (still (forms_kept fs gs c keeps held) (memory_found gs m u made)) (named types)
 
 -- the row of an instruction that is this one
 pub row_of : (o : Object) (k : Defined) (gs : List Normal) (d : Context) (r : Result Next RuleError) (i j : Instr) → i ≡ j → Answers (row o k j) gs d r → Answers (row o k i) gs d r

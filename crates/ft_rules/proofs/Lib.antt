@@ -1,8 +1,2 @@
-pub mod Lists
-pub mod Kept
-pub mod Registers
-pub mod Nodes
-pub mod Spelled
-pub mod Same
 pub mod Chains
-pub mod Turns
+pub mod Blocks

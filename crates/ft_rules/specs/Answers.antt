@@ -12,9 +12,9 @@ use Rattle.ft_rules.specs.declared.why.RuleError.{RuleError}
 use Rattle.ft_rules.specs.declared.why.RuleError.TheVariants.{Refused, NoMemory}
 use Rattle.ft_rules.specs.declared.why.Next.{Next}
 use Rattle.ft_rules.specs.declared.why.Next.TheVariants as next
-use Rattle.ft_rules.specs.declared.context.Context.{Context}
+use Rattle.ft_contexts.specs.declared.context.Context.{Context}
 use Rattle.ft_norm.specs.Held.{Keeps}
-use Rattle.ft_rules.specs.Contexts.{context_in, HoldsForms, NamesTypes}
+use Rattle.ft_contexts.specs.Contexts.{context_in, HoldsForms, NamesTypes}
 
 -- the premise of a refusal
 abbrev pub premise_of : Why → Premise

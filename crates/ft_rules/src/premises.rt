@@ -1,21 +1,18 @@
 //! The premises that need no form to be made: each is a word of the typing rows.
 ghost use Rattle.std.specs.Prelude.{◌≡◌, ◌<◌, IfOk, IsTrue, OnOk, List, ℕ, drop, length};
 ghost use Rattle.ft_static.specs.Form.{Form as Normal, Polynomial};
-ghost use Rattle.ft_static.specs.FormOrder.{same_polynomial, same_updates};
-ghost use Rattle.ft_norm.specs.Held.{IsInteger, IsMemory, polynomial, updates_held};
+ghost use Rattle.ft_norm.specs.Held.{IsInteger, polynomial};
 ghost use Rattle.ft_types.specs.Context.{FormPair, Typed, typed};
 ghost use Rattle.ft_types.specs.Spellable.{IsBase};
 ghost use Rattle.ft_types.specs.TypingRow.{Outcome, for_code, for_conditional, for_oldest, for_ref, for_target, for_typed, for_zero, need};
 ghost use Rattle.ft_types.specs.declared.object.Object.{Object};
+ghost use Rattle.ft_contexts.specs.Contexts.{HoldsForms, NamesTypes, context_in, pair_in, pending_count, typed_in};
 ghost use Rattle.ft_rules.specs.Answers.{Passes, premise_of};
-ghost use Rattle.ft_rules.specs.Contexts.{DNamesType, HoldsD, HoldsForms, NamesTypes, context_in, d_in, pair_in, typed_in};
 
-use crate::context::Context;
-use crate::destination::StateD;
-use crate::register::RegForm;
 use crate::why::{RuleError, Why};
+use ft_contexts::{Context, RegForm, StateD};
 use ft_isa::{Base, Basic, Reg};
-use ft_norm::{Form, Interner};
+use ft_norm::Form;
 
 /// A premise that is a test.
 #[tactic(auto, unfolding(ft_types::specs::TypingRow::need))]
@@ -75,10 +72,10 @@ pub fn code_type(basic: Basic) -> Result<u16, RuleError>
 
 /// Nothing, where d is 0.
 #[tactic(auto, unfolding(ft_types::specs::TypingRow::for_zero))]
-pub fn zero(d: StateD) -> Result<(), RuleError>
-    ensures { (fs : List Normal) (next : Outcome) → Passes (for_zero (d_in fs d) next) (λ _. next) result }
+pub fn zero(context: &Context) -> Result<(), RuleError>
+    ensures { (fs : List Normal) (next : Outcome) → Passes (for_zero (context_in fs context.now).d next) (λ _. next) result }
 {
-    match d {
+    match context.d() {
         StateD::Zero => Ok(()),
         _ => Err(RuleError::Refused(Why::StateOfD)),
     }
@@ -86,11 +83,11 @@ pub fn zero(d: StateD) -> Result<(), RuleError>
 
 /// The code type and the form of d, where d is a target.
 #[tactic(auto, unfolding(ft_types::specs::TypingRow::for_target))]
-pub fn target(d: StateD) -> Result<(u16, Form), RuleError>
-    ensures passes { (fs : List Normal) (next : ℕ → Polynomial → Outcome) → Passes (for_target (d_in fs d) next) (λ x. next x.0 (polynomial fs x.1)) result }
-    ensures held { (fs : List Normal) → HoldsD fs d → IfOk result (λ x. IsInteger fs x.1) }
+pub fn target(context: &Context) -> Result<(u16, Form), RuleError>
+    ensures passes { (fs : List Normal) (next : ℕ → Polynomial → Outcome) → Passes (for_target (context_in fs context.now).d next) (λ x. next x.0 (polynomial fs x.1)) result }
+    ensures held { (fs : List Normal) → HoldsForms fs context.now → IfOk result (λ x. IsInteger fs x.1) }
 {
-    match d {
+    match context.d() {
         StateD::Code { code_type, form } => Ok((code_type, form)),
         _ => Err(RuleError::Refused(Why::StateOfD)),
     }
@@ -98,11 +95,11 @@ pub fn target(d: StateD) -> Result<(u16, Form), RuleError>
 
 /// The test, the code type and the form of d, where d is a target or 0 by a test.
 #[tactic(auto, unfolding(ft_types::specs::TypingRow::for_conditional))]
-pub fn conditional(d: StateD) -> Result<(Form, u16, Form), RuleError>
-    ensures passes { (fs : List Normal) (next : Polynomial → ℕ → Polynomial → Outcome) → Passes (for_conditional (d_in fs d) next) (λ x. next (polynomial fs x.0) x.1 (polynomial fs x.2)) result }
-    ensures held { (fs : List Normal) → HoldsD fs d → IfOk result (λ x. IsInteger fs x.0 × IsInteger fs x.2) }
+pub fn conditional(context: &Context) -> Result<(Form, u16, Form), RuleError>
+    ensures passes { (fs : List Normal) (next : Polynomial → ℕ → Polynomial → Outcome) → Passes (for_conditional (context_in fs context.now).d next) (λ x. next (polynomial fs x.0) x.1 (polynomial fs x.2)) result }
+    ensures held { (fs : List Normal) → HoldsForms fs context.now → IfOk result (λ x. IsInteger fs x.0 × IsInteger fs x.2) }
 {
-    match d {
+    match context.d() {
         StateD::Conditional {
             test,
             code_type,
@@ -117,28 +114,10 @@ pub fn conditional(d: StateD) -> Result<(Form, u16, Form), RuleError>
 pub fn oldest(context: &Context) -> Result<(Form, Form), RuleError>
     ensures passes { (fs : List Normal) (next : FormPair → List FormPair → Outcome) → Passes (for_oldest (context_in fs context.now).queue next) (λ e. next (pair_in fs e) (drop 1 (context_in fs context.now).queue)) result }
     ensures held { (fs : List Normal) → HoldsForms fs context.now → IfOk result (λ e. IsInteger fs e.0 × IsInteger fs e.1) }
-    ensures some { IfOk result (λ _. 0 < length context.now.queue) }
+    ensures some { IfOk result (λ _. 0 < pending_count context.now) }
 {
-    if context.queue.len() == 0 {
+    if context.queue_len() == 0 {
         return Err(RuleError::Refused(Why::QueueEmpty));
     }
-    Ok(context.queue.at(0))
-}
-
-/// Whether two integers have the same form.
-pub fn same_integers(forms: &Interner, a: Form, b: Form) -> bool
-    requires first { IsInteger forms.now a }
-    requires second { IsInteger forms.now b }
-    ensures { result ≡ same_polynomial (polynomial forms.now a) (polynomial forms.now b) }
-{
-    forms.same(a, b)
-}
-
-/// Whether two memories have the same form.
-pub fn same_memories(forms: &Interner, a: Form, b: Form) -> bool
-    requires first { IsMemory forms.now a }
-    requires second { IsMemory forms.now b }
-    ensures { result ≡ same_updates (updates_held forms.now a) (updates_held forms.now b) }
-{
-    forms.same(a, b)
+    Ok(context.queue_at(0))
 }

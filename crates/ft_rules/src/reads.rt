@@ -10,13 +10,11 @@ ghost use Rattle.ft_types.specs.TypedWord.{is_seen_as};
 ghost use Rattle.ft_types.specs.TypingRow.{Outcome, for_code, for_ref, for_typed, need, same_colour};
 ghost use Rattle.ft_types.specs.declared.object.Object.{Object};
 ghost use Rattle.ft_rules.specs.Answers.{Passes};
-ghost use Rattle.ft_rules.specs.Contexts.{HoldsForms, NamesTypes, context_in, typed_in};
+ghost use Rattle.ft_contexts.specs.Contexts.{HoldsForms, NamesTypes, context_in, typed_in};
 
-use crate::basic_types::{is_seen_as, same_colour};
-use crate::context::Context;
-use crate::premises::{code_type, need, referred, same_integers, typed};
-use crate::register::RegForm;
+use crate::premises::{code_type, need, referred, typed};
 use crate::why::{RuleError, Why};
+use ft_contexts::{Context, RegForm, is_seen_as, same_colour, same_integers};
 use ft_isa::{Colour, Reg};
 use ft_norm::{Form, Interner};
 

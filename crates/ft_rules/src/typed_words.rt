@@ -3,7 +3,7 @@ ghost use Rattle.std.specs.Prelude.{◌≡◌, ◌<◌, length};
 ghost use Rattle.ft_types.specs.Spellable.{IsSpellable};
 ghost use Rattle.ft_types.specs.TypedWord.{block_at, cell_type, has_type, has_type_over};
 
-use crate::basic_types::same_basic;
+use ft_contexts::same_basic;
 use ft_isa::{Base, Basic};
 use ft_types::{Block, Program};
 

@@ -2,7 +2,7 @@ use Rattle.std.proofs.Common.{◌≡◌, ◌≤◌, ◌-◌, ◌+◌, ℕ, suc, 
 use Rattle.std.specs.Option.{option_map}
 use Rattle.ft_types.specs.Accepted.{walk, Refusal, Refused as refused_at}
 use Rattle.ft_types.specs.Premise.{Premise}
-use Rattle.ft_rules.specs.Contexts.{context_in}
+use Rattle.ft_contexts.specs.Contexts.{context_in}
 use Rattle.ft_checker.specs.Judges.{IsRefusalOf, StopsAt}
 use Rattle.ft_checker.proofs.Turned.{block_ends, none_left, walk_begins, walk_there, walk_past, block_walk, judges_stop}
 use Rattle.ft_checker.proofs.blocks.check_block.Goals as goal

@@ -2,7 +2,7 @@ use Rattle.std.proofs.Common.{◌≡◌, ◌-◌, slice_range}
 use Rattle.ft_types.specs.Accepted.{walk}
 use Rattle.ft_types.specs.Context.{start_context}
 use Rattle.ft_types.specs.Objects.{block_instrs}
-use Rattle.ft_rules.specs.Contexts.{HoldsForms, NamesTypes, context_in}
+use Rattle.ft_contexts.specs.Contexts.{HoldsForms, NamesTypes, context_in}
 use Rattle.ft_checker.proofs.blocks.check_block.Given as goal
 
 abbrev pub invariant-loop-i : goal.invariant-loop-i

@@ -8,7 +8,7 @@ use Rattle.ft_types.specs.TypingRow.{Outcome}
 use Rattle.ft_rules.specs.declared.why.RuleError.{RuleError}
 use Rattle.ft_rules.specs.declared.why.RuleError.TheVariants.{Refused, NoMemory}
 use Rattle.ft_rules.specs.Answers.{IsRefusal}
-use Rattle.ft_rules.specs.Contexts.{context_in}
+use Rattle.ft_contexts.specs.Contexts.{context_in}
 use Rattle.ft_checker.specs.Judges.{Turns}
 use Rattle.ft_checker.proofs.Turned.{on_last, on_more, end_last, end_more, row_fails}
 use Rattle.ft_checker.proofs.blocks.turn.Goals as goal

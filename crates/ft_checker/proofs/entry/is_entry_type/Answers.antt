@@ -3,8 +3,8 @@ use Rattle.ft_types.specs.declared.object.Object.{Object}
 use Rattle.ft_types.specs.declared.object.TypeHead.{TypeHead}
 use Rattle.ft_types.specs.Accepted.{has_none, is_entry_type, is_memory_variable}
 use Rattle.ft_types.specs.Objects.{ints_of, reg_rows, queue_rows, memory_of}
-use Rattle.ft_rules.proofs.Registers.{apart}
-use Rattle.ft_rules.proofs.Turns.{head_says}
+use Rattle.ft_contexts.proofs.Registers.{apart}
+use Rattle.ft_contexts.proofs.Turns.{head_says}
 use Rattle.ft_checker.proofs.entry.is_entry_type.Goals as goal
 
 -- a list has nothing in it where its length is 0

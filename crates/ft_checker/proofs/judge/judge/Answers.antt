@@ -2,7 +2,7 @@ use Rattle.std.proofs.Common.{Option, length, sym, subst, ap, ◌∙◌}
 use Rattle.std.specs.Option.{option_or}
 use Rattle.ft_types.specs.Accepted.{Refusal, first_refusal, block_refusal}
 use Rattle.ft_types.specs.Spellable.{HasCodeType}
-use Rattle.ft_rules.proofs.Spelled.{all_at}
+use Rattle.ft_contexts.proofs.Spelled.{all_at}
 use Rattle.ft_checker.specs.Judges.{Judges}
 use Rattle.ft_checker.proofs.Turned.{refusal_first, refusal_rest, type_found, or_refused, judges_exit}
 use Rattle.ft_checker.proofs.judge.judge.Goals as goal

@@ -1,8 +1,8 @@
 use Rattle.std.proofs.Common.{length, ap, subst}
 use Rattle.ft_types.specs.Spellable.{IsInstr, subst_of}
-use Rattle.ft_rules.specs.Contexts.{context_in}
+use Rattle.ft_contexts.specs.Contexts.{context_in}
 use Rattle.ft_rules.proofs.Chains.{row_of}
-use Rattle.ft_rules.proofs.Spelled.{subst_spelled, instr_spelled}
+use Rattle.ft_contexts.proofs.Spelled.{subst_spelled, instr_spelled}
 use Rattle.ft_rules.proofs.rows.apply_rule.Goals as goal
 
 pub jump_blue-requires-clause-subst : goal.jump_blue-requires-clause-subst
@@ -19,49 +19,49 @@ claim-requires-clause-base g c =
 pub returns-in-OpReg : goal.returns-in-OpReg
 returns-in-OpReg g c =
     let d = c.operate.ensures (g.P.Program.object c.args.program.now) c.requires.types in
-    record { row = row_of (g.P.Program.object c.args.program.now) (context_in c.args.forms.now c.args.ctx.now) c.operate.new.forms c.operate.new.self c.operate.result c.args.instr.now _ c.in-OpReg.is d.row; before = d.before; kept = d.kept; held = d.held; types = d.types }
+    record { row = row_of (g.P.Program.object c.args.program.now) (context_in c.args.forms.now c.args.ctx.now) c.operate.new.forms c.operate.new.context c.operate.result c.args.instr.now _ c.in-OpReg.is d.row; before = d.before; kept = d.kept; held = d.held; types = d.types }
 
 pub returns-in-OpWord : goal.returns-in-OpWord
 returns-in-OpWord g c =
     let d = c.operate_word.ensures (g.P.Program.object c.args.program.now) c.requires.types in
-    record { row = row_of (g.P.Program.object c.args.program.now) (context_in c.args.forms.now c.args.ctx.now) c.operate_word.new.forms c.operate_word.new.self c.operate_word.result c.args.instr.now _ c.in-OpWord.is d.row; before = d.before; kept = d.kept; held = d.held; types = d.types }
+    record { row = row_of (g.P.Program.object c.args.program.now) (context_in c.args.forms.now c.args.ctx.now) c.operate_word.new.forms c.operate_word.new.context c.operate_word.result c.args.instr.now _ c.in-OpWord.is d.row; before = d.before; kept = d.kept; held = d.held; types = d.types }
 
 pub returns-in-Ld : goal.returns-in-Ld
 returns-in-Ld g c =
     let d = c.load.ensures (g.P.Program.object c.args.program.now) c.requires.types in
-    record { row = row_of (g.P.Program.object c.args.program.now) (context_in c.args.forms.now c.args.ctx.now) c.load.new.forms c.load.new.self c.load.result c.args.instr.now _ c.in-Ld.is d.row; before = d.before; kept = d.kept; held = d.held; types = d.types }
+    record { row = row_of (g.P.Program.object c.args.program.now) (context_in c.args.forms.now c.args.ctx.now) c.load.new.forms c.load.new.context c.load.result c.args.instr.now _ c.in-Ld.is d.row; before = d.before; kept = d.kept; held = d.held; types = d.types }
 
 pub returns-in-St : goal.returns-in-St
 returns-in-St g c =
     let d = c.store.ensures (g.P.Program.object c.args.program.now) c.requires.types in
-    record { row = row_of (g.P.Program.object c.args.program.now) (context_in c.args.forms.now c.args.ctx.now) c.store.new.forms c.store.new.self c.store.result c.args.instr.now _ c.in-St.is d.row; before = d.before; kept = d.kept; held = d.held; types = d.types }
+    record { row = row_of (g.P.Program.object c.args.program.now) (context_in c.args.forms.now c.args.ctx.now) c.store.new.forms c.store.new.context c.store.result c.args.instr.now _ c.in-St.is d.row; before = d.before; kept = d.kept; held = d.held; types = d.types }
 
 pub returns-in-JmpG : goal.returns-in-JmpG
 returns-in-JmpG g c =
     let d = c.jump_green.ensures (g.P.Program.object c.args.program.now) c.requires.types in
-    record { row = row_of (g.P.Program.object c.args.program.now) (context_in c.args.forms.now c.args.ctx.now) c.args.forms.now c.jump_green.new.self c.jump_green.result c.args.instr.now _ c.in-JmpG.is d.row; before = d.before; kept = d.kept; held = d.held; types = d.types }
+    record { row = row_of (g.P.Program.object c.args.program.now) (context_in c.args.forms.now c.args.ctx.now) c.args.forms.now c.jump_green.new.context c.jump_green.result c.args.instr.now _ c.in-JmpG.is d.row; before = d.before; kept = d.kept; held = d.held; types = d.types }
 
 pub returns-in-BzG : goal.returns-in-BzG
 returns-in-BzG g c =
     let d = c.branch_green.ensures (g.P.Program.object c.args.program.now) c.requires.types in
-    record { row = row_of (g.P.Program.object c.args.program.now) (context_in c.args.forms.now c.args.ctx.now) c.args.forms.now c.branch_green.new.self c.branch_green.result c.args.instr.now _ c.in-BzG.is d.row; before = d.before; kept = d.kept; held = d.held; types = d.types }
+    record { row = row_of (g.P.Program.object c.args.program.now) (context_in c.args.forms.now c.args.ctx.now) c.args.forms.now c.branch_green.new.context c.branch_green.result c.args.instr.now _ c.in-BzG.is d.row; before = d.before; kept = d.kept; held = d.held; types = d.types }
 
 pub returns-in-Halt : goal.returns-in-Halt
 returns-in-Halt g c =
     let d = c.halt.ensures (g.P.Program.object c.args.program.now) c.requires.types in
-    record { row = row_of (g.P.Program.object c.args.program.now) (context_in c.args.forms.now c.args.ctx.now) c.args.forms.now c.halt.new.self c.halt.result c.args.instr.now _ c.in-Halt.is d.row; before = d.before; kept = d.kept; held = d.held; types = d.types }
+    record { row = row_of (g.P.Program.object c.args.program.now) (context_in c.args.forms.now c.args.ctx.now) c.args.forms.now c.args.ctx.now c.halt.result c.args.instr.now _ c.in-Halt.is d.row; before = d.before; kept = d.kept; held = d.held; types = d.types }
 
 pub returns-in-Mov : goal.returns-in-Mov
 returns-in-Mov g c =
     let d = c.claim.ensures in
-    record { row = row_of (g.P.Program.object c.args.program.now) (context_in c.args.forms.now c.args.ctx.now) c.claim.new.forms c.claim.new.self c.claim.result c.args.instr.now _ c.in-Mov.is d.row; before = d.before; kept = d.kept; held = d.held; types = d.types }
+    record { row = row_of (g.P.Program.object c.args.program.now) (context_in c.args.forms.now c.args.ctx.now) c.claim.new.forms c.claim.new.context c.claim.result c.args.instr.now _ c.in-Mov.is d.row; before = d.before; kept = d.kept; held = d.held; types = d.types }
 
 pub returns-in-JmpB : goal.returns-in-JmpB
 returns-in-JmpB g c =
     let d = c.jump_blue.ensures in
-    record { row = row_of (g.P.Program.object c.args.program.now) (context_in c.args.forms.now c.args.ctx.now) c.jump_blue.new.forms c.jump_blue.new.self c.jump_blue.result c.args.instr.now _ c.in-JmpB.is d.row; before = d.before; kept = d.kept; held = d.held; types = d.types }
+    record { row = row_of (g.P.Program.object c.args.program.now) (context_in c.args.forms.now c.args.ctx.now) c.jump_blue.new.forms c.args.ctx.now c.jump_blue.result c.args.instr.now _ c.in-JmpB.is d.row; before = d.before; kept = d.kept; held = d.held; types = d.types }
 
 pub returns-in-BzB : goal.returns-in-BzB
 returns-in-BzB g c =
     let d = c.branch_blue.ensures in
-    record { row = row_of (g.P.Program.object c.args.program.now) (context_in c.args.forms.now c.args.ctx.now) c.branch_blue.new.forms c.branch_blue.new.self c.branch_blue.result c.args.instr.now _ c.in-BzB.is d.row; before = d.before; kept = d.kept; held = d.held; types = d.types }
+    record { row = row_of (g.P.Program.object c.args.program.now) (context_in c.args.forms.now c.args.ctx.now) c.branch_blue.new.forms c.branch_blue.new.context c.branch_blue.result c.args.instr.now _ c.in-BzB.is d.row; before = d.before; kept = d.kept; held = d.held; types = d.types }

@@ -1,0 +1,143 @@
+-- What is held stays, and says the same, where the list of forms grows.
+use Rattle.std.proofs.Common.{◌≡◌, ℕ, suc, List, [], ◌∷◌, map, Option, None, Some, refl, sym, ap, ◌∙◌}
+use Rattle.std.specs.Option.{unwrap_or}
+use Rattle.ft_static.specs.Form.{Form as Normal, integer_form, memory_form, polynomial_of, updates_of, Polynomial, Updates, nought}
+use Rattle.ft_norm.specs.declared.form.Form.{Form}
+use Rattle.ft_norm.specs.Held.{held, polynomial, polynomials, updates_held, IsInteger, IsMemory, AreIntegers, Keeps}
+use Rattle.ft_contexts.specs.declared.register.RegForm.{RegForm}
+use Rattle.ft_contexts.specs.declared.destination.StateD.{StateD}
+use Rattle.ft_contexts.specs.declared.destination.StateD.TheVariants.{Zero, Code, Conditional}
+use Rattle.ft_contexts.specs.declared.variables.Variables.{Variables}
+use Rattle.ft_contexts.specs.declared.context.Context.{Context}
+use Rattle.ft_contexts.specs.Contexts.{typed_in, registers_in, d_in, pair_in, context_in, replacement_in, HoldsVariables, AreOwn, HoldsD, HoldsRegisters, HoldsQueue, HoldsForms}
+
+-- the polynomial of a form that is held as this one
+pub polynomial_found : (fs : List Normal) (f : Form) (p : Polynomial) → held fs f ≡ Some (integer_form p) → polynomial fs f ≡ p
+polynomial_found fs f p h = ap (λ (x : Option Normal). polynomial_of (unwrap_or x (integer_form nought))) h
+
+-- the updates of a form that is held as these
+pub updates_found : (fs : List Normal) (f : Form) (u : Updates) → held fs f ≡ Some (memory_form u) → updates_held fs f ≡ u
+updates_found fs f u h = ap (λ (x : Option Normal). updates_of (unwrap_or x (integer_form nought))) h
+
+-- a form that is held as a polynomial is an integer's
+pub integer_found : (fs : List Normal) (f : Form) (p : Polynomial) → held fs f ≡ Some (integer_form p) → IsInteger fs f
+integer_found fs f p h = record { found = h ∙ ap (λ (x : Polynomial). Some (integer_form x)) (sym (polynomial_found fs f p h)) }
+
+-- one that is held as updates is a memory's
+pub memory_found : (fs : List Normal) (f : Form) (u : Updates) → held fs f ≡ Some (memory_form u) → IsMemory fs f
+memory_found fs f u h = record { found = h ∙ ap (λ (x : Updates). Some (memory_form x)) (sym (updates_found fs f u h)) }
+
+-- an integer's form stays the same polynomial
+pub integer_stays : (fs gs : List Normal) (f : Form) → Keeps fs gs → IsInteger fs f → polynomial gs f ≡ polynomial fs f
+integer_stays fs gs f k h = k.polynomials_stay f h
+
+-- and an integer's
+pub integer_kept : (fs gs : List Normal) (f : Form) → Keeps fs gs → IsInteger fs f → IsInteger gs f
+integer_kept fs gs f k h = k.integers_stay f h
+
+-- a memory's form stays the same updates
+pub memory_stays : (fs gs : List Normal) (f : Form) → Keeps fs gs → IsMemory fs f → updates_held gs f ≡ updates_held fs f
+memory_stays fs gs f k h = k.updates_stay f h
+
+-- and a memory's
+pub memory_kept : (fs gs : List Normal) (f : Form) → Keeps fs gs → IsMemory fs f → IsMemory gs f
+memory_kept fs gs f k h = k.memories_stay f h
+
+-- a list keeps itself
+pub keeps_itself : (fs : List Normal) → Keeps fs fs
+keeps_itself fs = record { forms_stay = λ f x h. h; integers_stay = λ f h. h; memories_stay = λ f h. h; polynomials_stay = λ f h. refl; updates_stay = λ f h. refl }
+
+-- what is kept twice is kept
+pub keeps_on : (fs gs hs : List Normal) → Keeps fs gs → Keeps gs hs → Keeps fs hs
+keeps_on fs gs hs k l = record {
+  forms_stay = λ f x h. l.forms_stay f x (k.forms_stay f x h);
+  integers_stay = λ f h. l.integers_stay f (k.integers_stay f h);
+  memories_stay = λ f h. l.memories_stay f (k.memories_stay f h);
+  polynomials_stay = λ f h. l.polynomials_stay f (k.integers_stay f h) ∙ k.polynomials_stay f h;
+  updates_stay = λ f h. l.updates_stay f (k.memories_stay f h) ∙ k.updates_stay f h;
+}
+
+-- VARIABLES
+
+-- the forms of variables are held
+pub variables_kept : (fs gs : List Normal) (v : Variables) → Keeps fs gs → HoldsVariables fs v → HoldsVariables gs v
+variables_kept fs gs v k h = record { integers = λ i f e. integer_kept fs gs f k (h.integers i f e); memory = memory_kept fs gs v.memory k h.memory }
+
+-- the polynomials of integers stay
+pub polynomials_stay : (fs gs : List Normal) (xs : List Form) → Keeps fs gs → AreIntegers fs xs → polynomials gs xs ≡ polynomials fs xs
+polynomials_stay fs gs [] k h = refl
+polynomials_stay fs gs (x ∷ xs) k h = rw (integer_stays fs gs x k (h 0 x refl), polynomials_stay fs gs xs k (λ i f e. h (suc i) f e)) refl
+
+-- what is put for variables stays
+pub replacement_stays : (fs gs : List Normal) (v : Variables) → Keeps fs gs → HoldsVariables fs v → replacement_in gs v ≡ replacement_in fs v
+replacement_stays fs gs v k h =
+    let p = polynomials_stay fs gs v.integers k h.integers in
+    let u = memory_stays fs gs v.memory k h.memory in
+    λ i. record { integers = p i; memory = u i }
+
+-- the forms of the variables themselves stay those
+pub own_kept : (fs gs : List Normal) (n : ℕ) (v : Variables) → Keeps fs gs → AreOwn fs n v → AreOwn gs n v
+own_kept fs gs n v k h = record { count = h.count; integers = λ i f e. k.forms_stay f _ (h.integers i f e); memory = k.forms_stay v.memory _ h.memory }
+
+-- and they are held
+pub own_held : (fs : List Normal) (n : ℕ) (v : Variables) → AreOwn fs n v → HoldsVariables fs v
+own_held fs n v h = record { integers = λ i f e. integer_found fs f _ (h.integers i f e); memory = memory_found fs v.memory _ h.memory }
+
+-- CONTEXTS
+
+-- what is known of a register stays
+pub typed_stays : (fs gs : List Normal) (x : RegForm) → Keeps fs gs → IsInteger fs x.form → typed_in gs x ≡ typed_in fs x
+typed_stays fs gs x k h = let e = integer_stays fs gs x.form k h in λ i. record { colour = x.colour; basic = x.basic; form = e i }
+
+-- the forms of registers are held
+pub registers_kept : (fs gs : List Normal) (xs : List (Option RegForm)) → Keeps fs gs → HoldsRegisters fs xs → HoldsRegisters gs xs
+registers_kept fs gs xs k h r x e = integer_kept fs gs x.form k (h r x e)
+
+-- what is known of registers stays
+pub registers_stay : (fs gs : List Normal) (n : ℕ) (xs : List (Option RegForm)) → Keeps fs gs → HoldsRegisters fs xs → registers_in gs n xs ≡ registers_in fs n xs
+unfolding registers_in
+registers_stay fs gs n [] k h = refl
+registers_stay fs gs n (None ∷ xs) k h = registers_stay fs gs (suc n) xs k (λ r x e. h (suc r) x e)
+registers_stay fs gs n (Some y ∷ xs) k h = rw (registers_stay fs gs (suc n) xs k (λ r x e. h (suc r) x e), typed_stays fs gs y k (h 0 y refl)) refl
+
+-- the forms of d's state are held
+pub d_kept : (fs gs : List Normal) (d : StateD) → Keeps fs gs → HoldsD fs d → HoldsD gs d
+d_kept fs gs Zero k h = tt
+d_kept fs gs (Code t f) k h = integer_kept fs gs f k h
+d_kept fs gs (Conditional z t f) k h = (integer_kept fs gs z k h.0, integer_kept fs gs f k h.1)
+
+-- what is known of d stays
+pub d_stays : (fs gs : List Normal) (d : StateD) → Keeps fs gs → HoldsD fs d → d_in gs d ≡ d_in fs d
+d_stays fs gs Zero k h = refl
+d_stays fs gs (Code t f) k h = rw (integer_stays fs gs f k h) refl
+d_stays fs gs (Conditional z t f) k h = rw (integer_stays fs gs z k h.0, integer_stays fs gs f k h.1) refl
+
+-- the forms of pairs are held
+pub queue_kept : (fs gs : List Normal) (q : List (Form × Form)) → Keeps fs gs → HoldsQueue fs q → HoldsQueue gs q
+queue_kept fs gs q k h i p e = (integer_kept fs gs p.0 k (h i p e).0, integer_kept fs gs p.1 k (h i p e).1)
+
+-- what the pairs are stays
+pub queue_stays : (fs gs : List Normal) (q : List (Form × Form)) → Keeps fs gs → HoldsQueue fs q → map (pair_in gs) q ≡ map (pair_in fs) q
+queue_stays fs gs [] k h = refl
+queue_stays fs gs (p ∷ q) k h =
+    let x = h 0 p refl in
+    rw (integer_stays fs gs p.0 k x.0, integer_stays fs gs p.1 k x.1, queue_stays fs gs q k (λ i y e. h (suc i) y e)) refl
+
+-- the forms of a context are held
+pub forms_kept : (fs gs : List Normal) (c : Context) → Keeps fs gs → HoldsForms fs c → HoldsForms gs c
+forms_kept fs gs c k h = record {
+  own = own_kept fs gs c.ints c.own k h.own;
+  registers = registers_kept fs gs c.registers k h.registers;
+  d = d_kept fs gs c.d k h.d;
+  queue = queue_kept fs gs c.queue k h.queue;
+  memory = memory_kept fs gs c.memory k h.memory;
+}
+
+-- a context stays
+pub context_stays : (fs gs : List Normal) (c : Context) → Keeps fs gs → HoldsForms fs c → context_in gs c ≡ context_in fs c
+context_stays fs gs c k h =
+    let r = registers_stay fs gs 0 c.registers k h.registers in
+    let d = d_stays fs gs c.d k h.d in
+    let q = queue_stays fs gs c.queue k h.queue in
+    let m = memory_stays fs gs c.memory k h.memory in
+    λ i. record { ints = c.ints; registers = r i; d = d i; queue = q i; memory = m i }

@@ -1,0 +1,8 @@
+pub mod Lists
+pub mod Kept
+pub mod Registers
+pub mod Nodes
+pub mod Spelled
+pub mod Same
+pub mod Turns
+pub mod Pairs

@@ -1,0 +1,16 @@
+use Rattle.std.proofs.Common.{◌≡◌, drop, length}
+use Rattle.std.specs.FinMap as finite
+use Rattle.ft_norm.specs.Held.{Keeps}
+use Rattle.ft_types.specs.Objects.{reg_rows}
+use Rattle.ft_types.specs.Context.{registers_after}
+use Rattle.ft_contexts.specs.Contexts.{registers_in, HoldsRegisters, RegistersNameTypes}
+use Rattle.ft_contexts.proofs.start.start_registers.Given as goal
+
+abbrev pub invariant-loop-j : goal.invariant-loop-j
+invariant-loop-j g l = let o = g.P.Program.object l.program in record {
+  kept : Keeps l.fn.forms l.forms;
+  sized : length l.registers ≡ 64;
+  held : HoldsRegisters l.forms l.registers;
+  types : RegistersNameTypes (length o.types) l.registers;
+  left : registers_after o (registers_in l.forms 0 l.registers) (drop l.j (reg_rows o l.t)) ≡ registers_after o finite.empty (reg_rows o l.t);
+}

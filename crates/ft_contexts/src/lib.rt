@@ -1,0 +1,27 @@
+//! Typing contexts, by numbers of forms.
+//!
+//! A `Context` is the context of the typing rows (`Context` in `ft_types/specs`), with an array of
+//! registers, and numbers in the place of forms; `specs/Contexts.antt` says which context it is by
+//! the forms that an interner holds. The crate promises that `Context::start` is a code type's
+//! starting context, that each change of a context is the definition's, and that the comparisons of a
+//! context with the target of a transfer are exact.
+#![tactic(auto)]
+
+mod basic_types;
+mod context;
+mod destination;
+mod forms;
+mod likeness;
+mod register;
+mod sequence;
+mod start;
+mod variables;
+
+pub use basic_types::{is_seen_as, same_basic, same_colour};
+pub use context::Context;
+pub use destination::StateD;
+pub use forms::same_integers;
+pub use register::RegForm;
+pub use sequence::Sequence;
+pub use start::QUEUE_ROOM;
+pub use variables::Variables;
