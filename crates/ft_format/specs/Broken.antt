@@ -15,7 +15,7 @@ use Rattle.ft_format.specs.declared.object_error.ObjectError.TheVariants as erro
 use Rattle.ft_format.specs.declared.header.Header.{Header}
 use Rattle.ft_format.specs.Layout.{numbers, rows, header_layout, cell_layout, code_layout, type_layout, reg_layout, pair_layout, subst_layout}
 use Rattle.ft_format.specs.Rules.{must, ◌next◌, header_broken, cell_broken, node_broken, type_broken, reg_broken, queue_broken, block_broken, instr_broken, subst_broken}
-use Rattle.ft_format.specs.Values.{past_of, cells_of, node_of, regs_end_of, queue_end_of, ints_of, types_of, reg_type_of, pair_of, block_of, instr_of, rows_past, subst_of, header_of}
+use Rattle.ft_format.specs.Values.{past_of, cells_of, node_of, regs_end_of, queue_end_of, type_ints_of, types_of, reg_type_of, pair_of, block_of, instr_of, rows_past, subst_node_of, header_of}
 
 -- the number that stands first in a row
 abbrev pub first_of_row : List ℕ → ℕ
@@ -46,7 +46,7 @@ type_regs_broken types nodes ints least at (row ∷ rest) = reg_broken types nod
 unfoldable pub regs_broken : Header → List Node → ℕ → ℕ → List (List ℕ) → List ℕ → Option ObjectError
 regs_broken h nodes start at [] bytes = must (start == h.regs) (errors.Order at)
 regs_broken h nodes start at (row ∷ rest) bytes =
-    type_regs_broken h.types nodes (ints_of row) 0 at (rows reg_layout (regs_end_of row - start) bytes)
+    type_regs_broken h.types nodes (type_ints_of row) 0 at (rows reg_layout (regs_end_of row - start) bytes)
     next regs_broken h nodes (regs_end_of row) (at + 12 * (regs_end_of row - start)) rest (drop (12 * (regs_end_of row - start)) bytes)
 
 -- queue rows of one type
@@ -58,7 +58,7 @@ type_queue_broken nodes ints at (row ∷ rest) = queue_broken nodes ints at row 
 unfoldable pub queues_broken : Header → List Node → ℕ → ℕ → List (List ℕ) → List ℕ → Option ObjectError
 queues_broken h nodes start at [] bytes = must (start == h.queue) (errors.Order at)
 queues_broken h nodes start at (row ∷ rest) bytes =
-    type_queue_broken nodes (ints_of row) at (rows pair_layout (queue_end_of row - start) bytes)
+    type_queue_broken nodes (type_ints_of row) at (rows pair_layout (queue_end_of row - start) bytes)
     next queues_broken h nodes (queue_end_of row) (at + 8 * (queue_end_of row - start)) rest (drop (8 * (queue_end_of row - start)) bytes)
 
 -- blocks, after a block that begins at the previous place
@@ -205,7 +205,7 @@ abbrev pub instrs_read : Header → List ℕ → List Instr
 instrs_read h bytes = map instr_of (instr_rows_of h bytes)
 
 abbrev pub substs_read : Header → List ℕ → List ℕ
-substs_read h bytes = map subst_of (rows subst_layout h.substs (substs_part h bytes))
+substs_read h bytes = map subst_node_of (rows subst_layout h.substs (substs_part h bytes))
 
 -- the object that the sections spell
 unfoldable pub tables_read : Header → List ℕ → Object

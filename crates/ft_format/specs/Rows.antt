@@ -124,7 +124,7 @@ all_queue o = flat_map queue_of o.types
 abbrev pub all_names : Object → List ℕ
 all_names o = flat_map name_of o.cells
 
--- the magic number and the version: `TALFT`, and then 1 in three bytes
+-- the magic number and the version, hex 54414c4654000001: `TALFT`, and then 1 in three bytes
 abbrev pub magic : ℕ
 magic = 6071217637612847105
 

@@ -48,8 +48,8 @@ op_of n = if n == 0 then Add else (if n == 1 then Sub else (if n == 2 then Mul e
 abbrev pub base_of : ℕ → ℕ → Base
 base_of base code_type = if base == 0 then Int else Code code_type
 
-abbrev pub basic_of : ℕ → ℕ → ℕ → Basic
-basic_of refs base code_type = record { refs = refs; base = base_of base code_type }
+abbrev pub basic_type_of : ℕ → ℕ → ℕ → Basic
+basic_type_of refs base code_type = record { refs = refs; base = base_of base code_type }
 
 -- a word, by its two halves
 abbrev pub joined : ℕ → ℕ → ℕ
@@ -65,8 +65,8 @@ past_of [] = 0
 
 -- a cell whose name begins at `start` in the name bytes
 abbrev pub cell_of : List ℕ → ℕ → List ℕ → Cell
-cell_of names start (past ∷ refs ∷ base ∷ code_type ∷ init ∷ []) = record { name = take (past - start) (drop start names); basic = basic_of refs base code_type; init = init }
-cell_of names start _ = record { name = []; basic = basic_of 0 0 0; init = 0 }
+cell_of names start (past ∷ refs ∷ base ∷ code_type ∷ init ∷ []) = record { name = take (past - start) (drop start names); basic = basic_type_of refs base code_type; init = init }
+cell_of names start _ = record { name = []; basic = basic_type_of 0 0 0; init = 0 }
 
 -- cells whose names follow one another
 abbrev pub cells_of : List ℕ → ℕ → List (List ℕ) → List Cell
@@ -97,29 +97,29 @@ queue_end_of (regs ∷ queue ∷ rest) = queue
 queue_end_of _ = 0
 
 -- the memory of a type, and the number of its variables
-abbrev pub memory_of : List ℕ → ℕ
-memory_of (regs ∷ queue ∷ memory ∷ rest) = memory
-memory_of _ = 0
+abbrev pub type_memory_of : List ℕ → ℕ
+type_memory_of (regs ∷ queue ∷ memory ∷ rest) = memory
+type_memory_of _ = 0
 
-abbrev pub ints_of : List ℕ → ℕ
-ints_of (regs ∷ queue ∷ memory ∷ ints ∷ rest) = ints
-ints_of _ = 0
+abbrev pub type_ints_of : List ℕ → ℕ
+type_ints_of (regs ∷ queue ∷ memory ∷ ints ∷ rest) = ints
+type_ints_of _ = 0
 
 -- types, which take the rows that follow one another
 abbrev pub types_of : ℕ → ℕ → List (List ℕ) → List RegType → List (ℕ × ℕ) → List CodeType
 types_of regs_start queue_start [] regs queue = []
 types_of regs_start queue_start (row ∷ rest) regs queue =
     record {
-      ints = ints_of row;
+      ints = type_ints_of row;
       regs = take (regs_end_of row - regs_start) regs;
       queue = take (queue_end_of row - queue_start) queue;
-      memory = memory_of row;
+      memory = type_memory_of row;
     }
     ∷ types_of (regs_end_of row) (queue_end_of row) rest (drop (regs_end_of row - regs_start) regs) (drop (queue_end_of row - queue_start) queue)
 
 abbrev pub reg_type_of : List ℕ → RegType
-reg_type_of (reg ∷ colour ∷ pad ∷ refs ∷ base ∷ code_type ∷ expr ∷ []) = record { reg = register_of reg; colour = colour_of colour; basic = basic_of refs base code_type; expr = expr }
-reg_type_of _ = record { reg = first_register; colour = Green; basic = basic_of 0 0 0; expr = 0 }
+reg_type_of (reg ∷ colour ∷ pad ∷ refs ∷ base ∷ code_type ∷ expr ∷ []) = record { reg = register_of reg; colour = colour_of colour; basic = basic_type_of refs base code_type; expr = expr }
+reg_type_of _ = record { reg = first_register; colour = Green; basic = basic_type_of 0 0 0; expr = 0 }
 
 abbrev pub pair_of : List ℕ → ℕ × ℕ
 pair_of (address ∷ value ∷ []) = (address, value)
@@ -147,7 +147,7 @@ abbrev pub instr_by : ℕ → ℕ → ℕ → ℕ → ℕ → ℕ → ℕ → In
 instr_by kind a b c x high low =
     if kind == 0 then OpReg (op_of x) (register_of a) (register_of b) (register_of c)
     else (if kind == 1 then OpWord (op_of x) (register_of a) (register_of b) (coloured c high low)
-    else (if kind == 2 then Mov (register_of a) (coloured c high low) (basic_of (x / 2 ^ 24) (x / 2 ^ 16 % 2 ^ 8) (x % 2 ^ 16))
+    else (if kind == 2 then Mov (register_of a) (coloured c high low) (basic_type_of (x / 2 ^ 24) (x / 2 ^ 16 % 2 ^ 8) (x % 2 ^ 16))
     else (if kind == 3 then Ld (colour_of c) (register_of a) (register_of b)
     else (if kind == 4 then St (colour_of c) (register_of a) (register_of b)
     else (if kind == 5 then jump_of (register_of a) (carried c x high low)
@@ -163,9 +163,9 @@ abbrev pub rows_past : ℕ → List ℕ → ℕ
 rows_past first (kind ∷ a ∷ b ∷ c ∷ x ∷ high ∷ low ∷ []) = if kind == 5 then (if c == 0 then first else high) else (if kind == 6 then (if c == 0 then first else high) else first)
 rows_past first _ = first
 
-abbrev pub subst_of : List ℕ → ℕ
-subst_of (n ∷ rest) = n
-subst_of [] = 0
+abbrev pub subst_node_of : List ℕ → ℕ
+subst_node_of (n ∷ rest) = n
+subst_node_of [] = 0
 
 -- the header that its numbers stand for
 abbrev pub header_of : List ℕ → Header
