@@ -19,7 +19,7 @@ use Rattle.ft_format.specs.declared.object_error.ObjectError.{ObjectError}
 use Rattle.ft_format.specs.declared.object_error.ObjectError.TheVariants as errors
 use Rattle.ft_format.specs.Rules.{must, ◌next◌, colour_broken, op_broken, register_broken, code_type_broken, basic_broken}
 use Rattle.ft_format.specs.Rows.{colour_code, op_code, base_code, base_type, high_half, low_half}
-use Rattle.ft_format.specs.Values.{or_first, register_of, colour_of, op_of, base_of, basic_of, joined}
+use Rattle.ft_format.specs.Values.{or_first, register_of, colour_of, op_of, base_of, basic_type_of, joined}
 use Rattle.ft_format.proofs.Unbroken.{held, both}
 
 -- what a test that must hold says, and that it holds
@@ -126,7 +126,7 @@ register_fine at r = rw (lt_true r.number 64 r.in_range) refl
 
 -- basic types
 pub record BasicAgain (types refs base code_type : ℕ) : Type 0 where
-  pub basic : IsBasic types (basic_of refs base code_type)
+  pub basic : IsBasic types (basic_type_of refs base code_type)
   pub code : base_code (base_of base code_type) ≡ base
   pub own : base_type (base_of base code_type) ≡ code_type
 
@@ -152,7 +152,7 @@ pub base_back : (b : Base) → base_of (base_code b) (base_type b) ≡ b
 base_back Int = refl
 base_back (Code t) = refl
 
-pub basic_back : (b : Basic) → basic_of b.refs (base_code b.base) (base_type b.base) ≡ b
+pub basic_back : (b : Basic) → basic_type_of b.refs (base_code b.base) (base_type b.base) ≡ b
 basic_back b = ap (λ x. record { refs = b.refs; base = x }) (base_back b.base)
 
 -- words in two halves

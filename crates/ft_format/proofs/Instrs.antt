@@ -17,7 +17,7 @@ use Rattle.ft_format.specs.declared.header.Header.{Header}
 use Rattle.ft_format.specs.Layout.{code_layout}
 use Rattle.ft_format.specs.Rules.{must, ◌next◌, zero_broken, register_broken, colour_broken, op_broken, node_number_broken, basic_broken, substitution_broken, transfer_broken, fields_broken, instr_broken}
 use Rattle.ft_format.specs.Rows.{colour_code, op_code, base_code, base_type, basic_number, high_half, low_half, instr_row}
-use Rattle.ft_format.specs.Values.{joined, basic_of, instr_of, rows_past}
+use Rattle.ft_format.specs.Values.{joined, basic_type_of, instr_of, rows_past}
 use Rattle.ft_format.specs.Broken.{instrs_broken, rows_taken}
 use Rattle.ft_format.proofs.Layouts.{Fit, AllFit}
 use Rattle.ft_format.proofs.Unbroken.{both}
@@ -90,7 +90,7 @@ instr_2 h nodes first at a b c x high low narrow fh fl n =
     let word : joined high low < 2 ^ 64 = omega arith in
     let no_b = sym (eq_held b 0 (errors.Pad (at + 2)) r2.0) in
     let basic = basic_again h.types (at + 4) (x / 2 ^ 24) (x / 2 ^ 16 % 2 ^ 8) (x % 2 ^ 16) r3.1 in
-    let number : basic_number (basic_of (x / 2 ^ 24) (x / 2 ^ 16 % 2 ^ 8) (x % 2 ^ 16)) ≡ x = rw (basic.code, basic.own) (parts_joined x) in
+    let number : basic_number (basic_type_of (x / 2 ^ 24) (x / 2 ^ 16 % 2 ^ 8) (x % 2 ^ 16)) ≡ x = rw (basic.code, basic.own) (parts_joined x) in
     record { written = same_seven refl (register_again (at + 1) a r1.0) no_b (colour_again (at + 3) c r3.0) number (high_back high low fl) (low_back high low fl); instr = (word, basic.basic); carries = tt; past = refl }
 
 instr_3 : (h : Header) (nodes : List Node) (first at a b c x high low : ℕ) → AreNarrowNodes nodes → high < 2 ^ 32 → low < 2 ^ 32 → fields_broken h nodes first at 3 a b c x high low ≡ None → InstrAgain h nodes first (3 ∷ a ∷ b ∷ c ∷ x ∷ high ∷ low ∷ [])

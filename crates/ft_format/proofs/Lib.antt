@@ -10,6 +10,7 @@ pub mod ReadWhole
 pub mod References
 pub mod Shapes
 pub mod SmallRows
+pub mod SpelledBytes
 pub mod Substitutions
 pub mod Types
 pub mod Unbroken

@@ -16,7 +16,7 @@ use Rattle.ft_format.specs.Format.{AreBytes, Spells}
 use Rattle.ft_format.specs.Layout.{numbers, written, rows, spelled, header_layout, cell_layout, code_layout, type_layout, reg_layout, pair_layout, subst_layout}
 use Rattle.ft_format.specs.Rules.{must, ◌next◌, header_broken}
 use Rattle.ft_format.specs.Rows.{cell_rows, node_row, type_rows, reg_row, queue_row, block_row, instr_row, subst_row, header_row, spelling}
-use Rattle.ft_format.specs.Values.{node_of, reg_type_of, pair_of, block_of, instr_of, subst_of}
+use Rattle.ft_format.specs.Values.{node_of, reg_type_of, pair_of, block_of, instr_of, subst_node_of}
 use Rattle.ft_format.specs.Broken.{cells_broken, nodes_broken, blocks_broken, instrs_broken, rows_taken, subst_rows_broken, substs_broken, names_broken, nodes_at, types_at, regs_at, queue_at, blocks_at, instrs_at, substs_at, names_at, total, cells_part, nodes_part, types_part, regs_part, queue_part, blocks_part, instrs_part, substs_part, names_part, type_rows_of, instr_rows_of, cells_read, nodes_read, regs_read, queue_read, types_read, blocks_read, instrs_read, substs_read, tables_read, code_types_broken, tables_broken, header_at, front_broken, broken, object_of}
 use Rattle.ft_format.proofs.Layouts.{numbers_again, rows_fit, length_rows, bytes_after}
 use Rattle.ft_format.proofs.Unbroken.{both}
@@ -78,7 +78,7 @@ tables_again h bytes b head long n =
     let queue_count : length (flat_map queue_of ts) ≡ h.queue = ap length of_types.are.all_queue ∙ length-map (rows pair_layout h.queue (queue_part h bytes)) pair_of ∙ length_rows pair_layout h.queue (queue_part h bytes) in
     let block_count : length (blocks_read h bytes) ≡ h.blocks = length-map (rows pair_layout h.blocks (blocks_part h bytes)) block_of ∙ length_rows pair_layout h.blocks (blocks_part h bytes) in
     let instr_count : length (instrs_read h bytes) ≡ h.instrs = length-map irs instr_of ∙ length_rows code_layout h.instrs (instrs_part h bytes) in
-    let subst_count : length (substs_read h bytes) ≡ h.substs = length-map (rows subst_layout h.substs (substs_part h bytes)) subst_of ∙ length_rows subst_layout h.substs (substs_part h bytes) in
+    let subst_count : length (substs_read h bytes) ≡ h.substs = length-map (rows subst_layout h.substs (substs_part h bytes)) subst_node_of ∙ length_rows subst_layout h.substs (substs_part h bytes) in
     let name_count : length (flat_map name_of cs) ≡ h.names = omega (arith, of_names.ends) in
     let names_are : names_part h bytes ≡ flat_map name_of cs = nothing_left (names_part h bytes) (flat_map name_of cs) cells.left cells.split (omega (arith, name_count, name_bytes)) in
     let s_cells = section cell_layout 48 h.cells bytes (tt, (tt, (tt, (tt, (tt, tt))))) b (omega (arith, long)) in

@@ -12,7 +12,7 @@ use Rattle.ft_format.specs.declared.header.Header.{Header}
 use Rattle.ft_format.specs.Layout.{reg_layout, pair_layout, subst_layout}
 use Rattle.ft_format.specs.Rules.{must, ◌next◌, zero_broken, register_broken, colour_broken, basic_broken, node_number_broken, named_broken, reg_broken, queue_broken, may_begin, block_broken}
 use Rattle.ft_format.specs.Rows.{reg_row, queue_row, block_row, subst_row}
-use Rattle.ft_format.specs.Values.{reg_type_of, pair_of, block_of, subst_of}
+use Rattle.ft_format.specs.Values.{reg_type_of, pair_of, block_of, subst_node_of}
 use Rattle.ft_format.specs.Broken.{first_of_row, type_regs_broken, type_queue_broken, blocks_broken, subst_rows_broken}
 use Rattle.ft_format.proofs.Layouts.{Fit, AllFit}
 use Rattle.ft_format.proofs.Unbroken.{both}
@@ -219,7 +219,7 @@ all_blocks_fine h at (b ∷ bs) m k z a t =
 
 -- substitution rows
 pub substs_again : (nodes : List Node) (at : ℕ) (rs : List (List ℕ)) → AreNarrowNodes nodes → AllFit subst_layout rs → subst_rows_broken nodes at rs ≡ None
-    → (map subst_row (map subst_of rs) ≡ rs) × AllByRecursion (IsNodeIn nodes 128 false) (map subst_of rs)
+    → (map subst_row (map subst_node_of rs) ≡ rs) × AllByRecursion (IsNodeIn nodes 128 false) (map subst_node_of rs)
 unfolding subst_rows_broken
 substs_again nodes at [] narrow fit n = (refl, tt)
 substs_again nodes at ((a ∷ []) ∷ rs) narrow fit n =
@@ -231,7 +231,7 @@ substs_again nodes at ((a ∷ z ∷ zs) ∷ rs) narrow fit n = absurd fit.0.1
 
 pub record SubstsFine (nodes : List Node) (at : ℕ) (ns : List ℕ) : Type 0 where
   pub unbroken : subst_rows_broken nodes at (map subst_row ns) ≡ None
-  pub back : map subst_of (map subst_row ns) ≡ ns
+  pub back : map subst_node_of (map subst_row ns) ≡ ns
   pub fit : AllFit subst_layout (map subst_row ns)
 
 pub substs_fine : (nodes : List Node) (at : ℕ) (ns : List ℕ) → length nodes ≤ 1048576 → AllByRecursion (IsNodeIn nodes 128 false) ns → SubstsFine nodes at ns

@@ -17,7 +17,7 @@ use Rattle.ft_format.specs.Format.{AreBytes}
 use Rattle.ft_format.specs.Layout.{size, written, spelled, rows, type_layout, reg_layout, pair_layout}
 use Rattle.ft_format.specs.Rules.{must, ◌next◌, zero_broken, count_broken, named_broken, type_broken}
 use Rattle.ft_format.specs.Rows.{type_rows, reg_row, queue_row}
-use Rattle.ft_format.specs.Values.{regs_end_of, queue_end_of, memory_of, ints_of, types_of, reg_type_of, pair_of}
+use Rattle.ft_format.specs.Values.{regs_end_of, queue_end_of, type_memory_of, type_ints_of, types_of, reg_type_of, pair_of}
 use Rattle.ft_format.specs.Broken.{types_broken, type_regs_broken, regs_broken, type_queue_broken, queues_broken}
 use Rattle.ft_format.proofs.Layouts.{Fit, AllFit, rows_none, rows_back, rows_fit, length_rows, length_spelled, bytes_after, rows_plus}
 use Rattle.ft_format.proofs.Unbroken.{both}
@@ -28,14 +28,14 @@ use Rattle.ft_format.proofs.SmallRows.{regs_again, regs_fine, queue_again, queue
 
 -- what a type's record that breaks no rule says
 pub record TypeAgain (h : Header) (nodes : List Node) (regs queue : ℕ) (row : List ℕ) : Type 0 where
-  pub written : regs_end_of row ∷ queue_end_of row ∷ memory_of row ∷ ints_of row ∷ 0 ∷ 0 ∷ 0 ∷ [] ≡ row
+  pub written : regs_end_of row ∷ queue_end_of row ∷ type_memory_of row ∷ type_ints_of row ∷ 0 ∷ 0 ∷ 0 ∷ [] ≡ row
   pub regs_from : regs ≤ regs_end_of row
   pub regs_to : regs_end_of row ≤ h.regs
   pub queue_from : queue ≤ queue_end_of row
   pub queue_to : queue_end_of row ≤ h.queue
   pub queue_few : queue_end_of row ≤ queue + 8
-  pub memory : IsNodeIn nodes (ints_of row) true (memory_of row)
-  pub ints : ints_of row ≤ 128
+  pub memory : IsNodeIn nodes (type_ints_of row) true (type_memory_of row)
+  pub ints : type_ints_of row ≤ 128
 
 type_again : (h : Header) (nodes : List Node) (regs queue at : ℕ) (row : List ℕ) → Fit type_layout row → type_broken h nodes regs queue at row ≡ None → TypeAgain h nodes regs queue row
 type_again h nodes regs queue at (a ∷ b ∷ memory ∷ ints ∷ p ∷ q ∷ r ∷ []) fit n =
@@ -125,11 +125,11 @@ types_again h nodes start queue_start at regs_at queue_at (row ∷ trs) rb qb fr
     let count = end - start in
     let queue_count = queue_end - queue_start in
     let r0 = both (type_broken h nodes start queue_start at row) (types_broken h nodes end queue_end (at + 16) trs) n in
-    let r1 = both (type_regs_broken h.types nodes (ints_of row) 0 regs_at (rows reg_layout count rb)) (regs_broken h nodes end (regs_at + 12 * count) trs (drop (12 * count) rb)) nr in
-    let r2 = both (type_queue_broken nodes (ints_of row) queue_at (rows pair_layout queue_count qb)) (queues_broken h nodes queue_end (queue_at + 8 * queue_count) trs (drop (8 * queue_count) qb)) nq in
+    let r1 = both (type_regs_broken h.types nodes (type_ints_of row) 0 regs_at (rows reg_layout count rb)) (regs_broken h nodes end (regs_at + 12 * count) trs (drop (12 * count) rb)) nr in
+    let r2 = both (type_queue_broken nodes (type_ints_of row) queue_at (rows pair_layout queue_count qb)) (queues_broken h nodes queue_end (queue_at + 8 * queue_count) trs (drop (8 * queue_count) qb)) nq in
     let own = type_again h nodes start queue_start at row fit.0 r0.0 in
-    let own_regs = regs_again h.types nodes (ints_of row) 0 regs_at (rows reg_layout count rb) (rows_fit reg_layout count rb (tt, (tt, (tt, (tt, (tt, (tt, (tt, tt))))))) fr) r1.0 in
-    let own_queue = queue_again nodes (ints_of row) queue_at (rows pair_layout queue_count qb) (rows_fit pair_layout queue_count qb (tt, (tt, tt)) fq) r2.0 in
+    let own_regs = regs_again h.types nodes (type_ints_of row) 0 regs_at (rows reg_layout count rb) (rows_fit reg_layout count rb (tt, (tt, (tt, (tt, (tt, (tt, (tt, tt))))))) fr) r1.0 in
+    let own_queue = queue_again nodes (type_ints_of row) queue_at (rows pair_layout queue_count qb) (rows_fit pair_layout queue_count qb (tt, (tt, tt)) fq) r2.0 in
     let after = types_again h nodes end queue_end (at + 16) (regs_at + 12 * count) (queue_at + 8 * queue_count) trs (drop (12 * count) rb) (drop (8 * queue_count) qb)
     (bytes_after (12 * count) rb fr) (bytes_after (8 * queue_count) qb fq) fit.1 r0.1 r1.1 r2.1 in
     let a = map reg_type_of (rows reg_layout count rb) in
@@ -142,7 +142,7 @@ types_again h nodes start queue_start at regs_at queue_at (row ∷ trs) rb qb fr
     let queue_split : queue_left h queue_start qb ≡ b ++ queue_more = values_split pair_of pair_layout (h.queue - queue_start) queue_count (h.queue - queue_end) qb queue_left_is in
     let long : length a ≡ count = length-map (rows reg_layout count rb) reg_type_of ∙ length_rows reg_layout count rb in
     let queue_long : length b ≡ queue_count = length-map (rows pair_layout queue_count qb) pair_of ∙ length_rows pair_layout queue_count qb in
-    let t : CodeType = record { ints = ints_of row; regs = a; queue = b; memory = memory_of row } in
+    let t : CodeType = record { ints = type_ints_of row; regs = a; queue = b; memory = type_memory_of row } in
     let ts = types_of end queue_end trs more queue_more in
     let whole : types_of start queue_start (row ∷ trs) (regs_left h start rb) (queue_left h queue_start qb) ≡ t ∷ ts =
     rw (
@@ -159,10 +159,10 @@ types_again h nodes start queue_start at regs_at queue_at (row ∷ trs) rb qb fr
         types = (
           record {
             ints = own.ints;
-            regs = All-from_recursion (IsRegRow h.types nodes (ints_of row)) a own_regs.regs;
+            regs = All-from_recursion (IsRegRow h.types nodes (type_ints_of row)) a own_regs.regs;
             rising = own_regs.rising;
             queue_length = omega (arith, queue_long, own.queue_few);
-            queue = All-from_recursion (IsQueueRow nodes (ints_of row)) b own_queue.1;
+            queue = All-from_recursion (IsQueueRow nodes (type_ints_of row)) b own_queue.1;
             memory = own.memory;
           },
           after.are.types,

@@ -16,7 +16,7 @@ use Rattle.ft_format.specs.Format.{Spells}
 use Rattle.ft_format.specs.Layout.{size, numbers, written, rows, spelled, header_layout, cell_layout, code_layout, type_layout, reg_layout, pair_layout, subst_layout}
 use Rattle.ft_format.specs.Rules.{must, header_broken}
 use Rattle.ft_format.specs.Rows.{magic, cell_rows, node_row, type_rows, reg_row, queue_row, block_row, instr_row, subst_row, all_regs, all_queue, all_names, header_row, spelling}
-use Rattle.ft_format.specs.Values.{cells_of, node_of, types_of, reg_type_of, pair_of, block_of, instr_of, subst_of}
+use Rattle.ft_format.specs.Values.{cells_of, node_of, types_of, reg_type_of, pair_of, block_of, instr_of, subst_node_of}
 use Rattle.ft_format.specs.Broken.{IsSmall, cells_broken, nodes_broken, types_broken, regs_broken, queues_broken, blocks_broken, instrs_broken, rows_taken, subst_rows_broken, nodes_at, types_at, regs_at, queue_at, blocks_at, instrs_at, substs_at, names_at, total, cells_part, nodes_part, regs_part, queue_part, blocks_part, substs_part, type_rows_of, instr_rows_of, cells_read, nodes_read, regs_read, queue_read, types_read, blocks_read, instrs_read, substs_read, tables_read, code_types_broken, tables_broken, header_at, broken, object_of}
 use Rattle.std.proofs.lemmas.List.{length-append, length-map, drop-drop, drop_at}
 use Rattle.std.proofs.lemmas.List.Elements.{recursion_from_All}
@@ -174,7 +174,7 @@ spelled_again bytes o s e =
     ∙ ap (λ l. types_of 0 0 (type_rows 0 0 o.types) (all_regs o) l) queue_are ∙ types_back 0 0 o.types in
     let blocks_are : blocks_read h bytes ≡ o.blocks = ap (map block_of) r_blocks ∙ of_blocks.back in
     let instrs_are : instrs_read h bytes ≡ o.instrs = ap (map instr_of) r_instrs ∙ of_instrs.back in
-    let substs_are : substs_read h bytes ≡ o.substs = ap (map subst_of) r_substs ∙ of_substs.back in
+    let substs_are : substs_read h bytes ≡ o.substs = ap (map subst_node_of) r_substs ∙ of_substs.back in
     let taken : rows_taken 0 (instr_rows_of h bytes) ≡ length o.substs = ap (rows_taken 0) r_instrs ∙ of_instrs.taken in
     let p1 : cells_broken h 0 48 (rows cell_layout h.cells (cells_part bytes)) ≡ None = ap (cells_broken h 0 48) r_cells ∙ of_cells.unbroken in
     let p2 : nodes_broken [] (nodes_at h) (rows code_layout h.nodes (nodes_part h bytes)) ≡ None = ap (nodes_broken [] (nodes_at h)) r_nodes ∙ of_nodes.0 in

@@ -15,7 +15,7 @@ use Rattle.ft_format.specs.declared.object_error.ObjectError.TheVariants as erro
 use Rattle.ft_format.specs.declared.header.Header.{Header}
 use Rattle.ft_format.specs.Layout.{numbers, rows, header_layout, cell_layout, code_layout, type_layout, reg_layout, pair_layout, subst_layout}
 use Rattle.ft_format.specs.Rules.{must, ◌next◌, header_broken, cell_broken, node_broken, type_broken, reg_broken, queue_broken, block_broken, instr_broken, subst_broken}
-use Rattle.ft_format.specs.Values.{past_of, cells_of, node_of, regs_end_of, queue_end_of, ints_of, types_of, reg_type_of, pair_of, block_of, instr_of, rows_past, subst_of, header_of}
+use Rattle.ft_format.specs.Values.{past_of, cells_of, node_of, regs_end_of, queue_end_of, type_ints_of, types_of, reg_type_of, pair_of, block_of, instr_of, rows_past, subst_node_of, header_of}
 
 -- the number that stands first in a row
 abbrev pub first_of_row : List ℕ → ℕ
@@ -46,7 +46,7 @@ type_regs_broken types nodes ints least at (row ∷ rest) = reg_broken types nod
 unfoldable pub regs_broken : Header → List Node → ℕ → ℕ → List (List ℕ) → List ℕ → Option ObjectError
 regs_broken h nodes start at [] bytes = must (start == h.regs) (errors.Order at)
 regs_broken h nodes start at (row ∷ rest) bytes =
-    type_regs_broken h.types nodes (ints_of row) 0 at (rows reg_layout (regs_end_of row - start) bytes)
+    type_regs_broken h.types nodes (type_ints_of row) 0 at (rows reg_layout (regs_end_of row - start) bytes)
     next regs_broken h nodes (regs_end_of row) (at + 12 * (regs_end_of row - start)) rest (drop (12 * (regs_end_of row - start)) bytes)
 
 -- queue rows of one type
@@ -58,7 +58,7 @@ type_queue_broken nodes ints at (row ∷ rest) = queue_broken nodes ints at row 
 unfoldable pub queues_broken : Header → List Node → ℕ → ℕ → List (List ℕ) → List ℕ → Option ObjectError
 queues_broken h nodes start at [] bytes = must (start == h.queue) (errors.Order at)
 queues_broken h nodes start at (row ∷ rest) bytes =
-    type_queue_broken nodes (ints_of row) at (rows pair_layout (queue_end_of row - start) bytes)
+    type_queue_broken nodes (type_ints_of row) at (rows pair_layout (queue_end_of row - start) bytes)
     next queues_broken h nodes (queue_end_of row) (at + 8 * (queue_end_of row - start)) rest (drop (8 * (queue_end_of row - start)) bytes)
 
 -- blocks, after a block that begins at the previous place
@@ -106,28 +106,35 @@ unfoldable pub names_broken : ℕ → List Cell → ℕ → List Cell → Option
 names_broken end earlier at [] = must (at == end) (errors.Order at)
 names_broken end earlier at (c ∷ cs) = name_broken earlier at c.name next names_broken end (earlier ++ c ∷ []) (at + length c.name) cs
 
--- where the sections begin
+-- where the nodes begin, after the header and the cells
 abbrev pub nodes_at : Header → ℕ
 nodes_at h = 48 + 16 * h.cells
 
+-- where the types begin, after the nodes
 abbrev pub types_at : Header → ℕ
 types_at h = nodes_at h + 16 * h.nodes
 
+-- where the register rows begin, after the types
 abbrev pub regs_at : Header → ℕ
 regs_at h = types_at h + 16 * h.types
 
+-- where the queue rows begin, after the register rows
 abbrev pub queue_at : Header → ℕ
 queue_at h = regs_at h + 12 * h.regs
 
+-- where the blocks begin, after the queue rows
 abbrev pub blocks_at : Header → ℕ
 blocks_at h = queue_at h + 8 * h.queue
 
+-- where the instructions begin, after the blocks
 abbrev pub instrs_at : Header → ℕ
 instrs_at h = blocks_at h + 8 * h.blocks
 
+-- where the substitution rows begin, after the instructions
 abbrev pub substs_at : Header → ℕ
 substs_at h = instrs_at h + 16 * h.instrs
 
+-- where the name bytes begin, after the substitution rows
 abbrev pub names_at : Header → ℕ
 names_at h = substs_at h + 4 * h.substs
 
@@ -147,65 +154,81 @@ pub record IsSmall (h : Header) : Type 0 where
   pub substs : h.substs ≤ 1048576
   pub names : h.names ≤ 32768
 
--- the bytes from each section on
+-- the bytes from the cells on
 abbrev pub cells_part : List ℕ → List ℕ
 cells_part bytes = drop 48 bytes
 
+-- the bytes from the nodes on
 abbrev pub nodes_part : Header → List ℕ → List ℕ
 nodes_part h bytes = drop (nodes_at h) bytes
 
+-- the bytes from the types on
 abbrev pub types_part : Header → List ℕ → List ℕ
 types_part h bytes = drop (types_at h) bytes
 
+-- the bytes from the register rows on
 abbrev pub regs_part : Header → List ℕ → List ℕ
 regs_part h bytes = drop (regs_at h) bytes
 
+-- the bytes from the queue rows on
 abbrev pub queue_part : Header → List ℕ → List ℕ
 queue_part h bytes = drop (queue_at h) bytes
 
+-- the bytes from the blocks on
 abbrev pub blocks_part : Header → List ℕ → List ℕ
 blocks_part h bytes = drop (blocks_at h) bytes
 
+-- the bytes from the instructions on
 abbrev pub instrs_part : Header → List ℕ → List ℕ
 instrs_part h bytes = drop (instrs_at h) bytes
 
+-- the bytes from the substitution rows on
 abbrev pub substs_part : Header → List ℕ → List ℕ
 substs_part h bytes = drop (substs_at h) bytes
 
+-- the bytes from the name bytes on
 abbrev pub names_part : Header → List ℕ → List ℕ
 names_part h bytes = drop (names_at h) bytes
 
--- the rows of types and of instructions, which later sections look at
+-- the rows of the types, which the sections of their rows look at
 abbrev pub type_rows_of : Header → List ℕ → List (List ℕ)
 type_rows_of h bytes = rows type_layout h.types (types_part h bytes)
 
+-- the rows of the instructions, which the section of substitution rows looks at
 abbrev pub instr_rows_of : Header → List ℕ → List (List ℕ)
 instr_rows_of h bytes = rows code_layout h.instrs (instrs_part h bytes)
 
--- the cells, nodes, types and so on that the sections spell
+-- the cells that their section spells, with the name bytes
 abbrev pub cells_read : Header → List ℕ → List Cell
 cells_read h bytes = cells_of (names_part h bytes) 0 (rows cell_layout h.cells (cells_part bytes))
 
+-- the nodes that their section spells
 abbrev pub nodes_read : Header → List ℕ → List Node
 nodes_read h bytes = map node_of (rows code_layout h.nodes (nodes_part h bytes))
 
+-- the register rows that their section spells
 abbrev pub regs_read : Header → List ℕ → List RegType
 regs_read h bytes = map reg_type_of (rows reg_layout h.regs (regs_part h bytes))
 
+-- the queue rows that their section spells
 abbrev pub queue_read : Header → List ℕ → List (ℕ × ℕ)
 queue_read h bytes = map pair_of (rows pair_layout h.queue (queue_part h bytes))
 
+-- the types that their section spells, with their register rows and queue rows
 abbrev pub types_read : Header → List ℕ → List CodeType
 types_read h bytes = types_of 0 0 (type_rows_of h bytes) (regs_read h bytes) (queue_read h bytes)
 
+-- the blocks that their section spells
 abbrev pub blocks_read : Header → List ℕ → List Block
 blocks_read h bytes = map block_of (rows pair_layout h.blocks (blocks_part h bytes))
 
+-- the instructions that their section spells
 abbrev pub instrs_read : Header → List ℕ → List Instr
 instrs_read h bytes = map instr_of (instr_rows_of h bytes)
 
+-- the nodes of the substitution rows that their section spells
 abbrev pub substs_read : Header → List ℕ → List ℕ
-substs_read h bytes = map subst_of (rows subst_layout h.substs (substs_part h bytes))
+substs_read h bytes = map subst_node_of (rows subst_layout h.substs (substs_part h bytes))
 
 -- the object that the sections spell
 unfoldable pub tables_read : Header → List ℕ → Object

@@ -48,10 +48,11 @@ base_type (Code t) = t
 abbrev pub basic_number : Basic → ℕ
 basic_number b = b.refs * 2 ^ 24 + base_code b.base * 2 ^ 16 + base_type b.base
 
--- the upper and the lower four bytes of a word
+-- the upper four bytes of a word
 abbrev pub high_half : ℕ → ℕ
 high_half w = w / 2 ^ 32
 
+-- the lower four bytes of a word
 abbrev pub low_half : ℕ → ℕ
 low_half w = w % 2 ^ 32
 
@@ -64,7 +65,7 @@ abbrev pub cell_rows : ℕ → List Cell → List (List ℕ)
 cell_rows start [] = []
 cell_rows start (c ∷ cs) = cell_row (start + length c.name) c ∷ cell_rows (start + length c.name) cs
 
--- a node of a scope and a shape
+-- a node, by its scope and its shape
 abbrev pub shape_row : ℕ → Shape → List ℕ
 shape_row scope (Word w) = 0 ∷ 0 ∷ scope ∷ 0 ∷ 0 ∷ high_half w ∷ low_half w ∷ []
 shape_row scope (Var i) = 1 ∷ 0 ∷ scope ∷ 0 ∷ i ∷ 0 ∷ 0 ∷ []
@@ -73,6 +74,7 @@ shape_row scope (Sel memory at) = 3 ∷ 0 ∷ scope ∷ 0 ∷ memory ∷ at ∷ 
 shape_row scope Memory = 4 ∷ 0 ∷ scope ∷ 0 ∷ 0 ∷ 0 ∷ 0 ∷ []
 shape_row scope (Upd memory at value) = 5 ∷ 0 ∷ scope ∷ 0 ∷ memory ∷ at ∷ value ∷ []
 
+-- a node
 abbrev pub node_row : Node → List ℕ
 node_row n = shape_row n.scope n.shape
 
@@ -114,17 +116,19 @@ instr_row Halt = 7 ∷ 0 ∷ 0 ∷ 0 ∷ 0 ∷ 0 ∷ 0 ∷ []
 abbrev pub subst_row : ℕ → List ℕ
 subst_row n = n ∷ []
 
--- the register rows, the queue rows and the name bytes of an object, in order
+-- the register rows of an object, type by type
 abbrev pub all_regs : Object → List RegType
 all_regs o = flat_map regs_of o.types
 
+-- the queue rows of an object, type by type
 abbrev pub all_queue : Object → List (ℕ × ℕ)
 all_queue o = flat_map queue_of o.types
 
+-- the name bytes of an object, cell by cell
 abbrev pub all_names : Object → List ℕ
 all_names o = flat_map name_of o.cells
 
--- the magic number and the version: `TALFT`, and then 1 in three bytes
+-- the magic number and the version, hex 54414c4654000001: `TALFT`, and then 1 in three bytes
 abbrev pub magic : ℕ
 magic = 6071217637612847105
 

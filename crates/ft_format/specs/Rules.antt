@@ -22,10 +22,11 @@ None next rules = rules
 abbrev pub zero_broken : ℕ → ℕ → Option ObjectError
 zero_broken at n = must (n == 0) (errors.Pad at)
 
--- a count of at most so many, and one of at least 1
+-- a count of at most so many
 abbrev pub count_broken : ℕ → ℕ → ℕ → Option ObjectError
 count_broken most at n = must (nat_le n most) (errors.Count at)
 
+-- a count of at least 1 and at most so many
 abbrev pub some_broken : ℕ → ℕ → ℕ → Option ObjectError
 some_broken most at n = must (nat_le 1 n) (errors.Count at) next count_broken most at n
 
@@ -44,13 +45,15 @@ header_broken h =
     next count_broken 32768 40 h.names
     next must (nat_lt h.entry h.blocks) (errors.Entry 44)
 
--- a colour, an operation, a register
+-- the code of a colour
 abbrev pub colour_broken : ℕ → ℕ → Option ObjectError
 colour_broken at n = must (nat_le n 1) (errors.Kind at)
 
+-- the code of an operation
 abbrev pub op_broken : ℕ → ℕ → Option ObjectError
 op_broken at n = must (nat_le n 4) (errors.Kind at)
 
+-- the number of a register
 abbrev pub register_broken : ℕ → ℕ → Option ObjectError
 register_broken at n = must (nat_lt n 64) (errors.Index at)
 

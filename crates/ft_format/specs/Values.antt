@@ -28,6 +28,7 @@ use Rattle.ft_format.specs.declared.header.Header.{Header}
 abbrev pub first_register : Reg
 first_register = record { number = 0; in_range = ltb-true 0 64 refl }
 
+-- a register, or register 0 where there is none
 abbrev pub or_first : Option Reg → Reg
 or_first None = first_register
 or_first (Some r) = r
@@ -48,13 +49,15 @@ op_of n = if n == 0 then Add else (if n == 1 then Sub else (if n == 2 then Mul e
 abbrev pub base_of : ℕ → ℕ → Base
 base_of base code_type = if base == 0 then Int else Code code_type
 
-abbrev pub basic_of : ℕ → ℕ → ℕ → Basic
-basic_of refs base code_type = record { refs = refs; base = base_of base code_type }
+-- a basic type, by its refs, the code of its base and its code type
+abbrev pub basic_type_of : ℕ → ℕ → ℕ → Basic
+basic_type_of refs base code_type = record { refs = refs; base = base_of base code_type }
 
 -- a word, by its two halves
 abbrev pub joined : ℕ → ℕ → ℕ
 joined high low = high * 2 ^ 32 + low
 
+-- a coloured word, by the code of its colour and the two halves of the word
 abbrev pub coloured : ℕ → ℕ → ℕ → Coloured
 coloured colour high low = record { colour = colour_of colour; word = joined high low }
 
@@ -65,8 +68,8 @@ past_of [] = 0
 
 -- a cell whose name begins at `start` in the name bytes
 abbrev pub cell_of : List ℕ → ℕ → List ℕ → Cell
-cell_of names start (past ∷ refs ∷ base ∷ code_type ∷ init ∷ []) = record { name = take (past - start) (drop start names); basic = basic_of refs base code_type; init = init }
-cell_of names start _ = record { name = []; basic = basic_of 0 0 0; init = 0 }
+cell_of names start (past ∷ refs ∷ base ∷ code_type ∷ init ∷ []) = record { name = take (past - start) (drop start names); basic = basic_type_of refs base code_type; init = init }
+cell_of names start _ = record { name = []; basic = basic_type_of 0 0 0; init = 0 }
 
 -- cells whose names follow one another
 abbrev pub cells_of : List ℕ → ℕ → List (List ℕ) → List Cell
@@ -83,48 +86,54 @@ shape_of kind op a b c =
     else (if kind == 4 then Memory
     else Upd a b c))))
 
+-- a node, by its record
 abbrev pub node_of : List ℕ → Node
 node_of (kind ∷ op ∷ scope ∷ pad ∷ a ∷ b ∷ c ∷ []) = record { scope = scope; shape = shape_of kind op a b c }
 node_of _ = record { scope = 0; shape = Memory }
 
--- the ends of a type's register rows and queue rows
+-- where a type's register rows end
 abbrev pub regs_end_of : List ℕ → ℕ
 regs_end_of (regs ∷ rest) = regs
 regs_end_of [] = 0
 
+-- where a type's queue rows end
 abbrev pub queue_end_of : List ℕ → ℕ
 queue_end_of (regs ∷ queue ∷ rest) = queue
 queue_end_of _ = 0
 
--- the memory of a type, and the number of its variables
-abbrev pub memory_of : List ℕ → ℕ
-memory_of (regs ∷ queue ∷ memory ∷ rest) = memory
-memory_of _ = 0
+-- the memory of a type
+abbrev pub type_memory_of : List ℕ → ℕ
+type_memory_of (regs ∷ queue ∷ memory ∷ rest) = memory
+type_memory_of _ = 0
 
-abbrev pub ints_of : List ℕ → ℕ
-ints_of (regs ∷ queue ∷ memory ∷ ints ∷ rest) = ints
-ints_of _ = 0
+-- the number of variables of a type
+abbrev pub type_ints_of : List ℕ → ℕ
+type_ints_of (regs ∷ queue ∷ memory ∷ ints ∷ rest) = ints
+type_ints_of _ = 0
 
 -- types, which take the rows that follow one another
 abbrev pub types_of : ℕ → ℕ → List (List ℕ) → List RegType → List (ℕ × ℕ) → List CodeType
 types_of regs_start queue_start [] regs queue = []
 types_of regs_start queue_start (row ∷ rest) regs queue =
     record {
-      ints = ints_of row;
+      ints = type_ints_of row;
       regs = take (regs_end_of row - regs_start) regs;
       queue = take (queue_end_of row - queue_start) queue;
-      memory = memory_of row;
+      memory = type_memory_of row;
     }
     ∷ types_of (regs_end_of row) (queue_end_of row) rest (drop (regs_end_of row - regs_start) regs) (drop (queue_end_of row - queue_start) queue)
 
+-- a register row, by its record
 abbrev pub reg_type_of : List ℕ → RegType
-reg_type_of (reg ∷ colour ∷ pad ∷ refs ∷ base ∷ code_type ∷ expr ∷ []) = record { reg = register_of reg; colour = colour_of colour; basic = basic_of refs base code_type; expr = expr }
-reg_type_of _ = record { reg = first_register; colour = Green; basic = basic_of 0 0 0; expr = 0 }
+reg_type_of (reg ∷ colour ∷ pad ∷ refs ∷ base ∷ code_type ∷ expr ∷ []) = record { reg = register_of reg; colour = colour_of colour; basic = basic_type_of refs base code_type; expr = expr }
+reg_type_of _ = record { reg = first_register; colour = Green; basic = basic_type_of 0 0 0; expr = 0 }
 
+-- a queue row, by its record: address and value
 abbrev pub pair_of : List ℕ → ℕ × ℕ
 pair_of (address ∷ value ∷ []) = (address, value)
 pair_of _ = (0, 0)
 
+-- a block, by its record
 abbrev pub block_of : List ℕ → Block
 block_of (start ∷ code_type ∷ []) = record { start = start; code_type = code_type }
 block_of _ = record { start = 0; code_type = 0 }
@@ -133,11 +142,12 @@ block_of _ = record { start = 0; code_type = 0 }
 abbrev pub carried : ℕ → ℕ → ℕ → ℕ → Option Subst
 carried colour x high low = if colour == 0 then None else Some (record { first = x; past = high; memory = low })
 
--- the jump and the branch, green without a substitution, blue with one
+-- the jump, green without a substitution, blue with one
 abbrev pub jump_of : Reg → Option Subst → Instr
 jump_of rd None = JmpG rd
 jump_of rd (Some s) = JmpB rd s
 
+-- the branch, green without a substitution, blue with one
 abbrev pub branch_of : Reg → Reg → Option Subst → Instr
 branch_of rz rd None = BzG rz rd
 branch_of rz rd (Some s) = BzB rz rd s
@@ -147,13 +157,14 @@ abbrev pub instr_by : ℕ → ℕ → ℕ → ℕ → ℕ → ℕ → ℕ → In
 instr_by kind a b c x high low =
     if kind == 0 then OpReg (op_of x) (register_of a) (register_of b) (register_of c)
     else (if kind == 1 then OpWord (op_of x) (register_of a) (register_of b) (coloured c high low)
-    else (if kind == 2 then Mov (register_of a) (coloured c high low) (basic_of (x / 2 ^ 24) (x / 2 ^ 16 % 2 ^ 8) (x % 2 ^ 16))
+    else (if kind == 2 then Mov (register_of a) (coloured c high low) (basic_type_of (x / 2 ^ 24) (x / 2 ^ 16 % 2 ^ 8) (x % 2 ^ 16))
     else (if kind == 3 then Ld (colour_of c) (register_of a) (register_of b)
     else (if kind == 4 then St (colour_of c) (register_of a) (register_of b)
     else (if kind == 5 then jump_of (register_of a) (carried c x high low)
     else (if kind == 6 then branch_of (register_of a) (register_of b) (carried c x high low)
     else Halt))))))
 
+-- an instruction, by its record
 abbrev pub instr_of : List ℕ → Instr
 instr_of (kind ∷ a ∷ b ∷ c ∷ x ∷ high ∷ low ∷ []) = instr_by kind a b c x high low
 instr_of _ = Halt
@@ -163,9 +174,10 @@ abbrev pub rows_past : ℕ → List ℕ → ℕ
 rows_past first (kind ∷ a ∷ b ∷ c ∷ x ∷ high ∷ low ∷ []) = if kind == 5 then (if c == 0 then first else high) else (if kind == 6 then (if c == 0 then first else high) else first)
 rows_past first _ = first
 
-abbrev pub subst_of : List ℕ → ℕ
-subst_of (n ∷ rest) = n
-subst_of [] = 0
+-- the node of a substitution row
+abbrev pub subst_node_of : List ℕ → ℕ
+subst_node_of (n ∷ rest) = n
+subst_node_of [] = 0
 
 -- the header that its numbers stand for
 abbrev pub header_of : List ℕ → Header

@@ -1,10 +1,9 @@
 //! Laws of the format's definitions, for all bytes and objects.
-ghost use Rattle.std.specs.Prelude.{◌≡◌, ◌++◌, ℕ, [], None, List};
+ghost use Rattle.std.specs.Prelude.{◌≡◌, ◌↔◌, ◌++◌, ℕ, [], None, List};
 ghost use Rattle.ft_types.specs.declared.object.Object.{Object};
 ghost use Rattle.ft_types.specs.Spellable.{IsSpellable};
 ghost use Rattle.ft_format.specs.Broken.{broken, object_of};
 ghost use Rattle.ft_format.specs.Format.{AreBytes, Spells};
-ghost use Rattle.ft_format.specs.Rows.{spelling};
 
 /// Bytes break no rule exactly where they spell an object, and that object is one.
 pub fn rules_are_exact()
@@ -16,12 +15,14 @@ pub fn rules_are_exact()
     ensures one { (bytes : List ℕ) (o : Object) → Spells bytes o → object_of bytes ≡ o }
 {}
 
-/// An object obeys the rules of the format exactly where some bytes spell it, and those bytes are one
-/// list.
+/// An object obeys the rules of its tables exactly where some bytes that break no rule stand for it, and those
+/// bytes are one list. The bytes are judged by `broken` and read by `object_of`; what is written for an object
+/// is not spoken of.
 pub fn spellings_are_one()
-    ensures some { (o : Object) → IsSpellable o → Spells (spelling o) o }
-    ensures obeys { (bytes : List ℕ) (o : Object) → Spells bytes o → IsSpellable o }
-    ensures one { (bytes other : List ℕ) (o : Object) → Spells bytes o → Spells other o → bytes ≡ other }
+    // The objects that obey the rules are those that bytes stand for which break none.
+    ensures exact { (o : Object) → IsSpellable o ↔ ((bytes : List ℕ) × AreBytes bytes × (broken bytes ≡ None) × (object_of bytes ≡ o)) }
+    // Bytes that break no rule and stand for the same object are the same.
+    ensures one { (a b : List ℕ) → AreBytes a → AreBytes b → broken a ≡ None → broken b ≡ None → object_of a ≡ object_of b → a ≡ b }
 {}
 
 /// No spelling begins another.

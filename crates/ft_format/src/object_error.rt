@@ -2,28 +2,31 @@
 use thiserror::Error;
 
 /// The first rule of the format that bytes break. `at` is the place of the field that breaks it, counted in
-/// bytes from 0.
+/// bytes from 0; but of `Length` it is 67,108,864 where there are more bytes than that, and else the smaller of
+/// the number of bytes and of the number that is wanted, 48 for the header or the header's total.
 #[derive(Clone, Copy, Debug, PartialEq, Eq, Error)]
 pub enum ObjectError {
     /// The bytes do not begin with the magic number and the version.
     #[error("object 1 {at}")]
     Magic { at: usize },
-    /// There are too many bytes, or more or fewer than the header's counts give.
+    /// There are more than 67,108,864 bytes, or fewer than the 48 of a header, or more or fewer than the
+    /// header's counts give.
     #[error("object 2 {at}")]
     Length { at: usize },
-    /// A count is out of its range.
+    /// A count or a scope is out of its range.
     #[error("object 3 {at}")]
     Count { at: usize },
-    /// Padding is not zero.
+    /// Padding, or a field that the record does not use, is not zero.
     #[error("object 4 {at}")]
     Pad { at: usize },
-    /// A code stands for nothing, or a node is of the wrong sort.
+    /// A code stands for nothing, refs are too many, or a node is of the wrong sort.
     #[error("object 5 {at}")]
     Kind { at: usize },
     /// The number of a part that is not there, or that may not be named here.
     #[error("object 6 {at}")]
     Index { at: usize },
-    /// Ends or beginnings do not rise, or a row is nobody's.
+    /// Ends, beginnings or registers do not rise, or go beyond what there is; the rows of a substitution do not
+    /// follow those before; or rows or name bytes are nobody's.
     #[error("object 7 {at}")]
     Order { at: usize },
     /// A name is too long, has a byte that may not stand there, or is another cell's too.

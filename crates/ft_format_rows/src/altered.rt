@@ -10,21 +10,66 @@ pub(crate) const HEADER: &[Row] = &[
     ("magic", &[(0, 55)], ObjectError::Magic { at: 0 }),
     ("version", &[(7, 2)], ObjectError::Magic { at: 0 }),
     ("cells", &[(10, 5)], ObjectError::Count { at: 8 }),
+    (
+        "cells, one above the most",
+        &[(10, 4)],
+        ObjectError::Count { at: 8 },
+    ),
     ("nodes", &[(13, 16)], ObjectError::Count { at: 12 }),
+    (
+        "nodes, one above the most",
+        &[(13, 16), (15, 1)],
+        ObjectError::Count { at: 12 },
+    ),
     ("no type", &[(19, 0)], ObjectError::Count { at: 16 }),
     ("types", &[(18, 20)], ObjectError::Count { at: 16 }),
+    (
+        "types, one above the most",
+        &[(18, 16), (19, 1)],
+        ObjectError::Count { at: 16 },
+    ),
     ("register rows", &[(21, 5)], ObjectError::Count { at: 20 }),
+    (
+        "register rows, one above the most",
+        &[(21, 4), (23, 1)],
+        ObjectError::Count { at: 20 },
+    ),
     ("queue rows", &[(25, 1)], ObjectError::Count { at: 24 }),
+    (
+        "queue rows, one above the most",
+        &[(26, 128), (27, 1)],
+        ObjectError::Count { at: 24 },
+    ),
     ("no block", &[(31, 0)], ObjectError::Count { at: 28 }),
     ("blocks", &[(29, 2)], ObjectError::Count { at: 28 }),
+    (
+        "blocks, one above the most",
+        &[(29, 1), (31, 1)],
+        ObjectError::Count { at: 28 },
+    ),
     ("no instruction", &[(35, 0)], ObjectError::Count { at: 32 }),
     ("instructions", &[(33, 2)], ObjectError::Count { at: 32 }),
+    (
+        "instructions, one above the most",
+        &[(33, 1), (35, 1)],
+        ObjectError::Count { at: 32 },
+    ),
     (
         "substitution rows",
         &[(37, 20)],
         ObjectError::Count { at: 36 },
     ),
+    (
+        "substitution rows, one above the most",
+        &[(37, 16)],
+        ObjectError::Count { at: 36 },
+    ),
     ("name bytes", &[(41, 1)], ObjectError::Count { at: 40 }),
+    (
+        "name bytes, one above the most",
+        &[(42, 128), (43, 1)],
+        ObjectError::Count { at: 40 },
+    ),
     ("entry", &[(47, 2)], ObjectError::Entry { at: 44 }),
     (
         "entry, before the total",
@@ -120,6 +165,11 @@ pub(crate) const CELLS: &[Row] = &[
         &[(35, 8), (43, 51), (51, 33)],
         ObjectError::Name { at: 48 },
     ),
+    (
+        "name's end, at 32 bytes, before a substitution row",
+        &[(35, 8), (43, 51), (51, 32)],
+        ObjectError::Index { at: 312 },
+    ),
     ("refs", &[(52, 9)], ObjectError::Kind { at: 52 }),
     ("base", &[(53, 2)], ObjectError::Kind { at: 53 }),
     ("code type of int", &[(55, 1)], ObjectError::Pad { at: 54 }),
@@ -157,7 +207,17 @@ pub(crate) const NODES: &[Row] = &[
         &[(96, 2), (97, 5)],
         ObjectError::Kind { at: 97 },
     ),
+    (
+        "operation, the last, before its c",
+        &[(64, 0), (96, 2), (97, 4)],
+        ObjectError::Pad { at: 108 },
+    ),
     ("scope", &[(66, 129)], ObjectError::Count { at: 66 }),
+    (
+        "scope, the greatest, before a type's memory",
+        &[(66, 128)],
+        ObjectError::Index { at: 120 },
+    ),
     ("padding", &[(67, 1)], ObjectError::Pad { at: 67 }),
     ("word: a", &[(103, 1)], ObjectError::Pad { at: 100 }),
     (
@@ -330,6 +390,11 @@ pub(crate) const TYPES: &[Row] = &[
         "queue rows' end, above 8 rows",
         &[(27, 9), (31, 1), (35, 7), (119, 9)],
         ObjectError::Count { at: 116 },
+    ),
+    (
+        "queue rows' end, at 8 rows, before the first of them",
+        &[(27, 8), (35, 7), (119, 8), (135, 8)],
+        ObjectError::Kind { at: 168 },
     ),
     (
         "memory, no node",
@@ -669,6 +734,13 @@ pub(crate) const TRANSFERS: &[Row] = &[
     ),
 ];
 
+/// Rows of a substitution of 128 rows, over `J` with room for them.
+pub(crate) const MOST_SUBSTITUTIONS: &[Row] = &[(
+    "jmp_B: past, before the second row",
+    &[(39, 128), (275, 128)],
+    ObjectError::Index { at: 364 },
+)];
+
 /// Rows of substitutions above 128 rows, over `J` with room for 129.
 pub(crate) const LONG_SUBSTITUTIONS: &[Row] = &[
     (
@@ -701,4 +773,23 @@ pub(crate) const NAMES: &[Row] = &[
     ("second byte", &[(365, 45)], ObjectError::Name { at: 365 }),
     ("last byte", &[(366, 32)], ObjectError::Name { at: 366 }),
     ("nobody's byte", &[(51, 2)], ObjectError::Order { at: 366 }),
+];
+
+/// Lawful alterations of `J`: what they show, and places with the bytes that are put there.
+pub(crate) const LAWFUL: &[(&'static str, &'static [(usize, u8)])] = &[
+    ("refs, the most", &[(52, 8)]),
+    ("variables, the most", &[(124, 128)]),
+    ("register of a row, the last", &[(156, 63)]),
+    (
+        "register of a type's first row, that of the type before",
+        &[(115, 1), (124, 1), (156, 0)],
+    ),
+    ("register of an instruction, the last", &[(185, 63)]),
+    ("operation with a word, the last", &[(184, 1), (191, 4)]),
+    ("name, AZz", &[(364, 65), (365, 90), (366, 122)]),
+    ("name, _09", &[(364, 95), (365, 48), (366, 57)]),
+    (
+        "name, a reserved word",
+        &[(364, 118), (365, 97), (366, 114)],
+    ),
 ];

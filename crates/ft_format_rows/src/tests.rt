@@ -1,7 +1,7 @@
 //! Worked objects, whose bytes another implementation of the format made, and altered ones.
 use crate::altered::{
-    BLOCKS, CELLS, HEADER, LONG_SUBSTITUTIONS, NAMES, NODES, OPERATIONS, QUEUE_ROWS, REGISTER_ROWS,
-    Row, SECOND_CELLS, SUBSTITUTION_ROWS, TRANSFERS, TYPES,
+    BLOCKS, CELLS, HEADER, LAWFUL, LONG_SUBSTITUTIONS, MOST_SUBSTITUTIONS, NAMES, NODES,
+    OPERATIONS, QUEUE_ROWS, REGISTER_ROWS, Row, SECOND_CELLS, SUBSTITUTION_ROWS, TRANSFERS, TYPES,
 };
 use ft_object::{DecodeError, ObjectError, decode, encode};
 use ft_worked_objects::{
@@ -69,9 +69,15 @@ fn worked_objects_are_written_again(rt: HostRuntime) {
 }
 
 #[test]
-fn a_name_may_be_a_reserved_word(rt: HostRuntime) -> Result<(), Fail> {
-    let bytes = altered(&rt, J, &[(364, b'v'), (365, b'a'), (366, b'r')])?;
-    assert!(&rt; is_written_again(&rt, bytes.as_slice()));
+fn lawful_alterations_are_written_again(rt: HostRuntime) -> Result<(), Fail> {
+    for row in LAWFUL {
+        let (field, changes) = *row;
+        let bytes = altered(&rt, J, changes)?;
+        assert!(&rt;
+            is_written_again(&rt, bytes.as_slice()),
+            "{field}: written again"
+        );
+    }
     Ok(())
 }
 
@@ -112,10 +118,12 @@ fn altered_tables_are_refused_at_their_fields(rt: HostRuntime) -> Result<(), Fai
 #[test]
 fn altered_code_is_refused_at_its_fields(rt: HostRuntime) -> Result<(), Fail> {
     let mut long = Vec::from_slice(rt.alloc(), J)?;
-    long.extend_from_slice(&[0; 512])?;
     check_rows(&rt, J, BLOCKS)?;
     check_rows(&rt, J, OPERATIONS)?;
     check_rows(&rt, J, TRANSFERS)?;
+    long.extend_from_slice(&[0; 508])?;
+    check_rows(&rt, long.as_slice(), MOST_SUBSTITUTIONS)?;
+    long.extend_from_slice(&[0; 4])?;
     check_rows(&rt, long.as_slice(), LONG_SUBSTITUTIONS)?;
     check_rows(&rt, J, SUBSTITUTION_ROWS)
 }

@@ -3,7 +3,7 @@ use Rattle.std.proofs.Common.{length, ◌≡◌, ℕ, zero, suc, ◌+◌, ◌-�
 use Rattle.std.specs.Int.{Width}
 use Rattle.std.proofs.lemmas.List.{drop-drop, map-append}
 use Rattle.ft_types.specs.declared.object.RegType.{RegType}
-use Rattle.ft_format.specs.Values.{regs_end_of, queue_end_of, memory_of, ints_of, types_of}
+use Rattle.ft_format.specs.Values.{regs_end_of, queue_end_of, type_memory_of, type_ints_of, types_of}
 use Rattle.ft_format.specs.Layout.{size, numbers, rows, type_layout}
 use Rattle.std.proofs.lemmas.Bool.Decides.{nat_tests}
 use Rattle.ft_static.specs.declared.node.Node.{Node}
@@ -36,7 +36,7 @@ pub types_more : (from queue_from : ℕ) (row : List ℕ) (rest : List (List ℕ
     → from ≤ regs_end_of row → queue_from ≤ queue_end_of row
     → own_regs ≡ take (regs_end_of row - from) (drop from regs) → own_queue ≡ take (queue_end_of row - queue_from) (drop queue_from queue)
     → types_of from queue_from (row ∷ rest) (drop from regs) (drop queue_from queue)
-    ≡ record { ints = ints_of row; regs = own_regs; queue = own_queue; memory = memory_of row }
+    ≡ record { ints = type_ints_of row; regs = own_regs; queue = own_queue; memory = type_memory_of row }
     ∷ types_of (regs_end_of row) (queue_end_of row) rest (drop (regs_end_of row) regs) (drop (queue_end_of row) queue)
 types_more from queue_from row rest regs queue own_regs own_queue le queue_le p q =
     let a : from + (regs_end_of row - from) ≡ regs_end_of row = omega arith in

@@ -2,7 +2,7 @@
 ghost use Rattle.std.specs.Prelude.{◌≡◌, ◌<◌, ◌≤◌, ◌^◌, IfOk, OnOk};
 ghost use Rattle.ft_format.specs.Fields.{cell_numbers};
 ghost use Rattle.ft_format.specs.Rules.{cell_broken};
-ghost use Rattle.ft_format.specs.Values.{basic_of};
+ghost use Rattle.ft_format.specs.Values.{basic_type_of};
 ghost use Rattle.ft_records.specs.Found.{Finds};
 
 use crate::rules::{check, read_basic};
@@ -21,7 +21,7 @@ pub fn read_cell_type(
     requires places { at ≤ 2 ^ 27 }
     requires start { start ≤ 2 ^ 27 }
     ensures judged { Finds result (cell_broken header start at (cell_numbers row)) }
-    ensures read { IfOk result (λ b. b ≡ basic_of row.refs row.base row.code_type) }
+    ensures read { IfOk result (λ b. b ≡ basic_type_of row.refs row.base row.code_type) }
     ensures rises { OnOk result (start < row.past) }
     ensures past { OnOk result (row.past ≤ header.names) }
 {

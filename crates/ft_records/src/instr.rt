@@ -4,7 +4,7 @@ ghost use Rattle.ft_isa.specs.declared.instr.Instr.TheVariants as instrs;
 ghost use Rattle.ft_records.specs.Found.{Finds};
 ghost use Rattle.ft_format.specs.Fields.{code_numbers};
 ghost use Rattle.ft_format.specs.Rules.{no_word_broken, basic_number_broken, substitution_broken, transfer_broken, op_reg_broken, op_word_broken, mov_broken, access_broken, jump_broken, branch_broken, halt_broken, fields_broken, instr_broken};
-ghost use Rattle.ft_format.specs.Values.{register_of, colour_of, basic_of, jump_of, branch_of, instr_by, instr_of, rows_past, carried, joined};
+ghost use Rattle.ft_format.specs.Values.{register_of, colour_of, basic_type_of, jump_of, branch_of, instr_by, instr_of, rows_past, carried, joined};
 
 use crate::rules::{
     check, check_node_number, check_zero, read_basic, read_colour, read_op, read_register, word,
@@ -63,7 +63,7 @@ fn read_op_word(at: usize, row: CodeRow) -> Result<Instr, ObjectError>
 fn read_basic_number(types: u32, at: usize, x: u32) -> Result<Basic, ObjectError>
     requires { at ≤ 2 ^ 28 }
     ensures judged { Finds result (basic_number_broken types at x) }
-    ensures read { IfOk result (λ b. b ≡ basic_of (x / 2 ^ 24) (x / 2 ^ 16 % 2 ^ 8) (x % 2 ^ 16)) }
+    ensures read { IfOk result (λ b. b ≡ basic_type_of (x / 2 ^ 24) (x / 2 ^ 16 % 2 ^ 8) (x % 2 ^ 16)) }
 {
     let refs = (x / 16777216) as u8;
     let base = (x / 65536 % 256) as u8;

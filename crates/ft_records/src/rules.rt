@@ -3,7 +3,7 @@
 ghost use Rattle.std.specs.Prelude.{◌≡◌, ◌≤◌, ◌^◌, Some, IfOk, slice_get};
 ghost use Rattle.ft_records.specs.Found.{Finds};
 ghost use Rattle.ft_format.specs.Rules.{must, zero_broken, count_broken, some_broken, colour_broken, op_broken, register_broken, code_type_broken, basic_broken, is_of_sort, node_number_broken, named_broken};
-ghost use Rattle.ft_format.specs.Values.{register_of, colour_of, op_of, joined, base_of, basic_of};
+ghost use Rattle.ft_format.specs.Values.{register_of, colour_of, op_of, joined, base_of, basic_type_of};
 
 use ft_format::ObjectError;
 use ft_isa::{Base, Basic, Colour, Op, Reg};
@@ -121,7 +121,7 @@ pub(crate) fn read_basic(
 ) -> Result<Basic, ObjectError>
     requires { at ≤ 2 ^ 28 }
     ensures judged { Finds result (basic_broken types at refs code code_type) }
-    ensures read { IfOk result (λ b. b ≡ basic_of refs code code_type) }
+    ensures read { IfOk result (λ b. b ≡ basic_type_of refs code code_type) }
 {
     check(refs <= 8, ObjectError::Kind { at })?;
     check(code <= 1, ObjectError::Kind { at: at + 1 })?;

@@ -3,7 +3,7 @@ ghost use Rattle.std.specs.Prelude.{◌≡◌, ◌+◌, ◌*◌, ◌≤◌, ◌^
 ghost use Rattle.ft_object.specs.Judged.{Judges};
 ghost use Rattle.ft_object.specs.Places.{IsWhole};
 ghost use Rattle.ft_format.specs.Layout.{rows, subst_layout};
-ghost use Rattle.ft_format.specs.Values.{subst_of};
+ghost use Rattle.ft_format.specs.Values.{subst_node_of};
 ghost use Rattle.ft_format.specs.Broken.{subst_rows_broken, substs_broken, substs_at, substs_part, substs_read};
 
 use crate::decode_error::DecodeError;
@@ -26,7 +26,7 @@ fn read_rows(
     requires places { at + 4 * count ≤ 2 ^ 27 }
     requires empty { substs.old.items ≡ [] }
     ensures judged { Judges result (subst_rows_broken nodes.now at (rows subst_layout count bytes.now)) }
-    ensures read { OnOk result (substs.new.items ≡ map subst_of (rows subst_layout count bytes.now)) }
+    ensures read { OnOk result (substs.new.items ≡ map subst_node_of (rows subst_layout count bytes.now)) }
 {
     let mut place = at;
     let mut rest = bytes;

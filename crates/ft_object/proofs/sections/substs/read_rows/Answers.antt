@@ -5,7 +5,7 @@ use Rattle.ft_object.specs.Judged.{IsError}
 use Rattle.ft_format.specs.Layout.{numbers, subst_layout}
 use Rattle.ft_format.specs.Fields.{subst_numbers}
 use Rattle.ft_format.specs.Rules.{subst_broken}
-use Rattle.ft_format.specs.Values.{subst_of}
+use Rattle.ft_format.specs.Values.{subst_node_of}
 use Rattle.ft_format.specs.Broken.{subst_rows_broken}
 use Rattle.ft_format.proofs.Loops.{goes, ends, gives, given}
 use Rattle.ft_object.proofs.Judging.{halts, found, found_none}
@@ -36,7 +36,7 @@ loop-preserved c =
       there = omega (arith, length-drop 4 bs);
       places = omega arith;
       broken = goes subst_layout _ _ bs row (subst_broken c.args.nodes.now c.loop.place row) _ (subst_rows_broken c.args.nodes.now c.loop.place) (subst_rows_broken c.args.nodes.now (c.loop.place + 4)) one_more is (λ rest. refl) rule c.loop.invariant.broken;
-      read = gives subst_layout _ _ bs row c.loop.substs.items _ c.read-row.result.node (map subst_of) (map subst_of) one_more is (λ rest. refl) c.loop.invariant.read;
+      read = gives subst_layout _ _ bs row c.loop.substs.items _ c.read-row.result.node (map subst_node_of) (map subst_node_of) one_more is (λ rest. refl) c.loop.invariant.read;
     })
 
 pub returns-clause-judged : goal.returns-clause-judged
@@ -48,4 +48,4 @@ returns-clause-judged c =
 pub returns-clause-read : goal.returns-clause-read
 returns-clause-read c =
     let no_more : c.args.count - c.loop.counter ≡ 0 = omega arith in
-    given subst_layout _ c.loop.rest.now c.loop.substs.items _ (map subst_of) no_more refl c.loop.invariant.read
+    given subst_layout _ c.loop.rest.now c.loop.substs.items _ (map subst_node_of) no_more refl c.loop.invariant.read

@@ -1,6 +1,6 @@
 use Rattle.std.proofs.Common.{◌≡◌, ◌+◌, ◌-◌, ◌*◌, ◌^◌, ◌≤◌, ◌++◌, length, map}
 use Rattle.ft_format.specs.Layout.{rows, subst_layout}
-use Rattle.ft_format.specs.Values.{subst_of}
+use Rattle.ft_format.specs.Values.{subst_node_of}
 use Rattle.ft_format.specs.Broken.{subst_rows_broken}
 use Rattle.ft_object.proofs.sections.substs.read_rows.Given as goal
 
@@ -9,5 +9,5 @@ invariant-loop l = record {
   there : 4 * (l.count - l.counter) ≤ length l.rest;
   places : l.place + 4 * (l.count - l.counter) ≤ 2 ^ 27;
   broken : subst_rows_broken l.nodes l.place (rows subst_layout (l.count - l.counter) l.rest) ≡ subst_rows_broken l.nodes l.at (rows subst_layout l.count l.bytes);
-  read : l.substs.items ++ map subst_of (rows subst_layout (l.count - l.counter) l.rest) ≡ map subst_of (rows subst_layout l.count l.bytes);
+  read : l.substs.items ++ map subst_node_of (rows subst_layout (l.count - l.counter) l.rest) ≡ map subst_node_of (rows subst_layout l.count l.bytes);
 }
