@@ -1,10 +1,10 @@
 //! Instructions.
-ghost use Rattle.std.specs.Prelude.{◌≡◌, ◌/◌, ◌%◌, ◌≤◌, ◌^◌, IfOk};
+ghost use Rattle.std.specs.Prelude.{◌≡◌, ℕ, List, ◌+◌, ◌/◌, ◌%◌, ◌≤◌, ◌^◌, IfOk};
 ghost use Rattle.ft_isa.specs.declared.instr.Instr.TheVariants as instrs;
 ghost use Rattle.ft_records.specs.Found.{Finds};
 ghost use Rattle.ft_format.specs.Fields.{code_numbers};
-ghost use Rattle.ft_format.specs.Rules.{no_word_broken, basic_number_broken, substitution_broken, transfer_broken, op_reg_broken, op_word_broken, mov_broken, access_broken, jump_broken, branch_broken, halt_broken, fields_broken, instr_broken};
-ghost use Rattle.ft_format.specs.Values.{register_of, colour_of, basic_type_of, jump_of, branch_of, instr_by, instr_of, rows_past, carried, joined};
+ghost use Rattle.ft_format.specs.Rules.{◌next◌, zero_broken, no_word_broken, basic_number_broken, substitution_broken, op_reg_broken, op_word_broken, mov_broken, access_broken, jump_broken, branch_broken, halt_broken, fields_broken, instr_broken};
+ghost use Rattle.ft_format.specs.Values.{register_of, colour_of, basic_type_of, instr_by, instr_of, rows_past, joined};
 
 use crate::rules::{
     check, check_node_number, check_zero, read_basic, read_colour, read_op, read_register, word,
@@ -124,48 +124,13 @@ fn read_substitution(
     })
 }
 
-/// What a jump or branch carries, at field x: nothing where it is green, a substitution where it is
-/// blue.
-fn read_transfer(
-    header: Header,
-    nodes: &[Node],
-    first: u32,
-    at: usize,
-    row: CodeRow,
-) -> Result<Option<Subst>, ObjectError>
-    requires places { at ≤ 2 ^ 28 }
-    requires first { first ≤ 2 ^ 27 }
-    ensures judged { Finds result (transfer_broken header nodes.now first at row.c row.x row.high row.low) }
-    ensures read { IfOk result (λ s. s ≡ carried row.c row.x row.high row.low) }
+/// What a green jump or branch has in place of a substitution, from field x on: zeros.
+fn check_no_substitution(at: usize, row: CodeRow) -> Result<(), ObjectError>
+    requires { at ≤ 2 ^ 28 }
+    ensures { Finds result (zero_broken at row.x next no_word_broken (at + 4) row.high row.low) }
 {
-    if row.c == 0 {
-        check_zero(at, row.x)?;
-        check_no_word(at + 4, row)?;
-        Ok(None)
-    } else {
-        let subst = read_substitution(header, nodes, first, at, row)?;
-        Ok(Some(subst))
-    }
-}
-
-/// A jump, green where it carries no substitution.
-fn jump(rd: Reg, subst: Option<Subst>) -> Instr
-    ensures { result ≡ jump_of rd subst }
-{
-    match subst {
-        None => Instr::JmpG { rd },
-        Some(subst) => Instr::JmpB { rd, subst },
-    }
-}
-
-/// A branch, green where it carries no substitution.
-fn branch(rz: Reg, rd: Reg, subst: Option<Subst>) -> Instr
-    ensures { result ≡ branch_of rz rd subst }
-{
-    match subst {
-        None => Instr::BzG { rz, rd },
-        Some(subst) => Instr::BzB { rz, rd, subst },
-    }
+    check_zero(at, row.x)?;
+    check_no_word(at + 4, row)
 }
 
 /// A jump in the colour of its field c.
@@ -183,10 +148,17 @@ fn read_jump(
 {
     let rd = read_register(at + 1, row.a)?;
     check_zero(at + 2, u32::from(row.b))?;
-    read_colour(at + 3, row.c)?;
-    let subst = read_transfer(header, nodes, first, at + 4, row)?;
-    let instr = jump(rd, subst);
-    Ok(instr)
+    let colour = read_colour(at + 3, row.c)?;
+    match colour {
+        Colour::Green => {
+            check_no_substitution(at + 4, row)?;
+            Ok(Instr::JmpG { rd })
+        }
+        Colour::Blue => {
+            let subst = read_substitution(header, nodes, first, at + 4, row)?;
+            Ok(Instr::JmpB { rd, subst })
+        }
+    }
 }
 
 /// A branch in the colour of its field c.
@@ -204,10 +176,17 @@ fn read_branch(
 {
     let rz = read_register(at + 1, row.a)?;
     let rd = read_register(at + 2, row.b)?;
-    read_colour(at + 3, row.c)?;
-    let subst = read_transfer(header, nodes, first, at + 4, row)?;
-    let instr = branch(rz, rd, subst);
-    Ok(instr)
+    let colour = read_colour(at + 3, row.c)?;
+    match colour {
+        Colour::Green => {
+            check_no_substitution(at + 4, row)?;
+            Ok(Instr::BzG { rz, rd })
+        }
+        Colour::Blue => {
+            let subst = read_substitution(header, nodes, first, at + 4, row)?;
+            Ok(Instr::BzB { rz, rd, subst })
+        }
+    }
 }
 
 /// A `halt`, all of whose fields are zero.
@@ -288,12 +267,14 @@ pub fn read_instr(
     read_fields(header, nodes, first, at, row)
 }
 
-/// The row after those that the substitutions up to this instruction take.
-pub fn rows_past(first: u32, row: CodeRow) -> u32
-    ensures { result ≡ rows_past first (code_numbers row) }
+/// The row after those that the substitutions up to this instruction take, where the ones before took the rows up
+/// to `first`.
+#[tactic(auto, using(crate::proofs::RowsPast::past_is))]
+pub fn rows_past(first: u32, instr: Instr) -> u32
+    ensures { (row : List ℕ) → instr ≡ instr_of row → result ≡ rows_past first row }
 {
-    match row.kind {
-        5 | 6 => { if row.c == 0 { first } else { row.high } }
+    match instr {
+        Instr::JmpB { subst, .. } | Instr::BzB { subst, .. } => subst.past,
         _ => first,
     }
 }
