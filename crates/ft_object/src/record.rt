@@ -80,23 +80,22 @@ pub(crate) fn base_type(base: Base) -> u16
 fn basic_number(basic: Basic) -> u32
     ensures { result ≡ basic_number basic }
 {
-    u32::from(basic.refs) * 16777216
-        + u32::from(base_code(basic.base)) * 65536
-        + u32::from(base_type(basic.base))
+    let base = (u32::from(base_code(basic.base)) << 16) | u32::from(base_type(basic.base));
+    (u32::from(basic.refs) << 24) | base
 }
 
 /// The upper four bytes of a word.
 fn high_half(word: u64) -> u32
     ensures { result ≡ high_half word }
 {
-    (word / 4294967296) as u32
+    (word >> 32) as u32
 }
 
 /// The lower four bytes of a word.
 fn low_half(word: u64) -> u32
     ensures { result ≡ low_half word }
 {
-    (word % 4294967296) as u32
+    (word & 0xffff_ffff) as u32
 }
 
 /// The numbers of a node of a scope and a shape.

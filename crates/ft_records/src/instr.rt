@@ -65,9 +65,9 @@ fn read_basic_number(types: u32, at: usize, x: u32) -> Result<Basic, ObjectError
     ensures judged { Finds result (basic_number_broken types at x) }
     ensures read { IfOk result (λ b. b ≡ basic_type_of (x / 2 ^ 24) (x / 2 ^ 16 % 2 ^ 8) (x % 2 ^ 16)) }
 {
-    let refs = (x / 16777216) as u8;
-    let base = (x / 65536 % 256) as u8;
-    let code_type = (x % 65536) as u16;
+    let refs = (x >> 24) as u8;
+    let base = ((x >> 16) & 0xff) as u8;
+    let code_type = (x & 0xffff) as u16;
     read_basic(types, at, refs, base, code_type)
 }
 
