@@ -3,7 +3,7 @@ ghost use Rattle.std.specs.Prelude.{◌≡◌, ℕ, List, ◌+◌, ◌/◌, ◌%
 ghost use Rattle.ft_isa.specs.declared.instr.Instr.TheVariants as instrs;
 ghost use Rattle.ft_records.specs.Found.{Finds};
 ghost use Rattle.ft_format.specs.Fields.{code_numbers};
-ghost use Rattle.ft_format.specs.Rules.{◌next◌, zero_broken, no_word_broken, basic_number_broken, substitution_broken, op_reg_broken, op_word_broken, mov_broken, access_broken, jump_broken, branch_broken, halt_broken, fields_broken, instr_broken};
+ghost use Rattle.ft_format.specs.Rules.{◌next◌, zero_broken, no_word_broken, basic_number_broken, substitution_broken, op_reg_broken, op_word_broken, mov_broken, access_broken, jump_broken, branch_broken, halt_broken, instr_broken};
 ghost use Rattle.ft_format.specs.Values.{register_of, colour_of, basic_type_of, instr_by, instr_of, rows_past, joined};
 
 use crate::rules::{
@@ -223,31 +223,6 @@ fn read_st(at: usize, row: CodeRow) -> Result<Instr, ObjectError>
     Ok(Instr::St { colour, rd, rs })
 }
 
-/// The fields of an instruction after its kind, where any above 6 is that of `halt`.
-fn read_fields(
-    header: Header,
-    nodes: &[Node],
-    first: u32,
-    at: usize,
-    row: CodeRow,
-) -> Result<Instr, ObjectError>
-    requires places { at ≤ 2 ^ 27 }
-    requires first { first ≤ 2 ^ 27 }
-    ensures judged { Finds result (fields_broken header nodes.now first at row.kind row.a row.b row.c row.x row.high row.low) }
-    ensures read { IfOk result (λ i. i ≡ instr_by row.kind row.a row.b row.c row.x row.high row.low) }
-{
-    match row.kind {
-        0 => read_op_reg(at, row),
-        1 => read_op_word(at, row),
-        2 => read_mov(header.types, at, row),
-        3 => read_ld(at, row),
-        4 => read_st(at, row),
-        5 => read_jump(header, nodes, first, at, row),
-        6 => read_branch(header, nodes, first, at, row),
-        _ => read_halt(at, row),
-    }
-}
-
 /// The instruction of the record at a place, where the substitutions before took the rows up to `first`:
 /// `Kind` for a code that stands for nothing, `Index` for a register, type or node that is not there, `Pad`,
 /// and `Order` and `Count` for the rows of its substitution.
@@ -263,8 +238,17 @@ pub fn read_instr(
     ensures judged { Finds result (instr_broken header nodes.now first at (code_numbers row)) }
     ensures read { IfOk result (λ i. i ≡ instr_of (code_numbers row)) }
 {
-    check(row.kind <= 7, ObjectError::Kind { at })?;
-    read_fields(header, nodes, first, at, row)
+    match row.kind {
+        0 => read_op_reg(at, row),
+        1 => read_op_word(at, row),
+        2 => read_mov(header.types, at, row),
+        3 => read_ld(at, row),
+        4 => read_st(at, row),
+        5 => read_jump(header, nodes, first, at, row),
+        6 => read_branch(header, nodes, first, at, row),
+        7 => read_halt(at, row),
+        _ => Err(ObjectError::Kind { at }),
+    }
 }
 
 /// The row after those that the substitutions up to this instruction take, where the ones before took the rows up
