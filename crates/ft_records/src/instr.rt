@@ -224,8 +224,8 @@ fn read_st(at: usize, row: CodeRow) -> Result<Instr, ObjectError>
 }
 
 /// The instruction of the record at a place, where the substitutions before took the rows up to `first`:
-/// `Kind` for a code that stands for nothing, `Index` for a register, type or node that is not there, `Pad`,
-/// and `Order` and `Count` for the rows of its substitution.
+/// `Kind` for a code that stands for nothing or a substitution's memory that is an integer, `Index` for a
+/// register, type or node that is not there, `Pad`, and `Order` and `Count` for the rows of its substitution.
 pub fn read_instr(
     header: Header,
     nodes: &[Node],
