@@ -18,6 +18,7 @@ pub use laws::{rules_are_exact, spellings_are_apart, spellings_are_one};
 pub use object_error::ObjectError;
 pub use rows::cell_row::CellRow;
 pub use rows::code_row::CodeRow;
+pub use rows::node_row::NodeRow;
 pub use rows::pair_row::PairRow;
 pub use rows::reg_row::RegRow;
 pub use rows::subst_row::SubstRow;

@@ -1,8 +1,9 @@
-//! Vectors that grow within their room, or find no memory.
+//! Vectors that grow within their room and tables that are copied, or want of memory.
 ghost use Rattle.std.specs.Prelude.{◌≡◌, ◌∷◌, ◌++◌, [], IfOk, OnOk};
 ghost use Rattle.ft_object.specs.Judged.{OnlyMemory};
 
 use crate::decode_error::DecodeError;
+use ft_types::Table;
 use std::alloc::Global;
 
 /// An empty vector with room for this many values.
@@ -10,10 +11,7 @@ pub(crate) fn reserve<T>(alloc: Global, count: u32) -> Result<Vec<T>, DecodeErro
     ensures empty { IfOk result (λ values. values.items ≡ []) }
     ensures err { OnlyMemory result }
 {
-    match Vec::with_capacity(alloc, count as usize) {
-        Ok(values) => Ok(values),
-        Err(_) => Err(DecodeError::NoMemory),
-    }
+    Vec::with_capacity(alloc, count as usize).map_err(|_| DecodeError::NoMemory)
 }
 
 /// Puts a value at the end.
@@ -21,8 +19,14 @@ pub(crate) fn push<T: Drop>(values: &mut Vec<T>, value: T) -> Result<(), DecodeE
     ensures ok { OnOk result (values.new.items ≡ values.old.items ++ value ∷ []) }
     ensures err { OnlyMemory result }
 {
-    match values.push(value) {
-        Ok(()) => Ok(()),
-        Err(_) => Err(DecodeError::NoMemory),
-    }
+    values.push(value).map_err(|_| DecodeError::NoMemory)
+}
+
+/// A table of its own of these values.
+pub(crate) fn copy<T: Copy>(alloc: Global, values: &[T]) -> Result<Table<T>, DecodeError>
+    ensures copied { IfOk result (λ t. t ≡ values.now) }
+    ensures err { OnlyMemory result }
+{
+    let values = Vec::from_slice(alloc, values).map_err(|_| DecodeError::NoMemory)?;
+    Ok(Table::from_vec(values))
 }

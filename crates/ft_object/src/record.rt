@@ -2,11 +2,11 @@
 ghost use Rattle.std.specs.Prelude.{◌≡◌, ◌∷◌, [], OnOk};
 ghost use Rattle.std.specs.List.{flat_map};
 ghost use Rattle.ft_format.specs.Layout.{written};
-ghost use Rattle.ft_format.specs.Fields.{code_numbers};
+ghost use Rattle.ft_format.specs.Fields.{code_numbers, node_numbers};
 ghost use Rattle.ft_format.specs.Rows.{colour_code, op_code, base_code, base_type, basic_number, high_half, low_half, shape_row, instr_row};
 ghost use Rattle.ft_format.specs.Puts.{Puts};
 
-use ft_format::{CodeRow, PairRow, RegRow, SubstRow};
+use ft_format::{CodeRow, NodeRow, PairRow, RegRow, SubstRow};
 use ft_isa::{Base, Basic, Colour, Coloured, Instr, NoMemory, Op, Reg, Subst};
 use ft_static::{Node, Shape};
 use ft_types::{Block, RegType};
@@ -80,30 +80,29 @@ pub(crate) fn base_type(base: Base) -> u16
 fn basic_number(basic: Basic) -> u32
     ensures { result ≡ basic_number basic }
 {
-    u32::from(basic.refs) * 16777216
-        + u32::from(base_code(basic.base)) * 65536
-        + u32::from(base_type(basic.base))
+    let base = (u32::from(base_code(basic.base)) << 16) | u32::from(base_type(basic.base));
+    (u32::from(basic.refs) << 24) | base
 }
 
 /// The upper four bytes of a word.
 fn high_half(word: u64) -> u32
     ensures { result ≡ high_half word }
 {
-    (word / 4294967296) as u32
+    (word >> 32) as u32
 }
 
 /// The lower four bytes of a word.
 fn low_half(word: u64) -> u32
     ensures { result ≡ low_half word }
 {
-    (word % 4294967296) as u32
+    (word & 0xffff_ffff) as u32
 }
 
 /// The numbers of a node of a scope and a shape.
-fn shape_row(scope: u8, shape: Shape) -> CodeRow
-    ensures { code_numbers result ≡ shape_row scope shape }
+fn shape_row(scope: u8, shape: Shape) -> NodeRow
+    ensures { node_numbers result ≡ shape_row scope shape }
 {
-    let (kind, a, x, high, low) = match shape {
+    let (kind, op, a, b, c) = match shape {
         Shape::Word(word) => (0, 0, 0, high_half(word), low_half(word)),
         Shape::Var(i) => (1, 0, u32::from(i), 0, 0),
         Shape::Op { op, a, b } => (2, op_code(op), a, b, 0),
@@ -111,14 +110,14 @@ fn shape_row(scope: u8, shape: Shape) -> CodeRow
         Shape::Memory => (4, 0, 0, 0, 0),
         Shape::Upd { memory, at, value } => (5, 0, memory, at, value),
     };
-    CodeRow {
+    NodeRow {
         kind,
+        op,
+        scope,
+        pad: 0,
         a,
-        b: scope,
-        c: 0,
-        x,
-        high,
-        low,
+        b,
+        c,
     }
 }
 

@@ -10,8 +10,8 @@ use ft_format::{CellRow, Header, ObjectError};
 use ft_isa::Basic;
 
 /// The basic type of the cell whose record is at a place, and whose name begins at `start` in the name bytes:
-/// `Order` for a name that is empty or ends beyond them, `Name` for one of more than 32 bytes, and what is
-/// wrong with the basic type.
+/// `Order` for a name whose end is not above `start` or lies beyond them, `Name` for one of more than 32 bytes,
+/// and what is wrong with the basic type.
 pub fn read_cell_type(
     header: Header,
     start: u32,

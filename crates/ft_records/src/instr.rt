@@ -1,10 +1,10 @@
 //! Instructions.
-ghost use Rattle.std.specs.Prelude.{◌≡◌, ◌/◌, ◌%◌, ◌≤◌, ◌^◌, IfOk};
+ghost use Rattle.std.specs.Prelude.{◌≡◌, ℕ, List, ◌+◌, ◌/◌, ◌%◌, ◌≤◌, ◌^◌, IfOk};
 ghost use Rattle.ft_isa.specs.declared.instr.Instr.TheVariants as instrs;
 ghost use Rattle.ft_records.specs.Found.{Finds};
 ghost use Rattle.ft_format.specs.Fields.{code_numbers};
-ghost use Rattle.ft_format.specs.Rules.{no_word_broken, basic_number_broken, substitution_broken, transfer_broken, op_reg_broken, op_word_broken, mov_broken, access_broken, jump_broken, branch_broken, halt_broken, fields_broken, instr_broken};
-ghost use Rattle.ft_format.specs.Values.{register_of, colour_of, basic_type_of, jump_of, branch_of, instr_by, instr_of, rows_past, carried, joined};
+ghost use Rattle.ft_format.specs.Rules.{◌next◌, zero_broken, no_word_broken, basic_number_broken, substitution_broken, op_reg_broken, op_word_broken, mov_broken, access_broken, jump_broken, branch_broken, halt_broken, instr_broken};
+ghost use Rattle.ft_format.specs.Values.{register_of, colour_of, basic_type_of, instr_by, instr_of, rows_past, joined};
 
 use crate::rules::{
     check, check_node_number, check_zero, read_basic, read_colour, read_op, read_register, word,
@@ -65,9 +65,9 @@ fn read_basic_number(types: u32, at: usize, x: u32) -> Result<Basic, ObjectError
     ensures judged { Finds result (basic_number_broken types at x) }
     ensures read { IfOk result (λ b. b ≡ basic_type_of (x / 2 ^ 24) (x / 2 ^ 16 % 2 ^ 8) (x % 2 ^ 16)) }
 {
-    let refs = (x / 16777216) as u8;
-    let base = (x / 65536 % 256) as u8;
-    let code_type = (x % 65536) as u16;
+    let refs = (x >> 24) as u8;
+    let base = ((x >> 16) & 0xff) as u8;
+    let code_type = (x & 0xffff) as u16;
     read_basic(types, at, refs, base, code_type)
 }
 
@@ -124,48 +124,13 @@ fn read_substitution(
     })
 }
 
-/// What a jump or branch carries, at field x: nothing where it is green, a substitution where it is
-/// blue.
-fn read_transfer(
-    header: Header,
-    nodes: &[Node],
-    first: u32,
-    at: usize,
-    row: CodeRow,
-) -> Result<Option<Subst>, ObjectError>
-    requires places { at ≤ 2 ^ 28 }
-    requires first { first ≤ 2 ^ 27 }
-    ensures judged { Finds result (transfer_broken header nodes.now first at row.c row.x row.high row.low) }
-    ensures read { IfOk result (λ s. s ≡ carried row.c row.x row.high row.low) }
+/// What a green jump or branch has in place of a substitution, from field x on: zeros.
+fn check_no_substitution(at: usize, row: CodeRow) -> Result<(), ObjectError>
+    requires { at ≤ 2 ^ 28 }
+    ensures { Finds result (zero_broken at row.x next no_word_broken (at + 4) row.high row.low) }
 {
-    if row.c == 0 {
-        check_zero(at, row.x)?;
-        check_no_word(at + 4, row)?;
-        Ok(None)
-    } else {
-        let subst = read_substitution(header, nodes, first, at, row)?;
-        Ok(Some(subst))
-    }
-}
-
-/// A jump, green where it carries no substitution.
-fn jump(rd: Reg, subst: Option<Subst>) -> Instr
-    ensures { result ≡ jump_of rd subst }
-{
-    match subst {
-        None => Instr::JmpG { rd },
-        Some(subst) => Instr::JmpB { rd, subst },
-    }
-}
-
-/// A branch, green where it carries no substitution.
-fn branch(rz: Reg, rd: Reg, subst: Option<Subst>) -> Instr
-    ensures { result ≡ branch_of rz rd subst }
-{
-    match subst {
-        None => Instr::BzG { rz, rd },
-        Some(subst) => Instr::BzB { rz, rd, subst },
-    }
+    check_zero(at, row.x)?;
+    check_no_word(at + 4, row)
 }
 
 /// A jump in the colour of its field c.
@@ -183,10 +148,17 @@ fn read_jump(
 {
     let rd = read_register(at + 1, row.a)?;
     check_zero(at + 2, u32::from(row.b))?;
-    read_colour(at + 3, row.c)?;
-    let subst = read_transfer(header, nodes, first, at + 4, row)?;
-    let instr = jump(rd, subst);
-    Ok(instr)
+    let colour = read_colour(at + 3, row.c)?;
+    match colour {
+        Colour::Green => {
+            check_no_substitution(at + 4, row)?;
+            Ok(Instr::JmpG { rd })
+        }
+        Colour::Blue => {
+            let subst = read_substitution(header, nodes, first, at + 4, row)?;
+            Ok(Instr::JmpB { rd, subst })
+        }
+    }
 }
 
 /// A branch in the colour of its field c.
@@ -204,10 +176,17 @@ fn read_branch(
 {
     let rz = read_register(at + 1, row.a)?;
     let rd = read_register(at + 2, row.b)?;
-    read_colour(at + 3, row.c)?;
-    let subst = read_transfer(header, nodes, first, at + 4, row)?;
-    let instr = branch(rz, rd, subst);
-    Ok(instr)
+    let colour = read_colour(at + 3, row.c)?;
+    match colour {
+        Colour::Green => {
+            check_no_substitution(at + 4, row)?;
+            Ok(Instr::BzG { rz, rd })
+        }
+        Colour::Blue => {
+            let subst = read_substitution(header, nodes, first, at + 4, row)?;
+            Ok(Instr::BzB { rz, rd, subst })
+        }
+    }
 }
 
 /// A `halt`, all of whose fields are zero.
@@ -244,34 +223,9 @@ fn read_st(at: usize, row: CodeRow) -> Result<Instr, ObjectError>
     Ok(Instr::St { colour, rd, rs })
 }
 
-/// The fields of an instruction after its kind, where any above 6 is that of `halt`.
-fn read_fields(
-    header: Header,
-    nodes: &[Node],
-    first: u32,
-    at: usize,
-    row: CodeRow,
-) -> Result<Instr, ObjectError>
-    requires places { at ≤ 2 ^ 27 }
-    requires first { first ≤ 2 ^ 27 }
-    ensures judged { Finds result (fields_broken header nodes.now first at row.kind row.a row.b row.c row.x row.high row.low) }
-    ensures read { IfOk result (λ i. i ≡ instr_by row.kind row.a row.b row.c row.x row.high row.low) }
-{
-    match row.kind {
-        0 => read_op_reg(at, row),
-        1 => read_op_word(at, row),
-        2 => read_mov(header.types, at, row),
-        3 => read_ld(at, row),
-        4 => read_st(at, row),
-        5 => read_jump(header, nodes, first, at, row),
-        6 => read_branch(header, nodes, first, at, row),
-        _ => read_halt(at, row),
-    }
-}
-
 /// The instruction of the record at a place, where the substitutions before took the rows up to `first`:
-/// `Kind` for a code that stands for nothing, `Index` for a register, type or node that is not there, `Pad`,
-/// and `Order` and `Count` for the rows of its substitution.
+/// `Kind` for a code that stands for nothing or a substitution's memory that is an integer, `Index` for a
+/// register, type or node that is not there, `Pad`, and `Order` and `Count` for the rows of its substitution.
 pub fn read_instr(
     header: Header,
     nodes: &[Node],
@@ -284,16 +238,27 @@ pub fn read_instr(
     ensures judged { Finds result (instr_broken header nodes.now first at (code_numbers row)) }
     ensures read { IfOk result (λ i. i ≡ instr_of (code_numbers row)) }
 {
-    check(row.kind <= 7, ObjectError::Kind { at })?;
-    read_fields(header, nodes, first, at, row)
+    match row.kind {
+        0 => read_op_reg(at, row),
+        1 => read_op_word(at, row),
+        2 => read_mov(header.types, at, row),
+        3 => read_ld(at, row),
+        4 => read_st(at, row),
+        5 => read_jump(header, nodes, first, at, row),
+        6 => read_branch(header, nodes, first, at, row),
+        7 => read_halt(at, row),
+        _ => Err(ObjectError::Kind { at }),
+    }
 }
 
-/// The row after those that the substitutions up to this instruction take.
-pub fn rows_past(first: u32, row: CodeRow) -> u32
-    ensures { result ≡ rows_past first (code_numbers row) }
+/// The row after those that the substitutions up to this instruction take, where the ones before took the rows up
+/// to `first`.
+#[tactic(auto, using(crate::proofs::RowsPast::past_is))]
+pub fn rows_past(first: u32, instr: Instr) -> u32
+    ensures { (row : List ℕ) → instr ≡ instr_of row → result ≡ rows_past first row }
 {
-    match row.kind {
-        5 | 6 => { if row.c == 0 { first } else { row.high } }
+    match instr {
+        Instr::JmpB { subst, .. } | Instr::BzB { subst, .. } => subst.past,
         _ => first,
     }
 }

@@ -38,16 +38,23 @@ pub(crate) fn check_some(most: u32, at: usize, n: u32) -> Result<(), ObjectError
     check_count(most, at, n)
 }
 
+/// The colour of a code, where any but 0 is blue.
+fn colour(code: u8) -> Colour
+    ensures { result ≡ colour_of code }
+{
+    match code {
+        0 => Colour::Green,
+        _ => Colour::Blue,
+    }
+}
+
 /// The colour of the code at this place.
 pub(crate) fn read_colour(at: usize, code: u8) -> Result<Colour, ObjectError>
     ensures judged { Finds result (colour_broken at code) }
     ensures read { IfOk result (λ c. c ≡ colour_of code) }
 {
-    match code {
-        0 => Ok(Colour::Green),
-        1 => Ok(Colour::Blue),
-        _ => Err(ObjectError::Kind { at }),
-    }
+    check(code <= 1, ObjectError::Kind { at })?;
+    Ok(colour(code))
 }
 
 /// The operation of a code, where any above 3 is `eq`.

@@ -1,5 +1,4 @@
-//! The numbers of a node's record (kind, operation, scope, padding, a, b, c) or of an instruction's
-//! (kind, a, b, c, x, and the two halves of v).
+//! The numbers of an instruction's record: kind, a, b, c, x, and the two halves of v.
 ghost use Rattle.std.specs.Prelude.{◌≡◌, ◌≤◌, length, OnOk};
 ghost use Rattle.ft_format.specs.Layout.{numbers, written, code_layout};
 ghost use Rattle.ft_format.specs.Puts.{Puts};
@@ -8,8 +7,7 @@ ghost use Rattle.ft_format.specs.Fields.{code_numbers};
 use crate::numbers::{put_u8, put_u32, read_u8, read_u32};
 use ft_isa::NoMemory;
 
-/// The numbers of an instruction's record, with v in two halves. Of a node's record `a` is the operation, `b` the
-/// scope, `c` padding, and `x`, `high` and `low` are its parts a, b and c.
+/// The numbers of an instruction's record: kind, a, b, c, x, and the two halves of v.
 #[derive(Clone, Copy)]
 pub struct CodeRow {
     pub kind: u8,

@@ -1,6 +1,6 @@
 //! Cells, whose names follow one another in the name bytes.
 ghost use Rattle.std.specs.Prelude.{◌≡◌, ◌+◌, ◌*◌, ◌≤◌, ◌^◌, [], length, sum_by, IfOk, OnOk};
-ghost use Rattle.ft_object.specs.Judged.{Judges, OnlyMemory};
+ghost use Rattle.ft_object.specs.Judged.{Judges};
 ghost use Rattle.ft_object.specs.Places.{IsWhole};
 ghost use Rattle.ft_types.specs.Objects.{name_of};
 ghost use Rattle.ft_format.specs.Layout.{rows, cell_layout};
@@ -10,23 +10,12 @@ ghost use Rattle.ft_format.specs.Values.{cell_of, cells_of};
 ghost use Rattle.ft_format.specs.Broken.{cells_broken, cells_part, cells_read};
 
 use crate::decode_error::DecodeError;
-use crate::memory::{push, reserve};
+use crate::memory::{copy, push, reserve};
 use crate::places::{Places, part};
 use ft_format::{CellRow, Header};
 use ft_records::read_cell_type;
-use ft_types::{Cell, Table};
+use ft_types::Cell;
 use std::alloc::Global;
-
-/// The bytes of a name, in a table of its own.
-fn copy_name(alloc: Global, name: &[u8]) -> Result<Table<u8>, DecodeError>
-    ensures copied { IfOk result (λ t. t ≡ name.now) }
-    ensures err { OnlyMemory result }
-{
-    match Vec::from_slice(alloc, name) {
-        Ok(name) => Ok(Table::from_vec(name)),
-        Err(_) => Err(DecodeError::NoMemory),
-    }
-}
 
 /// The cell of a record, with its name, which begins at `start` in the name bytes.
 fn read_named(
@@ -45,7 +34,7 @@ fn read_named(
     ensures past { OnOk result (row.past ≤ header.names) }
 {
     let basic = read_cell_type(header, start, at, row).map_err(DecodeError::Object)?;
-    let name = copy_name(alloc, &names[start as usize..row.past as usize])?;
+    let name = copy(alloc, &names[start as usize..row.past as usize])?;
     Ok(Cell {
         name,
         basic,

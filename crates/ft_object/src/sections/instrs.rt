@@ -42,7 +42,7 @@ fn read_rows(
         let instr = read_instr(header, nodes, first, place, row).map_err(DecodeError::Object)?;
         push(instrs, instr)?;
         place += 16;
-        first = rows_past(first, row);
+        first = rows_past(first, instr);
         rest = after;
     }
     Ok(first)

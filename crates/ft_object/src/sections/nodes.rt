@@ -9,7 +9,7 @@ ghost use Rattle.ft_format.specs.Broken.{nodes_broken, nodes_at, nodes_part, nod
 use crate::decode_error::DecodeError;
 use crate::memory::{push, reserve};
 use crate::places::{Places, part};
-use ft_format::{CodeRow, Header};
+use ft_format::{Header, NodeRow};
 use ft_records::read_node;
 use ft_static::Node;
 use std::alloc::Global;
@@ -26,7 +26,7 @@ fn read_rows(at: usize, count: u32, bytes: &[u8], nodes: &mut Vec<Node>) -> Resu
     let mut rest = bytes;
     for _ in 0..count {
         let (record, after) = rest.split_at(16);
-        let row = CodeRow::read(record);
+        let row = NodeRow::read(record);
         let node = read_node(nodes.as_slice(), place, row).map_err(DecodeError::Object)?;
         push(nodes, node)?;
         place += 16;

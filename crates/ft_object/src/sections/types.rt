@@ -6,21 +6,10 @@ ghost use Rattle.ft_format.specs.Values.{regs_end_of, queue_end_of, types_of};
 ghost use Rattle.ft_object.specs.Ends.{AreEnds};
 
 use crate::decode_error::DecodeError;
-use crate::memory::push;
+use crate::memory::{copy, push};
 use ft_format::TypeRow;
-use ft_types::{CodeType, RegType, Table};
+use ft_types::{CodeType, RegType};
 use std::alloc::Global;
-
-/// A table of its own of these values.
-fn copy<T: Copy>(alloc: Global, values: &[T]) -> Result<Table<T>, DecodeError>
-    ensures copied { IfOk result (λ t. t ≡ values.now) }
-    ensures err { OnlyMemory result }
-{
-    match Vec::from_slice(alloc, values) {
-        Ok(values) => Ok(Table::from_vec(values)),
-        Err(_) => Err(DecodeError::NoMemory),
-    }
-}
 
 /// Deals rows out to code types, in an empty vector.
 pub(crate) fn deal_rows(

@@ -35,7 +35,7 @@ loop-preserved c =
     let rule : (instr_broken c.args.header c.args.nodes.now c.loop.first c.loop.place row) ≡ None =
     found_none c.read_instr.result c.in_ok-instr.instr (instr_broken c.args.header c.args.nodes.now c.loop.first c.loop.place row) c.in_ok-instr.ensures.cases c.read_instr.ensures.judged in
     let read : c.in_ok-instr.instr ≡ instr_of row = of_read c.read_instr.result c.in_ok-instr.instr (λ x. x ≡ instr_of row) c.in_ok-instr.ensures.cases c.read_instr.ensures.read in
-    rw (c.in_ok-push.ensures.ok, c.split_at.ensures.back, c.rows_past-first.ensures) (record {
+    rw (c.in_ok-push.ensures.ok, c.split_at.ensures.back, c.rows_past-first.ensures row read) (record {
       there = omega (arith, length-drop 16 bs);
       places = omega arith;
       few = past_within c.args.header c.args.nodes.now c.loop.first c.loop.place row rule c.loop.invariant.few;

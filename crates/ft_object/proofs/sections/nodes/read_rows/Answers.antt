@@ -3,7 +3,7 @@ use Rattle.std.proofs.lemmas.List.{length-drop}
 use Rattle.std.proofs.lemmas.Result.{err_from_is_err_and}
 use Rattle.ft_object.specs.Judged.{IsError}
 use Rattle.ft_format.specs.Layout.{numbers, code_layout}
-use Rattle.ft_format.specs.Fields.{code_numbers}
+use Rattle.ft_format.specs.Fields.{node_numbers}
 use Rattle.ft_format.specs.Rules.{node_broken}
 use Rattle.ft_format.specs.Values.{node_of}
 use Rattle.ft_format.specs.Broken.{nodes_broken}
@@ -16,7 +16,7 @@ unfolding nodes_broken
 returns-in_err-node-clause-judged c =
     let one_more : c.args.count - c.loop.counter ≡ suc (c.args.count - (c.loop.counter + 1)) = omega arith in
     let bs = c.loop.rest.now in
-    let row = code_numbers c.read-row.result in
+    let row = node_numbers c.read-row.result in
     let is : row ≡ numbers code_layout (take 16 bs) = c.read-row.ensures ∙ ap (numbers code_layout) c.split_at.ensures.front in
     let earlier = c.loop.nodes.items in
     let rule : IsError c.in_err-node.field-0.0 (node_broken earlier c.loop.place row) =
@@ -29,7 +29,7 @@ unfolding nodes_broken
 loop-preserved c =
     let one_more : c.args.count - c.loop.counter ≡ suc (c.args.count - (c.loop.counter + 1)) = omega arith in
     let bs = c.loop.rest.now in
-    let row = code_numbers c.read-row.result in
+    let row = node_numbers c.read-row.result in
     let node = c.in_ok-node.node in
     let is : row ≡ numbers code_layout (take 16 bs) = c.read-row.ensures ∙ ap (numbers code_layout) c.split_at.ensures.front in
     let earlier = c.loop.nodes.items in

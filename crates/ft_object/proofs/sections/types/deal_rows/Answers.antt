@@ -10,62 +10,44 @@ use Rattle.ft_object.proofs.sections.types.deal_rows.Goals as goal
 
 pub slice_bounds-copy-count : goal.slice_bounds-copy-count
 slice_bounds-copy-count c =
-    let one_more : c.args.count - c.loop.counter ≡ suc (c.args.count - (c.loop.counter + 1)) = omega arith in
-    let bs = c.loop.rest.now in
     let row : List ℕ = type_numbers c.read-row.result in
-    let is : row ≡ numbers type_layout (take 16 bs) = c.read-row.ensures ∙ ap (numbers type_layout) c.split_at.ensures.front in
-    let regs = first_end regs_end_of (length c.args.regs.now) c.loop.regs_from type_layout _ _ bs row one_more is c.loop.invariant.regs in
-    let queue = first_end queue_end_of (length c.args.queue.now) c.loop.queue_from type_layout _ _ bs row one_more is c.loop.invariant.queue in
+    let is : row ≡ numbers type_layout (take 16 c.loop.rest.now) = c.read-row.ensures ∙ ap (numbers type_layout) c.split_at.ensures.front in
+    let regs = first_end regs_end_of (length c.args.regs.now) c.loop.regs_from type_layout _ (c.args.count - (c.loop.counter + 1)) c.loop.rest.now row (omega arith) is c.loop.invariant.regs in
     regs.0
 
 pub slice_bounds-copy-start : goal.slice_bounds-copy-start
 slice_bounds-copy-start c =
-    let one_more : c.args.count - c.loop.counter ≡ suc (c.args.count - (c.loop.counter + 1)) = omega arith in
-    let bs = c.loop.rest.now in
     let row : List ℕ = type_numbers c.read-row.result in
-    let is : row ≡ numbers type_layout (take 16 bs) = c.read-row.ensures ∙ ap (numbers type_layout) c.split_at.ensures.front in
-    let regs = first_end regs_end_of (length c.args.regs.now) c.loop.regs_from type_layout _ _ bs row one_more is c.loop.invariant.regs in
-    let queue = first_end queue_end_of (length c.args.queue.now) c.loop.queue_from type_layout _ _ bs row one_more is c.loop.invariant.queue in
+    let is : row ≡ numbers type_layout (take 16 c.loop.rest.now) = c.read-row.ensures ∙ ap (numbers type_layout) c.split_at.ensures.front in
+    let regs = first_end regs_end_of (length c.args.regs.now) c.loop.regs_from type_layout _ (c.args.count - (c.loop.counter + 1)) c.loop.rest.now row (omega arith) is c.loop.invariant.regs in
     omega (arith, regs.0, regs.1)
 
 pub slice_bounds-copy-end : goal.slice_bounds-copy-end
 slice_bounds-copy-end c =
-    let one_more : c.args.count - c.loop.counter ≡ suc (c.args.count - (c.loop.counter + 1)) = omega arith in
-    let bs = c.loop.rest.now in
     let row : List ℕ = type_numbers c.read-row.result in
-    let is : row ≡ numbers type_layout (take 16 bs) = c.read-row.ensures ∙ ap (numbers type_layout) c.split_at.ensures.front in
-    let regs = first_end regs_end_of (length c.args.regs.now) c.loop.regs_from type_layout _ _ bs row one_more is c.loop.invariant.regs in
-    let queue = first_end queue_end_of (length c.args.queue.now) c.loop.queue_from type_layout _ _ bs row one_more is c.loop.invariant.queue in
+    let is : row ≡ numbers type_layout (take 16 c.loop.rest.now) = c.read-row.ensures ∙ ap (numbers type_layout) c.split_at.ensures.front in
+    let regs = first_end regs_end_of (length c.args.regs.now) c.loop.regs_from type_layout _ (c.args.count - (c.loop.counter + 1)) c.loop.rest.now row (omega arith) is c.loop.invariant.regs in
     omega (arith, regs.0, regs.1)
 
 pub slice_bounds-copy-count-in-loop : goal.slice_bounds-copy-count-in-loop
 slice_bounds-copy-count-in-loop c =
-    let one_more : c.args.count - c.loop.counter ≡ suc (c.args.count - (c.loop.counter + 1)) = omega arith in
-    let bs = c.loop.rest.now in
     let row : List ℕ = type_numbers c.read-row.result in
-    let is : row ≡ numbers type_layout (take 16 bs) = c.read-row.ensures ∙ ap (numbers type_layout) c.split_at.ensures.front in
-    let regs = first_end regs_end_of (length c.args.regs.now) c.loop.regs_from type_layout _ _ bs row one_more is c.loop.invariant.regs in
-    let queue = first_end queue_end_of (length c.args.queue.now) c.loop.queue_from type_layout _ _ bs row one_more is c.loop.invariant.queue in
+    let is : row ≡ numbers type_layout (take 16 c.loop.rest.now) = c.read-row.ensures ∙ ap (numbers type_layout) c.split_at.ensures.front in
+    let queue = first_end queue_end_of (length c.args.queue.now) c.loop.queue_from type_layout _ (c.args.count - (c.loop.counter + 1)) c.loop.rest.now row (omega arith) is c.loop.invariant.queue in
     queue.0
 
 pub slice_bounds-copy-start-in-loop : goal.slice_bounds-copy-start-in-loop
 slice_bounds-copy-start-in-loop c =
-    let one_more : c.args.count - c.loop.counter ≡ suc (c.args.count - (c.loop.counter + 1)) = omega arith in
-    let bs = c.loop.rest.now in
     let row : List ℕ = type_numbers c.read-row.result in
-    let is : row ≡ numbers type_layout (take 16 bs) = c.read-row.ensures ∙ ap (numbers type_layout) c.split_at.ensures.front in
-    let regs = first_end regs_end_of (length c.args.regs.now) c.loop.regs_from type_layout _ _ bs row one_more is c.loop.invariant.regs in
-    let queue = first_end queue_end_of (length c.args.queue.now) c.loop.queue_from type_layout _ _ bs row one_more is c.loop.invariant.queue in
+    let is : row ≡ numbers type_layout (take 16 c.loop.rest.now) = c.read-row.ensures ∙ ap (numbers type_layout) c.split_at.ensures.front in
+    let queue = first_end queue_end_of (length c.args.queue.now) c.loop.queue_from type_layout _ (c.args.count - (c.loop.counter + 1)) c.loop.rest.now row (omega arith) is c.loop.invariant.queue in
     omega (arith, queue.0, queue.1)
 
 pub slice_bounds-copy-end-in-loop : goal.slice_bounds-copy-end-in-loop
 slice_bounds-copy-end-in-loop c =
-    let one_more : c.args.count - c.loop.counter ≡ suc (c.args.count - (c.loop.counter + 1)) = omega arith in
-    let bs = c.loop.rest.now in
     let row : List ℕ = type_numbers c.read-row.result in
-    let is : row ≡ numbers type_layout (take 16 bs) = c.read-row.ensures ∙ ap (numbers type_layout) c.split_at.ensures.front in
-    let regs = first_end regs_end_of (length c.args.regs.now) c.loop.regs_from type_layout _ _ bs row one_more is c.loop.invariant.regs in
-    let queue = first_end queue_end_of (length c.args.queue.now) c.loop.queue_from type_layout _ _ bs row one_more is c.loop.invariant.queue in
+    let is : row ≡ numbers type_layout (take 16 c.loop.rest.now) = c.read-row.ensures ∙ ap (numbers type_layout) c.split_at.ensures.front in
+    let queue = first_end queue_end_of (length c.args.queue.now) c.loop.queue_from type_layout _ (c.args.count - (c.loop.counter + 1)) c.loop.rest.now row (omega arith) is c.loop.invariant.queue in
     omega (arith, queue.0, queue.1)
 
 pub loop-preserved : goal.loop-preserved

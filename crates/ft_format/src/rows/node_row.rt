@@ -1,0 +1,62 @@
+//! The numbers of a node's record: kind, operation, scope, padding, and the parts a, b and c.
+ghost use Rattle.std.specs.Prelude.{◌≡◌, ◌≤◌, length, OnOk};
+ghost use Rattle.ft_format.specs.Layout.{numbers, written, code_layout};
+ghost use Rattle.ft_format.specs.Puts.{Puts};
+ghost use Rattle.ft_format.specs.Fields.{node_numbers};
+
+use crate::numbers::{put_u8, put_u32, read_u8, read_u32};
+use ft_isa::NoMemory;
+
+/// The numbers of a node's record: kind, operation, scope, padding, and the parts a, b and c, which are a word's
+/// upper and lower half at b and c.
+#[derive(Clone, Copy)]
+pub struct NodeRow {
+    pub kind: u8,
+    pub op: u8,
+    pub scope: u8,
+    pub pad: u8,
+    pub a: u32,
+    pub b: u32,
+    pub c: u32,
+}
+
+impl NodeRow {
+    /// The numbers of the record in the first 16 bytes.
+    #[tactic(auto, unfolding(crate::specs::Layout::numbers))]
+    pub fn read(bytes: &[u8]) -> NodeRow
+        requires { 16 ≤ length bytes.now }
+        ensures { node_numbers result ≡ numbers code_layout bytes.now }
+    {
+        let (kind, rest) = read_u8(bytes);
+        let (op, rest) = read_u8(rest);
+        let (scope, rest) = read_u8(rest);
+        let (pad, rest) = read_u8(rest);
+        let (a, rest) = read_u32(rest);
+        let (b, rest) = read_u32(rest);
+        let (c, _) = read_u32(rest);
+        NodeRow {
+            kind,
+            op,
+            scope,
+            pad,
+            a,
+            b,
+            c,
+        }
+    }
+
+    /// Puts the record's bytes at the end. Where memory runs out, some of them may stand there.
+    #[tactic(auto, unfolding(crate::specs::Layout::written))]
+    pub fn write(self, out: &mut Vec<u8>) -> Result<(), NoMemory>
+        ensures { OnOk result (Puts out.old.items out.new.items (written code_layout (node_numbers self))) }
+    {
+        put_u8(out, self.kind)?;
+        put_u8(out, self.op)?;
+        put_u8(out, self.scope)?;
+        put_u8(out, self.pad)?;
+        put_u32(out, self.a)?;
+        put_u32(out, self.b)?;
+        put_u32(out, self.c)?;
+        Ok(())
+    }
+}
