@@ -6,3 +6,4 @@ pub mod Broken
 pub mod Format
 pub mod Fields
 pub mod Puts
+pub mod Places

@@ -11,11 +11,13 @@ mod header;
 mod laws;
 mod numbers;
 mod object_error;
+mod places;
 mod rows;
 
 pub use header::{Header, MAGIC};
 pub use laws::{rules_are_exact, spellings_are_apart, spellings_are_one};
 pub use object_error::ObjectError;
+pub use places::Places;
 pub use rows::cell_row::CellRow;
 pub use rows::code_row::CodeRow;
 pub use rows::node_row::NodeRow;

@@ -1,4 +1,3 @@
 pub mod Answered
 pub mod EndsRise
 pub mod Judging
-pub mod Puts

@@ -1,4 +1,2 @@
 pub mod Judged
 pub mod Ends
-pub mod Places
-pub mod Written

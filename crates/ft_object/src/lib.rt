@@ -1,20 +1,17 @@
-//! Objects as bytes, read and written.
+//! Objects as bytes, read.
 //!
 //! The crate promises that `decode` gives the one object that bytes spell, or else the first rule of
-//! the format that they break with its place, and that `encode` writes the one spelling of an object.
-//! The format's definitions and laws are those of `ft_format`; `specs/Judged.antt` says what a reader
-//! may answer.
+//! the format that they break with its place. The format's definitions and laws are those of
+//! `ft_format`; `specs/Judged.antt` says what a reader may answer. Writing is `encode` of `ft_encode`.
 #![tactic(auto)]
 
 mod decode_error;
 mod memory;
-mod places;
+mod part;
 mod reading;
-mod record;
 mod sections;
-mod writing;
 
 pub use decode_error::DecodeError;
+pub use ft_encode::encode;
 pub use ft_format::ObjectError;
 pub use reading::decode;
-pub use writing::encode;

@@ -3,13 +3,13 @@ ghost use Rattle.std.specs.Prelude.{◌≡◌, ◌↔◌, None, Some, IfOk, IsEr
 ghost use Rattle.ft_types.specs.declared.object.Object.{Object};
 ghost use Rattle.ft_records.specs.Found.{Finds};
 ghost use Rattle.ft_object.specs.Judged.{Judges, Gives};
-ghost use Rattle.ft_object.specs.Places.{IsWhole};
+ghost use Rattle.ft_format.specs.Places.{IsWhole};
 ghost use Rattle.ft_format.specs.Broken.{header_at, code_types_broken, types_read, tables_broken, tables_read, front_broken, broken, object_of};
 ghost use Rattle.ft_format.specs.Format.{Spells};
 
 use crate::decode_error::DecodeError;
 use crate::memory::reserve;
-use crate::places::{Places, part};
+use crate::part::part;
 use crate::sections::blocks::read_blocks;
 use crate::sections::cells::read_cells;
 use crate::sections::instrs::read_instrs;
@@ -18,7 +18,7 @@ use crate::sections::queue::read_queue;
 use crate::sections::regs::read_regs;
 use crate::sections::substs::read_substs;
 use crate::sections::types::deal_rows;
-use ft_format::{Header, ObjectError};
+use ft_format::{Header, ObjectError, Places};
 use ft_records::{check, check_header, check_names, check_types};
 use ft_static::Node;
 use ft_types::{CodeType, Object, Table};

@@ -1,15 +1,15 @@
 //! Blocks, which begin one after the other.
 ghost use Rattle.std.specs.Prelude.{◌≡◌, ◌+◌, ◌*◌, ◌≤◌, ◌^◌, None, [], length, map, IfOk, OnOk};
 ghost use Rattle.ft_object.specs.Judged.{Judges};
-ghost use Rattle.ft_object.specs.Places.{IsWhole};
+ghost use Rattle.ft_format.specs.Places.{IsWhole};
 ghost use Rattle.ft_format.specs.Layout.{rows, pair_layout};
 ghost use Rattle.ft_format.specs.Values.{block_of};
 ghost use Rattle.ft_format.specs.Broken.{blocks_broken, blocks_at, blocks_part, blocks_read};
 
 use crate::decode_error::DecodeError;
 use crate::memory::{push, reserve};
-use crate::places::{Places, part};
-use ft_format::{Header, PairRow};
+use crate::part::part;
+use ft_format::{Header, PairRow, Places};
 use ft_records::read_block;
 use ft_types::Block;
 use std::alloc::Global;

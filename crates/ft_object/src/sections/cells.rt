@@ -1,7 +1,7 @@
 //! Cells, whose names follow one another in the name bytes.
 ghost use Rattle.std.specs.Prelude.{◌≡◌, ◌+◌, ◌*◌, ◌≤◌, ◌^◌, [], length, sum_by, IfOk, OnOk};
 ghost use Rattle.ft_object.specs.Judged.{Judges};
-ghost use Rattle.ft_object.specs.Places.{IsWhole};
+ghost use Rattle.ft_format.specs.Places.{IsWhole};
 ghost use Rattle.ft_types.specs.Objects.{name_of};
 ghost use Rattle.ft_format.specs.Layout.{rows, cell_layout};
 ghost use Rattle.ft_format.specs.Fields.{cell_numbers};
@@ -11,8 +11,8 @@ ghost use Rattle.ft_format.specs.Broken.{cells_broken, cells_part, cells_read};
 
 use crate::decode_error::DecodeError;
 use crate::memory::{copy, push, reserve};
-use crate::places::{Places, part};
-use ft_format::{CellRow, Header};
+use crate::part::part;
+use ft_format::{CellRow, Header, Places};
 use ft_records::read_cell_type;
 use ft_types::Cell;
 use std::alloc::Global;

@@ -2,15 +2,15 @@
 ghost use Rattle.std.specs.Prelude.{◌≡◌, ◌+◌, ◌*◌, ◌/◌, ◌<◌, ◌≤◌, ◌^◌, [], length, map, IfOk, OnOk};
 ghost use Rattle.ft_isa.specs.declared.instr.Instr.TheVariants as instrs;
 ghost use Rattle.ft_object.specs.Judged.{Judges};
-ghost use Rattle.ft_object.specs.Places.{IsWhole};
+ghost use Rattle.ft_format.specs.Places.{IsWhole};
 ghost use Rattle.ft_format.specs.Layout.{rows, code_layout};
 ghost use Rattle.ft_format.specs.Values.{instr_of, rows_past};
 ghost use Rattle.ft_format.specs.Broken.{instrs_broken, rows_taken, instrs_at, instr_rows_of, instrs_read};
 
 use crate::decode_error::DecodeError;
 use crate::memory::{push, reserve};
-use crate::places::{Places, part};
-use ft_format::{CodeRow, Header};
+use crate::part::part;
+use ft_format::{CodeRow, Header, Places};
 use ft_isa::Instr;
 use ft_records::{read_instr, rows_past};
 use ft_static::Node;

@@ -1,15 +1,15 @@
 //! Nodes, each after those to which it refers.
 ghost use Rattle.std.specs.Prelude.{◌≡◌, ◌+◌, ◌*◌, ◌≤◌, ◌^◌, [], length, map, IfOk, OnOk};
 ghost use Rattle.ft_object.specs.Judged.{Judges};
-ghost use Rattle.ft_object.specs.Places.{IsWhole};
+ghost use Rattle.ft_format.specs.Places.{IsWhole};
 ghost use Rattle.ft_format.specs.Layout.{rows, code_layout};
 ghost use Rattle.ft_format.specs.Values.{node_of};
 ghost use Rattle.ft_format.specs.Broken.{nodes_broken, nodes_at, nodes_part, nodes_read};
 
 use crate::decode_error::DecodeError;
 use crate::memory::{push, reserve};
-use crate::places::{Places, part};
-use ft_format::{Header, NodeRow};
+use crate::part::part;
+use ft_format::{Header, NodeRow, Places};
 use ft_records::read_node;
 use ft_static::Node;
 use std::alloc::Global;

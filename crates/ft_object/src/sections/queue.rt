@@ -1,7 +1,7 @@
 //! Queue rows: what each type says of the stores that wait.
 ghost use Rattle.std.specs.Prelude.{◌≡◌, ◌+◌, ◌*◌, ◌≤◌, ◌^◌, [], ◌++◌, length, drop, map, IfOk, OnOk};
 ghost use Rattle.ft_object.specs.Judged.{Judges};
-ghost use Rattle.ft_object.specs.Places.{IsWhole};
+ghost use Rattle.ft_format.specs.Places.{IsWhole};
 ghost use Rattle.ft_format.specs.Layout.{rows, pair_layout, type_layout};
 ghost use Rattle.ft_format.specs.Values.{queue_end_of, pair_of};
 ghost use Rattle.ft_format.specs.Broken.{type_queue_broken, queues_broken, type_rows_of, queue_at, queue_part, queue_read};
@@ -9,8 +9,8 @@ ghost use Rattle.ft_object.specs.Ends.{AreEnds};
 
 use crate::decode_error::DecodeError;
 use crate::memory::{push, reserve};
-use crate::places::{Places, part};
-use ft_format::{Header, ObjectError, PairRow, TypeRow};
+use crate::part::part;
+use ft_format::{Header, ObjectError, PairRow, Places, TypeRow};
 use ft_records::{check, read_queue_row};
 use ft_static::Node;
 use std::alloc::Global;

@@ -1,7 +1,7 @@
 //! Register rows: what each type says of registers.
 ghost use Rattle.std.specs.Prelude.{◌≡◌, ◌+◌, ◌*◌, ◌≤◌, ◌^◌, [], ◌++◌, ◌<◌, length, drop, map, IfOk, OnOk};
 ghost use Rattle.ft_object.specs.Judged.{Judges};
-ghost use Rattle.ft_object.specs.Places.{IsWhole};
+ghost use Rattle.ft_format.specs.Places.{IsWhole};
 ghost use Rattle.ft_format.specs.Layout.{rows, reg_layout, type_layout};
 ghost use Rattle.ft_format.specs.Values.{regs_end_of, reg_type_of};
 ghost use Rattle.ft_format.specs.Broken.{type_regs_broken, regs_broken, type_rows_of, regs_at, regs_part, regs_read};
@@ -9,8 +9,8 @@ ghost use Rattle.ft_object.specs.Ends.{AreEnds};
 
 use crate::decode_error::DecodeError;
 use crate::memory::{push, reserve};
-use crate::places::{Places, part};
-use ft_format::{Header, ObjectError, RegRow, TypeRow};
+use crate::part::part;
+use ft_format::{Header, ObjectError, Places, RegRow, TypeRow};
 use ft_records::{check, read_reg};
 use ft_static::Node;
 use ft_types::RegType;

@@ -1,15 +1,15 @@
 //! Substitution rows.
 ghost use Rattle.std.specs.Prelude.{◌≡◌, ◌+◌, ◌*◌, ◌≤◌, ◌^◌, [], false, length, map, IfOk, OnOk};
 ghost use Rattle.ft_object.specs.Judged.{Judges};
-ghost use Rattle.ft_object.specs.Places.{IsWhole};
+ghost use Rattle.ft_format.specs.Places.{IsWhole};
 ghost use Rattle.ft_format.specs.Layout.{rows, subst_layout};
 ghost use Rattle.ft_format.specs.Values.{subst_node_of};
 ghost use Rattle.ft_format.specs.Broken.{subst_rows_broken, substs_broken, substs_at, substs_part, substs_read};
 
 use crate::decode_error::DecodeError;
 use crate::memory::{push, reserve};
-use crate::places::{Places, part};
-use ft_format::{Header, ObjectError, SubstRow};
+use crate::part::part;
+use ft_format::{Header, ObjectError, Places, SubstRow};
 use ft_records::{check, check_node_number};
 use ft_static::Node;
 use std::alloc::Global;

@@ -1,0 +1,177 @@
+//! Writing objects.
+ghost use Rattle.std.specs.Prelude.{◌≡◌, ◌≤◌, ◌++◌, ℕ, [], List, None, length, sum_by, IfOk, OnOk};
+ghost use Rattle.std.specs.List.{flat_map};
+ghost use Rattle.ft_types.specs.declared.object.Object.{Object};
+ghost use Rattle.ft_types.specs.Objects.{name_of, regs_of, queue_of};
+ghost use Rattle.ft_types.specs.Spellable.{IsSpellable};
+ghost use Rattle.ft_format.specs.Layout.{spelled, cell_layout, type_layout};
+ghost use Rattle.ft_format.specs.Broken.{IsSmall, broken, object_of};
+ghost use Rattle.ft_format.specs.Rows.{cell_rows, type_rows, header_row, spelling};
+ghost use Rattle.ft_format.specs.Fields.{header_numbers};
+ghost use Rattle.ft_format.specs.Format.{Spells};
+ghost use Rattle.ft_format.specs.Puts.{Puts};
+ghost use Rattle.ft_encode.specs.Written.{reg_bytes, pair_bytes};
+
+use crate::record::{base_code, base_type, write_all};
+use ft_format::{CellRow, Header, MAGIC, Places, TypeRow};
+use ft_isa::NoMemory;
+use ft_types::{Cell, CodeType, Object};
+use std::alloc::Global;
+
+/// How many register rows code types have.
+fn count_regs(types: &[CodeType]) -> u32
+    requires { sum_by (λ t. length (regs_of t)) types.now ≤ 262144 }
+    ensures { result ≡ sum_by (λ t. length (regs_of t)) types.now }
+{
+    let mut count: u32 = 0;
+    for code_type in types {
+        count += code_type.regs.len() as u32;
+    }
+    count
+}
+
+/// How many queue rows code types have.
+fn count_queue(types: &[CodeType]) -> u32
+    requires { sum_by (λ t. length (queue_of t)) types.now ≤ 32768 }
+    ensures { result ≡ sum_by (λ t. length (queue_of t)) types.now }
+{
+    let mut count: u32 = 0;
+    for code_type in types {
+        count += code_type.queue.len() as u32;
+    }
+    count
+}
+
+/// How many bytes the names of cells have.
+fn count_names(cells: &[Cell]) -> u32
+    requires { sum_by (λ c. length (name_of c)) cells.now ≤ 32768 }
+    ensures { result ≡ sum_by (λ c. length (name_of c)) cells.now }
+{
+    let mut count: u32 = 0;
+    for cell in cells {
+        count += cell.name.len() as u32;
+    }
+    count
+}
+
+/// The header of an object.
+fn header_of(object: &Object) -> Header
+    requires { IsSpellable object.now }
+    ensures row { header_numbers result ≡ header_row object.now }
+    ensures small { IsSmall result }
+{
+    Header {
+        magic: MAGIC,
+        cells: object.cells.len() as u32,
+        nodes: object.nodes.len() as u32,
+        types: object.types.len() as u32,
+        regs: count_regs(object.types.as_slice()),
+        queue: count_queue(object.types.as_slice()),
+        blocks: object.blocks.len() as u32,
+        instrs: object.instrs.len() as u32,
+        substs: object.substs.len() as u32,
+        names: count_names(object.cells.as_slice()),
+        entry: object.entry,
+    }
+}
+
+/// Puts the records of cells at the end.
+fn write_cells(cells: &[Cell], out: &mut Vec<u8>) -> Result<(), NoMemory>
+    requires { sum_by (λ c. length (name_of c)) cells.now ≤ 32768 }
+    ensures { OnOk result (Puts out.old.items out.new.items (spelled cell_layout (cell_rows 0 cells.now))) }
+{
+    let mut past: u32 = 0;
+    for cell in cells {
+        past += cell.name.len() as u32;
+        let row = CellRow {
+            past,
+            refs: cell.basic.refs,
+            base: base_code(cell.basic.base),
+            code_type: base_type(cell.basic.base),
+            init: cell.init,
+        };
+        row.write(out)?;
+    }
+    Ok(())
+}
+
+/// Puts the records of code types at the end.
+fn write_types(types: &[CodeType], out: &mut Vec<u8>) -> Result<(), NoMemory>
+    requires regs { sum_by (λ t. length (regs_of t)) types.now ≤ 262144 }
+    requires queue { sum_by (λ t. length (queue_of t)) types.now ≤ 32768 }
+    ensures { OnOk result (Puts out.old.items out.new.items (spelled type_layout (type_rows 0 0 types.now))) }
+{
+    let mut regs: u32 = 0;
+    let mut queue: u32 = 0;
+    for code_type in types {
+        regs += code_type.regs.len() as u32;
+        queue += code_type.queue.len() as u32;
+        let row = TypeRow {
+            regs,
+            queue,
+            memory: code_type.memory,
+            ints: code_type.ints,
+            pad0: 0,
+            pad1: 0,
+            pad2: 0,
+        };
+        row.write(out)?;
+    }
+    Ok(())
+}
+
+/// Puts the register rows of code types at the end.
+fn write_regs(types: &[CodeType], out: &mut Vec<u8>) -> Result<(), NoMemory>
+    ensures { OnOk result (Puts out.old.items out.new.items (flat_map (λ t. flat_map reg_bytes (regs_of t)) types.now)) }
+{
+    for code_type in types {
+        write_all(code_type.regs.as_slice(), out)?;
+    }
+    Ok(())
+}
+
+/// Puts the queue rows of code types at the end.
+fn write_queue(types: &[CodeType], out: &mut Vec<u8>) -> Result<(), NoMemory>
+    ensures { OnOk result (Puts out.old.items out.new.items (flat_map (λ t. flat_map pair_bytes (queue_of t)) types.now)) }
+{
+    for code_type in types {
+        write_all(code_type.queue.as_slice(), out)?;
+    }
+    Ok(())
+}
+
+/// Puts the names of cells at the end.
+fn write_names(cells: &[Cell], out: &mut Vec<u8>) -> Result<(), NoMemory>
+    ensures { OnOk result (Puts out.old.items out.new.items (flat_map name_of cells.now)) }
+{
+    for cell in cells {
+        out.extend_from_slice(cell.name.as_slice())?;
+    }
+    Ok(())
+}
+
+/// The one spelling of an object that obeys the rules of the format.
+pub fn encode(alloc: Global, object: &Object) -> Result<Vec<u8>, NoMemory>
+    requires { IsSpellable object.now }
+    // What is written is the object's spelling.
+    ensures spelled { IfOk result (λ bytes. bytes.items ≡ spelling object.now) }
+    // It breaks no rule, and decoding it gives the object back.
+    ensures unbroken { IfOk result (λ bytes. broken bytes.items ≡ None) }
+    ensures back { IfOk result (λ bytes. Spells bytes.items object.now × (object_of bytes.items ≡ object.now)) }
+    // It begins no other spelling.
+    ensures apart { IfOk result (λ bytes. (rest : List ℕ) (other : Object) → Spells (bytes.items ++ rest) other → rest ≡ []) }
+{
+    let header = header_of(object);
+    let mut out = Vec::with_capacity(alloc, Places::of(header).end)?;
+    header.write(&mut out)?;
+    write_cells(object.cells.as_slice(), &mut out)?;
+    write_all(object.nodes.as_slice(), &mut out)?;
+    write_types(object.types.as_slice(), &mut out)?;
+    write_regs(object.types.as_slice(), &mut out)?;
+    write_queue(object.types.as_slice(), &mut out)?;
+    write_all(object.blocks.as_slice(), &mut out)?;
+    write_all(object.instrs.as_slice(), &mut out)?;
+    write_all(object.substs.as_slice(), &mut out)?;
+    write_names(object.cells.as_slice(), &mut out)?;
+    Ok(out)
+}
