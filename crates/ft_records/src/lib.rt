@@ -1,9 +1,9 @@
 //! One record of an object at a time: its rules, and the part of an object that it stands for.
 //!
-//! Each reader promises the part that the record's numbers stand for, or exactly the first of the
-//! record's rules that they break, with its place (`specs/Found.antt`), each check the rules alone; none
-//! takes memory. The rules
-//! are those of `ft_format`. A place is counted in bytes from the object's first one.
+//! Each reader promises the part that the record's numbers stand for (of a cell's record its basic
+//! type), or exactly the first of the record's rules that they break, with its place
+//! (`specs/Found.antt`), and each check the rules alone; none takes memory. The rules are those of
+//! `ft_format`. A place is counted in bytes from the object's first one.
 #![tactic(auto)]
 
 mod block;
