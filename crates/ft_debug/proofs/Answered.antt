@@ -10,12 +10,12 @@ use Rattle.ft_text.specs.Puts.{PutsLines, BreaksOff}
 use Rattle.ft_text.proofs.PutLines.{puts_none, puts_then, breaks_then, breaks_before}
 use Rattle.ft_types.specs.declared.object.Object.{Object}
 use Rattle.ft_types.specs.Strike.{is_there}
+use Rattle.ft_script.specs.declared.command.Command as read
+use Rattle.ft_script.specs.Commands.{Bad, Break}
+use Rattle.ft_script.specs.Reads.{command_of}
 use Rattle.ft_debug.specs.declared.moment.Moment.{Moment}
-use Rattle.ft_debug.specs.declared.command.Command as read
 use Rattle.ft_debug.specs.declared.debugger.Debugger.{Debugger}
 use Rattle.ft_debug.specs.declared.history.History.{History}
-use Rattle.ft_debug.specs.Commands.{Bad, Break}
-use Rattle.ft_debug.specs.Reads.{command_of}
 use Rattle.ft_debug.specs.Sessions.{is_set, sets_break, with_break, break_address, reply, Session, Reply, present, stays, says, reports, at_line, goes_back, earlier, zaps, with_strike}
 use Rattle.ft_debug.specs.Inside.{Holds, Puts, Does}
 

@@ -1,4 +1,3 @@
-pub mod Spaces
 pub mod Blocks
 pub mod Shown
 pub mod Held
@@ -7,4 +6,3 @@ pub mod Gone
 pub mod Answered
 pub mod Listed
 pub mod Replied
-pub mod One

@@ -2,7 +2,6 @@
 use Rattle.std.proofs.Common.{◌≡◌, ℕ, zero, suc, ◌+◌, ◌-◌, ◌*◌, ◌<◌, ◌≤◌, Bool, true, false, List, [], ◌∷◌, ◌++◌, length, map, take, drop, get_or, Option, Some, None, Ok, Err, refl, ap, sym, ◌∙◌, subst, append_assoc, append-nil, arith}
 use Rattle.std.specs.Prelude.{if◌then◌else◌, nat_lt}
 use Rattle.std.specs.List.{AllZip, AllByRecursion}
-use Rattle.std.proofs.lemmas.Slice.Zip.{all_zipped_more}
 use Rattle.std.proofs.lemmas.List.{map-append, take_more, take_all}
 use Rattle.std.proofs.Math.Seq.{split_at}
 use Rattle.ft_edge.specs.declared.failed.Failed.{Failed}
@@ -12,10 +11,10 @@ use Rattle.ft_text.proofs.PutLines.{puts_none, puts_then, breaks_then, breaks_be
 use Rattle.ft_types.specs.declared.object.Object.{Object}
 use Rattle.ft_types.specs.State.{State}
 use Rattle.ft_types.specs.Strike.{is_running, is_there}
-use Rattle.ft_debug.specs.declared.command.Command as read
+use Rattle.ft_script.specs.declared.command.Command as read
+use Rattle.ft_script.specs.Commands.{Command, Step, Go, Back, Zap, Reg, Queue, Cell, Where, Break, Bad, Gives}
+use Rattle.ft_script.specs.Reads.{command_of}
 use Rattle.ft_debug.specs.declared.debugger.Debugger.{Debugger}
-use Rattle.ft_debug.specs.Commands.{Command, Step, Go, Back, Zap, Reg, Queue, Cell, Where, Break, Bad, Gives}
-use Rattle.ft_debug.specs.Reads.{command_of}
 use Rattle.ft_debug.specs.Sessions.{Session, Reply, first_session, present, stays, says, after_lines, further, step_lines, walks, goes, is_at_break, is_set, with_break, with_strike, earlier, reports, never, sets_break, break_address, reply, replies, session_lines}
 use Rattle.ft_debug.specs.Inside.{Holds, Does, IsSmall}
 
@@ -129,15 +128,6 @@ replied_breaks o w xs i x d e failed old mid new a b c l at h does =
     (breaks_then h.lines (r.lines ++ replies o w cs r.session) old mid new a b c h.puts (breaks_before r.lines (replies o w cs r.session) mid new b c (does w s h.holds)))
 
 -- SCRIPTS
-
--- one more line gives its command
-pub given_more : (all done rest : List (List ℕ)) (xs : List read.Command) (line : List ℕ) (more : List (List ℕ)) (x : read.Command) → all ≡ done ++ rest → rest ≡ line ∷ more → AllZip Gives done (map command_of xs) → Gives line (command_of x)
-    → (before : List (List ℕ)) × (all ≡ before ++ more) × AllZip Gives before (map command_of (xs ++ x ∷ []))
-given_more all done rest xs line more x e f given h = (
-  done ++ line ∷ [],
-  e ∙ ap (λ l. done ++ l) f ∙ sym (append_assoc done (line ∷ []) more),
-  subst (λ (l : List Command). AllZip Gives (done ++ line ∷ []) l) (sym (map-append command_of xs (x ∷ []))) (all_zipped_more Gives done (map command_of xs) line (command_of x) given h),
-)
 
 small_command : (c : Command) (line : List ℕ) → Gives line c → IsSmall c
 small_command (Step n) line h = h.0

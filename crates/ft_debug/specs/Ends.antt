@@ -1,19 +1,13 @@
 -- What a session answers and writes.
 use Rattle.std.specs.Prelude.{◌≡◌, ℕ, List, Option}
-use Rattle.std.specs.List.{AllZip}
 use Rattle.ft_edge.specs.Causes.{Rose}
 use Rattle.ft_isa.specs.declared.plan.Wild.{Wild}
-use Rattle.ft_text.specs.Lines.{lines_of}
 use Rattle.ft_text.specs.Puts.{PutsLines, BreaksOff, PutsNothing}
 use Rattle.ft_types.specs.declared.object.Object.{Object}
+use Rattle.ft_script.specs.Commands.{Command, AreCommands}
 use Rattle.ft_debug.specs.declared.debug_end.DebugEnd.{DebugEnd}
 use Rattle.ft_debug.specs.declared.debug_end.DebugEnd.TheVariants.{Ended, WriteFault, NoMemory}
-use Rattle.ft_debug.specs.Commands.{Command, Gives}
 use Rattle.ft_debug.specs.Sessions.{session_lines}
-
--- the lines of a script give these commands, one each
-abbrev pub AreCommands : List ℕ → List Command → Type 0
-AreCommands script commands = AllZip Gives (lines_of script) commands
 
 -- all lines of the session were put
 pub record Finishes (o : Object) (w : List Wild) (script : List ℕ) (old new : Option (List ℕ)) (before now : Option ℕ) : Type 0 where

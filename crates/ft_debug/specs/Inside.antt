@@ -12,9 +12,9 @@ use Rattle.ft_types.specs.Strike.{is_running}
 use Rattle.ft_types.specs.Texts.{line_at}
 use Rattle.ft_machine.specs.declared.machine.Stepped.{Stepped}
 use Rattle.ft_machine.specs.declared.machine.Stepped.TheVariants.{Commit, Quiet, Done, Detected}
+use Rattle.ft_script.specs.Commands.{Command, Step, Go, IsCount}
 use Rattle.ft_debug.specs.declared.moment.Moment.{Moment}
 use Rattle.ft_debug.specs.declared.debugger.Debugger.{Debugger}
-use Rattle.ft_debug.specs.Commands.{Command, Step, Go, IsCount}
 use Rattle.ft_debug.specs.Kept.{HasMomentCells, IsFull}
 use Rattle.ft_debug.specs.Sessions.{Session, Shown, Reply, shown, present, further, step_lines, never, is_at_break}
 

@@ -20,10 +20,10 @@ use Rattle.ft_types.specs.State.{State, start, register, cell_at}
 use Rattle.ft_types.specs.Step.{Stepping, quiet, step}
 use Rattle.ft_types.specs.Strike.{is_running, is_there, struck_before}
 use Rattle.ft_types.specs.Texts.{line_at}
-use Rattle.ft_debug.specs.declared.register.Register.{Register}
-use Rattle.ft_debug.specs.declared.register.Register.TheVariants as registers
-use Rattle.ft_debug.specs.Commands as commands
-use Rattle.ft_debug.specs.Commands.{Command, register_text}
+use Rattle.ft_script.specs.declared.register.Register.{Register}
+use Rattle.ft_script.specs.declared.register.Register.TheVariants as registers
+use Rattle.ft_script.specs.Commands as commands
+use Rattle.ft_script.specs.Commands.{Command, register_text}
 
 -- WHAT IS SHOWN
 

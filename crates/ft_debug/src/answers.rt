@@ -2,22 +2,20 @@
 ghost use Rattle.std.specs.Prelude.{◌≡◌, ◌≤◌, ◌<◌, ◌+◌, ◌^◌, ◌∷◌, [], length, IfSome};
 ghost use Rattle.ft_types.specs.Spellable.{IsSpellable};
 ghost use Rattle.ft_types.specs.declared.object.Object.{Object};
+ghost use Rattle.ft_script.specs.Commands as commands;
+ghost use Rattle.ft_script.specs.Reads.{command_of};
 ghost use Rattle.ft_debug.specs.Kept.{IsFull};
-ghost use Rattle.ft_debug.specs.Commands as commands;
 ghost use Rattle.ft_debug.specs.Sessions.{reply, coloured_in, at_line, named_cell, queue_lines};
 ghost use Rattle.ft_debug.specs.Inside.{Ready, Puts, Does, Excused, IsSmall};
-ghost use Rattle.ft_debug.specs.Reads.{command_of};
 
 use crate::code_places::break_address;
-use crate::command::Command;
 use crate::debugger::Debugger;
 use crate::lines::{at_line, entry_line, register_line, where_line, word_line};
 use crate::put::put_text;
-use crate::register::Register;
-use crate::words::is_same;
 use ft_edge::{Failed, Sink};
 use ft_isa::{Colour, Coloured, Site};
 use ft_queue::StoreQueue;
+use ft_script::{Command, Register};
 use ft_types::Program;
 
 /// The number of the cell of a name, if there is one; it takes a look at each cell.
@@ -28,7 +26,7 @@ fn named_cell<P: Program>(program: &P, name: &[u8]) -> Option<u32>
     ensures short { IfSome result (λ k. length name.now ≤ 32) }
 {
     for k in 0..program.counts().cells {
-        if is_same(program.name(k), name) {
+        if program.name(k) == name {
             return Some(k);
         }
     }

@@ -4,14 +4,14 @@ ghost use Rattle.ft_isa.specs.Words.{line};
 ghost use Rattle.ft_isa.specs.PlanText.{site_text};
 ghost use Rattle.ft_types.specs.Spellable.{IsSpellable};
 ghost use Rattle.ft_types.specs.Texts.{line_at};
-ghost use Rattle.ft_debug.specs.Commands.{register_text};
+ghost use Rattle.ft_script.specs.Commands.{register_text};
 ghost use Rattle.ft_debug.specs.Sessions.{status_text, at_text, at_line, colour_text, coloured_line, entry_line, block_text, where_line};
 ghost use Rattle.ft_debug.specs.Places.{shown_place};
 
 use crate::code_places::{Place, place_of};
 use crate::moment::Moment;
-use crate::register::Register;
 use ft_isa::{Colour, Coloured, Output};
+use ft_script::Register;
 use ft_text::Line;
 use ft_types::{Program, Status};
 

@@ -2,17 +2,16 @@
 ghost use Rattle.std.specs.Prelude.{◌≡◌, ◌≤◌, ◌<◌, length, map};
 ghost use Rattle.std.specs.List.{AllByRecursion};
 ghost use Rattle.ft_types.specs.Spellable.{IsSpellable};
+ghost use Rattle.ft_script.specs.Reads.{command_of};
 ghost use Rattle.ft_debug.specs.Ends.{EndsAs, IsExcused};
 ghost use Rattle.ft_debug.specs.Sessions.{session_lines, first_session};
-ghost use Rattle.ft_debug.specs.Reads.{command_of};
 ghost use Rattle.ft_debug.specs.Inside.{Ready, Holds, Puts, Excused, IsSmall};
 
-use crate::command::Command;
 use crate::debug_end::DebugEnd;
 use crate::debugger::Debugger;
-use crate::script::read_script;
 use ft_edge::{Failed, Sink};
 use ft_isa::Wild;
+use ft_script::{Command, read_script};
 use ft_types::Program;
 use std::alloc::Global;
 

@@ -3,8 +3,7 @@ use Rattle.std.specs.Prelude.{◌≡◌, ℕ, ◌<◌, ◌≤◌, List, length, 
 use Rattle.std.specs.List.{concat}
 use Rattle.ft_edge.specs.Causes.{Rose}
 use Rattle.ft_types.specs.declared.object.Object.{Object}
-use Rattle.ft_debug.specs.Commands.{Command}
-use Rattle.ft_debug.specs.Ends.{AreCommands}
+use Rattle.ft_script.specs.Commands.{Command, AreCommands}
 use Rattle.ft_debug.specs.Sessions.{session_lines}
 use Rattle.ft_command.specs.Commands.{Debugging}
 use Rattle.ft_tool.specs.declared.script.ScriptFault.{ScriptFault}

@@ -1,7 +1,7 @@
 use Rattle.std.proofs.Common.{◌≡◌, refl, ap, sym, ◌∙◌, subst, arith}
-use Rattle.ft_debug.specs.declared.command.Command.{Command}
+use Rattle.ft_script.specs.declared.command.Command.{Command}
+use Rattle.ft_script.specs.Reads.{command_of}
 use Rattle.ft_debug.specs.declared.moment.Moment.{Moment}
-use Rattle.ft_debug.specs.Reads.{command_of}
 use Rattle.ft_debug.specs.Inside.{IsSmall}
 use Rattle.ft_debug.proofs.Listed.{broke}
 use Rattle.ft_debug.proofs.Replied.{replied_none, replied_more, replied_all, replied_breaks, small_at}

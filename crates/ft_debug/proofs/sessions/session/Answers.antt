@@ -1,8 +1,8 @@
 use Rattle.std.proofs.Common.{List, map, sym, subst}
 use Rattle.std.specs.List.{AllByRecursion}
 use Rattle.ft_text.specs.Lines.{lines_of}
-use Rattle.ft_debug.specs.declared.command.Command.{Command}
-use Rattle.ft_debug.specs.Reads.{command_of}
+use Rattle.ft_script.specs.declared.command.Command.{Command}
+use Rattle.ft_script.specs.Reads.{command_of}
 use Rattle.ft_debug.specs.Inside.{IsSmall}
 use Rattle.ft_debug.proofs.Replied.{small_commands}
 use Rattle.ft_debug.proofs.sessions.session.Goals as goal

@@ -1,6 +1,0 @@
-use Rattle.ft_text.specs.Lines.{lines_of}
-use Rattle.ft_debug.proofs.One.{one_list}
-use Rattle.ft_debug.proofs.laws.commands_are_one.Goals as goal
-
-pub returns : goal.returns
-returns c = λ script cs ds h i. one_list (lines_of script) cs ds h i

@@ -1,9 +1,0 @@
-//! Laws of sessions.
-ghost use Rattle.std.specs.Prelude.{◌≡◌, ℕ, List};
-ghost use Rattle.ft_debug.specs.Commands.{Command};
-ghost use Rattle.ft_debug.specs.Ends.{AreCommands};
-
-/// The lines of a script give one list of commands, so the text of a session is one text.
-pub fn commands_are_one()
-    ensures { (script : List ℕ) (commands others : List Command) → AreCommands script commands → AreCommands script others → commands ≡ others }
-{}

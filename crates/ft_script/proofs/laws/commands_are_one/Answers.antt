@@ -1,0 +1,6 @@
+use Rattle.ft_text.specs.Lines.{lines_of}
+use Rattle.ft_script.proofs.One.{one_list}
+use Rattle.ft_script.proofs.laws.commands_are_one.Goals as goal
+
+pub returns : goal.returns
+returns c = λ script cs ds h i. one_list (lines_of script) cs ds h i

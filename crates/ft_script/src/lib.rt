@@ -1,0 +1,18 @@
+//! Scripts of the debugger: their lines, read as commands.
+//!
+//! The crate promises that each line of a script is read as the command whose text it is, and as a bad
+//! command where it is none's, and that the lines of a script give one list of commands. Its
+//! definitions: `specs/Commands.antt`, and for commands that were read `specs/Reads.antt`.
+#![tactic(auto)]
+
+mod command;
+mod laws;
+mod reading;
+mod register;
+mod script;
+mod words;
+
+pub use command::Command;
+pub use laws::commands_are_one;
+pub use register::Register;
+pub use script::read_script;
