@@ -15,11 +15,13 @@ pub fn rules_are_exact()
     ensures one { (bytes : List ℕ) (o : Object) → Spells bytes o → object_of bytes ≡ o }
 {}
 
-/// An object obeys the rules of its tables exactly where some bytes that break no rule stand for it, and those
-/// bytes are one list. The bytes are judged by `broken` and read by `object_of`; what is written for an object
-/// is not spoken of.
+/// An object obeys the rules of its tables exactly where some bytes spell it, which are those that break no rule
+/// and stand for it; and those bytes are one list. In `exact` and `one` the bytes are judged by `broken` and
+/// read by `object_of`, and what is written for an object is not spoken of.
 pub fn spellings_are_one()
-    // The objects that obey the rules are those that bytes stand for which break none.
+    // The objects that obey the rules are those that some bytes spell.
+    ensures spelled { (o : Object) → IsSpellable o ↔ ((bytes : List ℕ) × Spells bytes o) }
+    // They are those that bytes stand for which break no rule.
     ensures exact { (o : Object) → IsSpellable o ↔ ((bytes : List ℕ) × AreBytes bytes × (broken bytes ≡ None) × (object_of bytes ≡ o)) }
     // Bytes that break no rule and stand for the same object are the same.
     ensures one { (a b : List ℕ) → AreBytes a → AreBytes b → broken a ≡ None → broken b ≡ None → object_of a ≡ object_of b → a ≡ b }

@@ -12,6 +12,9 @@ use Rattle.ft_format.proofs.laws.spellings_are_one.Goals as goal
 by_spelling : (o : Object) → IsSpellable o → Spells (spelling o) o
 by_spelling o s = record { spellable = s; spelled = refl }
 
+pub returns-clause-spelled : goal.returns-clause-spelled
+returns-clause-spelled c = λ o. (λ s. (spelling o, by_spelling o s), λ read. read.1.spellable)
+
 pub returns-clause-exact : goal.returns-clause-exact
 returns-clause-exact c = λ o. (
   λ s. (spelling o, spelling_bytes o s, spells_unbroken (spelling o) o (by_spelling o s), spells_read (spelling o) o (by_spelling o s)),
