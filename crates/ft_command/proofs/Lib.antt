@@ -1,3 +1,4 @@
 mod Given
 mod Commands
 mod Bounds
+mod One
