@@ -37,6 +37,10 @@ same_faults (l ∷ ls) [] ys h i = absurd h
 same_faults (l ∷ ls) (x ∷ xs) [] h i = absurd i
 same_faults (l ∷ ls) (x ∷ xs) (y ∷ ys) h i = ap (λ z. z ∷ xs) (same_strike l x y h.0 i.0) ∙ ap (λ zs. y ∷ zs) (same_faults ls xs ys h.1 i.1)
 
+-- a text is one fault list
+pub one_list : (text : List ℕ) (xs ys : List Strike) → IsFaultList text xs → IsFaultList text ys → xs ≡ ys
+one_list text xs ys h i = same_faults (lines_of text) xs ys h.lines i.lines
+
 -- ONE REFUSAL
 
 -- a line that is no strike's text does not stand before some that are
@@ -56,7 +60,7 @@ no_texts (b ∷ bs) l ps [] h bad = absurd h
 no_texts (b ∷ bs) l ps (y ∷ ys) h bad = no_texts bs l ps ys h.1 bad
 
 -- a fault list is not refused
-no_error : (text : List ℕ) (xs : List Strike) (e : ListError) → e ≢ NoMemory → IsFaultList text xs → ¬ (IsListError text e)
+pub no_error : (text : List ℕ) (xs : List Strike) (e : ListError) → e ≢ NoMemory → IsFaultList text xs → ¬ (IsListError text e)
 no_error text xs (Line number) ne h i =
     no_texts i.1.before i.1.line i.1.goes_on.after xs (subst (λ (ls : List (List ℕ)). AreStrikeTexts ls xs) i.1.goes_on.whole h.lines) i.1.bad
 no_error text xs TooMany ne h i =
@@ -93,7 +97,7 @@ not_long text number h i =
     i
 
 -- a text has one refusal
-one_error : (text : List ℕ) (e f : ListError) → e ≢ NoMemory → f ≢ NoMemory → IsListError text e → IsListError text f → e ≡ f
+pub one_error : (text : List ℕ) (e f : ListError) → e ≢ NoMemory → f ≢ NoMemory → IsListError text e → IsListError text f → e ≡ f
 one_error text (Line n) (Line m) ne nf h i = ap Line (same_line (lines_of text) n m h.1 i.1)
 one_error text (Line n) TooMany ne nf h i = absurd (not_long text n h i)
 one_error text (Line n) NoMemory ne nf h i = absurd (nf refl)

@@ -20,10 +20,9 @@ const PRODUCT_LIMIT: u64 = 1_000_000_000;
 
 /// Takes the run of a program without a fault and its run under each fault, each for at most `n` steps
 /// and with the same answers to wild loads. Puts a line of the verdict of each fault, in the list's
-/// order, and then a line of the totals. All verdicts are found before the first put. `steps` counts
-/// the machine's steps. `TooMuch` comes exactly where the number of faults times `n` is above
-/// 1,000,000,000; it and `NoMemory` put nothing. `WriteFault` comes only where a put failed, and
-/// nothing is put after it.
+/// order, and then a line of the totals. `steps` counts the machine's steps. `TooMuch` comes exactly
+/// where the number of faults times `n` is above 1,000,000,000; it and `NoMemory` put nothing.
+/// `WriteFault` comes only where a put failed, and nothing is put after it.
 pub fn survey<P: Program, K: Sink, L: Ledger>(
     alloc: Global,
     program: &P,

@@ -20,6 +20,8 @@ mod verdict;
 pub use campaign_end::CampaignEnd;
 pub use campaigns::{campaign, survey};
 pub use fault_list::{ListError, read_faults};
-pub use laws::{faults_of_accepted_objects_are_not_corrupt, verdicts_are_one};
+pub use laws::{
+    faults_of_accepted_objects_are_not_corrupt, one_text_has_one_list, verdicts_are_one,
+};
 pub use totals::Totals;
 pub use verdict::Verdict;
