@@ -23,15 +23,12 @@ fn judge<P: Program>(alloc: Global, program: &P) -> Result<(), CheckError>
         return Err(CheckError::EntryType);
     }
     check_cells(program)?;
-    let judged = check_blocks(alloc, program);
-    judged
+    check_blocks(alloc, program)
 }
 
 /// Checks a program. Ok comes exactly where its object is accepted. Otherwise the error is exactly the
 /// refusal: `EntryType`, then the lowest cell with `CellType`, then the first instruction that is
-/// refused, by blocks in order. It takes time linear in the instructions and, for each blue jump or
-/// branch, in the rows of its target, beside the nodes that it reads; it makes no other memory for an
-/// instruction than for new forms.
+/// refused, by blocks in order.
 pub fn check<'a, P: Program>(alloc: Global, program: &'a P) -> Result<Checked<'a, P>, CheckError>
     requires { IsSpellable (P.object program.now) }
     ensures judged { Judges (refusal (P.object program.now)) result }

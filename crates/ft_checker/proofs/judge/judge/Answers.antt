@@ -20,4 +20,4 @@ pub returns : goal.returns
 returns g c =
     let rest = refusal_rest (g.P.Program.object c.args.program.now) _ (type_found (g.P.Program.object c.args.program.now) (g.P.Program.object c.args.program.now).entry c.block-first.result (rw c.entry.ensures at c.block-first.ensures)) (sym c.is_entry_type-begins.ensures ∙ c.if-not-begins.false) in
     let blocks = ap (λ (x : Option Refusal). option_or x (first_refusal (block_refusal (g.P.Program.object c.args.program.now)) 0 (g.P.Program.object c.args.program.now).blocks)) c.in_ok-check_cells.ensures in
-    subst (λ (x : Option Refusal). Judges x c.check_blocks-judged.result) (sym (rest ∙ blocks)) c.check_blocks-judged.ensures
+    subst (λ (x : Option Refusal). Judges x c.check_blocks.result) (sym (rest ∙ blocks)) c.check_blocks.ensures
