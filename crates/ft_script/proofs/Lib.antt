@@ -1,2 +1,3 @@
 mod Spaces
 mod One
+mod Found
