@@ -6,3 +6,4 @@ pub mod Gone
 pub mod Answered
 pub mod Listed
 pub mod Replied
+pub mod AsRuns

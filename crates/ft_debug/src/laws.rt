@@ -1,0 +1,18 @@
+//! Laws of sessions.
+ghost use Rattle.std.specs.Prelude.{◌≡◌, ℕ, List, [], ◌∷◌, Some, None};
+ghost use Rattle.ft_isa.specs.declared.plan.Wild.{Wild};
+ghost use Rattle.ft_isa.specs.declared.plan.Strike.{Strike};
+ghost use Rattle.ft_types.specs.declared.object.Object.{Object};
+ghost use Rattle.ft_types.specs.Strike.{struck_before};
+ghost use Rattle.ft_types.specs.Run.{state_after, wild_after};
+ghost use Rattle.ft_debug.specs.Sessions.{shown};
+
+/// What a session shows at a position is what a run of the machine has after so many steps. Without
+/// strikes it is the run without a plan; with one strike it is the run whose plan has that strike, and
+/// at the strike's own position the state has it already, where the run makes it with its next step.
+pub fn sessions_show_runs()
+    ensures state { (o : Object) (w : List Wild) (n : ℕ) → (shown o w [] n).state ≡ state_after o None w n }
+    ensures wild { (o : Object) (w : List Wild) (n : ℕ) → (shown o w [] n).wild ≡ wild_after o None w n }
+    ensures struck_state { (o : Object) (w : List Wild) (s : Strike) (n : ℕ) → (shown o w (s ∷ []) n).state ≡ struck_before (Some s) n (state_after o (Some s) w n) }
+    ensures struck_wild { (o : Object) (w : List Wild) (s : Strike) (n : ℕ) → (shown o w (s ∷ []) n).wild ≡ wild_after o (Some s) w n }
+{}
