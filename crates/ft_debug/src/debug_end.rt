@@ -7,6 +7,7 @@ pub enum DebugEnd {
     Ended,
     /// A line could not be written.
     WriteFault,
-    /// There was no memory for the states that are kept; nothing was written.
+    /// There was no memory for the commands, the break places or the states that are kept; nothing was
+    /// written.
     NoMemory,
 }

@@ -43,8 +43,9 @@ fn answer_all<P: Program, K: Sink>(
 /// after it; `NoMemory` before the first put.
 ///
 /// A line of the script is `step N`, `go N`, `back N`, `zap SITE V`, `reg R`, `queue`, `cell NAME`,
-/// `where` or `break B I`; N is at most 1,000,000. The last 4,096 states are kept: they, and the
-/// commands, are all the memory that is taken. A step costs one machine step and one copy of a state.
+/// `where` or `break B I`; N is at most 1,000,000. The state and the last 4,096 before it are kept: they,
+/// the commands and room for 64 break places are all the memory that is taken. A step costs one machine
+/// step and one copy of a state.
 pub fn session<P: Program, K: Sink>(
     alloc: Global,
     program: &P,
