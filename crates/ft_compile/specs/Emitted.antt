@@ -1,5 +1,5 @@
 -- The object of a flow: the instructions of its blocks, with the nodes, code types and substitutions that let the rows apply.
-use Rattle.std.specs.Prelude.{ℕ, zero, suc, ◌+◌, List, [], ◌∷◌, ◌++◌, map, length, take, slice_index, slice_set}
+use Rattle.std.specs.Prelude.{◌≡◌, ℕ, zero, suc, ◌+◌, List, [], ◌∷◌, ◌++◌, map, length, take, slice_index, slice_set}
 use Rattle.std.specs.List.{range_with_len, zip}
 use Rattle.ft_isa.specs.Words.{cell_address}
 use Rattle.ft_isa.specs.declared.colour.Colour.TheVariants.{Green, Blue}
@@ -16,6 +16,7 @@ use Rattle.ft_types.specs.declared.object.Block.{Block}
 use Rattle.ft_types.specs.declared.object.CodeType.{CodeType}
 use Rattle.ft_types.specs.declared.object.RegType.{RegType}
 use Rattle.ft_types.specs.TypedWord.{int}
+use Rattle.ft_scope.specs.Resolved.{Program}
 use Rattle.ft_lower.specs.declared.step3.Step3.{Step3}
 use Rattle.ft_lower.specs.declared.step3.Step3.TheVariants.{Put, Copy, Op, Load, Store, Exit, Go, Stop}
 use Rattle.ft_lower.specs.Flow.{Blocks}
@@ -159,3 +160,7 @@ emitted names inits vars bs = record {
   substs = (noted vars bs).rows;
   entry = 0;
 }
+
+-- the object is that of some blocks, over the program's cells and variables
+abbrev pub IsEmitted : Program → Object → Type 0
+IsEmitted p o = (bs : Blocks) × (o ≡ emitted p.names p.inits p.vars bs)

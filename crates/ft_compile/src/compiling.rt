@@ -5,6 +5,7 @@ ghost use Rattle.ft_scope.specs.Outcome.{IsProgramOf, IsRefusalOf};
 ghost use Rattle.ft_scope.specs.ProgramOf.{program_of};
 ghost use Rattle.ft_scope.specs.Resolved.{Program};
 ghost use Rattle.ft_compile.specs.Cells.{AreCells};
+ghost use Rattle.ft_compile.specs.Emitted.{IsEmitted};
 ghost use Rattle.ft_compile.specs.StandsFor.{StandsFor};
 
 use crate::emission::emit;
@@ -19,7 +20,8 @@ use std::alloc::Global;
 /// The object that stands for a program.
 fn compile_program(alloc: Global, prog: &Prog<'_>) -> Result<Object, NoMemory>
     requires { AreCells (program_of prog.now).names (program_of prog.now).inits }
-    ensures { IfOk result (λ o. StandsFor (program_of prog.now) o) }
+    ensures stands { IfOk result (λ o. StandsFor (program_of prog.now) o) }
+    ensures emitted { IfOk result (IsEmitted (program_of prog.now)) }
 {
     let flow = lower(alloc, prog)?;
     let code = duplicate(alloc, &flow)?;
@@ -30,12 +32,15 @@ fn compile_program(alloc: Global, prog: &Prog<'_>) -> Result<Object, NoMemory>
 /// Compiles a source: the object stands for the source's program. It has the program's cells, of type
 /// `int`, with their names and initial words; it is spellable and accepted, and has at most as many
 /// instructions as the program weighs. Without a fault its run is never detected, its outputs begin those
-/// of the meaning, and it ends with them where the meaning ends.
+/// of the meaning, and it ends with them where the meaning ends. It has the shape of compiled objects: code
+/// type 0 is the entry's, and code type 1, with a row for each variable in both colours, that of all other
+/// blocks.
 ///
 /// A text that is no program is refused by its first refusal, as `parse` and `resolve` say. Want of
 /// memory may come in the place of any answer.
 pub fn compile(alloc: Global, text: &[u8]) -> Result<Object, SourceError>
     ensures ok { IfOk result (λ o. (p : Program) × IsProgramOf text.now p × StandsFor p o) }
+    ensures emitted { IfOk result (λ o. (p : Program) × IsProgramOf text.now p × IsEmitted p o) }
     ensures err { IfErr result (λ e. e ≢ errors.NoMemory → IsRefusalOf text.now e) }
 {
     let tree = match parse(alloc, text) {
