@@ -2,6 +2,7 @@
 ghost use Rattle.std.specs.Prelude.{◌≡◌, ◌≢◌, [], None};
 ghost use Rattle.ft_edge.specs.Puts.{one_more};
 ghost use Rattle.ft_types.specs.Run.{run};
+ghost use Rattle.ft_types.specs.Accepted.{refusal};
 ghost use Rattle.ft_types.specs.Spellable.{IsSpellable};
 ghost use Rattle.ft_command.specs.Commands.{Compiles, Executes, Means};
 ghost use Rattle.ft_command.specs.Asked.{execution_view, meaning_view};
@@ -12,7 +13,7 @@ ghost use Rattle.ft_tool.specs.Sources.{OverText, CompilesProgram, ExecutesProgr
 
 use crate::ending::{Ending, refuse_long_source, refuse_source};
 use crate::load::load_source;
-use ft_checker::check;
+use ft_checker::{CheckError, check};
 use ft_command::{Execution, Meaning};
 use ft_compile::compile;
 use ft_edge::{Shelf, Sink};
@@ -50,13 +51,16 @@ fn compile_text<K: Sink>(alloc: Global, text: &[u8], out: &mut K) -> Ending
 /// Runs an object that is accepted, without a strike and without answers to wild loads.
 fn run_accepted<K: Sink>(alloc: Global, object: &Object, steps: u64, out: &mut K) -> Ending
     requires spellable { IsSpellable object.now }
+    requires accepted { refusal object.now ≡ None }
     ensures ends { Ends result (λ a. a ≡ ran object.now (run object.now None [] steps))
         (K.written out.old) (K.written out.new) (K.faults out.old) (K.faults out.new) ⊥ }
     ensures puts { Puts result (K.puts out.old) (K.puts out.new) }
     ensures faults { result ≢ Ending.WriteFault → K.faults out.new ≡ K.faults out.old }
 {
-    let Ok(checked) = check(alloc, object) else {
-        return Ending::NoMemory;
+    let checked = match check(alloc, object) {
+        Ok(checked) => checked,
+        Err(CheckError::NoMemory) => return Ending::NoMemory,
+        Err(_) => unreachable!(),
     };
     let Ok(clean) = Clean::start(alloc, &checked) else {
         return Ending::NoMemory;

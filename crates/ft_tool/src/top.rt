@@ -171,7 +171,7 @@ pub fn tool<F: Shelf, I: Source, K: Sink>(
     // There was no memory left, and nothing was written.
     ensures no_memory_writes_nothing { result ≡ 5 → K.written out.new ≡ K.written out.old }
 
-    // No put failed where the answer is another. A line of its own is one put.
+    // The count of failed puts stays where the answer is another. A line of its own is one put.
     ensures write_faults { result ≢ 4 → K.faults out.new ≡ K.faults out.old }
     ensures usage_is_one_put { result ≡ 2 → K.puts out.new ≡ one_more (K.puts out.old) }
     ensures refused_source_is_one_put { result ≡ 6 → K.puts out.new ≡ one_more (K.puts out.old) }
@@ -181,7 +181,7 @@ pub fn tool<F: Shelf, I: Source, K: Sink>(
     ensures load_fault_puts_nothing { result ≡ 3 → K.puts out.new ≡ K.puts out.old }
     ensures no_memory_puts_nothing { result ≡ 5 → K.puts out.new ≡ K.puts out.old }
 
-    // No load and no take failed where the answer is another, and the script stays as it is but in a session.
+    // The counts of failed loads and takes stay where the answer is another, and the script but in a session.
     ensures load_faults { result ≢ 3 → (F.faults shelf.new ≡ F.faults shelf.old) × (F.failed_name shelf.new ≡ F.failed_name shelf.old) }
     ensures script { ((debugging : Session) × Asks (map string_bytes words.now) (Debugs debugging)) ⊎ (script.new ≡ script.old) }
     ensures script_faults { result ≢ 3 → I.faults script.new ≡ I.faults script.old }
