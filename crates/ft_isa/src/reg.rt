@@ -22,6 +22,14 @@ impl Reg {
         }
     }
 
+    /// The register of a number below 64.
+    pub fn below(n: u8) -> Reg
+        requires { n < 64 }
+        ensures { result.number ≡ n }
+    {
+        Reg { number: n }
+    }
+
     /// The register's number, below 64.
     pub fn number(&self) -> u8
         ensures same { result ≡ self.now.number }
