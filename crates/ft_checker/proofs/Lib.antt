@@ -1,1 +1,2 @@
 pub mod Turned
+mod Costs

@@ -12,7 +12,11 @@ use Rattle.ft_types.specs.Accepted as refusals
 use Rattle.ft_types.specs.Context.{Context, start_context}
 use Rattle.ft_checker.specs.declared.error.CheckError.{CheckError}
 use Rattle.ft_checker.specs.declared.error.CheckError.TheVariants.{EntryType, CellType, Refused, NoMemory}
-use Rattle.ft_checker.specs.Judges.{IsRefusalOf, Judges}
+use Rattle.ft_static.specs.Form.{Form as Normal, updates}
+use Rattle.ft_norm.specs.Held.{Keeps}
+use Rattle.ft_contexts.proofs.Kept.{context_stays, forms_kept}
+use Rattle.ft_checker.specs.declared.blocks.Start.{Start}
+use Rattle.ft_checker.specs.Judges.{IsRefusalOf, IsStart, Judges}
 use Rattle.std.specs.Result.{IsErrAnd}
 use Rattle.ft_types.specs.Objects.{cell_head_of, start_of, code_type_of, block_type, block_end, block_start, block_instrs}
 use Rattle.ft_types.specs.Premise.{Premise, BlockEnd}
@@ -77,7 +81,7 @@ cell_found o k h e = found (slice_get o.cells k) refl e
     found None f e = cc
     found (Some x) f e = (x, (f, (let same : cell_head_of x ≡ h = cc in same)))
 
--- a cell whose initial word has its type, and one whose hasn't
+-- a cell with an initial word of its type, and one with another
 pub cell_passes : (o : Object) (k : ℕ) (x : Cell) (h : CellHead) → cell_head_of x ≡ h → has_type o h.init h.basic ≡ true → cell_refusal o k x ≡ None
 cell_passes o k x h same t =
     let u : has_type o x.init x.basic ≡ true = subst (λ (z : CellHead). has_type o z.init z.basic ≡ true) (sym same) t in
@@ -137,7 +141,7 @@ pub judges_exit : {A : Type 0} (r : Result A CheckError) (e : CheckError) (x y :
 judges_exit (Ok a) e x y h s k = absurd h
 judges_exit (Err f) e x y h s k = subst (λ (z : CheckError). IsRefusalOf x z) (sym h) (subst (λ (z : Option Refusal). IsRefusalOf z e) (sym s) k)
 
--- the exit for want of memory
+-- the exit when out of memory
 pub judges_stop : {A : Type 0} (r : Result A CheckError) (x : Option Refusal) → IsErrAnd r (λ f. f ≡ NoMemory) → Judges x r
 judges_stop (Ok a) x h = absurd h
 judges_stop (Err f) x h = subst (λ (z : CheckError). IsRefusalOf x z) (sym h) tt
@@ -175,3 +179,11 @@ refusal_rest o t e h = rw (e, h) refl
 -- the code type of a block that is there
 pub type_found : (o : Object) (b : ℕ) (x : Block) → slice_get o.blocks b ≡ Some x → block_type o b ≡ x.code_type
 type_found o b x f = ap (λ (y : Option Block). unwrap_or (option_map code_type_of y) 0) f
+
+-- a start stays one where the list of forms grows
+pub start_kept : (o : Object) (fs gs : List Normal) (s : Start) → Keeps fs gs → IsStart o fs s → IsStart o gs s
+start_kept o fs gs s k h =
+    let e = context_stays fs gs s.context k h.held in
+    let m = ap (λ (x : Context). updates x.memory) e in
+    let c = h.count in
+    record { context = e ∙ h.context; held = forms_kept fs gs s.context k h.held; types = h.types; pending = h.pending; count = omega (arith, m, c) }

@@ -1,5 +1,5 @@
 -- What the answers of the checker say of an object.
-use Rattle.std.specs.Prelude.{◌≡◌, ℕ, Bool, true, false, Option, Some, None, Result, Ok, Err}
+use Rattle.std.specs.Prelude.{◌≡◌, ◌≤◌, ℕ, List, length, Bool, true, false, Option, Some, None, Result, Ok, Err}
 use Rattle.ft_types.specs.Accepted.{Refusal, IsAccepted}
 use Rattle.ft_types.specs.Spellable.{IsSpellable}
 use Rattle.ft_types.specs.declared.object.Object.{Object}
@@ -10,8 +10,12 @@ use Rattle.ft_rules.specs.declared.why.RuleError.TheVariants as rule
 use Rattle.ft_rules.specs.Answers.{premise_of}
 use Rattle.ft_checker.specs.declared.error.CheckError.{CheckError}
 use Rattle.ft_checker.specs.declared.error.CheckError.TheVariants.{EntryType, CellType, Refused, NoMemory}
+use Rattle.ft_checker.specs.declared.blocks.Start.{Start}
+use Rattle.ft_static.specs.Form.{Form as Normal, updates}
+use Rattle.ft_types.specs.Context.{start_context}
+use Rattle.ft_contexts.specs.Contexts.{HoldsForms, NamesTypes, context_in, pending_count}
 
--- what an error says: which refusal it is; want of memory says nothing
+-- what an error says: which refusal it is; out of memory says nothing
 abbrev pub IsRefusalOf : Option Refusal → CheckError → Type 0
 IsRefusalOf x EntryType = x ≡ Some refusals.EntryType
 IsRefusalOf x (CellType k) = x ≡ Some (refusals.CellType k)
@@ -42,3 +46,12 @@ Turns x k later (Err e) = StopsAt x k e
 pub record IsChecked (o : Object) : Type 0 where
   pub spellable : IsSpellable o
   pub accepted : IsAccepted o
+
+-- the context of a start is where the blocks of its code type begin: its forms are held, its code types are the object's,
+-- its queue has at most 8 pairs, and its memory at most as many updates as there are nodes
+pub record IsStart (o : Object) (fs : List Normal) (s : Start) : Type 0 where
+  pub context : context_in fs s.context ≡ start_context o s.code_type
+  pub held : HoldsForms fs s.context
+  pub types : NamesTypes o s.context
+  pub pending : pending_count s.context ≤ 8
+  pub count : updates (context_in fs s.context).memory ≤ length o.nodes

@@ -1,5 +1,5 @@
 //! The blocks and their instructions.
-ghost use Rattle.std.specs.Prelude.{◌≡◌, ◌<◌, ℕ, List, Option, length, slice_get, Some};
+ghost use Rattle.std.specs.Prelude.{◌≡◌, ◌+◌, ◌*◌, ◌<◌, ◌≤◌, ℕ, List, Option, IfOk, IfSome, length, slice_get, take, Some};
 ghost use Rattle.std.specs.Option.{option_map};
 ghost use Rattle.ft_isa.specs.declared.instr.Instr.{Instr as Instruction};
 ghost use Rattle.ft_norm.specs.Held.{Keeps};
@@ -10,35 +10,47 @@ ghost use Rattle.ft_types.specs.Premise.{Premise};
 ghost use Rattle.ft_types.specs.Spellable.{IsSpellable};
 ghost use Rattle.ft_types.specs.TypingRow.{row};
 ghost use Rattle.ft_types.specs.declared.object.Block.{Block as Started};
-ghost use Rattle.ft_rules.specs.Answers.{IsInstrOf};
-ghost use Rattle.ft_contexts.specs.Contexts.{HoldsForms, NamesTypes, context_in};
-ghost use Rattle.ft_checker.specs.Judges.{IsRefusalOf, Judges, StopsAt, Turns};
+ghost use Rattle.ft_rules.specs.Answers.{Grows, IsInstrOf, rule_cost};
+ghost use Rattle.ft_contexts.specs.Contexts.{HoldsForms, HoldsOwn, NamesTypes, context_in};
+ghost use Rattle.ft_checker.specs.Costs.{instrs_cost, visit_cost};
+ghost use Rattle.ft_checker.specs.Judges.{IsRefusalOf, IsStart, Judges, StopsAt, Turns};
+ghost use Rattle.ft_contexts.specs.Costs.{tree_cost};
 
 use crate::error::CheckError;
-use ft_isa::Instr;
+use crate::keys::keys_of;
+use ft_isa::{Instr, NoMemory};
 use ft_norm::Interner;
-use ft_rules::{Context, Next, RuleError, Why, apply_rule};
+use ft_rules::{Context, Next, RuleError, Shared, Why, apply_rule_over};
+use ft_steps::Steps;
 use ft_types::Program;
 use std::alloc::Global;
+use std::sync::ledger::Ledger;
 
 /// Types one instruction, which is the last of its block or not. Answers whether the block has ended.
-fn turn<P: Program>(
+fn turn<P: Program, L: Ledger>(
     context: &mut Context,
+    shared: &mut Shared,
     forms: &mut Interner,
     program: &P,
     instr: &Instr,
     last: bool,
+    steps: &mut Steps<L>,
 ) -> Result<bool, RuleError>
     requires spellable { IsSpellable (P.object program.now) }
     requires held { HoldsForms forms.old context.old }
     requires types { NamesTypes (P.object program.now) context.old }
     requires instr { IsInstrOf (P.object program.now) instr.now }
+    requires own { HoldsOwn (P.object program.now) forms.old shared.old.own }
     ensures turns { (k : ℕ) (others : List Instruction) (next : Defined → Option (ℕ × Premise)) → has_none others ≡ last
         → Turns (after_row (row (P.object program.now) (context_in forms.old context.old) instr.now) k others next) k (next (context_in forms.new context.new)) result }
     ensures held { HoldsForms forms.new context.new }
     ensures types { NamesTypes (P.object program.now) context.new }
+    ensures grows { Grows forms.old forms.new context.old context.new }
+    ensures kept { Keeps forms.old forms.new }
+    ensures own { HoldsOwn (P.object program.now) forms.new shared.new.own }
+    ensures steps { steps.new ≤ steps.old + rule_cost (P.object program.now) (context_in forms.old context.old) instr.now }
 {
-    let next = apply_rule(context, forms, program, instr)?;
+    let next = apply_rule_over(context, shared, forms, program, instr, steps)?;
     match next {
         Next::On => {
             if last {
@@ -78,24 +90,72 @@ fn refused(block: u32, index: u32, error: RuleError) -> CheckError
     }
 }
 
-/// Types the instructions of block `b` in turn, from the start of its code type.
-fn check_block<P: Program>(
+/// The context where the blocks of a code type begin.
+#[derive(Drop)]
+struct Start {
+    code_type: u32,
+    context: Context,
+}
+
+/// The start of code type `t`: the last start that was made, where it is of that code type, or a new
+/// one.
+fn start_of<P: Program, L: Ledger>(
     alloc: Global,
     program: &P,
-    b: u32,
+    t: u32,
+    last: Option<Start>,
+    shared: &mut Shared,
     forms: &mut Interner,
+    steps: &mut Steps<L>,
+) -> Result<Start, NoMemory>
+    requires spellable { IsSpellable (P.object program.now) }
+    requires there { t < length (P.object program.now).types }
+    requires last { IfSome last (IsStart (P.object program.now) forms.old) }
+    requires own { HoldsOwn (P.object program.now) forms.old shared.old.own }
+    ensures kept { Keeps forms.old forms.new }
+    ensures own { HoldsOwn (P.object program.now) forms.new shared.new.own }
+    ensures start { IfOk result (IsStart (P.object program.now) forms.new) }
+    ensures code_type { IfOk result (λ s. s.code_type ≡ t) }
+    ensures steps { steps.new ≤ steps.old + 81 * tree_cost (P.object program.now) 0 }
+{
+    if let Some(start) = last {
+        if start.code_type == t {
+            return Ok(start);
+        }
+    }
+    let context = Context::start_over(alloc, program, t, &mut shared.own, forms, steps)?;
+    Ok(Start {
+        code_type: t,
+        context,
+    })
+}
+
+/// Types the instructions of block `b` in turn, from the start of its code type.
+fn check_block<P: Program, L: Ledger>(
+    program: &P,
+    b: u32,
+    start: &Start,
+    shared: &mut Shared,
+    forms: &mut Interner,
+    steps: &mut Steps<L>,
 ) -> Result<(), CheckError>
     requires spellable { IsSpellable (P.object program.now) }
     requires there { b < length (P.object program.now).blocks }
-    ensures { (x : Started) → slice_get (P.object program.now).blocks b ≡ Some x → Judges (block_refusal (P.object program.now) b x) result }
+    requires start { IsStart (P.object program.now) forms.old start.now }
+    requires code_type { (x : Started) → slice_get (P.object program.now).blocks b ≡ Some x → start.now.code_type ≡ x.code_type }
+    requires own { HoldsOwn (P.object program.now) forms.old shared.old.own }
+    ensures kept { Keeps forms.old forms.new }
+    ensures own { HoldsOwn (P.object program.now) forms.new shared.new.own }
+    ensures judged { (x : Started) → slice_get (P.object program.now).blocks b ≡ Some x → Judges (block_refusal (P.object program.now) b x) result }
+    ensures steps { (x : Started) → slice_get (P.object program.now).blocks b ≡ Some x → steps.new + instrs_cost (P.object program.now) (take x.start (P.object program.now).instrs) ≤ steps.old + instrs_cost (P.object program.now) (take (block_end (P.object program.now) b) (P.object program.now).instrs) }
 {
     let block = program.block(b);
     let past = end_of(program, b);
-    let mut context = Context::start(alloc, program, block.code_type, forms)?;
+    let mut context = start.context.copied()?;
     for i in block.start..past {
         let instr = program.instr(i);
         let last = i + 1 == past;
-        let ended = match turn(&mut context, forms, program, &instr, last) {
+        let ended = match turn(&mut context, shared, forms, program, &instr, last, steps) {
             Ok(ended) => ended,
             Err(error) => return Err(refused(b, i - block.start, error)),
         };
@@ -107,13 +167,25 @@ fn check_block<P: Program>(
 }
 
 /// Types the blocks in order.
-pub fn check_blocks<P: Program>(alloc: Global, program: &P) -> Result<(), CheckError>
+pub fn check_blocks<P: Program, L: Ledger>(
+    alloc: Global,
+    program: &P,
+    steps: &mut Steps<L>,
+) -> Result<(), CheckError>
     requires { IsSpellable (P.object program.now) }
-    ensures { Judges (first_refusal (block_refusal (P.object program.now)) 0 (P.object program.now).blocks) result }
+    ensures judged { Judges (first_refusal (block_refusal (P.object program.now)) 0 (P.object program.now).blocks) result }
+    ensures steps { steps.new ≤ steps.old + (length (P.object program.now).blocks * visit_cost (P.object program.now) + instrs_cost (P.object program.now) (P.object program.now).instrs) }
 {
-    let mut forms = Interner::new(alloc)?;
-    for b in 0..program.counts().blocks {
-        check_block(alloc, program, b, &mut forms)?;
+    let blocks = program.counts().blocks;
+    let (first, second) = keys_of(program);
+    let mut forms = Interner::keyed(alloc, first, second)?;
+    let mut shared = Shared::new(alloc, &mut forms)?;
+    let mut last = None;
+    for b in 0..blocks {
+        let t = program.block(b).code_type;
+        let start = start_of(alloc, program, t, last, &mut shared, &mut forms, steps)?;
+        check_block(program, b, &start, &mut shared, &mut forms, steps)?;
+        last = Some(start);
     }
     Ok(())
 }

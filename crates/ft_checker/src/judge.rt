@@ -1,7 +1,8 @@
 //! The whole check.
-ghost use Rattle.std.specs.Prelude.{◌≡◌, IfOk};
+ghost use Rattle.std.specs.Prelude.{◌≡◌, ◌+◌, ◌≤◌, IfOk};
 ghost use Rattle.ft_types.specs.Accepted.{refusal};
 ghost use Rattle.ft_types.specs.Spellable.{IsSpellable};
+ghost use Rattle.ft_checker.specs.Costs.{check_cost};
 ghost use Rattle.ft_checker.specs.Judges.{Judges};
 
 use crate::blocks::check_blocks;
@@ -9,13 +10,20 @@ use crate::cells::check_cells;
 use crate::checked::Checked;
 use crate::entry::is_entry_type;
 use crate::error::CheckError;
+use ft_steps::Steps;
 use ft_types::Program;
 use std::alloc::Global;
+use std::sync::ledger::Ledger;
 
 /// Tries the entry block's code type, then the cells, then the blocks.
-fn judge<P: Program>(alloc: Global, program: &P) -> Result<(), CheckError>
+fn judge<P: Program, L: Ledger>(
+    alloc: Global,
+    program: &P,
+    steps: &mut Steps<L>,
+) -> Result<(), CheckError>
     requires { IsSpellable (P.object program.now) }
-    ensures { Judges (refusal (P.object program.now)) result }
+    ensures judged { Judges (refusal (P.object program.now)) result }
+    ensures steps { steps.new ≤ steps.old + check_cost (P.object program.now) }
 {
     let first = program.block(program.entry()).code_type;
     let begins = is_entry_type(program, first);
@@ -23,18 +31,24 @@ fn judge<P: Program>(alloc: Global, program: &P) -> Result<(), CheckError>
         return Err(CheckError::EntryType);
     }
     check_cells(program)?;
-    check_blocks(alloc, program)
+    check_blocks(alloc, program, steps)
 }
 
-/// Checks a program. Ok comes exactly where its object is accepted. Otherwise the error is exactly the
+/// Checks a program. Ok comes exactly when its object is accepted. Otherwise the error is exactly the
 /// refusal: `EntryType`, then the lowest cell with `CellType`, then the first instruction that is
-/// refused, by blocks in order.
-pub fn check<'a, P: Program>(alloc: Global, program: &'a P) -> Result<Checked<'a, P>, CheckError>
+/// refused, by blocks in order. It counts a step for each node that is handled, for each update that a
+/// walk of `sel` passes, and for each update that is applied for a pending memory.
+pub fn check<'a, P: Program, L: Ledger>(
+    alloc: Global,
+    program: &'a P,
+    steps: &mut Steps<L>,
+) -> Result<Checked<'a, P>, CheckError>
     requires { IsSpellable (P.object program.now) }
     ensures judged { Judges (refusal (P.object program.now)) result }
     ensures program { IfOk result (λ k. k ≡ program.now) }
+    ensures steps { steps.new ≤ steps.old + check_cost (P.object program.now) }
 {
-    match judge(alloc, program) {
+    match judge(alloc, program, steps) {
         Ok(()) => Ok(Checked { program }),
         Err(error) => Err(error),
     }

@@ -1,10 +1,11 @@
 //! The checker of objects.
 //!
-//! The crate promises that `check` answers Ok exactly where an object is accepted, and otherwise
-//! exactly why it is refused: the entry's code type, the lowest cell whose word hasn't its type, or
-//! the first instruction with its block, its index and the first failing premise. A `Checked` keeps
-//! that its program is accepted. The definitions are `Accepted` in `ft_types/specs`; what the answers
-//! say of them stands in `specs/Judges.antt`.
+//! The crate promises that `check` answers Ok exactly when an object is accepted. Otherwise it answers
+//! exactly why the object is refused: the entry's code type, the lowest cell with a word of another
+//! type, or the first instruction that is refused, with its block, its index and the first failing
+//! premise. It takes no more steps than `specs/Costs.antt` says. A `Checked` keeps that its program is
+//! accepted. The definitions are `Accepted` in `ft_types/specs`; what the answers say of them is in
+//! `specs/Judges.antt`.
 #![tactic(auto)]
 
 mod blocks;
@@ -13,6 +14,7 @@ mod checked;
 mod entry;
 mod error;
 mod judge;
+mod keys;
 
 pub use checked::Checked;
 pub use error::CheckError;

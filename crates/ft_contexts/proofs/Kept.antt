@@ -4,12 +4,16 @@ use Rattle.std.specs.Option.{unwrap_or}
 use Rattle.ft_static.specs.Form.{Form as Normal, integer_form, memory_form, polynomial_of, updates_of, Polynomial, Updates, nought}
 use Rattle.ft_norm.specs.declared.form.Form.{Form}
 use Rattle.ft_norm.specs.Held.{held, polynomial, polynomials, updates_held, IsInteger, IsMemory, AreIntegers, Keeps}
+use Rattle.ft_norm.specs.declared.substitution.Memo.{Memo}
+use Rattle.ft_norm.proofs.Memos.{remembers_kept}
+use Rattle.ft_types.specs.declared.object.Object.{Object}
 use Rattle.ft_contexts.specs.declared.register.RegForm.{RegForm}
 use Rattle.ft_contexts.specs.declared.destination.StateD.{StateD}
 use Rattle.ft_contexts.specs.declared.destination.StateD.TheVariants.{Zero, Code, Conditional}
+use Rattle.ft_contexts.specs.declared.variables.OwnVariables.{OwnVariables}
 use Rattle.ft_contexts.specs.declared.variables.Variables.{Variables}
 use Rattle.ft_contexts.specs.declared.context.Context.{Context}
-use Rattle.ft_contexts.specs.Contexts.{typed_in, registers_in, d_in, pair_in, context_in, replacement_in, HoldsVariables, AreOwn, HoldsD, HoldsRegisters, HoldsQueue, HoldsForms}
+use Rattle.ft_contexts.specs.Contexts.{typed_in, registers_in, d_in, pair_in, context_in, replacement_in, HoldsVariables, AreOwn, HoldsOwn, RemembersUnder, HoldsD, HoldsRegisters, HoldsQueue, HoldsForms}
 
 -- the polynomial of a form that is held as this one
 pub polynomial_found : (fs : List Normal) (f : Form) (p : Polynomial) → held fs f ≡ Some (integer_form p) → polynomial fs f ≡ p
@@ -59,6 +63,11 @@ keeps_on fs gs hs k l = record {
 
 -- VARIABLES
 
+-- no form is held wrong
+pub none_held : (fs : List Normal) (xs : List Form) → xs ≡ [] → AreIntegers fs xs
+none_held fs [] e i f h = cc
+none_held fs (x ∷ xs) e i f h = cc
+
 -- the forms of variables are held
 pub variables_kept : (fs gs : List Normal) (v : Variables) → Keeps fs gs → HoldsVariables fs v → HoldsVariables gs v
 variables_kept fs gs v k h = record { integers = λ i f e. integer_kept fs gs f k (h.integers i f e); memory = memory_kept fs gs v.memory k h.memory }
@@ -82,6 +91,14 @@ own_kept fs gs n v k h = record { count = h.count; integers = λ i f e. k.forms_
 -- and they are held
 pub own_held : (fs : List Normal) (n : ℕ) (v : Variables) → AreOwn fs n v → HoldsVariables fs v
 own_held fs n v h = record { integers = λ i f e. integer_found fs f _ (h.integers i f e); memory = memory_found fs v.memory _ h.memory }
+
+-- what is remembered under variables stays right
+pub under_kept : (o : Object) (fs gs : List Normal) (v : Variables) (m : Memo) → Keeps fs gs → HoldsVariables fs v → RemembersUnder o fs v m → RemembersUnder o gs v m
+under_kept o fs gs v m k h r = remembers_kept o.nodes fs gs v.integers v.memory m k h.integers h.memory r
+
+-- so does what is held of the variables themselves
+pub owned_kept : (o : Object) (fs gs : List Normal) (v : OwnVariables) → Keeps fs gs → HoldsOwn o fs v → HoldsOwn o gs v
+owned_kept o fs gs v k h = record { own = own_kept fs gs 128 v.variables k h.own; made = under_kept o fs gs v.variables v.made k (own_held fs 128 v.variables h.own) h.made }
 
 -- CONTEXTS
 
@@ -126,7 +143,6 @@ queue_stays fs gs (p ∷ q) k h =
 -- the forms of a context are held
 pub forms_kept : (fs gs : List Normal) (c : Context) → Keeps fs gs → HoldsForms fs c → HoldsForms gs c
 forms_kept fs gs c k h = record {
-  own = own_kept fs gs c.ints c.own k h.own;
   registers = registers_kept fs gs c.registers k h.registers;
   d = d_kept fs gs c.d k h.d;
   queue = queue_kept fs gs c.queue k h.queue;

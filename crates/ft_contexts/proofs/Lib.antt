@@ -6,3 +6,4 @@ pub mod Spelled
 pub mod Same
 pub mod Turns
 pub mod Pairs
+pub mod Costs

@@ -1,7 +1,6 @@
 -- Places of lists: after a push, and from a place on.
 use Rattle.std.proofs.Common.{◌≡◌, ◌+◌, ◌<◌, ◌≤◌, ◌-◌, ℕ, zero, suc, Bool, true, false, List, [], ◌∷◌, ◌++◌, length, map, drop, slice_get, slice_range, Some, refl, ap, subst, arith}
 use Rattle.std.specs.List.{list_all}
-use Rattle.std.proofs.lemmas.Bool.{and_parts}
 use Rattle.std.proofs.lemmas.List.{append_assoc}
 
 -- the last element, or one before it
@@ -41,10 +40,6 @@ all_turn p xs ys x e h = rw (e, h) refl
 -- and where it doesn't
 pub all_stop : {X : Type 0} (p : X → Bool) (xs ys : List X) (x : X) → xs ≡ x ∷ ys → p x ≡ false → list_all p xs ≡ false
 all_stop p xs ys x e h = rw (e, h) refl
-
--- the first element of those that pass, passes
-pub all_first : {X : Type 0} (p : X → Bool) (xs ys : List X) (x : X) → xs ≡ x ∷ ys → list_all p xs ≡ true → (p x ≡ true) × (list_all p ys ≡ true)
-all_first p xs ys x e h = and_parts _ _ (rw e at h)
 
 -- the place of an element after a function
 pub map_there : {X Y : Type 0} (f : X → Y) (xs : List X) (k : ℕ) (x : X) → slice_get xs k ≡ Some x → slice_get (map f xs) k ≡ Some (f x)

@@ -1,5 +1,5 @@
 -- The forms of nodes, after what is put for variables and with the variables as they are.
-use Rattle.std.proofs.Common.{◌≡◌, ℕ, zero, suc, ◌<◌, ◌≤◌, true, false, List, [], ◌∷◌, length, slice_get, slice_index_or, Some, refl, sym, ap, subst, arith}
+use Rattle.std.proofs.Common.{◌≡◌, ℕ, zero, suc, ◌<◌, true, false, List, [], ◌∷◌, length, slice_get, slice_index_or, Some, refl, sym, ap, subst, arith}
 use Rattle.ft_static.specs.Expression.{Expression, integer, memory, HasVariablesBelow}
 use Rattle.ft_static.specs.Form.{Form as Normal, integer_form, memory_form, variable_atom, unchanged, Polynomial, nought}
 use Rattle.ft_static.specs.FormUnder.{form_under}
@@ -59,14 +59,6 @@ integer_under o x scope n h k = ap (form_under x.integers x.memory) (integer_nam
 pub memory_under : (o : Object) (x : Replacement) (scope n : ℕ) → AreNodes o.nodes → IsNodeIn o.nodes scope true n → form_under x.integers x.memory (tree_at o.nodes n) ≡ memory_form (memory_form_after o x n)
 unfolding memory_form_after
 memory_under o x scope n h k = ap (form_under x.integers x.memory) (memory_named o.nodes scope n h k)
-
--- a node within a scope is within a larger one
-pub within_more : (nodes : List Node) (scope more n : ℕ) (b : _) → IsNodeIn nodes scope b n → scope ≤ more → IsNodeIn nodes more b n
-within_more nodes scope more n b k h = record { lower = k.lower; node = k.node; found = k.found; sort = k.sort; scope_within = omega (arith, k.scope_within) }
-
--- the scope of a node that is named
-pub scope_named : (nodes : List Node) (scope n : ℕ) (b : _) (x : Node) → IsNodeIn nodes scope b n → slice_get nodes n ≡ Some x → x.scope ≤ scope
-scope_named nodes scope n b x k f = let same : k.node ≡ x = let e = k.found in cc in subst (λ (y : Node). y.scope ≤ scope) same k.scope_within
 
 -- the polynomial in a place of these
 polynomial_in : (fs : List Normal) (xs : List Form) (i : ℕ) (p : Polynomial) → i < length xs → ((f : Form) → slice_get xs i ≡ Some f → held fs f ≡ Some (integer_form p)) → slice_index_or (polynomials fs xs) i nought ≡ p

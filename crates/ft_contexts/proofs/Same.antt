@@ -13,7 +13,7 @@ same_tests true false P h k = sym (k.1 (h.0 refl))
 same_tests false true P h k = h.1 (k.0 refl)
 same_tests false false P h k = refl
 
--- two integers that are held are held as the same exactly where their polynomials are
+-- two integers that are held are held as the same exactly when their polynomials are
 pub held_integers : (fs : List Normal) (a b : Form) → IsInteger fs a → IsInteger fs b → (same_polynomial (polynomial fs a) (polynomial fs b) ≡ true) ↔ (held fs a ≡ held fs b)
 held_integers fs a b h k =
     let e = equal_polynomials (polynomial fs a) (polynomial fs b) in

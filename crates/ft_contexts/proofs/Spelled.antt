@@ -1,5 +1,5 @@
 -- What a spellable object says of its rows and of its instructions.
-use Rattle.std.proofs.Common.{◌≡◌, ℕ, zero, suc, true, ◌<◌, List, [], ◌∷◌, length, slice_get, Option, None, Some, All, refl, sym, ap, ◌∙◌, subst, arith}
+use Rattle.std.proofs.Common.{◌≡◌, ℕ, zero, suc, Bool, true, ◌<◌, List, [], ◌∷◌, length, slice_get, Option, None, Some, All, refl, sym, ap, ◌∙◌, subst, arith}
 use Rattle.std.specs.Option.{option_map, unwrap_or}
 use Rattle.std.proofs.lemmas.Option.{slice_get_within, get_or_from_slice_get}
 use Rattle.ft_isa.specs.declared.instr.Subst.{Subst}
@@ -16,7 +16,7 @@ pub all_at : {X : Type 0} (P : X → Type 0) (xs : List X) (k : ℕ) (x : X) →
 all_at P xs k x h e = subst P (get_or_from_slice_get xs k x x e) (h k x (slice_get_within xs k x e))
 
 -- a code type that is there
-type_there : (o : Object) (t : ℕ) → t < length o.types → (x : CodeType) × (slice_get o.types t ≡ Some x)
+pub type_there : (o : Object) (t : ℕ) → t < length o.types → (x : CodeType) × (slice_get o.types t ≡ Some x)
 type_there o t h = there o.types t h
   where
     there : (ts : List CodeType) (t : ℕ) → t < length ts → (x : CodeType) × (slice_get ts t ≡ Some x)
@@ -77,3 +77,11 @@ covered nodes rows first (j ∷ is) (suc k) i u h e s =
 -- so is the substitution of an instruction
 pub subst_spelled : (o : Object) (k : ℕ) (i : Instr) (u : Subst) → IsSpellable o → slice_get o.instrs k ≡ Some i → subst_of i ≡ Some u → IsSubst o.nodes (length o.substs) u.first u
 subst_spelled o k i u h e s = covered o.nodes (length o.substs) 0 o.instrs k i u h.covered e s
+
+-- a node within the scope of a code type's variables is within that of the most
+pub most_scope : (o : Object) (t n : ℕ) (b : Bool) → IsSpellable o → t < length o.types → IsNodeIn o.nodes (ints_of o t) b n → IsNodeIn o.nodes 128 b n
+most_scope o t n b h l k =
+    let x = type_there o t l in
+    let m = all_at (IsCodeType (length o.types) o.nodes) o.types t x.0 h.types x.1 in
+    let ints : ints_of o t ≡ x.0.ints = ap (λ (y : Option CodeType). unwrap_or (option_map ints_of_type y) 0) x.1 in
+    record { lower = k.lower; node = k.node; found = k.found; sort = k.sort; scope_within = omega (arith, k.scope_within, ints, m.ints) }

@@ -1,25 +1,22 @@
 -- One turn of each loop, and its end.
-use Rattle.std.proofs.Common.{◌≡◌, ◌≢◌, ◌+◌, ◌<◌, ◌≤◌, ℕ, zero, suc, Bool, true, false, ◌&&◌, nat_le, List, [], ◌∷◌, length, map, drop, slice_get, Option, None, Some, refl, ap, ◌∙◌, arith}
+use Rattle.std.proofs.Common.{◌≡◌, ◌≢◌, ◌+◌, ◌<◌, ◌≤◌, ℕ, zero, suc, Bool, true, false, ◌&&◌, List, [], ◌∷◌, length, map, drop, slice_get, Option, None, Some, refl, ap, ◌∙◌, arith}
 use Rattle.std.specs.Option.{option_map, unwrap_or}
 use Rattle.std.specs.FinMap as finite
 use Rattle.std.proofs.Math.ListN.{set, replicate}
-use Rattle.std.proofs.lemmas.Bool.{leb-true}
 use Rattle.std.proofs.lemmas.List.{length-map}
 use Rattle.ft_static.specs.Form.{Form as Normal, integer_form, Updates}
 use Rattle.ft_static.specs.FormOrder.{same_polynomial}
 use Rattle.ft_static.specs.NormalForm.{norm_upd}
-use Rattle.ft_static.specs.declared.node.Node.{Node}
 use Rattle.ft_norm.specs.declared.form.Form.{Form}
 use Rattle.ft_norm.specs.Held.{held, polynomial, Keeps}
 use Rattle.ft_types.specs.declared.object.Object.{Object}
 use Rattle.ft_types.specs.declared.object.CodeType.{CodeType}
 use Rattle.ft_types.specs.declared.object.TypeHead.{TypeHead}
 use Rattle.ft_types.specs.declared.object.RegType.{RegType}
-use Rattle.ft_types.specs.Objects.{reg_rows, queue_rows, ints_of, memory_of, regs_of, queue_of, ints_of_type, memory_of_type, type_head_of, scope_of, scope_of_node}
+use Rattle.ft_types.specs.Objects.{reg_rows, queue_rows, ints_of, memory_of, regs_of, queue_of, ints_of_type, memory_of_type, type_head_of}
 use Rattle.ft_types.specs.Context.{Typed, TypedRegisters, FormPair, Replacement, typed_row, registers_after, integer_form_of, integer_form_after}
 use Rattle.ft_types.specs.TypingRow.{pending_memory, same_colour, is_like, is_queue_like}
 use Rattle.ft_types.specs.TypedWord.{is_seen_as}
-use Rattle.ft_types.specs.Spellable.{IsNodeIn}
 use Rattle.ft_contexts.specs.declared.register.RegForm.{RegForm}
 use Rattle.ft_contexts.specs.Contexts.{typed_in, pair_in, registers_in, HoldsRegisters}
 use Rattle.ft_contexts.proofs.Lists.{drop_there, drop_all, map_there}
@@ -89,11 +86,6 @@ pub like_typed : (o : Object) (x : Replacement) (k : Option Typed) (t : Typed) (
 unfolding is_like
 like_typed o x k t r e h = rw (e, h) refl
 
--- one that isn't
-pub unlike_typed : (o : Object) (x : Replacement) (k : Option Typed) (t : Typed) (r : RegType) → k ≡ Some t → (same_colour t.colour r.colour && is_seen_as t.basic r.basic) ≡ false → is_like o x k r ≡ false
-unfolding is_like
-unlike_typed o x k t r e h = rw (e, h) refl
-
 -- two queues of different lengths
 pub unlike_lengths : (o : Object) (x : Replacement) (q : List FormPair) (rows : List (ℕ × ℕ)) → length q ≢ length rows → is_queue_like o x q rows ≡ false
 unfolding is_queue_like
@@ -118,10 +110,3 @@ unfolding is_queue_like
 queue_end o x q rows j l m = rw (drop_all q j l, drop_all rows j m) refl
 
 -- SCOPES
-
--- a node is within a scope that its own is at most
-pub within_scope : (o : Object) (scope ints n : ℕ) (b : Bool) → IsNodeIn o.nodes scope b n → nat_le (scope_of o n) ints ≡ true → IsNodeIn o.nodes ints b n
-within_scope o scope ints n b k h =
-    let s : scope_of o n ≡ k.node.scope = ap (λ (x : Option Node). unwrap_or (option_map scope_of_node x) 0) k.found in
-    let l = leb-true (scope_of o n) ints h in
-    record { lower = k.lower; node = k.node; found = k.found; sort = k.sort; scope_within = omega arith }

@@ -13,6 +13,9 @@ use Rattle.ft_types.specs.Context.{Typed, TypedRegisters, StateOfD, d_zero, d_co
 use Rattle.ft_contexts.specs.declared.register.RegForm.{RegForm}
 use Rattle.ft_contexts.specs.declared.destination.StateD.{StateD}
 use Rattle.ft_contexts.specs.declared.destination.StateD.TheVariants.{Zero, Code, Conditional}
+use Rattle.ft_norm.specs.declared.substitution.Memo.{Memo}
+use Rattle.ft_norm.specs.Memos.{Remembers}
+use Rattle.ft_contexts.specs.declared.variables.OwnVariables.{OwnVariables}
 use Rattle.ft_contexts.specs.declared.variables.Variables.{Variables}
 use Rattle.ft_contexts.specs.declared.context.Context.{Context}
 
@@ -77,6 +80,15 @@ pub record AreOwn (fs : List Normal) (n : ℕ) (v : Variables) : Type 0 where
   pub integers : (i : ℕ) (f : Form) → slice_get v.integers i ≡ Some f → held fs f ≡ Some (integer_form (alone (variable_atom i)))
   pub memory : held fs v.memory ≡ Some (memory_form unchanged)
 
+-- what a memo remembers of an object's nodes is right where these are put for the variables
+abbrev pub RemembersUnder : Object → List Normal → Variables → Memo → Type 0
+RemembersUnder o fs v m = Remembers o.nodes fs v.integers v.memory m
+
+-- the forms of the variables themselves are held, and what is remembered of an object's nodes is right
+pub record HoldsOwn (o : Object) (fs : List Normal) (v : OwnVariables) : Type 0 where
+  pub own : AreOwn fs 128 v.variables
+  pub made : RemembersUnder o fs v.variables v.made
+
 -- the forms of d's state are held
 abbrev pub HoldsD : List Normal → StateD → Type 0
 HoldsD fs Zero = Unit {0}
@@ -91,9 +103,8 @@ HoldsRegisters fs xs = (r : ℕ) (x : RegForm) → slice_get xs r ≡ Some (Some
 abbrev pub HoldsQueue : List Normal → List (Form × Form) → Type 0
 HoldsQueue fs q = (i : ℕ) (p : Form × Form) → slice_get q i ≡ Some p → IsInteger fs p.0 × IsInteger fs p.1
 
--- every form of a context is held, in its right sort; among them are the block's own variables
+-- every form of a context is held, in its right sort
 pub record HoldsForms (fs : List Normal) (c : Context) : Type 0 where
-  pub own : AreOwn fs c.ints c.own
   pub registers : HoldsRegisters fs c.registers
   pub d : HoldsD fs c.d
   pub queue : HoldsQueue fs c.queue

@@ -1,21 +1,24 @@
 //! Contexts.
-ghost use Rattle.std.specs.Prelude.{◌≡◌, ◌<◌, ◌++◌, ◌∷◌, [], IfOk, IfSome, OnErr, OnOk, List, Some, drop, length, slice_get};
+ghost use Rattle.std.specs.Prelude.{◌≡◌, ◌+◌, ◌*◌, ◌<◌, ◌≤◌, ◌++◌, ◌∷◌, [], IfOk, IfSome, OnErr, OnOk, List, Some, drop, length, slice_get};
 ghost use Rattle.std.specs.Option.{option_map};
-ghost use Rattle.ft_static.specs.Form.{Form as Normal, memory_form};
+ghost use Rattle.ft_static.specs.Form.{Form as Normal, memory_form, updates};
 ghost use Rattle.ft_norm.specs.Held.{IsInteger, IsMemory, Keeps, held, updates_held};
 ghost use Rattle.ft_types.specs.Context.{start_context, typed, with_type};
 ghost use Rattle.ft_types.specs.Spellable.{IsBase, IsSpellable};
 ghost use Rattle.ft_types.specs.TypingRow.{seen_memory};
+ghost use Rattle.ft_contexts.specs.Costs.{tree_cost};
 
 use crate::destination::StateD;
 use crate::register::RegForm;
 use crate::sequence::Sequence;
-use crate::start::{start_queue, start_registers};
-use crate::variables::Variables;
+use crate::start::{QUEUE_ROOM, start_queue, start_registers};
+use crate::variables::OwnVariables;
 use ft_isa::{Colour, NoMemory, Reg};
 use ft_norm::{Form, Interner};
+use ft_steps::Steps;
 use ft_types::Program;
 use std::alloc::Global;
+use std::sync::ledger::Ledger;
 
 /// What is known at a place of a block: the number of the block's integer variables, what is known of
 /// each register and of d, the static queue, oldest first, and the form of the memory. Its forms are
@@ -24,7 +27,6 @@ use std::alloc::Global;
 pub struct Context {
     pub(crate) alloc: Global,
     pub(crate) ints: u8,
-    pub(crate) own: Variables,
     pub(crate) registers: [Option<RegForm>; 64],
     pub(crate) d: StateD,
     pub(crate) queue: Sequence<(Form, Form)>,
@@ -33,15 +35,16 @@ pub struct Context {
 
 impl Context {
     ghost use Rattle.ft_types.specs.declared.object.Object.{Object};
-    ghost use Rattle.ft_contexts.specs.Contexts.{DNamesType, HoldsD, HoldsForms, NamesTypes, context_in, d_in, pair_in, pending_count, typed_in};
+    ghost use Rattle.ft_contexts.specs.Contexts.{DNamesType, HoldsD, HoldsForms, HoldsOwn, NamesTypes, context_in, d_in, pair_in, pending_count, typed_in};
 
     /// The context where a block of code type `t` begins: the type's registers, queue and memory with
     /// its variables as they are, and d is 0.
-    pub fn start<P: Program>(
+    pub fn start<P: Program, L: Ledger>(
         alloc: Global,
         program: &P,
         t: u32,
         forms: &mut Interner,
+        steps: &mut Steps<L>,
     ) -> Result<Context, NoMemory>
         requires spellable { IsSpellable (P.object program.now) }
         requires there { t < length (P.object program.now).types }
@@ -49,21 +52,66 @@ impl Context {
         ensures context { IfOk result (λ c. context_in forms.new c ≡ start_context (P.object program.now) t) }
         ensures held { IfOk result (HoldsForms forms.new) }
         ensures types { IfOk result (NamesTypes (P.object program.now)) }
+        ensures pending { IfOk result (λ c. pending_count c ≤ 8) }
+        ensures count { IfOk result (λ c. updates (context_in forms.new c).memory ≤ length (P.object program.now).nodes) }
+        ensures steps { steps.new ≤ steps.old + 81 * tree_cost (P.object program.now) 0 }
+    {
+        let mut own = OwnVariables::new(alloc, forms)?;
+        Context::start_over(alloc, program, t, &mut own, forms, steps)
+    }
+
+    /// The same context, over variables that other blocks may have used before.
+    pub fn start_over<P: Program, L: Ledger>(
+        alloc: Global,
+        program: &P,
+        t: u32,
+        own: &mut OwnVariables,
+        forms: &mut Interner,
+        steps: &mut Steps<L>,
+    ) -> Result<Context, NoMemory>
+        requires spellable { IsSpellable (P.object program.now) }
+        requires there { t < length (P.object program.now).types }
+        requires own { HoldsOwn (P.object program.now) forms.old own.old }
+        ensures kept { Keeps forms.old forms.new }
+        ensures own { HoldsOwn (P.object program.now) forms.new own.new }
+        ensures context { IfOk result (λ c. context_in forms.new c ≡ start_context (P.object program.now) t) }
+        ensures held { IfOk result (HoldsForms forms.new) }
+        ensures types { IfOk result (NamesTypes (P.object program.now)) }
+        ensures pending { IfOk result (λ c. pending_count c ≤ 8) }
+        ensures count { IfOk result (λ c. updates (context_in forms.new c).memory ≤ length (P.object program.now).nodes) }
+        ensures steps { steps.new ≤ steps.old + 81 * tree_cost (P.object program.now) 0 }
     {
         let head = program.code_type(t);
-        let own = Variables::own(alloc, head.ints, forms)?;
-        let memory = own.memory(program, head.memory, forms)?;
-        let registers = start_registers(program, t, head.regs, &own, forms)?;
-        let queue = start_queue(alloc, program, t, head.queue, &own, forms)?;
+        let memory = own.memory(program, head.memory, forms, steps)?;
+        let registers = start_registers(program, t, head.regs, own, forms, steps)?;
+        let queue = start_queue(alloc, program, t, head.queue, own, forms, steps)?;
         Ok(Context {
             alloc,
             ints: head.ints,
-            own,
             registers,
             d: StateD::Zero,
             queue,
             memory,
         })
+    }
+
+    /// The same context once more.
+    pub fn copied(&self) -> Result<Context, NoMemory>
+        ensures { IfOk result (λ c. c ≡ self.now) }
+    {
+        Ok(Context {
+            alloc: self.alloc,
+            ints: self.ints,
+            registers: self.registers,
+            d: self.d,
+            queue: self.queue.copied(self.alloc, QUEUE_ROOM)?,
+            memory: self.memory,
+        })
+    }
+
+    /// The allocator of the context.
+    pub fn alloc(&self) -> Global {
+        self.alloc
     }
 
     /// The number of the block's integer variables.
@@ -73,7 +121,7 @@ impl Context {
         self.ints
     }
 
-    /// What is known of a register; `None` exactly where it has no type.
+    /// What is known of a register; `None` exactly when it has no type.
     pub fn reg(&self, r: Reg) -> Option<RegForm>
         ensures known { (fs : List Normal) → typed (context_in fs self.now) r.number ≡ option_map (typed_in fs) result }
         ensures held { (fs : List Normal) → HoldsForms fs self.now → IfSome result (λ x. IsInteger fs x.form) }
@@ -116,27 +164,42 @@ impl Context {
     }
 
     /// The form of the memory after the pending stores, the oldest first.
-    fn pending(&self, forms: &mut Interner) -> Result<Form, NoMemory>
+    fn pending<L: Ledger>(
+        &self,
+        forms: &mut Interner,
+        steps: &mut Steps<L>,
+    ) -> Result<Form, NoMemory>
         requires { HoldsForms forms.old self.now }
         ensures kept { Keeps forms.old forms.new }
         ensures form { IfOk result (λ f. held forms.new f ≡ Some (memory_form (seen_memory Colour.Green (context_in forms.old self.now)))) }
+        ensures count { IfOk result (λ f. updates (updates_held forms.new f) ≤ updates (context_in forms.old self.now).memory + pending_count self.now) }
+        ensures steps { steps.new ≤ steps.old + pending_count self.now }
     {
         let mut memory = self.memory;
         for j in 0..self.queue.len() {
             let (address, value) = self.queue.at(j);
+            steps.tick();
             memory = forms.upd(memory, address, value)?;
         }
         Ok(memory)
     }
 
     /// The form of the memory that a load of this colour sees: a green one sees the pending stores.
-    pub fn seen(&self, colour: Colour, forms: &mut Interner) -> Result<Form, NoMemory>
+    /// Each update that is applied counts a step.
+    pub fn seen<L: Ledger>(
+        &self,
+        colour: Colour,
+        forms: &mut Interner,
+        steps: &mut Steps<L>,
+    ) -> Result<Form, NoMemory>
         requires { HoldsForms forms.old self.now }
         ensures kept { Keeps forms.old forms.new }
         ensures form { IfOk result (λ f. held forms.new f ≡ Some (memory_form (seen_memory colour (context_in forms.old self.now)))) }
+        ensures count { IfOk result (λ f. updates (updates_held forms.new f) ≤ updates (context_in forms.old self.now).memory + pending_count self.now) }
+        ensures steps { steps.new ≤ steps.old + pending_count self.now }
     {
         match colour {
-            Colour::Green => self.pending(forms),
+            Colour::Green => self.pending(forms, steps),
             Colour::Blue => Ok(self.memory),
         }
     }
@@ -159,7 +222,7 @@ impl Context {
         self.d = d;
     }
 
-    /// Adds a pair to the static queue, as the newest. After want of memory nothing changes.
+    /// Adds a pair to the static queue, as the newest. When out of memory, nothing changes.
     pub fn pend(&mut self, pair: (Form, Form)) -> Result<(), NoMemory>
         ensures context { OnOk result ((fs : List Normal) → context_in fs self.new ≡ record (context_in fs self.old) { queue = (context_in fs self.old).queue ++ pair_in fs pair ∷ [] }) }
         ensures held { OnOk result ((fs : List Normal) → HoldsForms fs self.old → IsInteger fs pair.0 × IsInteger fs pair.1 → HoldsForms fs self.new) }

@@ -15,6 +15,7 @@ mod likeness;
 mod register;
 mod sequence;
 mod start;
+mod transfers;
 mod variables;
 
 pub use basic_types::{is_seen_as, same_basic, same_colour};
@@ -24,4 +25,5 @@ pub use forms::same_integers;
 pub use register::RegForm;
 pub use sequence::Sequence;
 pub use start::QUEUE_ROOM;
-pub use variables::Variables;
+pub use transfers::Shared;
+pub use variables::{OwnVariables, Variables};

@@ -1,24 +1,27 @@
 //! What a target wants: whether what holds here is as its code type says, after a substitution.
-ghost use Rattle.std.specs.Prelude.{◌≡◌, ◌<◌, ◌&&◌, IfOk, IsTrue, length, nat_le};
+ghost use Rattle.std.specs.Prelude.{◌≡◌, ◌+◌, ◌*◌, ◌<◌, ◌≤◌, ◌&&◌, IfOk, length, nat_le};
 ghost use Rattle.std.specs.List.{list_all};
+ghost use Rattle.ft_static.specs.Form.{updates};
 ghost use Rattle.ft_static.specs.FormOrder.{same_polynomial};
-ghost use Rattle.ft_norm.specs.Held.{IsInteger, Keeps, polynomial};
+ghost use Rattle.ft_norm.specs.Held.{IsInteger, Keeps, polynomial, updates_held};
 ghost use Rattle.ft_types.specs.Context.{integer_form_after, rows_of};
 ghost use Rattle.ft_types.specs.Objects.{scope_of};
 ghost use Rattle.ft_types.specs.Spellable.{IsQueueRow, IsSpellable, IsSubst};
 ghost use Rattle.ft_types.specs.TypedWord.{is_seen_as};
 ghost use Rattle.ft_types.specs.TypingRow.{same_colour};
-ghost use Rattle.ft_contexts.specs.Contexts.{HoldsVariables, replacement_in};
+ghost use Rattle.ft_contexts.specs.Contexts.{HoldsVariables, RemembersUnder, replacement_in};
+ghost use Rattle.ft_contexts.specs.Costs.{tree_cost};
 
 use crate::basic_types::{is_seen_as, same_colour};
 use crate::context::Context;
 use crate::forms::{same_integers, same_memories};
 use crate::register::RegForm;
-use crate::sequence::Sequence;
 use crate::variables::Variables;
 use ft_isa::{NoMemory, Subst};
-use ft_norm::{Form, Interner};
+use ft_norm::{Form, Interner, Memo};
+use ft_steps::Steps;
 use ft_types::{Program, RegType};
+use std::sync::ledger::Ledger;
 
 /// Whether a node's scope is at most so many variables.
 fn is_within<P: Program>(program: &P, ints: u8, n: u32) -> bool
@@ -51,33 +54,38 @@ fn is_typed_like(known: RegForm, row: RegType) -> bool
 }
 
 /// Whether a pair of the static queue is as a row of the target wants it.
-fn pair_is_like<P: Program>(
+fn pair_is_like<P: Program, L: Ledger>(
     pair: (Form, Form),
     put: &Variables,
+    made: &mut Memo,
     program: &P,
     row: (u32, u32),
     forms: &mut Interner,
+    steps: &mut Steps<L>,
 ) -> Result<bool, NoMemory>
     requires spellable { IsSpellable (P.object program.now) }
     requires row { IsQueueRow (P.object program.now).nodes (length put.now.integers) row }
     requires address { IsInteger forms.old pair.0 }
     requires value { IsInteger forms.old pair.1 }
     requires put { HoldsVariables forms.old put.now }
+    requires made { RemembersUnder (P.object program.now) forms.old put.now made.old }
     ensures kept { Keeps forms.old forms.new }
+    ensures made { RemembersUnder (P.object program.now) forms.new put.now made.new }
     ensures like { IfOk result (λ b. b ≡ (same_polynomial (polynomial forms.old pair.0) (integer_form_after (P.object program.now) (replacement_in forms.old put.now) row.0) && same_polynomial (polynomial forms.old pair.1) (integer_form_after (P.object program.now) (replacement_in forms.old put.now) row.1))) }
+    ensures steps { steps.new ≤ steps.old + 2 * tree_cost (P.object program.now) (updates (updates_held forms.old put.now.memory)) }
 {
-    let address = put.integer(program, row.0, forms)?;
+    let address = put.integer(program, row.0, made, forms, steps)?;
     if !same_integers(forms, pair.0, address) {
         return Ok(false);
     }
-    let value = put.integer(program, row.1, forms)?;
+    let value = put.integer(program, row.1, made, forms, steps)?;
     Ok(same_integers(forms, pair.1, value))
 }
 
 impl Context {
     ghost use Rattle.std.specs.Prelude.{◌==◌};
     ghost use Rattle.ft_static.specs.FormOrder.{same_updates};
-    ghost use Rattle.ft_types.specs.Context.{memory_form_after, replacement, typed};
+    ghost use Rattle.ft_types.specs.Context.{memory_form_after, typed};
     ghost use Rattle.ft_types.specs.Objects.{ints_of, memory_of, queue_rows, reg_rows};
     ghost use Rattle.ft_types.specs.Spellable.{IsRegRow};
     ghost use Rattle.ft_types.specs.TypingRow.{are_like, is_annotated, is_like, is_queue_like};
@@ -98,48 +106,26 @@ impl Context {
             && is_within(program, self.ints, subst.memory)
     }
 
-    /// The forms that a substitution puts for the variables of its target: the forms of its nodes in the
-    /// block's own variables.
-    pub fn replaced<P: Program>(
-        &self,
-        program: &P,
-        subst: Subst,
-        forms: &mut Interner,
-    ) -> Result<Variables, NoMemory>
-        requires spellable { IsSpellable (P.object program.now) }
-        requires subst { IsSubst (P.object program.now).nodes (length (P.object program.now).substs) subst.first subst }
-        requires held { HoldsForms forms.old self.now }
-        requires within { IsTrue (list_all (λ n. nat_le (scope_of (P.object program.now) n) (variable_count self.now)) (rows_of (P.object program.now) subst)) }
-        requires memory { IsTrue (nat_le (scope_of (P.object program.now) subst.memory) (variable_count self.now)) }
-        ensures kept { Keeps forms.old forms.new }
-        ensures held { IfOk result (HoldsVariables forms.new) }
-        ensures replaced { IfOk result (λ v. replacement_in forms.new v ≡ replacement (P.object program.now) subst) }
-    {
-        let mut integers = Sequence::with_room(self.alloc, (subst.past - subst.first) as usize)?;
-        for n in subst.first..subst.past {
-            let row = program.subst_row(n);
-            let form = self.own.integer(program, row, forms)?;
-            integers.push(form)?;
-        }
-        let memory = self.own.memory(program, subst.memory, forms)?;
-        Ok(Variables { integers, memory })
-    }
-
     /// Whether a register is as a row of the target wants it.
     #[tactic(auto, unfolding(ft_types::specs::TypingRow::is_like))]
-    fn register_is_like<P: Program>(
+    fn register_is_like<P: Program, L: Ledger>(
         &self,
         put: &Variables,
+        made: &mut Memo,
         program: &P,
         row: RegType,
         forms: &mut Interner,
+        steps: &mut Steps<L>,
     ) -> Result<bool, NoMemory>
         requires spellable { IsSpellable (P.object program.now) }
         requires row { IsRegRow (length (P.object program.now).types) (P.object program.now).nodes (length put.now.integers) row }
         requires held { HoldsForms forms.old self.now }
         requires put { HoldsVariables forms.old put.now }
+        requires made { RemembersUnder (P.object program.now) forms.old put.now made.old }
         ensures kept { Keeps forms.old forms.new }
+        ensures made { RemembersUnder (P.object program.now) forms.new put.now made.new }
         ensures like { IfOk result (λ b. b ≡ is_like (P.object program.now) (replacement_in forms.old put.now) (typed (context_in forms.old self.now) row.reg.number) row) }
+        ensures steps { steps.new ≤ steps.old + tree_cost (P.object program.now) (updates (updates_held forms.old put.now.memory)) }
     {
         let known = match self.reg(row.reg) {
             Some(known) => known,
@@ -148,30 +134,35 @@ impl Context {
         if !is_typed_like(known, row) {
             return Ok(false);
         }
-        let wanted = put.integer(program, row.expr, forms)?;
+        let wanted = put.integer(program, row.expr, made, forms, steps)?;
         Ok(same_integers(forms, known.form, wanted))
     }
 
     /// Whether each register that code type `t` types is as its row wants it, where these are put for the
     /// type's variables.
-    pub fn registers_are_like<P: Program>(
+    pub fn registers_are_like<P: Program, L: Ledger>(
         &self,
         put: &Variables,
+        made: &mut Memo,
         program: &P,
         t: u32,
         forms: &mut Interner,
+        steps: &mut Steps<L>,
     ) -> Result<bool, NoMemory>
         requires spellable { IsSpellable (P.object program.now) }
         requires there { t < length (P.object program.now).types }
         requires count { length put.now.integers ≡ ints_of (P.object program.now) t }
         requires held { HoldsForms forms.old self.now }
         requires put { HoldsVariables forms.old put.now }
+        requires made { RemembersUnder (P.object program.now) forms.old put.now made.old }
         ensures kept { Keeps forms.old forms.new }
+        ensures made { RemembersUnder (P.object program.now) forms.new put.now made.new }
         ensures like { IfOk result (λ b. b ≡ are_like (P.object program.now) (replacement_in forms.old put.now) (context_in forms.old self.now) (reg_rows (P.object program.now) t)) }
+        ensures steps { steps.new ≤ steps.old + 64 * tree_cost (P.object program.now) (updates (updates_held forms.old put.now.memory)) }
     {
         for j in 0..program.code_type(t).regs {
             let row = program.reg_row(t, j);
-            let like = self.register_is_like(put, program, row, forms)?;
+            let like = self.register_is_like(put, made, program, row, forms, steps)?;
             if !like {
                 return Ok(false);
             }
@@ -180,20 +171,25 @@ impl Context {
     }
 
     /// Whether the static queue is as code type `t` wants it, where these are put for the type's variables.
-    pub fn queue_is_like<P: Program>(
+    pub fn queue_is_like<P: Program, L: Ledger>(
         &self,
         put: &Variables,
+        made: &mut Memo,
         program: &P,
         t: u32,
         forms: &mut Interner,
+        steps: &mut Steps<L>,
     ) -> Result<bool, NoMemory>
         requires spellable { IsSpellable (P.object program.now) }
         requires there { t < length (P.object program.now).types }
         requires count { length put.now.integers ≡ ints_of (P.object program.now) t }
         requires held { HoldsForms forms.old self.now }
         requires put { HoldsVariables forms.old put.now }
+        requires made { RemembersUnder (P.object program.now) forms.old put.now made.old }
         ensures kept { Keeps forms.old forms.new }
+        ensures made { RemembersUnder (P.object program.now) forms.new put.now made.new }
         ensures like { IfOk result (λ b. b ≡ is_queue_like (P.object program.now) (replacement_in forms.old put.now) (context_in forms.old self.now).queue (queue_rows (P.object program.now) t)) }
+        ensures steps { steps.new ≤ steps.old + 16 * tree_cost (P.object program.now) (updates (updates_held forms.old put.now.memory)) }
     {
         let rows = program.code_type(t).queue;
         if self.queue.len() != rows as usize {
@@ -201,7 +197,15 @@ impl Context {
         }
         for j in 0..rows {
             let row = program.queue_row(t, j);
-            let like = pair_is_like(self.queue.at(j as usize), put, program, row, forms)?;
+            let like = pair_is_like(
+                self.queue.at(j as usize),
+                put,
+                made,
+                program,
+                row,
+                forms,
+                steps,
+            )?;
             if !like {
                 return Ok(false);
             }
@@ -210,22 +214,27 @@ impl Context {
     }
 
     /// Whether the memory is as code type `t` wants it, where these are put for the type's variables.
-    pub fn memory_is_like<P: Program>(
+    pub fn memory_is_like<P: Program, L: Ledger>(
         &self,
         put: &Variables,
+        made: &mut Memo,
         program: &P,
         t: u32,
         forms: &mut Interner,
+        steps: &mut Steps<L>,
     ) -> Result<bool, NoMemory>
         requires spellable { IsSpellable (P.object program.now) }
         requires there { t < length (P.object program.now).types }
         requires count { length put.now.integers ≡ ints_of (P.object program.now) t }
         requires held { HoldsForms forms.old self.now }
         requires put { HoldsVariables forms.old put.now }
+        requires made { RemembersUnder (P.object program.now) forms.old put.now made.old }
         ensures kept { Keeps forms.old forms.new }
+        ensures made { RemembersUnder (P.object program.now) forms.new put.now made.new }
         ensures like { IfOk result (λ b. b ≡ same_updates (context_in forms.old self.now).memory (memory_form_after (P.object program.now) (replacement_in forms.old put.now) (memory_of (P.object program.now) t))) }
+        ensures steps { steps.new ≤ steps.old + tree_cost (P.object program.now) (updates (updates_held forms.old put.now.memory)) }
     {
-        let wanted = put.memory(program, program.code_type(t).memory, forms)?;
+        let wanted = put.memory(program, program.code_type(t).memory, made, forms, steps)?;
         Ok(same_memories(forms, self.memory, wanted))
     }
 }

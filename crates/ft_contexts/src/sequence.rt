@@ -23,6 +23,15 @@ impl<T> Model for Sequence<T> {
 }
 
 impl<T: Copy> Sequence<T> {
+    /// The empty list.
+    pub fn empty(alloc: Global) -> Sequence<T>
+        ensures { result ≡ [] }
+    {
+        Sequence {
+            values: Vec::new(alloc),
+        }
+    }
+
     /// The empty list, with room for so many values.
     pub fn with_room(alloc: Global, room: usize) -> Result<Sequence<T>, NoMemory>
         ensures { IfOk result (λ s. s ≡ []) }
@@ -30,6 +39,22 @@ impl<T: Copy> Sequence<T> {
         Ok(Sequence {
             values: Vec::with_capacity(alloc, room)?,
         })
+    }
+
+    /// The same values once more, with room for at least so many.
+    pub fn copied(&self, alloc: Global, room: usize) -> Result<Sequence<T>, NoMemory>
+        ensures { IfOk result (λ s. s ≡ self.now) }
+    {
+        let mut values = Vec::with_capacity(alloc, room)?;
+        values.extend_from_slice(self.values.as_slice())?;
+        Ok(Sequence { values })
+    }
+
+    /// Takes all values away, and keeps the room.
+    pub fn clear(&mut self)
+        ensures { self.new ≡ [] }
+    {
+        self.values.clear();
     }
 
     /// How many values there are.
@@ -54,7 +79,7 @@ impl<T: Copy> Sequence<T> {
         self.values[i]
     }
 
-    /// Adds a value at the end. After want of memory nothing changes.
+    /// Adds a value at the end. When out of memory, nothing changes.
     pub fn push(&mut self, value: T) -> Result<(), NoMemory>
         ensures ok { OnOk result (self.new ≡ self.old ++ value ∷ []) }
         ensures err { OnErr result (self.new ≡ self.old) }

@@ -1,44 +1,50 @@
 //! What is known where a block begins.
-ghost use Rattle.std.specs.Prelude.{◌≡◌, ◌<◌, IfOk, length, map, []};
+ghost use Rattle.std.specs.Prelude.{◌≡◌, ◌+◌, ◌*◌, ◌<◌, ◌≤◌, IfOk, length, map, []};
 ghost use Rattle.std.specs.FinMap as finite;
 ghost use Rattle.ft_norm.specs.Held.{Keeps};
 ghost use Rattle.ft_types.specs.Context.{queue_pair, registers_after};
-ghost use Rattle.ft_types.specs.Objects.{ints_of, queue_rows, reg_rows};
+ghost use Rattle.ft_types.specs.Objects.{queue_rows, reg_rows};
 ghost use Rattle.ft_types.specs.Spellable.{IsSpellable};
-ghost use Rattle.ft_contexts.specs.Contexts.{AreOwn, HoldsQueue, HoldsRegisters, RegistersNameTypes, pair_in, registers_in};
+ghost use Rattle.ft_contexts.specs.Contexts.{HoldsOwn, HoldsQueue, HoldsRegisters, RegistersNameTypes, pair_in, registers_in};
+ghost use Rattle.ft_contexts.specs.Costs.{tree_cost};
 
 use crate::register::RegForm;
 use crate::sequence::Sequence;
-use crate::variables::Variables;
+use crate::variables::OwnVariables;
 use ft_isa::NoMemory;
 use ft_norm::{Form, Interner};
+use ft_steps::Steps;
 use ft_types::Program;
 use std::alloc::Global;
+use std::sync::ledger::Ledger;
 
-/// How many pairs a static queue holds at the most.
+/// The most pairs that a static queue holds.
 pub const QUEUE_ROOM: usize = 8;
 
 /// What code type `t` says of the registers, by their number.
-pub fn start_registers<P: Program>(
+pub fn start_registers<P: Program, L: Ledger>(
     program: &P,
     t: u32,
     rows: u32,
-    own: &Variables,
+    own: &mut OwnVariables,
     forms: &mut Interner,
+    steps: &mut Steps<L>,
 ) -> Result<[Option<RegForm>; 64], NoMemory>
     requires spellable { IsSpellable (P.object program.now) }
     requires there { t < length (P.object program.now).types }
     requires rows { rows ≡ length (reg_rows (P.object program.now) t) }
-    requires own { AreOwn forms.old (ints_of (P.object program.now) t) own.now }
+    requires own { HoldsOwn (P.object program.now) forms.old own.old }
     ensures kept { Keeps forms.old forms.new }
+    ensures own { HoldsOwn (P.object program.now) forms.new own.new }
     ensures known { IfOk result (λ xs. registers_in forms.new 0 xs ≡ registers_after (P.object program.now) finite.empty (reg_rows (P.object program.now) t)) }
     ensures held { IfOk result (HoldsRegisters forms.new) }
+    ensures steps { steps.new ≤ steps.old + rows * tree_cost (P.object program.now) 0 }
     ensures types { IfOk result (RegistersNameTypes (length (P.object program.now).types)) }
 {
     let mut registers = [None; 64];
     for j in 0..rows {
         let row = program.reg_row(t, j);
-        let form = own.integer(program, row.expr, forms)?;
+        let form = own.integer(program, row.expr, forms, steps)?;
         registers[row.reg.number() as usize] = Some(RegForm {
             colour: row.colour,
             basic: row.basic,
@@ -49,27 +55,30 @@ pub fn start_registers<P: Program>(
 }
 
 /// The pairs that code type `t` says are pending.
-pub fn start_queue<P: Program>(
+pub fn start_queue<P: Program, L: Ledger>(
     alloc: Global,
     program: &P,
     t: u32,
     rows: u32,
-    own: &Variables,
+    own: &mut OwnVariables,
     forms: &mut Interner,
+    steps: &mut Steps<L>,
 ) -> Result<Sequence<(Form, Form)>, NoMemory>
     requires spellable { IsSpellable (P.object program.now) }
     requires there { t < length (P.object program.now).types }
     requires rows { rows ≡ length (queue_rows (P.object program.now) t) }
-    requires own { AreOwn forms.old (ints_of (P.object program.now) t) own.now }
+    requires own { HoldsOwn (P.object program.now) forms.old own.old }
     ensures kept { Keeps forms.old forms.new }
+    ensures own { HoldsOwn (P.object program.now) forms.new own.new }
     ensures pairs { IfOk result (λ q. map (pair_in forms.new) q ≡ map (queue_pair (P.object program.now)) (queue_rows (P.object program.now) t)) }
     ensures held { IfOk result (HoldsQueue forms.new) }
+    ensures steps { steps.new ≤ steps.old + rows * (2 * tree_cost (P.object program.now) 0) }
 {
     let mut queue = Sequence::with_room(alloc, QUEUE_ROOM)?;
     for j in 0..rows {
         let (address, value) = program.queue_row(t, j);
-        let address = own.integer(program, address, forms)?;
-        let value = own.integer(program, value, forms)?;
+        let address = own.integer(program, address, forms, steps)?;
+        let value = own.integer(program, value, forms, steps)?;
         queue.push((address, value))?;
     }
     Ok(queue)

@@ -1,15 +1,21 @@
 //! Forms that stand for variables.
-ghost use Rattle.std.specs.Prelude.{◌≡◌, ◌≤◌, IfOk, Some, false, true, length};
-ghost use Rattle.ft_static.specs.Form.{integer_form, memory_form};
-ghost use Rattle.ft_norm.specs.Held.{Keeps, held};
+ghost use Rattle.std.specs.Prelude.{◌≡◌, ◌+◌, ◌≤◌, IfOk, Some, false, true, length, []};
+ghost use Rattle.ft_static.specs.Form.{integer_form, memory_form, updates};
+ghost use Rattle.ft_norm.specs.Held.{Keeps, held, updates_held};
 ghost use Rattle.ft_types.specs.Context.{integer_form_after, integer_form_of, memory_form_after, memory_form_of};
 ghost use Rattle.ft_types.specs.Spellable.{IsNodeIn, IsSpellable};
+ghost use Rattle.ft_contexts.specs.Costs.{tree_cost};
 
 use crate::sequence::Sequence;
 use ft_isa::NoMemory;
-use ft_norm::{Form, Interner};
+use ft_norm::{Form, Interner, Memo};
+use ft_steps::Steps;
 use ft_types::Program;
 use std::alloc::Global;
+use std::sync::ledger::Ledger;
+
+/// The most integer variables that a code type has.
+const MOST_INTS: u8 = 128;
 
 /// A form for each integer variable in turn, and one for the memory variable.
 #[derive(Drop)]
@@ -19,53 +25,130 @@ pub struct Variables {
 }
 
 impl Variables {
-    ghost use Rattle.ft_contexts.specs.Contexts.{AreOwn, HoldsVariables, replacement_in};
+    ghost use Rattle.ft_contexts.specs.Contexts.{HoldsVariables, RemembersUnder, replacement_in};
 
-    /// The forms of the variables themselves.
-    pub fn own(alloc: Global, ints: u8, forms: &mut Interner) -> Result<Variables, NoMemory>
-        ensures kept { Keeps forms.old forms.new }
-        ensures own { IfOk result (AreOwn forms.new ints) }
-    {
-        let mut integers = Sequence::with_room(alloc, ints as usize)?;
-        for i in 0..ints {
-            let form = forms.var(i)?;
-            integers.push(form)?;
-        }
-        let memory = forms.memory()?;
-        Ok(Variables { integers, memory })
-    }
-
-    /// The form of the integer of node `n`, where these are put for the variables.
-    pub fn integer<P: Program>(
+    /// The form of the integer of node `n`, where these are put for the variables. What was made so
+    /// far is not made again.
+    pub fn integer<P: Program, L: Ledger>(
         &self,
         program: &P,
         n: u32,
+        made: &mut Memo,
         forms: &mut Interner,
+        steps: &mut Steps<L>,
     ) -> Result<Form, NoMemory>
         requires spellable { IsSpellable (P.object program.now) }
         requires node { IsNodeIn (P.object program.now).nodes (length self.now.integers) false n }
         requires held { HoldsVariables forms.old self.now }
+        requires made { RemembersUnder (P.object program.now) forms.old self.now made.old }
         ensures kept { Keeps forms.old forms.new }
+        ensures made { RemembersUnder (P.object program.now) forms.new self.now made.new }
         ensures form { IfOk result (λ f. held forms.new f ≡ Some (integer_form (integer_form_after (P.object program.now) (replacement_in forms.old self.now) n))) }
+        ensures steps { steps.new ≤ steps.old + tree_cost (P.object program.now) (updates (updates_held forms.old self.now.memory)) }
     {
-        let form = forms.under(program, n, self.integers.as_slice(), self.memory)?;
+        let ints = self.integers.as_slice();
+        let form = made.form(forms, program, n, ints, self.memory, steps)?;
         Ok(form)
     }
 
-    /// The form of the memory of node `n`, where these are put for the variables.
-    pub fn memory<P: Program>(
+    /// The form of the memory of node `n`, where these are put for the variables. What was made so far
+    /// is not made again.
+    pub fn memory<P: Program, L: Ledger>(
         &self,
         program: &P,
         n: u32,
+        made: &mut Memo,
         forms: &mut Interner,
+        steps: &mut Steps<L>,
     ) -> Result<Form, NoMemory>
         requires spellable { IsSpellable (P.object program.now) }
         requires node { IsNodeIn (P.object program.now).nodes (length self.now.integers) true n }
         requires held { HoldsVariables forms.old self.now }
+        requires made { RemembersUnder (P.object program.now) forms.old self.now made.old }
         ensures kept { Keeps forms.old forms.new }
+        ensures made { RemembersUnder (P.object program.now) forms.new self.now made.new }
         ensures form { IfOk result (λ f. held forms.new f ≡ Some (memory_form (memory_form_after (P.object program.now) (replacement_in forms.old self.now) n))) }
+        ensures count { IfOk result (λ f. updates (updates_held forms.new f) ≤ updates (updates_held forms.old self.now.memory) + length (P.object program.now).nodes) }
+        ensures steps { steps.new ≤ steps.old + tree_cost (P.object program.now) (updates (updates_held forms.old self.now.memory)) }
     {
-        let form = forms.under(program, n, self.integers.as_slice(), self.memory)?;
+        let ints = self.integers.as_slice();
+        let form = made.form(forms, program, n, ints, self.memory, steps)?;
+        Ok(form)
+    }
+}
+
+/// The most variables that a code type has, each put for itself, and the forms of the nodes that were
+/// made so far with the variables as they are. They serve all blocks of an object.
+#[derive(Drop)]
+pub struct OwnVariables {
+    variables: Variables,
+    made: Memo,
+}
+
+impl OwnVariables {
+    ghost use Rattle.ft_types.specs.declared.object.Object.{Object};
+    ghost use Rattle.ft_contexts.specs.Contexts.{HoldsOwn};
+
+    /// No node is made yet.
+    pub fn new(alloc: Global, forms: &mut Interner) -> Result<OwnVariables, NoMemory>
+        ensures kept { Keeps forms.old forms.new }
+        ensures own { (o : Object) → IfOk result (HoldsOwn o forms.new) }
+    {
+        let mut integers = Sequence::with_room(alloc, MOST_INTS as usize)?;
+        for i in 0..MOST_INTS {
+            let form = forms.var(i)?;
+            integers.push(form)?;
+        }
+        let memory = forms.memory()?;
+        let variables = Variables { integers, memory };
+        Ok(OwnVariables {
+            variables,
+            made: Memo::new(alloc),
+        })
+    }
+
+    /// The form of the integer of node `n`, with the variables as they are.
+    pub fn integer<P: Program, L: Ledger>(
+        &mut self,
+        program: &P,
+        n: u32,
+        forms: &mut Interner,
+        steps: &mut Steps<L>,
+    ) -> Result<Form, NoMemory>
+        requires spellable { IsSpellable (P.object program.now) }
+        requires node { IsNodeIn (P.object program.now).nodes 128 false n }
+        requires own { HoldsOwn (P.object program.now) forms.old self.old }
+        ensures kept { Keeps forms.old forms.new }
+        ensures own { HoldsOwn (P.object program.now) forms.new self.new }
+        ensures form { IfOk result (λ f. held forms.new f ≡ Some (integer_form (integer_form_of (P.object program.now) n))) }
+        ensures steps { steps.new ≤ steps.old + tree_cost (P.object program.now) 0 }
+    {
+        let form = self
+            .variables
+            .integer(program, n, &mut self.made, forms, steps)?;
+        Ok(form)
+    }
+
+    /// The form of the memory of node `n`, with the variables as they are.
+    pub fn memory<P: Program, L: Ledger>(
+        &mut self,
+        program: &P,
+        n: u32,
+        forms: &mut Interner,
+        steps: &mut Steps<L>,
+    ) -> Result<Form, NoMemory>
+        requires spellable { IsSpellable (P.object program.now) }
+        requires node { IsNodeIn (P.object program.now).nodes 128 true n }
+        requires own { HoldsOwn (P.object program.now) forms.old self.old }
+        ensures kept { Keeps forms.old forms.new }
+        ensures own { HoldsOwn (P.object program.now) forms.new self.new }
+        ensures form { IfOk result (λ f. held forms.new f ≡ Some (memory_form (memory_form_of (P.object program.now) n))) }
+        ensures count { IfOk result (λ f. updates (updates_held forms.new f) ≤ length (P.object program.now).nodes) }
+        ensures steps { steps.new ≤ steps.old + tree_cost (P.object program.now) 0 }
+    {
+        let form = self
+            .variables
+            .memory(program, n, &mut self.made, forms, steps)?;
         Ok(form)
     }
 }

@@ -1,16 +1,16 @@
 -- The forms of a list of entries: a later entry leaves the earlier forms, and each form is its entry's.
-use Rattle.std.proofs.Common.{ℕ, suc, zero, ◌≡◌, ◌+◌, ◌<◌, ◌≤◌, List, [], ◌∷◌, ◌++◌, length, get_or, refl, sym, ap, ◌∙◌, arith, max, length-append, inl, inr, Option, Some, slice_get, Vec}
+use Rattle.std.proofs.Common.{ℕ, suc, zero, ◌≡◌, ◌+◌, ◌<◌, ◌≤◌, Bool, true, false, if◌then◌else◌, List, [], ◌∷◌, ◌++◌, length, get_or, refl, sym, ap, ◌∙◌, arith, max, length-append, inl, inr, Option, None, Some, slice_get}
 use Rattle.std.specs.Option.{unwrap_or}
 use Rattle.std.proofs.lemmas.Bool.{cases_lt}
 use Rattle.std.proofs.lemmas.List.{get_or_append_left, get_or_push}
-use Rattle.ft_static.specs.Form.{Form, integer_form, memory_form, polynomial_of, updates_of, nought, unchanged, update}
+use Rattle.ft_static.specs.Form.{Form, Polynomial, Updates, integer_form, memory_form, polynomial_of, updates_of, nought, unchanged, update}
 use Rattle.ft_norm.specs.declared.entry.Factor.{Factor}
 use Rattle.ft_norm.specs.declared.entry.Factor.TheVariants.{Variable, Ltu, Eq, Sel, Product, Sum}
 use Rattle.ft_norm.specs.declared.entry.Term.{Term}
 use Rattle.ft_norm.specs.declared.entry.Entry.{Entry}
-use Rattle.ft_norm.specs.declared.entry.Entry.TheVariants.{Integer, Unchanged, Update}
+use Rattle.ft_norm.specs.declared.entry.Entry.TheVariants.{Single, Several, Unchanged, Update}
 use Rattle.ft_norm.specs.Held.{polynomial_at, updates_at}
-use Rattle.ft_norm.specs.Entries.{atom_form, monomial_form, polynomial_form, entry_form, forms_onto, forms_of, reach, reach_of_factors, reach_of_terms, reach_of_entry, NamesEarlier, IsIntegerAt, HasIntegerValue, HaveIntegerValues, AreEntries}
+use Rattle.ft_norm.specs.Entries.{atom_form, monomial_form, polynomial_form, entry_form, forms_onto, forms_of, is_integer_form, is_memory_form, integer_reach, memory_reach, reach, reach_of_factors, reach_of_terms, reach_of_entry, NamesEarlier, IsIntegerAt, IsMemoryAt}
 use Rattle.ft_norm.proofs.Lists.{slice_get-append, slice_get-push}
 
 -- both lists have the same forms below n
@@ -26,29 +26,30 @@ pub updates_agree : (n : ℕ) (fs gs : List Form) → Agree n fs gs → (k : ℕ
 updates_agree n fs gs h k l = ap (λ (o : Option Form). updates_of (unwrap_or o (integer_form nought))) (h.below k l)
 
 -- a factor that names only what is below n is the same atom in both
-pub atom_agree : (n : ℕ) (fs gs : List Form) → Agree n fs gs → (a : Factor) → reach a ≤ n → atom_form fs a ≡ atom_form gs a
-atom_agree n fs gs h (Variable i) l = refl
-atom_agree n fs gs h (Ltu p q) l = let x = polynomials_agree n fs gs h p (omega arith) in let y = polynomials_agree n fs gs h q (omega arith) in cc
-atom_agree n fs gs h (Eq p q) l = let x = polynomials_agree n fs gs h p (omega arith) in let y = polynomials_agree n fs gs h q (omega arith) in cc
-atom_agree n fs gs h (Sel p q) l = let x = updates_agree n fs gs h p (omega arith) in let y = polynomials_agree n fs gs h q (omega arith) in cc
-atom_agree n fs gs h (Product p q) l = let x = polynomials_agree n fs gs h p (omega arith) in let y = polynomials_agree n fs gs h q (omega arith) in cc
-atom_agree n fs gs h (Sum p q) l = let x = polynomials_agree n fs gs h p (omega arith) in let y = polynomials_agree n fs gs h q (omega arith) in cc
+pub atom_agree : (n : ℕ) (fs gs hs : List Form) → Agree n fs gs → (a : Factor) → reach hs a ≤ n → atom_form fs a ≡ atom_form gs a
+atom_agree n fs gs hs h (Variable i) l = refl
+atom_agree n fs gs hs h (Ltu p q) l = let x = polynomials_agree n fs gs h p (omega arith) in let y = polynomials_agree n fs gs h q (omega arith) in cc
+atom_agree n fs gs hs h (Eq p q) l = let x = polynomials_agree n fs gs h p (omega arith) in let y = polynomials_agree n fs gs h q (omega arith) in cc
+atom_agree n fs gs hs h (Sel p q) l = let x = updates_agree n fs gs h p (omega arith) in let y = polynomials_agree n fs gs h q (omega arith) in cc
+atom_agree n fs gs hs h (Product p q) l = let x = polynomials_agree n fs gs h p (omega arith) in let y = polynomials_agree n fs gs h q (omega arith) in cc
+atom_agree n fs gs hs h (Sum p q) l = let x = polynomials_agree n fs gs h p (omega arith) in let y = polynomials_agree n fs gs h q (omega arith) in cc
 
 -- so are factors
-pub monomial_agree : (n : ℕ) (fs gs : List Form) → Agree n fs gs → (xs : List Factor) → reach_of_factors xs ≤ n → monomial_form fs xs ≡ monomial_form gs xs
-monomial_agree n fs gs h [] l = refl
-monomial_agree n fs gs h (x ∷ xs) l = let a = atom_agree n fs gs h x (omega arith) in let b = monomial_agree n fs gs h xs (omega arith) in cc
+pub monomial_agree : (n : ℕ) (fs gs hs : List Form) → Agree n fs gs → (xs : List Factor) → reach_of_factors hs xs ≤ n → monomial_form fs xs ≡ monomial_form gs xs
+monomial_agree n fs gs hs h [] l = refl
+monomial_agree n fs gs hs h (x ∷ xs) l = let a = atom_agree n fs gs hs h x (omega arith) in let b = monomial_agree n fs gs hs h xs (omega arith) in rw (a, b) refl
 
 -- and terms
-pub terms_agree : (n : ℕ) (fs gs : List Form) → Agree n fs gs → (ts : List Term) → reach_of_terms ts ≤ n → polynomial_form fs ts ≡ polynomial_form gs ts
-terms_agree n fs gs h [] l = refl
-terms_agree n fs gs h (t ∷ ts) l = let a = monomial_agree n fs gs h t.factors.items (omega arith) in let b = terms_agree n fs gs h ts (omega arith) in cc
+pub terms_agree : (n : ℕ) (fs gs hs : List Form) → Agree n fs gs → (ts : List Term) → reach_of_terms hs ts ≤ n → polynomial_form fs ts ≡ polynomial_form gs ts
+terms_agree n fs gs hs h [] l = refl
+terms_agree n fs gs hs h (t ∷ ts) l = let a = monomial_agree n fs gs hs h t.factors.items (omega arith) in let b = terms_agree n fs gs hs h ts (omega arith) in rw (a, b) refl
 
 -- and entries
-pub entry_agree : (n : ℕ) (fs gs : List Form) → Agree n fs gs → (e : Entry) → reach_of_entry e ≤ n → entry_form fs e ≡ entry_form gs e
-entry_agree n fs gs h (Integer ts) l = ap integer_form (terms_agree n fs gs h ts.items l)
-entry_agree n fs gs h Unchanged l = refl
-entry_agree n fs gs h (Update at value older) l = let x = polynomials_agree n fs gs h at (omega arith) in let y = polynomials_agree n fs gs h value (omega arith) in let z = updates_agree n fs gs h older (omega arith) in cc
+pub entry_agree : (n : ℕ) (fs gs hs : List Form) → Agree n fs gs → (e : Entry) → reach_of_entry hs e ≤ n → entry_form fs e ≡ entry_form gs e
+entry_agree n fs gs hs h (Single t) l = ap integer_form (terms_agree n fs gs hs h (t ∷ []) l)
+entry_agree n fs gs hs h (Several ts) l = ap integer_form (terms_agree n fs gs hs h ts.items l)
+entry_agree n fs gs hs h Unchanged l = refl
+entry_agree n fs gs hs h (Update at value older) l = let x = polynomials_agree n fs gs h at (omega arith) in let y = polynomials_agree n fs gs h value (omega arith) in let z = updates_agree n fs gs h older (omega arith) in cc
 
 -- one more entry gives one more form
 pub forms_onto-push : (fs : List Form) (es : List Entry) (e : Entry) → forms_onto fs (es ++ (e ∷ [])) ≡ forms_onto fs es ++ (entry_form (forms_onto fs es) e ∷ [])
@@ -73,26 +74,26 @@ forms_onto-kept fs (x ∷ es) k l =
     forms_onto-kept g es k m ∙ slice_get-append fs (entry_form fs x ∷ []) k l
 
 -- each form is its entry's
-forms_onto-at : (fs : List Form) (es : List Entry) (i : ℕ) (e : Entry) → i < length es → reach_of_entry (get_or es i e) ≤ length fs + i
+forms_onto-at : (fs hs : List Form) (es : List Entry) (i : ℕ) (e : Entry) → i < length es → reach_of_entry hs (get_or es i e) ≤ length fs + i
     → slice_get (forms_onto fs es) (length fs + i) ≡ Some (entry_form (forms_onto fs es) (get_or es i e))
-forms_onto-at fs [] i e l r = absurd (omega arith)
-forms_onto-at fs (x ∷ es) zero e l r =
+forms_onto-at fs hs [] i e l r = absurd (omega arith)
+forms_onto-at fs hs (x ∷ es) zero e l r =
     let g = fs ++ (entry_form fs x ∷ []) in
     let m : length fs + 0 < length g = omega (arith, length-append fs (entry_form fs x ∷ [])) in
     let agree : Agree (length fs) fs (forms_onto g es) = record { below = λ k q. sym (forms_onto-kept fs (x ∷ es) k q) } in
     forms_onto-kept g es (length fs + 0) m ∙ (slice_get-push fs (entry_form fs x) (length fs + 0) (omega arith)
-    ∙ ap Some (entry_agree (length fs) fs (forms_onto g es) agree x (omega arith)))
-forms_onto-at fs (x ∷ es) (suc i) e l r =
+    ∙ ap Some (entry_agree (length fs) fs (forms_onto g es) hs agree x (omega arith)))
+forms_onto-at fs hs (x ∷ es) (suc i) e l r =
     let g = fs ++ (entry_form fs x ∷ []) in
     let n : length g ≡ suc (length fs) = omega (arith, length-append fs (entry_form fs x ∷ [])) in
-    let h = forms_onto-at g es i e (omega arith) (omega arith) in
+    let h = forms_onto-at g hs es i e (omega arith) (omega arith) in
     let s : length fs + suc i ≡ length g + i = omega arith in
     rw s h
 
 -- the form of entry i
 pub form_at : (es : List Entry) (i : ℕ) (e : Entry) → NamesEarlier es → i < length es → slice_get (forms_of es) i ≡ Some (entry_form (forms_of es) (get_or es i e))
 form_at es i e h l = let z : 0 + i ≡ i = omega arith in
-    rw z at (forms_onto-at [] es i e l (let k = h i e l in omega arith))
+    rw z at (forms_onto-at [] (forms_of es) es i e l (let k = h i e l in omega arith))
 
 -- the form of an entry that was read
 pub form_read : (es : List Entry) (i : ℕ) (e x : Entry) → NamesEarlier es → i < length es → e ≡ get_or es i e → e ≡ x → slice_get (forms_of es) i ≡ Some (entry_form (forms_of es) x)
@@ -106,22 +107,50 @@ polynomial_read es i e x h l r k = sym (ap (λ (o : Option Form). polynomial_of 
 pub updates_read : (es : List Entry) (i : ℕ) (e x : Entry) → NamesEarlier es → i < length es → e ≡ get_or es i e → e ≡ x → updates_at (forms_of es) i ≡ updates_of (entry_form (forms_of es) x)
 updates_read es i e x h l r k = ap (λ (o : Option Form). updates_of (unwrap_or o (integer_form nought))) (form_read es i e x h l r k)
 
--- one more entry that names only earlier ones
-pub names_push : (es : List Entry) (e : Entry) → NamesEarlier es → reach_of_entry e ≤ length es → NamesEarlier (es ++ (e ∷ []))
-names_push es e h r k d l = elim (cases_lt k (length es)) [
-  | inl m ↦ rw (get_or_append_left es (e ∷ []) d k m) (h k d m)
-  | inr m ↦ let n : k ≡ length es = omega (arith, length-append es (e ∷ [])) in rw (n, get_or_push es e d (length es) refl) r
-]
+-- a part that is an integer's and is named early enough is one in any list that agrees
+integer_reach_agree : (n m : ℕ) (fs gs : List Form) → Agree n fs gs → n ≤ length fs → m ≤ n → (i : ℕ) → integer_reach fs i ≤ m → integer_reach gs i ≤ m
+integer_reach_agree n m fs gs h l k i r = go (is_integer_form (slice_get fs i)) (is_integer_form (slice_get gs i)) (ap is_integer_form (sym (h.below i (omega arith)))) r
+  where
+    go : (b c : Bool) → c ≡ b → i + 1 + (if b then 0 else length fs) ≤ m → i + 1 + (if c then 0 else length gs) ≤ m
+    go true c e r = rw e r
+    go false c e r = absurd (omega arith)
 
--- the same form where both lists agree
-integer_agree : (n : ℕ) (fs gs : List Form) → Agree n fs gs → (k : ℕ) → k < n → IsIntegerAt fs k → IsIntegerAt gs k
-integer_agree n fs gs h k l i = sym (h.below k l) ∙ (i ∙ ap (λ p. Some (integer_form p)) (polynomials_agree n fs gs h k l))
+-- so is one that is a memory's
+memory_reach_agree : (n m : ℕ) (fs gs : List Form) → Agree n fs gs → n ≤ length fs → m ≤ n → (i : ℕ) → memory_reach fs i ≤ m → memory_reach gs i ≤ m
+memory_reach_agree n m fs gs h l k i r = go (is_memory_form (slice_get fs i)) (is_memory_form (slice_get gs i)) (ap is_memory_form (sym (h.below i (omega arith)))) r
+  where
+    go : (b c : Bool) → c ≡ b → i + 1 + (if b then 0 else length fs) ≤ m → i + 1 + (if c then 0 else length gs) ≤ m
+    go true c e r = rw e r
+    go false c e r = absurd (omega arith)
 
--- the value of an update stays an integer's
-pub value_agree : (n : ℕ) (fs gs : List Form) → Agree n fs gs → (e : Entry) → reach_of_entry e ≤ n → HasIntegerValue fs e → HasIntegerValue gs e
-value_agree n fs gs h (Integer ts) l v = tt
-value_agree n fs gs h Unchanged l v = tt
-value_agree n fs gs h (Update at value older) l v = integer_agree n fs gs h value (omega arith) v
+-- and so are all that a factor names
+reach_agree : (n m : ℕ) (fs gs : List Form) → Agree n fs gs → n ≤ length fs → m ≤ n → (a : Factor) → reach fs a ≤ m → reach gs a ≤ m
+reach_agree n m fs gs h l k (Variable i) r = r
+reach_agree n m fs gs h l k (Ltu p q) r = let x = integer_reach_agree n m fs gs h l k p (omega arith) in let y = integer_reach_agree n m fs gs h l k q (omega arith) in omega arith
+reach_agree n m fs gs h l k (Eq p q) r = let x = integer_reach_agree n m fs gs h l k p (omega arith) in let y = integer_reach_agree n m fs gs h l k q (omega arith) in omega arith
+reach_agree n m fs gs h l k (Sel p q) r = let x = memory_reach_agree n m fs gs h l k p (omega arith) in let y = integer_reach_agree n m fs gs h l k q (omega arith) in omega arith
+reach_agree n m fs gs h l k (Product p q) r = let x = integer_reach_agree n m fs gs h l k p (omega arith) in let y = integer_reach_agree n m fs gs h l k q (omega arith) in omega arith
+reach_agree n m fs gs h l k (Sum p q) r = let x = integer_reach_agree n m fs gs h l k p (omega arith) in let y = integer_reach_agree n m fs gs h l k q (omega arith) in omega arith
+
+-- that factors name
+factors_reach_agree : (n m : ℕ) (fs gs : List Form) → Agree n fs gs → n ≤ length fs → m ≤ n → (xs : List Factor) → reach_of_factors fs xs ≤ m → reach_of_factors gs xs ≤ m
+factors_reach_agree n m fs gs h l k [] r = r
+factors_reach_agree n m fs gs h l k (x ∷ xs) r = let a = reach_agree n m fs gs h l k x (omega arith) in let b = factors_reach_agree n m fs gs h l k xs (omega arith) in omega arith
+
+-- that terms name
+terms_reach_agree : (n m : ℕ) (fs gs : List Form) → Agree n fs gs → n ≤ length fs → m ≤ n → (ts : List Term) → reach_of_terms fs ts ≤ m → reach_of_terms gs ts ≤ m
+terms_reach_agree n m fs gs h l k [] r = r
+terms_reach_agree n m fs gs h l k (t ∷ ts) r = let a = factors_reach_agree n m fs gs h l k t.factors.items (omega arith) in let b = terms_reach_agree n m fs gs h l k ts (omega arith) in omega arith
+
+-- that an entry names
+entry_reach_agree : (n m : ℕ) (fs gs : List Form) → Agree n fs gs → n ≤ length fs → m ≤ n → (e : Entry) → reach_of_entry fs e ≤ m → reach_of_entry gs e ≤ m
+entry_reach_agree n m fs gs h l k (Single t) r = terms_reach_agree n m fs gs h l k (t ∷ []) r
+entry_reach_agree n m fs gs h l k (Several ts) r = terms_reach_agree n m fs gs h l k ts.items r
+entry_reach_agree n m fs gs h l k Unchanged r = r
+entry_reach_agree n m fs gs h l k (Update at value older) r =
+    let x = integer_reach_agree n m fs gs h l k at (omega arith) in
+    let y = integer_reach_agree n m fs gs h l k value (omega arith) in
+    let z = memory_reach_agree n m fs gs h l k older (omega arith) in omega arith
 
 -- the forms so far agree with those after one more entry
 pub push_agrees : (es : List Entry) (e : Entry) → Agree (length es) (forms_of es) (forms_of (es ++ e ∷ []))
@@ -131,48 +160,71 @@ push_agrees es e = record {
       sym (ap (λ fs. slice_get fs k) (forms_onto-push [] es e) ∙ slice_get-append (forms_of es) (entry_form (forms_of es) e ∷ []) k (omega arith));
 }
 
--- one more entry whose value is an integer's
-pub values_push : (es : List Entry) (e : Entry) → AreEntries es → reach_of_entry e ≤ length es → HasIntegerValue (forms_of es) e → HaveIntegerValues (es ++ (e ∷ []))
-values_push es e h r v k d l = elim (cases_lt k (length es)) [
-  | inl m ↦ rw (get_or_append_left es (e ∷ []) d k m) (let n = h.earlier k d m in value_agree (length es) (forms_of es) (forms_of (es ++ e ∷ [])) (push_agrees es e) (get_or es k d) (omega arith) (h.values k d m))
-  | inr m ↦ let n : k ≡ length es = omega (arith, length-append es (e ∷ [])) in rw (n, get_or_push es e d (length es) refl) (value_agree (length es) (forms_of es) (forms_of (es ++ e ∷ [])) (push_agrees es e) e r v)
-]
+-- one more entry that names only earlier ones
+pub names_push : (es : List Entry) (e : Entry) → NamesEarlier es → reach_of_entry (forms_of es) e ≤ length es → NamesEarlier (es ++ (e ∷ []))
+names_push es e h r k d l =
+    let fs = forms_of es in
+    let gs = forms_of (es ++ e ∷ []) in
+    let n = length-forms_of es in
+    elim (cases_lt k (length es)) [
+      | inl m ↦ rw (get_or_append_left es (e ∷ []) d k m) (entry_reach_agree (length es) k fs gs (push_agrees es e) (omega arith) (omega arith) (get_or es k d) (h k d m))
+      | inr m ↦ let q : k ≡ length es = omega (arith, length-append es (e ∷ [])) in rw (q, get_or_push es e d (length es) refl) (entry_reach_agree (length es) (length es) fs gs (push_agrees es e) (omega arith) (omega arith) e r)
+    ]
 
--- so entries stay as an interner keeps them
-pub entries_push : (es : List Entry) (e : Entry) → AreEntries es → reach_of_entry e ≤ length es → HasIntegerValue (forms_of es) e → AreEntries (es ++ e ∷ [])
-entries_push es e h r v = record { earlier = names_push es e h.earlier r; values = values_push es e h r v }
+-- a part that reaches no further than the list is an integer's
+pub integer_reached : (fs : List Form) (n i : ℕ) → n ≤ length fs → integer_reach fs i ≤ n → IsIntegerAt fs i
+integer_reached fs n i l r = go (slice_get fs i) refl r
+  where
+    go : (o : Option Form) → slice_get fs i ≡ o → i + 1 + (if is_integer_form o then 0 else length fs) ≤ n → IsIntegerAt fs i
+    go None e r = absurd (omega arith)
+    go (Some (integer_form p)) e r = e ∙ ap (λ (q : Option Form). Some (integer_form (polynomial_of (unwrap_or q (integer_form nought))))) (sym e)
+    go (Some (memory_form u)) e r = absurd (omega arith)
+
+-- or a memory's
+pub memory_reached : (fs : List Form) (n i : ℕ) → n ≤ length fs → memory_reach fs i ≤ n → IsMemoryAt fs i
+memory_reached fs n i l r = go (slice_get fs i) refl r
+  where
+    go : (o : Option Form) → slice_get fs i ≡ o → i + 1 + (if is_memory_form o then 0 else length fs) ≤ n → IsMemoryAt fs i
+    go None e r = absurd (omega arith)
+    go (Some (integer_form p)) e r = absurd (omega arith)
+    go (Some (memory_form u)) e r = e ∙ ap (λ (q : Option Form). Some (memory_form (updates_of (unwrap_or q (integer_form nought))))) (sym e)
+
+-- an integer's reaches just beyond itself
+pub integer_reaches : (fs : List Form) (i : ℕ) (p : Polynomial) → slice_get fs i ≡ Some (integer_form p) → integer_reach fs i ≡ i + 1
+integer_reaches fs i p e = rw e (omega arith)
+
+-- so does a memory's
+pub memory_reaches : (fs : List Form) (i : ℕ) (u : Updates) → slice_get fs i ≡ Some (memory_form u) → memory_reach fs i ≡ i + 1
+memory_reaches fs i u e = rw e (omega arith)
 
 -- one link of a memory form
 pub link : (es : List Entry) (m : ℕ) (e : Entry) (at value older : ℕ) → NamesEarlier es → m < length es → e ≡ get_or es m e → e ≡ Update at value older
     → updates_at (forms_of es) m ≡ update (polynomial_at (forms_of es) at) (polynomial_at (forms_of es) value) (updates_at (forms_of es) older)
 link es m e at value older h l r k = updates_read es m e (Update at value older) h l r k
 
--- it names only earlier entries
-pub link_reach : (es : List Entry) (m : ℕ) (e : Entry) (at value older : ℕ) → NamesEarlier es → m < length es → e ≡ get_or es m e → e ≡ Update at value older → max (max at value) older + 1 ≤ m
-link_reach es m e at value older h l r k = let x = h m e l in let y = ap reach_of_entry (sym r ∙ k) in omega (arith, x, y)
+-- it names earlier entries, each of its sort
+pub link_sorts : (es : List Entry) (m : ℕ) (e : Entry) (at value older : ℕ) → NamesEarlier es → m < length es → e ≡ get_or es m e → e ≡ Update at value older
+    → max (max (integer_reach (forms_of es) at) (integer_reach (forms_of es) value)) (memory_reach (forms_of es) older) ≤ m
+link_sorts es m e at value older h l r k = let x = h m e l in let q : get_or es m e ≡ Update at value older = sym r ∙ k in rw q at x
 
--- its value is an integer's
-pub link_value : (es : List Entry) (m : ℕ) (e : Entry) (at value older : ℕ) → HaveIntegerValues es → m < length es → e ≡ get_or es m e → e ≡ Update at value older → IsIntegerAt (forms_of es) value
-link_value es m e at value older h l r k = let v : HasIntegerValue (forms_of es) (get_or es m e) = h m e l in let q : get_or es m e ≡ Update at value older = sym r ∙ k in rw q at v
+-- so only earlier ones
+pub link_reach : (es : List Entry) (m : ℕ) (e : Entry) (at value older : ℕ) → NamesEarlier es → m < length es → e ≡ get_or es m e → e ≡ Update at value older → max (max at value) older + 1 ≤ m
+link_reach es m e at value older h l r k = let x = link_sorts es m e at value older h l r k in omega (arith, x)
+
+-- its address is an integer's
+pub link_address : (es : List Entry) (m : ℕ) (e : Entry) (at value older : ℕ) → NamesEarlier es → m < length es → e ≡ get_or es m e → e ≡ Update at value older → IsIntegerAt (forms_of es) at
+link_address es m e at value older h l r k = let x = link_sorts es m e at value older h l r k in let n = length-forms_of es in integer_reached (forms_of es) m at (omega arith) (omega (arith, x))
+
+-- so is its value
+pub link_value : (es : List Entry) (m : ℕ) (e : Entry) (at value older : ℕ) → NamesEarlier es → m < length es → e ≡ get_or es m e → e ≡ Update at value older → IsIntegerAt (forms_of es) value
+link_value es m e at value older h l r k = let x = link_sorts es m e at value older h l r k in let n = length-forms_of es in integer_reached (forms_of es) m value (omega arith) (omega (arith, x))
 
 -- where no update is linked, the memory is unchanged
 pub no_link : (es : List Entry) (m : ℕ) (e : Entry) → NamesEarlier es → m < length es → e ≡ get_or es m e → ((at value older : ℕ) → e ≡ Update at value older → ⊥) → updates_at (forms_of es) m ≡ unchanged
 no_link es m e h l r k = updates_read es m e e h l r refl ∙ go e k
   where
     go : (e : Entry) → ((at value older : ℕ) → e ≡ Update at value older → ⊥) → updates_of (entry_form (forms_of es) e) ≡ unchanged
-    go (Integer ts) k = refl
+    go (Single t) k = refl
+    go (Several ts) k = refl
     go Unchanged k = refl
     go (Update at value older) k = absurd (k at value older refl)
-
--- an integer's entry
-pub integer_read : (es : List Entry) (i : ℕ) (e : Entry) (ts : Vec Term _) → NamesEarlier es → i < length es → e ≡ get_or es i e → e ≡ Integer ts → IsIntegerAt (forms_of es) i
-integer_read es i e ts h l r k = form_read es i e (Integer ts) h l r k ∙ ap (λ p. Some (integer_form p)) (polynomial_read es i e (Integer ts) h l r k)
-
--- any other entry is a memory's
-pub memory_read : (es : List Entry) (i : ℕ) (e : Entry) → NamesEarlier es → i < length es → e ≡ get_or es i e → ((ts : Vec Term _) → e ≡ Integer ts → ⊥) → slice_get (forms_of es) i ≡ Some (memory_form (updates_at (forms_of es) i))
-memory_read es i e h l r k = form_read es i e e h l r refl ∙ (ap Some (go e k) ∙ ap (λ u. Some (memory_form u)) (sym (updates_read es i e e h l r refl)))
-  where
-    go : (e : Entry) → ((ts : Vec Term _) → e ≡ Integer ts → ⊥) → entry_form (forms_of es) e ≡ memory_form (updates_of (entry_form (forms_of es) e))
-    go (Integer ts) k = absurd (k ts refl)
-    go Unchanged k = refl
-    go (Update at value older) k = refl

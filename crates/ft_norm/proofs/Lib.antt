@@ -1,10 +1,17 @@
 pub mod Lists
 pub mod Forms
-pub mod Compare
+pub mod Weights
+pub mod Adding
+pub mod Joining
+pub mod SameFactors
+pub mod Ordered
 pub mod Sums
-pub mod Products
+pub mod Single
 pub mod Limits
 pub mod Walking
 pub mod Places
 pub mod Same
-pub mod Nodes
+pub mod Paths
+pub mod Made
+mod Distinct
+pub mod Memos

@@ -1,29 +1,31 @@
 -- Where sums and products stay within the limits, and where they are atoms.
-use Rattle.std.proofs.Common.{ℕ, ◌≡◌, ◌+◌, ◌*◌, ◌<◌, ◌≤◌, min, List, [], ◌∷◌, ◌++◌, refl, sym, ap, ◌∙◌, arith, nat_le, true, false, ◌&&◌, inl, inr, Option, Some, None, length, get_or, ◌^◌}
+use Rattle.std.proofs.Common.{ℕ, ◌≡◌, ◌+◌, ◌*◌, ◌<◌, ◌≤◌, min, List, [], ◌∷◌, refl, sym, ap, ◌∙◌, subst, arith, Bool, not, ◌==◌, if◌then◌else◌, nat_le, true, false, ◌&&◌, inl, inr, Option, Some, None, length, ◌^◌}
 use Rattle.std.proofs.Math.Nat.{mod-eq_of_lt}
-use Rattle.std.proofs.lemmas.Bool.{le-leb, lt-leb, cases_lt}
-use Rattle.ft_static.specs.Form.{Form as Normal, Monomial, Polynomial, nought, one, plus, times, sum_atom, terms}
-use Rattle.ft_static.specs.NormalForm.{total, norm_add, norm_sub, negation, alone, constant_of, is_not_zero}
+use Rattle.std.proofs.lemmas.Bool.{and_parts, cases_lt, le-leb, leb-true, lt-leb}
+use Rattle.ft_static.specs.Form.{Form as Normal, Monomial, Polynomial, factors, nought, one, plus, times, sum_atom, terms}
+use Rattle.ft_static.specs.NormalForm.{alone, constant_of, is_not_zero, negation, norm_add, norm_sub, total}
 use Rattle.ft_static.proofs.Cases.{if_cases}
 use Rattle.ft_norm.specs.declared.entry.Factor.{Factor}
 use Rattle.ft_norm.specs.declared.entry.Term.{Term}
-use Rattle.ft_norm.specs.Entries.{polynomial_form, monomial_form, atom_form}
+use Rattle.ft_norm.specs.Entries.{monomial_form, polynomial_form}
+use Rattle.ft_norm.specs.Terms.{AreOver}
+use Rattle.ft_norm.proofs.Adding.{total_none}
+use Rattle.ft_norm.proofs.Single.{terms_over}
+use Rattle.ft_norm.proofs.Sums.{form_rises}
+use Rattle.ft_norm.proofs.Joining.{factors-monomial_form}
+use Rattle.ft_norm.proofs.Weights.{Rises}
 
 -- a sum within the limit is the form
-pub norm_add_small : (p q s : Polynomial) (n : ℕ) → s ≡ total p q → terms s ≡ n → n ≤ 64 → s ≡ norm_add p q
+norm_add_small : (p q s : Polynomial) (n : ℕ) → s ≡ total p q → terms s ≡ n → n ≤ 64 → s ≡ norm_add p q
 norm_add_small p q s n e t h =
     let k : nat_le (terms (total p q)) 64 ≡ true = le-leb _ _ (let m : terms (total p q) ≡ n = ap terms (sym e) ∙ t in omega arith) in
     rw k e
 
 -- otherwise the atom is
-pub norm_add_large : (p q s : Polynomial) (n : ℕ) → s ≡ total p q → terms s ≡ n → 64 < n → alone (sum_atom p q) ≡ norm_add p q
+norm_add_large : (p q s : Polynomial) (n : ℕ) → s ≡ total p q → terms s ≡ n → 64 < n → alone (sum_atom p q) ≡ norm_add p q
 norm_add_large p q s n e t h =
     let k : nat_le (terms (total p q)) 64 ≡ false = lt-leb _ _ (let m : terms (total p q) ≡ n = ap terms (sym e) ∙ t in omega arith) in
     rw k refl
-
--- the terms of an atom
-pub alone_made : (fs : List Normal) (xs ys : List Term) (ks : List Factor) (t : Term) (a : Factor) → ys ≡ xs ++ t ∷ [] → xs ≡ [] → t.factors.items ≡ ks ++ a ∷ [] → ks ≡ [] → t.coefficient ≡ 1 → polynomial_form fs ys ≡ alone (atom_form fs a)
-alone_made fs xs ys ks t a y x f k c = rw (y, x, c) (ap (λ ms. plus (monomial_form fs ms) 1 nought) (f ∙ ap (λ l. l ++ a ∷ []) k))
 
 -- too many products
 pub too_many : (x y m n s d M : ℕ) → x ≡ m → y ≡ n → s ≡ min (m * n) M → 64 < s → false ≡ (nat_le (x * y) 64 && nat_le d 4)
@@ -48,11 +50,11 @@ large_is_none (plus one c (plus n d p)) e = refl
 large_is_none (plus (times a m) c p) e = refl
 
 -- so a sum is the constant that its form is, also beyond the limit
-pub constant_sum : (p q : Polynomial) → constant_of (total p q) ≡ constant_of (norm_add p q)
+constant_sum : (p q : Polynomial) → constant_of (total p q) ≡ constant_of (norm_add p q)
 constant_sum p q = if_cases (λ r. constant_of (total p q) ≡ constant_of r) (nat_le (terms (total p q)) 64) (total p q) (alone (sum_atom p q)) (λ e. refl) (λ e. large_is_none (total p q) e)
 
 -- so the difference tells whether two addresses are known to differ
-pub known_apart : (s p a : Polynomial) (o : Option ℕ) → s ≡ total p (negation a) → o ≡ constant_of s → is_not_zero o ≡ is_not_zero (constant_of (norm_sub p a))
+known_apart : (s p a : Polynomial) (o : Option ℕ) → s ≡ total p (negation a) → o ≡ constant_of s → is_not_zero o ≡ is_not_zero (constant_of (norm_sub p a))
 known_apart s p a o e f = ap is_not_zero (f ∙ (ap constant_of e ∙ constant_sum p (negation a)))
 
 -- no factor
@@ -60,23 +62,68 @@ pub no_factor : (fs : List Normal) (xs : List Factor) (c : ℕ) → length xs �
 no_factor fs [] c e w = ap Some (sym (mod-eq_of_lt w))
 no_factor fs (x ∷ xs) c e w = absurd (omega arith)
 
+-- a monomial with an atom is no constant
+no_constant : (m : Monomial) (c : ℕ) → 0 < factors m → None ≡ constant_of (plus m c nought)
+no_constant one c l = absurd (omega arith)
+no_constant (times a m) c l = refl
+
 -- some factor
 pub some_factor : (fs : List Normal) (xs : List Factor) (c : ℕ) → (length xs ≡ 0 → ⊥) → None ≡ constant_of (plus (monomial_form fs xs) c nought)
-some_factor fs [] c h = absurd (h refl)
-some_factor fs (x ∷ xs) c h = refl
+some_factor fs xs c h = no_constant (monomial_form fs xs) c (let e = factors-monomial_form fs xs in omega (arith, e, h))
 
--- one term
-pub one_term : (fs : List Normal) (ts : List Term) (t : Term) (ms : List Factor) → length ts < 2 → 1 ≤ length ts → t ≡ get_or ts 0 t → ms ≡ t.factors.items → constant_of (plus (monomial_form fs ms) t.coefficient nought) ≡ constant_of (polynomial_form fs ts)
-one_term fs [] t ms l m r e = absurd (omega arith)
-one_term fs (x ∷ []) t ms l m r e = rw (sym r, e) refl
-one_term fs (x ∷ (y ∷ ts)) t ms l m r e = absurd (omega arith)
+-- no terms make nothing
+nothing : (fs : List Normal) (q : List Term) → length q ≡ 0 → polynomial_form fs q ≡ nought
+nothing fs [] e = refl
+nothing fs (t ∷ q) e = absurd (omega (arith, e))
 
--- more terms are none
-pub more_constant : (fs : List Normal) (ts : List Term) → 2 ≤ length ts → None ≡ constant_of (polynomial_form fs ts)
-more_constant fs [] l = absurd (omega arith)
-more_constant fs (x ∷ []) l = absurd (omega arith)
-more_constant fs (x ∷ (y ∷ ts)) l = go (monomial_form fs x.factors.items)
+-- a sum with nothing
+pub sum_with_none : (fs : List Normal) (a b : Polynomial) (p : List Term) → AreOver fs p → length p ≤ 64 → polynomial_form fs p ≡ a → b ≡ nought → a ≡ norm_add a b
+sum_with_none fs a b p o l e f =
+    let w : Rises a = subst Rises e (form_rises fs p o.terms) in
+    let t : terms a ≡ length p = ap terms (sym e) ∙ terms_over fs p o in
+    norm_add_small a b a (length p) (sym (ap (total a) f ∙ total_none a w)) t l
+
+-- where no terms are
+pub sum_with_empty : (fs : List Normal) (a b : Polynomial) (p q : List Term) → AreOver fs p → length p ≤ 64 → polynomial_form fs p ≡ a → polynomial_form fs q ≡ b → length q ≡ 0 → a ≡ norm_add a b
+sum_with_empty fs a b p q o l e f z = sum_with_none fs a b p o l e (sym f ∙ nothing fs q z)
+
+-- the same for a difference
+pub less_empty : (fs : List Normal) (a b : Polynomial) (p q : List Term) → AreOver fs p → length p ≤ 64 → polynomial_form fs p ≡ a → polynomial_form fs q ≡ b → length q ≡ 0 → a ≡ norm_sub a b
+less_empty fs a b p q o l e f z = sum_with_none fs a (negation b) p o l e (ap negation (sym f ∙ nothing fs q z))
+
+-- nothing and then a polynomial
+pub empty_with_sum : (fs : List Normal) (a b : Polynomial) (p q : List Term) → AreOver fs q → length q ≤ 64 → polynomial_form fs p ≡ a → polynomial_form fs q ≡ b → length p ≡ 0 → b ≡ norm_add a b
+empty_with_sum fs a b p q o l e f z =
+    let t : terms b ≡ length q = ap terms (sym f) ∙ terms_over fs q o in
+    norm_add_small a b b (length q) (sym (ap (λ x. total x b) (sym e ∙ nothing fs p z))) t l
+
+-- terms of a sum, within the limit
+pub sum_small : (fs : List Normal) (a b x y : Polynomial) (s : List Term) → AreOver fs s → polynomial_form fs s ≡ total x y → x ≡ a → y ≡ b → length s ≤ 64 → polynomial_form fs s ≡ norm_add a b
+sum_small fs a b x y s o v e f l = norm_add_small a b (polynomial_form fs s) (length s) (v ∙ (ap (λ z. total z y) e ∙ ap (total a) f)) (terms_over fs s o) l
+
+-- and beyond it
+pub sum_large : (fs : List Normal) (a b x y : Polynomial) (s : List Term) → AreOver fs s → polynomial_form fs s ≡ total x y → x ≡ a → y ≡ b → 64 < length s → alone (sum_atom a b) ≡ norm_add a b
+sum_large fs a b x y s o v e f l = norm_add_large a b (polynomial_form fs s) (length s) (v ∙ (ap (λ z. total z y) e ∙ ap (total a) f)) (terms_over fs s o) l
+
+-- a product within the limits has few terms
+pub product_count : (fs : List Normal) (p q : List Term) (t d : Bool) (n : ℕ) → AreOver fs p → AreOver fs q → t ≡ (nat_le (terms (polynomial_form fs p) * terms (polynomial_form fs q)) 64 && d) → t ≡ true → n ≤ length p * length q → n ≤ 64
+product_count fs p q t d n o w h k l =
+    let b = and_parts (nat_le (terms (polynomial_form fs p) * terms (polynomial_form fs q)) 64) d (sym h ∙ k) in
+    let u : terms (polynomial_form fs p) * terms (polynomial_form fs q) ≤ 64 = leb-true (terms (polynomial_form fs p) * terms (polynomial_form fs q)) 64 b.0 in
+    let v : length p * length q ≤ 64 = rw (terms_over fs p o, terms_over fs q w) at u in
+    omega (arith, l, v)
+
+-- whether a number is not 0
+pub not_zero : (c : ℕ) → not (c == 0) ≡ is_not_zero (Some c)
+not_zero c = go (c == 0)
   where
-    go : (m : Monomial) → None ≡ constant_of (plus m x.coefficient (polynomial_form fs (y ∷ ts)))
-    go one = refl
-    go (times a m) = refl
+    go : (b : Bool) → not b ≡ (if b then false else true)
+    go true = refl
+    go false = refl
+
+-- the terms of a difference tell whether two addresses are known to differ
+pub difference_tells : (fs : List Normal) (ts us : List Term) (x y p a : Polynomial) (o : Option ℕ) → AreOver fs ts → us ≡ ts → ((gs : List Normal) → AreOver gs us → o ≡ constant_of (polynomial_form gs us))
+    → polynomial_form fs ts ≡ total x (negation y) → x ≡ p → y ≡ a → is_not_zero o ≡ is_not_zero (constant_of (norm_sub p a))
+difference_tells fs ts us x y p a o w u e v f g =
+    let P : List Term → Type 0 = λ zs. (gs : List Normal) → AreOver gs zs → o ≡ constant_of (polynomial_form gs zs) in
+    known_apart (polynomial_form fs ts) p a o (v ∙ (ap (λ z. total z (negation y)) f ∙ ap (λ z. total p (negation z)) g)) (subst P u e fs w)

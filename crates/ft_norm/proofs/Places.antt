@@ -1,15 +1,18 @@
 -- Places of an interner's list, seen from its entries.
-use Rattle.std.proofs.Common.{ℕ, suc, ◌≡◌, ◌<◌, List, [], ◌∷◌, ◌++◌, length, refl, sym, ap, ◌∙◌, arith, Option, Some, Result, Ok, Err, slice_get, inl, inr}
+use Rattle.std.proofs.Common.{ℕ, suc, ◌≡◌, ◌<◌, ◌≤◌, List, [], ◌∷◌, ◌++◌, length, refl, sym, ap, ◌∙◌, subst, arith, Option, Some, Result, Ok, Err, slice_get}
 use Rattle.std.specs.Prelude.{IfOk}
 use Rattle.std.specs.Option.{unwrap_or}
 use Rattle.std.proofs.lemmas.Option.{slice_get_within}
 use Rattle.ft_static.specs.Form.{Form as Normal, Polynomial, Updates, integer_form, memory_form, nought, polynomial_of, updates_of}
 use Rattle.ft_norm.specs.declared.form.Form.{Form}
 use Rattle.ft_norm.specs.declared.entry.Entry.{Entry}
-use Rattle.ft_norm.specs.Held.{held, polynomial_at, updates_at, polynomial, polynomials, updates_held, IsInteger, IsMemory, IsHeld, AreIntegers, Keeps}
-use Rattle.ft_norm.specs.Entries.{entry_form, forms_of}
-use Rattle.ft_norm.proofs.Lists.{slice_get-append, slice_get-push}
-use Rattle.ft_norm.proofs.Forms.{length-forms_of, forms_onto-push}
+use Rattle.ft_norm.specs.Held.{held, polynomial_at, updates_at, polynomial, polynomials, updates_held, IsInteger, IsMemory, AreIntegers, Keeps}
+use Rattle.ft_norm.specs.declared.entry.Term.{Term}
+use Rattle.ft_norm.specs.Entries.{AreEntries, IsDistinct, IsIntegerAt, IsMemoryAt, entry_form, forms_of, integer_reach, reach_of_terms}
+use Rattle.ft_norm.specs.Orders.{AreTerms}
+use Rattle.ft_norm.specs.Terms.{AreOver}
+use Rattle.ft_norm.proofs.Lists.{slice_get-append}
+use Rattle.ft_norm.proofs.Forms.{integer_reaches, length-forms_of, forms_onto-push}
 
 -- a place of the list is that of an entry
 pub within : (es xs : List Entry) (fs : List Normal) (i : ℕ) (x : Normal) → forms_of es ≡ fs → xs ≡ es → slice_get fs i ≡ Some x → i < length xs
@@ -21,16 +24,12 @@ within es xs fs i x v e h =
     omega arith
 
 -- there are as many
-pub as_many : (es xs : List Entry) (fs : List Normal) → forms_of es ≡ fs → xs ≡ es → length xs ≡ length fs
+as_many : (es xs : List Entry) (fs : List Normal) → forms_of es ≡ fs → xs ≡ es → length xs ≡ length fs
 as_many es xs fs v e = ap length e ∙ (sym (length-forms_of es) ∙ ap length v)
 
 -- the forms after one more entry
 pub grown : (es xs : List Entry) (fs : List Normal) (e : Entry) → forms_of es ≡ fs → xs ≡ es ++ e ∷ [] → forms_of xs ≡ fs ++ entry_form fs e ∷ []
 grown es xs fs e v h = ap forms_of h ∙ (forms_onto-push [] es e ∙ ap (λ gs. gs ++ entry_form gs e ∷ []) v)
-
--- the new form
-pub found_push : (fs gs : List Normal) (x : Normal) (i : ℕ) → gs ≡ fs ++ x ∷ [] → i ≡ length fs → slice_get gs i ≡ Some x
-found_push fs gs x i e l = ap (λ (hs : List Normal). slice_get hs i) e ∙ slice_get-push fs x i l
 
 -- what a call made
 pub made : {E : Type 0} (r : Result Form E) (gs : List Normal) (x y : Normal) → x ≡ y → IfOk r (λ f. held gs f ≡ Some x) → IfOk r (λ f. held gs f ≡ Some y)
@@ -84,9 +83,26 @@ pub polynomials_kept : (fs gs : List Normal) (xs : List Form) → Keeps fs gs �
 polynomials_kept fs gs [] k a = refl
 polynomials_kept fs gs (x ∷ xs) k a = rw (k.polynomials_stay x (a 0 x refl), polynomials_kept fs gs xs k (λ i f h. a (suc i) f h)) refl
 
--- a form of either sort is in a place
-pub held_within : (es xs : List Entry) (fs : List Normal) (f : Form) → forms_of es ≡ fs → xs ≡ es → IsHeld fs f → f.0 < length xs
-held_within es xs fs f v e h = elim h [
-  | inl a ↦ within es xs fs f.0 (integer_form (polynomial fs f)) v e a.found
-  | inr a ↦ within es xs fs f.0 (memory_form (updates_held fs f)) v e a.found
-]
+-- an integer reaches within the list
+pub integer_within : (fs : List Normal) (f : Form) (p : Polynomial) → held fs f ≡ Some (integer_form p) → integer_reach fs f.0 ≤ length fs
+integer_within fs f p h = let x = integer_reaches fs f.0 p h in let w = slice_get_within fs f.0 (integer_form p) h in omega (arith, x, w)
+
+-- an integer that is held, seen from the entries
+pub integer_seen : (es xs : List Entry) (fs : List Normal) (f : Form) → forms_of es ≡ fs → xs ≡ es → IsInteger fs f → IsIntegerAt (forms_of xs) f.0
+integer_seen es xs fs f v e h = let g : forms_of xs ≡ fs = ap forms_of e ∙ v in rw g h.found
+
+-- so is a memory
+pub memory_seen : (es xs : List Entry) (fs : List Normal) (f : Form) → forms_of es ≡ fs → xs ≡ es → IsMemory fs f → IsMemoryAt (forms_of xs) f.0
+memory_seen es xs fs f v e h = let g : forms_of xs ≡ fs = ap forms_of e ∙ v in rw g h.found
+
+-- terms of an entry, seen from the list
+pub over_seen : (es xs : List Entry) (fs : List Normal) (ts : List Term) (i : ℕ) → AreEntries es → forms_of es ≡ fs → xs ≡ es → AreTerms ts → reach_of_terms (forms_of xs) ts ≤ i → i < length xs → AreOver fs ts
+over_seen es xs fs ts i h v e t r l = record {
+  terms = t;
+  distinct = subst IsDistinct v h.distinct;
+  reach =
+      let g : forms_of xs ≡ fs = ap forms_of e ∙ v in
+      let q : reach_of_terms fs ts ≤ i = rw g at r in
+      let n = as_many es xs fs v e in
+      omega (arith, q, l, n);
+}

@@ -1,9 +1,15 @@
 -- One step of the walk of `sel`.
-use Rattle.std.proofs.Common.{◌≡◌, Bool, true, false, refl, sym, ap, ◌∙◌}
-use Rattle.ft_static.specs.Form.{Polynomial, Updates, unchanged, update, sel_atom}
+use Rattle.std.proofs.Common.{ℕ, ◌≡◌, ◌≢◌, ◌+◌, ◌<◌, ◌≤◌, Bool, true, false, List, Some, length, get_or, refl, sym, ap, ◌∙◌, arith}
+use Rattle.std.proofs.lemmas.Option.{slice_get_within}
+use Rattle.ft_static.specs.Form.{Form, Polynomial, Updates, integer_form, memory_form, unchanged, update, updates, sel_atom}
 use Rattle.ft_static.specs.FormOrder.{same_polynomial}
 use Rattle.ft_static.specs.NormalForm.{alone, norm_sel, norm_sub, norm_upd, constant_of, is_not_zero}
 use Rattle.ft_static.proofs.Equal.{equal_polynomials}
+use Rattle.ft_norm.specs.declared.entry.Entry.{Entry}
+use Rattle.ft_norm.specs.declared.entry.Entry.TheVariants.{Update}
+use Rattle.ft_norm.specs.Held.{polynomial_at, updates_at}
+use Rattle.ft_norm.specs.Entries.{AreEntries, IsDistinct, IsIntegerAt, IsMemoryAt, forms_of, memory_reach}
+use Rattle.ft_norm.proofs.Forms.{length-forms_of, link, link_address, link_sorts, memory_reaches}
 
 -- at the end
 pub walk_end : (u : Updates) (p : Polynomial) → u ≡ unchanged → alone (sel_atom u p) ≡ norm_sel u p
@@ -32,3 +38,40 @@ upd_other u w a v p x b e g h = let t : same_polynomial a p ≡ false = sym g �
 -- over none
 pub upd_first : (u : Updates) (p x : Polynomial) → u ≡ unchanged → update p x u ≡ norm_upd u p x
 upd_first u p x e = rw e refl
+
+-- one number is one form
+pub one_is_same : (fs : List Form) (a p : ℕ) → a ≡ p → same_polynomial (polynomial_at fs a) (polynomial_at fs p) ≡ true
+one_is_same fs a p e = (equal_polynomials (polynomial_at fs a) (polynomial_at fs p)).1 (ap (polynomial_at fs) e)
+
+-- two numbers are two forms
+pub two_differ : (fs : List Form) (a p : ℕ) → IsDistinct fs → IsIntegerAt fs a → IsIntegerAt fs p → a ≢ p → same_polynomial (polynomial_at fs a) (polynomial_at fs p) ≡ false
+two_differ fs a p d i j n = go (same_polynomial (polynomial_at fs a) (polynomial_at fs p)) refl
+  where
+    go : (b : Bool) → same_polynomial (polynomial_at fs a) (polynomial_at fs p) ≡ b → same_polynomial (polynomial_at fs a) (polynomial_at fs p) ≡ false
+    go false e = e
+    go true e = absurd (n (d.one a p (integer_form (polynomial_at fs p)) (i ∙ ap (λ x. Some (integer_form x)) ((equal_polynomials (polynomial_at fs a) (polynomial_at fs p)).0 e)) j))
+
+-- a place that is an integer's is within the entries
+pub integer_bound : (es : List Entry) (i : ℕ) → IsIntegerAt (forms_of es) i → i < length es
+integer_bound es i h = let w = slice_get_within (forms_of es) i (integer_form (polynomial_at (forms_of es) i)) h in let l = length-forms_of es in omega arith
+
+-- so is one that is a memory's
+pub memory_bound : (es : List Entry) (i : ℕ) → IsMemoryAt (forms_of es) i → i < length es
+memory_bound es i h = let w = slice_get_within (forms_of es) i (memory_form (updates_at (forms_of es) i)) h in let l = length-forms_of es in omega arith
+
+-- and it reaches within them
+pub memory_reached_at : (es : List Entry) (i : ℕ) → IsMemoryAt (forms_of es) i → memory_reach (forms_of es) i ≤ length (forms_of es)
+memory_reached_at es i h = let w = slice_get_within (forms_of es) i (memory_form (updates_at (forms_of es) i)) h in let x = memory_reaches (forms_of es) i (updates_at (forms_of es) i) h in omega (arith, x, w)
+
+-- an older memory
+pub older_reach : (es : List Entry) (m : ℕ) (e : Entry) (a v k : ℕ) → AreEntries es → m < length es → e ≡ get_or es m e → e ≡ Update a v k → memory_reach (forms_of es) k ≤ length (forms_of es)
+older_reach es m e a v k h l r q = let x = link_sorts es m e a v k h.earlier l r q in let n = length-forms_of es in omega (arith, x, n)
+
+-- it has one update less
+pub older_count : (es : List Entry) (m : ℕ) (e : Entry) (a v k : ℕ) → AreEntries es → m < length es → e ≡ get_or es m e → e ≡ Update a v k → updates (updates_at (forms_of es) m) ≡ updates (updates_at (forms_of es) k) + 1
+older_count es m e a v k h l r q = ap updates (link es m e a v k h.earlier l r q) ∙ omega arith
+
+-- the address of an update and another number
+pub address_differs : (es : List Entry) (m : ℕ) (e : Entry) (a v k p : ℕ) → AreEntries es → m < length es → e ≡ get_or es m e → e ≡ Update a v k → IsIntegerAt (forms_of es) p → a ≢ p
+    → same_polynomial (polynomial_at (forms_of es) a) (polynomial_at (forms_of es) p) ≡ false
+address_differs es m e a v k p h l r q i n = two_differ (forms_of es) a p h.distinct (link_address es m e a v k h.earlier l r q) i n

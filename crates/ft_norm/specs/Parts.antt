@@ -1,33 +1,57 @@
--- The parts of a node among the forms that were made of the lower nodes.
-use Rattle.std.specs.Prelude.{ℕ, ◌≡◌, List, Some, map, slice_get}
-use Rattle.std.specs.Option.{unwrap_or}
-use Rattle.ft_static.specs.Form.{Form as Normal, integer_form, nought}
+-- The parts of a node, by the forms that were made of them.
+use Rattle.std.specs.Prelude.{ℕ, ◌≡◌, ◌⊎◌, nat_eq, List, Some, slice_index_or}
+use Rattle.indexmap.specs.IndexMap.{IndexMap, get}
+use Rattle.ft_static.specs.Form.{Form as Normal, Polynomial, Updates, integer_form, memory_form, nought, updates}
+use Rattle.ft_static.specs.NormalForm.{constant, norm_op, norm_sel, norm_upd}
 use Rattle.ft_static.specs.declared.node.Shape.{Shape}
 use Rattle.ft_static.specs.declared.node.Shape.TheVariants as shape
 use Rattle.ft_norm.specs.declared.form.Form.{Form}
-use Rattle.ft_norm.specs.Held.{held, IsInteger, IsMemory}
+use Rattle.ft_norm.specs.declared.parts.Parts.{Parts}
+use Rattle.ft_norm.specs.declared.parts.Parts.TheVariants as part
+use Rattle.ft_norm.specs.Held.{IsInteger, IsMemory, polynomial, updates_held}
 
--- form n of these is there and stands for an integer
-pub record HasInteger (fs : List Normal) (xs : List Form) (n : ℕ) : Type 0 where
-  pub form : Form
-  pub found : slice_get xs n ≡ Some form
-  pub sort : IsInteger fs form
+-- node k is a part of a node of this shape
+abbrev pub IsPart : Shape → ℕ → Type 0
+IsPart (shape.Word w) k = ⊥
+IsPart (shape.Var i) k = ⊥
+IsPart (shape.Op o a b) k = (k ≡ a) ⊎ (k ≡ b)
+IsPart (shape.Sel m a) k = (k ≡ m) ⊎ (k ≡ a)
+IsPart shape.Memory k = ⊥
+IsPart (shape.Upd m a v) k = (k ≡ m) ⊎ ((k ≡ a) ⊎ (k ≡ v))
 
--- form n of these is there and stands for a memory
-pub record HasMemory (fs : List Normal) (xs : List Form) (n : ℕ) : Type 0 where
-  pub form : Form
-  pub found : slice_get xs n ≡ Some form
-  pub sort : IsMemory fs form
+-- these parts are those of a node of this shape, by the forms that were made
+abbrev pub AreMade : {S : Type 0} → IndexMap ℕ Form S → Shape → Parts → Type 0
+AreMade m (shape.Word w) (part.Word v) = w ≡ v
+AreMade m (shape.Var i) (part.Var j) = i ≡ j
+AreMade m (shape.Op o a b) (part.Op p f g) = (o ≡ p) × (get nat_eq m a ≡ Some f) × (get nat_eq m b ≡ Some g)
+AreMade m (shape.Sel k a) (part.Sel f g) = (get nat_eq m k ≡ Some f) × (get nat_eq m a ≡ Some g)
+AreMade m shape.Memory part.Memory = Unit {0}
+AreMade m (shape.Upd k a v) (part.Upd f g h) = (get nat_eq m k ≡ Some f) × (get nat_eq m a ≡ Some g) × (get nat_eq m v ≡ Some h)
+AreMade m s p = ⊥
 
--- the parts of a node of this shape are among these forms, each of its sort
-abbrev pub HasParts : List Normal → List Form → Shape → Type 0
-HasParts fs xs (shape.Word w) = Unit {0}
-HasParts fs xs (shape.Var i) = Unit {0}
-HasParts fs xs (shape.Op o a b) = HasInteger fs xs a × HasInteger fs xs b
-HasParts fs xs (shape.Sel m a) = HasMemory fs xs m × HasInteger fs xs a
-HasParts fs xs shape.Memory = Unit {0}
-HasParts fs xs (shape.Upd m a v) = HasMemory fs xs m × HasInteger fs xs a × HasInteger fs xs v
+-- each part is held and of its sort
+abbrev pub HaveSorts : List Normal → Parts → Type 0
+HaveSorts fs (part.Word w) = Unit {0}
+HaveSorts fs (part.Var i) = Unit {0}
+HaveSorts fs (part.Op o f g) = IsInteger fs f × IsInteger fs g
+HaveSorts fs (part.Sel f g) = IsMemory fs f × IsInteger fs g
+HaveSorts fs part.Memory = Unit {0}
+HaveSorts fs (part.Upd f g h) = IsMemory fs f × IsInteger fs g × IsInteger fs h
 
--- the normal forms that these stand for
-abbrev pub forms_held : List Normal → List Form → List Normal
-forms_held fs xs = map (λ (f : Form). unwrap_or (held fs f) (integer_form nought)) xs
+-- the form of a node of these parts
+abbrev pub form_of_parts : List Polynomial → Updates → List Normal → Parts → Normal
+form_of_parts ps u fs (part.Word w) = integer_form (constant w)
+form_of_parts ps u fs (part.Var i) = integer_form (slice_index_or ps i nought)
+form_of_parts ps u fs (part.Op o f g) = integer_form (norm_op o (polynomial fs f) (polynomial fs g))
+form_of_parts ps u fs (part.Sel f g) = integer_form (norm_sel (updates_held fs f) (polynomial fs g))
+form_of_parts ps u fs part.Memory = memory_form u
+form_of_parts ps u fs (part.Upd f g h) = memory_form (norm_upd (updates_held fs f) (polynomial fs g) (polynomial fs h))
+
+-- how many updates a walk among these parts can pass
+abbrev pub updates_of_parts : List Normal → Parts → ℕ
+updates_of_parts fs (part.Word w) = 0
+updates_of_parts fs (part.Var i) = 0
+updates_of_parts fs (part.Op o f g) = 0
+updates_of_parts fs (part.Sel f g) = updates (updates_held fs f)
+updates_of_parts fs part.Memory = 0
+updates_of_parts fs (part.Upd f g h) = 0

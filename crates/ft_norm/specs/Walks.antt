@@ -1,18 +1,18 @@
 -- What a walk of `sel` gives.
-use Rattle.std.specs.Prelude.{ℕ, ◌≤◌, List}
+use Rattle.std.specs.Prelude.{ℕ, ◌≤◌, List, length}
 use Rattle.ft_static.specs.Form.{Form, Polynomial, sel_atom}
 use Rattle.ft_static.specs.NormalForm.{alone}
 use Rattle.ft_norm.specs.declared.walk.Walk.{Walk}
 use Rattle.ft_norm.specs.declared.walk.Walk.TheVariants.{Value, Stop}
 use Rattle.ft_norm.specs.Held.{polynomial_at, updates_at}
-use Rattle.ft_norm.specs.Entries.{IsIntegerAt}
+use Rattle.ft_norm.specs.Entries.{IsIntegerAt, memory_reach}
 
 -- the polynomial to which a walk for the address in place p leads
 abbrev pub form_of_walk : List Form → ℕ → Walk → Polynomial
 form_of_walk fs p (Value v) = polynomial_at fs v
 form_of_walk fs p (Stop m) = alone (sel_atom (updates_at fs m) (polynomial_at fs p))
 
--- where a walk from entry m ends: at the value of an integer, or at this or an earlier entry
-abbrev pub EndsWithin : List Form → ℕ → Walk → Type 0
-EndsWithin fs m (Value v) = IsIntegerAt fs v
-EndsWithin fs m (Stop k) = k ≤ m
+-- where a walk ends: at the value of an update, an integer's, or at a memory
+abbrev pub EndsWithin : List Form → Walk → Type 0
+EndsWithin fs (Value v) = IsIntegerAt fs v
+EndsWithin fs (Stop k) = memory_reach fs k ≤ length fs

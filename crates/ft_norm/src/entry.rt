@@ -1,9 +1,13 @@
 //! Entries: how an interner keeps a normal form. A part that is itself a form is named by its number.
-ghost use Rattle.std.specs.Prelude.{◌≡◌, ◌<◌, ◌≤◌, length, [], Some, slice_get, true, false};
-ghost use Rattle.ft_static.specs.Form.{memory_form, updates};
-ghost use Rattle.ft_static.specs.FormOrder.{kind};
-ghost use Rattle.ft_norm.specs.Held.{polynomial_at, updates_at};
-ghost use Rattle.ft_norm.specs.Entries.{IsIntegerAt, NamesEarlier, atom_form, forms_of, polynomial_form, reach_of_terms};
+//! Factors and terms are kept in an order that goes by these numbers: a comparison of two factors never
+//! goes into the forms that they name.
+ghost use Rattle.std.specs.Prelude.{◌≡◌, ◌<◌, ◌≤◌, List, length};
+ghost use Rattle.ft_static.specs.Form.{Form as Normal, integer_form};
+ghost use Rattle.ft_norm.specs.Held.{polynomial_at};
+ghost use Rattle.ft_norm.specs.Entries.{AreEntries, IsCanonical, entry_form, forms_of, polynomial_form, reach_of_entry, reach_of_terms};
+ghost use Rattle.ft_norm.specs.Orders.{AreTerms};
+
+use std::slice::from_ref;
 
 /// The greatest number of monomials of a polynomial.
 pub const MONOMIALS: usize = 64;
@@ -12,7 +16,7 @@ pub const MONOMIALS: usize = 64;
 pub const ATOMS: usize = 4;
 
 /// An atom: a variable, or an operation on the forms of these numbers.
-#[derive(Clone, Copy)]
+#[derive(Clone, Copy, PartialEq, Eq, PartialOrd, Ord, Hash)]
 pub enum Factor {
     Variable(u8),
     Ltu(usize, usize),
@@ -22,18 +26,20 @@ pub enum Factor {
     Sum(usize, usize),
 }
 
-/// A monomial, its atoms in rising order, and its coefficient.
-#[derive(Drop)]
+/// A monomial, its factors in rising order, and its coefficient.
+#[derive(Drop, PartialEq, Eq, Hash)]
 pub struct Term {
     pub factors: Vec<Factor>,
     pub coefficient: u64,
 }
 
-/// A form: a polynomial, its monomials in rising order; or the memory variable without or with a
-/// newest update over an older entry.
-#[derive(Drop)]
+/// A form: a polynomial of one term, or of any other number of terms in rising order; or the memory
+/// variable without or with a newest update over an older entry. A constant other than 0 is a single
+/// term without factors, and takes no memory of its own.
+#[derive(Drop, PartialEq, Eq, Hash)]
 pub enum Entry {
-    Integer(Vec<Term>),
+    Single(Term),
+    Several(Vec<Term>),
     Unchanged,
     Update {
         at: usize,
@@ -42,68 +48,40 @@ pub enum Entry {
     },
 }
 
+/// The entry of these terms.
+pub fn entry_of(mut terms: Vec<Term>) -> Entry
+    requires terms { AreTerms terms.items }
+    requires count { length terms.items ≤ 64 }
+    ensures form { (fs : List Normal) → entry_form fs result ≡ integer_form (polynomial_form fs terms.items) }
+    ensures reach { (fs : List Normal) → reach_of_entry fs result ≡ reach_of_terms fs terms.items }
+    ensures canonical { IsCanonical result }
+{
+    if terms.len() != 1 {
+        return Entry::Several(terms);
+    }
+    match terms.pop() {
+        Some(term) => Entry::Single(term),
+        None => Entry::Several(terms),
+    }
+}
+
 /// The terms of entry `i`; a memory's form has none.
 pub fn terms_at(entries: &[Entry], i: usize) -> &[Term]
     requires named { i < length entries.now }
-    requires earlier { NamesEarlier entries.now }
-    ensures terms { polynomial_form (forms_of entries.now) result.now ≡ polynomial_at (forms_of entries.now) i }
-    ensures reach { reach_of_terms result.now ≤ i }
+    requires entries { AreEntries entries.now }
+    ensures form { polynomial_form (forms_of entries.now) result.now ≡ polynomial_at (forms_of entries.now) i }
+    ensures terms { AreTerms result.now }
+    ensures reach { reach_of_terms (forms_of entries.now) result.now ≤ i }
+    ensures count { length result.now ≤ 64 }
 {
     match &entries[i] {
-        Entry::Integer(terms) => terms,
+        Entry::Single(term) => from_ref(term),
+        Entry::Several(terms) => terms,
         Entry::Unchanged => &[],
         Entry::Update {
             at: _,
             value: _,
             older: _,
         } => &[],
-    }
-}
-
-/// Whether entry `i` is an integer's; the others are memories'.
-pub fn is_integer(entries: &[Entry], i: usize) -> bool
-    requires named { i < length entries.now }
-    requires earlier { NamesEarlier entries.now }
-    ensures integer { result ≡ true → IsIntegerAt (forms_of entries.now) i }
-    ensures memory { result ≡ false → slice_get (forms_of entries.now) i ≡ Some (memory_form (updates_at (forms_of entries.now) i)) }
-{
-    match &entries[i] {
-        Entry::Integer(_) => true,
-        _ => false,
-    }
-}
-
-/// The number of updates of entry `i`.
-pub fn updates_in(entries: &[Entry], i: usize) -> usize
-    requires named { i < length entries.now }
-    requires earlier { NamesEarlier entries.now }
-    ensures count { result ≡ updates (updates_at (forms_of entries.now) i) }
-    ensures bound { result ≤ i }
-{
-    let mut count = 0;
-    let mut m = i;
-    while let Entry::Update {
-        at: _,
-        value: _,
-        older,
-    } = &entries[m]
-    {
-        m = *older;
-        count += 1;
-    }
-    count
-}
-
-/// The place of an atom's kind among the kinds.
-pub fn kind_of(a: Factor) -> u8
-    ensures { result ≡ kind (atom_form [] a) }
-{
-    match a {
-        Factor::Variable(_) => 0,
-        Factor::Ltu(_, _) => 1,
-        Factor::Eq(_, _) => 2,
-        Factor::Sel(_, _) => 3,
-        Factor::Product(_, _) => 4,
-        Factor::Sum(_, _) => 5,
     }
 }

@@ -1,26 +1,31 @@
 //! The interner.
-ghost use Rattle.std.specs.Prelude.{◌≡◌, ◌↔◌, ◌<◌, ◌≤◌, [], Some, IfOk, IsTrue, length, slice_get, true, false};
+ghost use Rattle.std.specs.Prelude.{◌≡◌, ◌↔◌, ◌+◌, ◌*◌, ◌<◌, ◌≤◌, [], Some, IfOk, IsTrue, length, slice_get, true, false};
 ghost use Rattle.ft_static.specs.Expression.{Expression, HasWords, IsLawful, Valuation, denotation};
-ghost use Rattle.ft_static.specs.Form.{integer_form, memory_form, unchanged, variable_atom};
-ghost use Rattle.ft_static.specs.FormUnder.{form_of, form_under};
+ghost use Rattle.ft_static.specs.Form.{integer_form, memory_form, unchanged, updates, variable_atom};
+ghost use Rattle.ft_static.specs.FormUnder.{form_under};
 ghost use Rattle.ft_static.specs.NodeRules.{AreNodes, is_memory};
 ghost use Rattle.ft_static.specs.NodeTree.{tree_at};
 ghost use Rattle.ft_static.specs.NormalForm.{alone, constant, constant_of, norm, norm_add, norm_mul, norm_op, norm_sel, norm_sub, norm_upd, tested};
 ghost use Rattle.ft_static.specs.declared.node.Node.{Node as Numbered};
 ghost use Rattle.ft_norm.specs.Held.{AreIntegers, IsHeld, IsInteger, IsMemory, Keeps, held, polynomial, polynomials, updates_held};
-ghost use Rattle.ft_norm.specs.Entries.{HasIntegerValue, atom_form, entry_form, reach, reach_of_entry};
-ghost use Rattle.ft_norm.specs.Parts.{HasParts, forms_held};
+ghost use Rattle.ft_norm.specs.Entries.{IsCanonical, atom_form, entry_form, polynomial_form, reach, reach_of_entry, reach_of_terms};
+ghost use Rattle.ft_norm.specs.Orders.{AreTerms};
+ghost use Rattle.ft_norm.specs.Terms.{AreOver};
 
-use crate::comparison::are_same;
-use crate::entry::{Entry, Factor, MONOMIALS, Term, terms_at};
+use crate::entry::{Entry, Factor, MONOMIALS, Term, entry_of, terms_at};
 use crate::form::Form;
+use crate::keys::Keys;
 use crate::product::{is_small, product_terms};
+use crate::substitution::Memo;
 use crate::sum::{difference_terms, negated_terms, sum_terms};
 use crate::walk::{Walk, below_newest, constant_in, walk_from};
 use ft_isa::{NoMemory, Op, apply};
-use ft_static::{Nodes, Shape};
+use ft_static::Nodes;
+use ft_steps::Steps;
+use indexmap::IndexSet;
 use std::alloc::{AllocError, Global};
 use std::marker::Model;
+use std::sync::ledger::Ledger;
 
 /// Normal forms, of integers and of memories. The list of them only grows, and a `Form` stands for
 /// one of them through all later calls. A call that makes a form answers `NoMemory` where memory runs
@@ -28,7 +33,7 @@ use std::marker::Model;
 #[derive(Drop)]
 pub struct Interner {
     alloc: Global,
-    entries: Vec<Entry>,
+    entries: IndexSet<Entry, Keys>,
 }
 
 impl Model for Interner {
@@ -42,9 +47,9 @@ impl Model for Interner {
 
     ghost coded = { coded_list form_code };
 
-    ghost view = { λ s. forms_of s.entries.items };
+    ghost view = { λ s. forms_of s.entries.keys };
 
-    ghost invariant = { λ s. AreEntries s.entries.items };
+    ghost invariant = { λ s. AreEntries s.entries.keys };
 }
 
 impl Interner {
@@ -52,9 +57,17 @@ impl Interner {
     pub fn new(alloc: Global) -> Result<Interner, NoMemory>
         ensures { IfOk result (λ s. s ≡ []) }
     {
+        Interner::keyed(alloc, 0, 0)
+    }
+
+    /// An interner that holds no form, and whose table hashes by these two keys. The keys decide how fast
+    /// the calls are and no form: whoever does not know them cannot make the table slow.
+    pub fn keyed(alloc: Global, first: u64, second: u64) -> Result<Interner, NoMemory>
+        ensures { IfOk result (λ s. s ≡ []) }
+    {
         Ok(Interner {
             alloc,
-            entries: Vec::new(alloc),
+            entries: IndexSet::with_hasher(alloc, Keys { first, second }),
         })
     }
 
@@ -106,15 +119,22 @@ impl Interner {
         Ok(form)
     }
 
-    /// The form of the word of a memory at an address.
-    pub fn sel(&mut self, memory: Form, at: Form) -> Result<Form, NoMemory>
+    /// The form of the word of a memory at an address. It counts a step for each update that the walk
+    /// passes.
+    pub fn sel<L: Ledger>(
+        &mut self,
+        memory: Form,
+        at: Form,
+        steps: &mut Steps<L>,
+    ) -> Result<Form, NoMemory>
         requires memory { IsMemory self.old memory }
         requires address { IsInteger self.old at }
         ensures kept { Keeps self.old self.new }
         ensures form { IfOk result (λ f. held self.new f ≡ Some (integer_form (norm_sel (updates_held self.old memory) (polynomial self.old at)))) }
         ensures sort { IfOk result (λ f. IsInteger self.new f) }
+        ensures steps { steps.new ≤ steps.old + updates (updates_held self.old memory) }
     {
-        let form = match walk_from(self.alloc, &self.entries, memory.0, at.0)? {
+        let form = match walk_from(self.alloc, self.entries.as_slice(), memory.0, at.0, steps)? {
             Walk::Value(value) => Form(value),
             Walk::Stop(older) => self.alone(Factor::Sel(older, at.0))?,
         };
@@ -130,7 +150,7 @@ impl Interner {
         ensures form { IfOk result (λ f. held self.new f ≡ Some (memory_form (norm_upd (updates_held self.old memory) (polynomial self.old at) (polynomial self.old value)))) }
         ensures sort { IfOk result (λ f. IsMemory self.new f) }
     {
-        let older = below_newest(&self.entries, memory.0, at.0);
+        let older = below_newest(self.entries.as_slice(), memory.0, at.0);
         let form = self.put(Entry::Update {
             at: at.0,
             value: value.0,
@@ -141,13 +161,15 @@ impl Interner {
 
     /// The form of node `n` after `ints[i]` is put for integer variable `i`, and `memory` for the
     /// memory variable. The nodes obey their rules, and the scope of node `n` is at most the number of
-    /// `ints`. It goes over the nodes up to `n` in rising order, without recursion.
-    pub fn under<N: Nodes>(
+    /// `ints`. Each node that the tree reaches is handled once, after its parts, without recursion, and
+    /// a step is counted for it and for each update that a walk passes.
+    pub fn under<N: Nodes, L: Ledger>(
         &mut self,
         nodes: &N,
         n: u32,
         ints: &[Form],
         memory: Form,
+        steps: &mut Steps<L>,
     ) -> Result<Form, NoMemory>
         requires nodes { AreNodes (N.nodes nodes.now) }
         requires node { n < length (N.nodes nodes.now) }
@@ -158,17 +180,11 @@ impl Interner {
         ensures form { IfOk result (λ f. held self.new f ≡ Some (form_under (polynomials self.old ints.now) (updates_held self.old memory) (tree_at (N.nodes nodes.now) n))) }
         ensures integer { (x : Numbered) → slice_get (N.nodes nodes.now) n ≡ Some x → is_memory x.shape ≡ false → IfOk result (λ f. IsInteger self.new f) }
         ensures memory { (x : Numbered) → slice_get (N.nodes nodes.now) n ≡ Some x → is_memory x.shape ≡ true → IfOk result (λ f. IsMemory self.new f) }
+        ensures count { IfOk result (λ f. updates (updates_held self.new f) ≤ updates (updates_held self.old memory) + n) }
+        ensures steps { steps.new ≤ steps.old + (n + 1) * (1 + updates (updates_held self.old memory) + n) }
     {
-        let mut made: Vec<Form> = Vec::with_capacity(self.alloc, n as usize + 1)?;
-        for k in 0..n + 1 {
-            let node = nodes.node(k);
-            let form = self.form_of(&made, node.shape, ints, memory)?;
-            match made.push(form) {
-                Ok(_) => {}
-                Err(_) => return Err(NoMemory),
-            }
-        }
-        Ok(made[n as usize])
+        let mut memo = Memo::new(self.alloc);
+        memo.form(self, nodes, n, ints, memory, steps)
     }
 
     /// Whether two forms, of either sort, are equal. Then expressions that have them denote the same.
@@ -178,19 +194,40 @@ impl Interner {
         ensures exact { IsTrue result ↔ (held self.now a ≡ held self.now b) }
         ensures denotes { (x y : Expression) (s : Valuation) → IsTrue result → held self.now a ≡ Some (norm x) → held self.now b ≡ Some (norm y) → HasWords x → HasWords y → IsLawful s → denotation x s ≡ denotation y s }
     {
-        are_same(&self.entries, a.0, b.0)
+        let _entries = &self.entries;
+        a.0 == b.0
     }
 
-    /// Puts an entry at the end.
+    /// The number of an entry: that of the equal entry that is held, or the next one.
     fn put(&mut self, entry: Entry) -> Result<Form, AllocError>
-        requires reach { reach_of_entry entry ≤ length self.old }
-        requires value { HasIntegerValue self.old entry }
+        requires reach { reach_of_entry self.old entry ≤ length self.old }
+        requires canonical { IsCanonical entry }
         ensures kept { Keeps self.old self.new }
         ensures form { IfOk result (λ f. held self.new f ≡ Some (entry_form self.old entry)) }
     {
-        let number = self.entries.len();
-        self.entries.push(entry)?;
+        let (number, _) = self.entries.insert_full(entry)?;
         Ok(Form(number))
+    }
+
+    /// The terms of an integer.
+    fn terms(&self, form: Form) -> &[Term]
+        requires { IsInteger self.now form }
+        ensures form { polynomial_form self.now result.now ≡ polynomial self.now form }
+        ensures over { AreOver self.now result.now }
+        ensures count { length result.now ≤ 64 }
+    {
+        terms_at(self.entries.as_slice(), form.0)
+    }
+
+    /// The form of these terms.
+    fn integer(&mut self, terms: Vec<Term>) -> Result<Form, AllocError>
+        requires terms { AreTerms terms.items }
+        requires reach { reach_of_terms self.old terms.items ≤ length self.old }
+        requires count { length terms.items ≤ 64 }
+        ensures kept { Keeps self.old self.new }
+        ensures form { IfOk result (λ f. held self.new f ≡ Some (integer_form (polynomial_form self.old terms.items))) }
+    {
+        self.put(entry_of(terms))
     }
 
     /// The form of a word.
@@ -198,43 +235,47 @@ impl Interner {
         ensures kept { Keeps self.old self.new }
         ensures form { IfOk result (λ f. held self.new f ≡ Some (integer_form (constant w))) }
     {
-        let mut terms = Vec::new(self.alloc);
-        if w != 0 {
-            let factors = Vec::new(self.alloc);
-            terms.push(Term {
-                factors,
-                coefficient: w,
-            })?;
+        if w == 0 {
+            return self.put(Entry::Several(Vec::new(self.alloc)));
         }
-        self.put(Entry::Integer(terms))
+        self.put(Entry::Single(Term {
+            factors: Vec::new(self.alloc),
+            coefficient: w,
+        }))
     }
 
     /// The form of an atom with the coefficient 1.
     fn alone(&mut self, factor: Factor) -> Result<Form, AllocError>
-        requires { reach factor ≤ length self.old }
+        requires { reach self.old factor ≤ length self.old }
         ensures kept { Keeps self.old self.new }
         ensures form { IfOk result (λ f. held self.new f ≡ Some (integer_form (alone (atom_form self.old factor)))) }
     {
-        let mut factors = Vec::new(self.alloc);
+        let mut factors = Vec::with_capacity(self.alloc, 1)?;
         factors.push(factor)?;
-        let mut terms = Vec::new(self.alloc);
-        terms.push(Term {
+        self.put(Entry::Single(Term {
             factors,
             coefficient: 1,
-        })?;
-        self.put(Entry::Integer(terms))
+        }))
     }
 
-    /// The form of a sum.
+    /// The form of a sum. It is one of the two where the other is 0.
     fn add(&mut self, a: Form, b: Form) -> Result<Form, AllocError>
         requires first { IsInteger self.old a }
         requires second { IsInteger self.old b }
         ensures kept { Keeps self.old self.new }
         ensures form { IfOk result (λ f. held self.new f ≡ Some (integer_form (norm_add (polynomial self.old a) (polynomial self.old b)))) }
     {
-        let sum = sum_terms(self.alloc, &self.entries, a.0, b.0)?;
+        let p = self.terms(a);
+        let q = self.terms(b);
+        if q.is_empty() {
+            return Ok(a);
+        }
+        if p.is_empty() {
+            return Ok(b);
+        }
+        let sum = sum_terms(self.alloc, p, q)?;
         if sum.len() <= MONOMIALS {
-            return self.put(Entry::Integer(sum));
+            return self.integer(sum);
         }
         self.alone(Factor::Sum(a.0, b.0))
     }
@@ -246,12 +287,17 @@ impl Interner {
         ensures kept { Keeps self.old self.new }
         ensures form { IfOk result (λ f. held self.new f ≡ Some (integer_form (norm_sub (polynomial self.old a) (polynomial self.old b)))) }
     {
-        let difference = difference_terms(self.alloc, &self.entries, a.0, b.0)?;
-        if difference.len() <= MONOMIALS {
-            return self.put(Entry::Integer(difference));
+        let p = self.terms(a);
+        let q = self.terms(b);
+        if q.is_empty() {
+            return Ok(a);
         }
-        let negated = negated_terms(self.alloc, terms_at(&self.entries, b.0))?;
-        let negation = self.put(Entry::Integer(negated))?;
+        let difference = difference_terms(self.alloc, p, q)?;
+        if difference.len() <= MONOMIALS {
+            return self.integer(difference);
+        }
+        let negated = negated_terms(self.alloc, q, 0)?;
+        let negation = self.integer(negated)?;
         self.alone(Factor::Sum(a.0, negation.0))
     }
 
@@ -262,60 +308,28 @@ impl Interner {
         ensures kept { Keeps self.old self.new }
         ensures form { IfOk result (λ f. held self.new f ≡ Some (integer_form (norm_mul (polynomial self.old a) (polynomial self.old b)))) }
     {
-        let p = terms_at(&self.entries, a.0);
-        let q = terms_at(&self.entries, b.0);
+        let p = self.terms(a);
+        let q = self.terms(b);
         if !is_small(p, q) {
             return self.alone(Factor::Product(a.0, b.0));
         }
-        let product = product_terms(self.alloc, &self.entries, p, q)?;
-        self.put(Entry::Integer(product))
+        let product = product_terms(self.alloc, p, q)?;
+        self.integer(product)
     }
 
     /// The form of a test: what the operation gives where both are constants, and the atom otherwise.
     fn test(&mut self, op: Op, a: Form, b: Form, factor: Factor) -> Result<Form, AllocError>
         requires first { IsInteger self.old a }
         requires second { IsInteger self.old b }
-        requires factor { reach factor ≤ length self.old }
+        requires factor { reach self.old factor ≤ length self.old }
         ensures kept { Keeps self.old self.new }
         ensures form { IfOk result (λ f. held self.new f ≡ Some (integer_form (tested op (constant_of (polynomial self.old a)) (constant_of (polynomial self.old b)) (atom_form self.old factor)))) }
     {
-        let c = constant_in(terms_at(&self.entries, a.0));
-        let d = constant_in(terms_at(&self.entries, b.0));
+        let c = constant_in(self.terms(a));
+        let d = constant_in(self.terms(b));
         match (c, d) {
             (Some(c), Some(d)) => self.constant(apply(op, c, d)),
             _ => self.alone(factor),
-        }
-    }
-
-    /// The form of a node of this shape from the forms `made` of the lower nodes. A variable beyond
-    /// `ints` is the word 0.
-    fn form_of(
-        &mut self,
-        made: &[Form],
-        shape: Shape,
-        ints: &[Form],
-        memory: Form,
-    ) -> Result<Form, NoMemory>
-        requires parts { HasParts self.old made.now shape }
-        requires ints { AreIntegers self.old ints.now }
-        requires memory { IsMemory self.old memory }
-        ensures kept { Keeps self.old self.new }
-        ensures form { IfOk result (λ f. held self.new f ≡ Some (form_of (polynomials self.old ints.now) (updates_held self.old memory) (forms_held self.old made.now) shape)) }
-    {
-        match shape {
-            Shape::Word(w) => self.word(w),
-            Shape::Var(i) => match ints.get(i as usize) {
-                Some(form) => Ok(*form),
-                None => self.word(0),
-            },
-            Shape::Op { op, a, b } => self.op(op, made[a as usize], made[b as usize]),
-            Shape::Sel { memory: m, at } => self.sel(made[m as usize], made[at as usize]),
-            Shape::Memory => Ok(memory),
-            Shape::Upd {
-                memory: m,
-                at,
-                value,
-            } => self.upd(made[m as usize], made[at as usize], made[value as usize]),
         }
     }
 }

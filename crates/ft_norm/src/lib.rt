@@ -3,20 +3,23 @@
 //! An `Interner` holds a list of normal forms that only grows, and a `Form` stands for one of them
 //! (`specs/Held.antt`). The crate promises that each call gives exactly the form that the rows of
 //! the normal forms give from the forms of the parts, that `under` gives the form of a node after a
-//! substitution, and that `same` is true exactly where two forms are equal. The normal forms are
+//! substitution, and that `same` is true exactly when two forms are equal. The normal forms are
 //! those of `ft_static`.
 #![tactic(auto)]
 
-mod comparison;
 mod entry;
 mod form;
 mod interner;
+mod keys;
+mod parts;
 mod product;
+mod substitution;
 mod sum;
 mod walk;
 
 pub use form::Form;
 pub use interner::Interner;
+pub use substitution::Memo;
 
 #[cfg(test)]
 mod tests;

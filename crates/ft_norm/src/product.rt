@@ -1,27 +1,30 @@
 //! Products of polynomials.
-ghost use Rattle.std.specs.Prelude.{◌≡◌, ◌<◌, ◌≤◌, ◌+◌, ◌*◌, ◌&&◌, nat_le, List, length, IfOk};
-ghost use Rattle.std.specs.List.{insert};
+ghost use Rattle.std.specs.Prelude.{◌≡◌, ◌≢◌, ◌<◌, ◌≤◌, ◌+◌, ◌*◌, ◌&&◌, nat_le, ℕ, List, length, IfOk, true, false};
 ghost use Rattle.ft_static.specs.Form.{Form as Normal, nought, terms};
-ghost use Rattle.ft_static.specs.NormalForm.{add_multiple as sum_with_multiple, add_products, degree, join, with_factor};
-ghost use Rattle.ft_norm.specs.Entries.{NamesEarlier, atom_form, forms_of, monomial_form, polynomial_form, reach, reach_of_factors, reach_of_terms};
+ghost use Rattle.ft_static.specs.NormalForm.{add_multiple as sum_with_multiple, add_products, degree, join};
+ghost use Rattle.ft_norm.specs.Entries.{monomial_form, polynomial_form, reach_of_factors, reach_of_terms};
+ghost use Rattle.ft_norm.specs.Orders.{AreOrdered, AreTerms, cmp_factor};
+ghost use Rattle.ft_norm.specs.Terms.{AreOver, IsFactorPlace};
 
-use crate::comparison::compare_atoms;
-use crate::entry::{ATOMS, Entry, Factor, MONOMIALS, Term};
+use crate::entry::{ATOMS, Factor, MONOMIALS, Term};
 use crate::sum::add_term;
 use std::alloc::{AllocError, Global};
 use std::cmp::Ordering;
 
-/// The first place of `factors` whose atom is not below `a`.
-fn place_of_factor(entries: &[Entry], factors: &[Factor], a: Factor) -> usize
-    requires factors { reach_of_factors factors.now ≤ length entries.now }
-    requires factor { reach a ≤ length entries.now }
-    requires earlier { NamesEarlier entries.now }
-    ensures within { result ≤ length factors.now }
-    ensures put { monomial_form (forms_of entries.now) (insert factors.now result a) ≡ with_factor (atom_form (forms_of entries.now) a) (monomial_form (forms_of entries.now) factors.now) }
+/// Whether `a` may stand before `b`.
+fn may_precede(a: Factor, b: Factor) -> bool
+    ensures yes { result ≡ true → cmp_factor a b ≢ Ordering.Greater }
+    ensures no { result ≡ false → cmp_factor b a ≢ Ordering.Greater }
+{
+    a.cmp(&b) != Ordering::Greater
+}
+
+/// The first place of `factors` where `a` keeps the order.
+fn place_of_factor(factors: &[Factor], a: Factor) -> usize
+    ensures { IsFactorPlace factors.now a result }
 {
     for i in 0..factors.len() {
-        let order = compare_atoms(entries, a, factors[i]);
-        if order != Ordering::Greater {
+        if may_precede(a, factors[i]) {
             return i;
         }
     }
@@ -29,70 +32,55 @@ fn place_of_factor(entries: &[Entry], factors: &[Factor], a: Factor) -> usize
 }
 
 /// The factors of the product of two monomials.
-fn joined(entries: &[Entry], m: &[Factor], n: &Vec<Factor>) -> Result<Vec<Factor>, AllocError>
-    requires first { reach_of_factors m.now ≤ length entries.now }
-    requires second { reach_of_factors n.now.items ≤ length entries.now }
-    requires earlier { NamesEarlier entries.now }
-    ensures value { IfOk result (λ v. monomial_form (forms_of entries.now) v.items ≡ join (monomial_form (forms_of entries.now) m.now) (monomial_form (forms_of entries.now) n.now.items)) }
-    ensures reach { IfOk result (λ v. reach_of_factors v.items ≤ length entries.now) }
+fn joined(m: &[Factor], n: &Vec<Factor>) -> Result<Vec<Factor>, AllocError>
+    requires { AreOrdered n.now.items }
+    ensures value { IfOk result (λ v. (fs : List Normal) → monomial_form fs v.items ≡ join (monomial_form fs m.now) (monomial_form fs n.now.items)) }
+    ensures ordered { IfOk result (λ v. AreOrdered v.items) }
+    ensures reach { IfOk result (λ v. (fs : List Normal) (k : ℕ) → reach_of_factors fs m.now ≤ k → reach_of_factors fs n.now.items ≤ k → reach_of_factors fs v.items ≤ k) }
 {
     let mut product = n.clone()?;
     for i in 0..m.len() {
-        let place = place_of_factor(entries, &product, m[i]);
+        let place = place_of_factor(&product, m[i]);
         product.insert(place, m[i])?;
     }
     Ok(product)
 }
 
 /// Adds the product of `t` and each of `terms` to `sum`.
-fn add_multiple(
-    entries: &[Entry],
-    sum: &mut Vec<Term>,
-    t: &Term,
-    terms: &[Term],
-) -> Result<(), AllocError>
-    requires sum { reach_of_terms sum.old.items ≤ length entries.now }
-    requires term { reach_of_factors t.now.factors.items ≤ length entries.now }
-    requires terms { reach_of_terms terms.now ≤ length entries.now }
-    requires earlier { NamesEarlier entries.now }
-    ensures value { IfOk result (λ _. polynomial_form (forms_of entries.now) sum.new.items ≡ sum_with_multiple (monomial_form (forms_of entries.now) t.now.factors.items) t.now.coefficient (polynomial_form (forms_of entries.now) terms.now) (polynomial_form (forms_of entries.now) sum.old.items)) }
-    ensures reach { reach_of_terms sum.new.items ≤ length entries.now }
+fn add_multiple(sum: &mut Vec<Term>, t: &Term, terms: &[Term]) -> Result<(), AllocError>
+    requires sum { AreTerms sum.old.items }
+    requires terms { AreTerms terms.now }
+    ensures value { IfOk result (λ _. (fs : List Normal) → polynomial_form fs sum.new.items ≡ sum_with_multiple (monomial_form fs t.now.factors.items) t.now.coefficient (polynomial_form fs terms.now) (polynomial_form fs sum.old.items)) }
+    ensures terms { AreTerms sum.new.items }
+    ensures reach { (fs : List Normal) (n : ℕ) → reach_of_terms fs sum.old.items ≤ n → reach_of_factors fs t.now.factors.items ≤ n → reach_of_terms fs terms.now ≤ n → reach_of_terms fs sum.new.items ≤ n }
+    ensures count { length sum.new.items ≤ length sum.old.items + length terms.now }
 {
     for u in terms {
-        let factors = joined(entries, &t.factors, &u.factors)?;
-        add_term(
-            entries,
-            sum,
-            factors,
-            t.coefficient.wrapping_mul(u.coefficient),
-        )?;
+        let factors = joined(&t.factors, &u.factors)?;
+        add_term(sum, factors, t.coefficient.wrapping_mul(u.coefficient))?;
     }
     Ok(())
 }
 
 /// The terms of the product of two polynomials.
-pub fn product_terms(
-    alloc: Global,
-    entries: &[Entry],
-    p: &[Term],
-    q: &[Term],
-) -> Result<Vec<Term>, AllocError>
-    requires first { reach_of_terms p.now ≤ length entries.now }
-    requires second { reach_of_terms q.now ≤ length entries.now }
-    requires earlier { NamesEarlier entries.now }
-    ensures value { IfOk result (λ v. polynomial_form (forms_of entries.now) v.items ≡ add_products (polynomial_form (forms_of entries.now) p.now) (polynomial_form (forms_of entries.now) q.now) nought) }
-    ensures reach { IfOk result (λ v. reach_of_terms v.items ≤ length entries.now) }
+pub fn product_terms(alloc: Global, p: &[Term], q: &[Term]) -> Result<Vec<Term>, AllocError>
+    requires first { AreTerms p.now }
+    requires second { AreTerms q.now }
+    ensures value { IfOk result (λ v. (fs : List Normal) → polynomial_form fs v.items ≡ add_products (polynomial_form fs p.now) (polynomial_form fs q.now) nought) }
+    ensures terms { IfOk result (λ v. AreTerms v.items) }
+    ensures reach { IfOk result (λ v. (fs : List Normal) (n : ℕ) → reach_of_terms fs p.now ≤ n → reach_of_terms fs q.now ≤ n → reach_of_terms fs v.items ≤ n) }
+    ensures count { IfOk result (λ v. length v.items ≤ length p.now * length q.now) }
 {
     let mut sum = Vec::new(alloc);
     for t in p {
-        add_multiple(entries, &mut sum, t, q)?;
+        add_multiple(&mut sum, t, q)?;
     }
     Ok(sum)
 }
 
 /// The greatest number of atoms in a monomial.
 fn degree_of(terms: &[Term]) -> usize
-    ensures { (fs : List Normal) → result ≡ degree (polynomial_form fs terms.now) }
+    ensures { (fs : List Normal) → AreOver fs terms.now → result ≡ degree (polynomial_form fs terms.now) }
 {
     let mut most: usize = 0;
     for t in terms {
@@ -103,7 +91,7 @@ fn degree_of(terms: &[Term]) -> usize
 
 /// Whether the product of `p` and `q` stays within both limits.
 pub fn is_small(p: &[Term], q: &[Term]) -> bool
-    ensures { (fs : List Normal) → result ≡ (nat_le (terms (polynomial_form fs p.now) * terms (polynomial_form fs q.now)) 64 && nat_le (degree (polynomial_form fs p.now) + degree (polynomial_form fs q.now)) 4) }
+    ensures { (fs : List Normal) → AreOver fs p.now → AreOver fs q.now → result ≡ (nat_le (terms (polynomial_form fs p.now) * terms (polynomial_form fs q.now)) 64 && nat_le (degree (polynomial_form fs p.now) + degree (polynomial_form fs q.now)) 4) }
 {
     if p.len().saturating_mul(q.len()) > MONOMIALS {
         return false;

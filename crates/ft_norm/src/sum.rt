@@ -1,44 +1,48 @@
 //! Sums and differences of polynomials.
-ghost use Rattle.std.specs.Prelude.{◌≡◌, ◌≢◌, ◌<◌, ◌≤◌, ◌+◌, ◌-◌, ◌%◌, ◌^◌, ℕ, List, length, take, drop, map, slice_index_or, IfOk};
+ghost use Rattle.std.specs.Prelude.{◌≡◌, ◌<◌, ◌≤◌, ◌+◌, ◌-◌, ◌%◌, ◌^◌, ℕ, List, length, map, slice_index_or, IfErr, IfOk};
 ghost use Rattle.ft_static.specs.Form.{Form as Normal};
-ghost use Rattle.ft_static.specs.FormOrder.{cmp_monomial};
-ghost use Rattle.ft_static.specs.NormalForm.{add_term as sum_with, led_by, negation, total};
-ghost use Rattle.ft_norm.specs.Held.{polynomial_at};
-ghost use Rattle.ft_norm.specs.Entries.{NamesEarlier, forms_of, monomial_form, parts, polynomial_form, polynomial_onto, reach_of_factors, reach_of_terms};
+ghost use Rattle.ft_static.specs.NormalForm.{add_term as sum_with, negation, total};
+ghost use Rattle.ft_norm.specs.Entries.{monomial_form, negated_parts, parts, polynomial_form, reach_of_factors, reach_of_terms};
+ghost use Rattle.ft_norm.specs.Orders.{AreOrdered, AreTerms, cmp_factors};
+ghost use Rattle.ft_norm.specs.Terms.{IsPlace, IsThere};
 
-use crate::comparison::compare_factors;
-use crate::entry::{Entry, Factor, Term, terms_at};
+use crate::entry::{Factor, Term};
 use std::alloc::{AllocError, Global};
 use std::cmp::Ordering;
 
-/// The first place of `sum` whose monomial is not below `factors`, and how `factors` compares there.
-pub fn place_of(entries: &[Entry], sum: &[Term], factors: &[Factor]) -> (usize, Ordering)
-    requires terms { reach_of_terms sum.now ≤ length entries.now }
-    requires factors { reach_of_factors factors.now ≤ length entries.now }
-    requires earlier { NamesEarlier entries.now }
-    ensures within { result.0 ≤ length sum.now }
-    ensures passes { (c : ℕ) → sum_with (monomial_form (forms_of entries.now) factors.now) c (polynomial_form (forms_of entries.now) sum.now)
-        ≡ polynomial_onto (forms_of entries.now) (take result.0 sum.now) (sum_with (monomial_form (forms_of entries.now) factors.now) c (polynomial_form (forms_of entries.now) (drop result.0 sum.now))) }
-    ensures stops { result.1 ≢ Ordering.Greater }
-    ensures order { (t : Term) → result.0 < length sum.now → cmp_monomial (monomial_form (forms_of entries.now) factors.now) (monomial_form (forms_of entries.now) (slice_index_or sum.now result.0 t).factors.items) ≡ result.1 }
-    ensures end { result.1 ≡ Ordering.Equal → result.0 < length sum.now }
+/// Compares two lists of factors by their numbers.
+fn compare(a: &[Factor], b: &[Factor]) -> Ordering
+    ensures { result ≡ cmp_factors a.now b.now }
 {
-    for i in 0..sum.len() {
-        let t = &sum[i];
-        let order = compare_factors(entries, factors, &t.factors);
-        if order != Ordering::Greater {
-            return (i, order);
+    a.cmp(&b)
+}
+
+/// Where the term of these factors stands, or where it would stand.
+fn place_of(sum: &[Term], factors: &[Factor]) -> Result<usize, usize>
+    ensures there { IfOk result (IsThere sum.now factors.now) }
+    ensures place { IfErr result (IsPlace sum.now factors.now) }
+{
+    let mut low = 0;
+    let mut high = sum.len();
+    while low < high {
+        let middle = low + (high - low) / 2;
+        match compare(&sum[middle].factors, factors) {
+            Ordering::Equal => return Ok(middle),
+            Ordering::Less => low = middle + 1,
+            Ordering::Greater => high = middle,
         }
     }
-    (sum.len(), Ordering::Less)
+    Err(low)
 }
 
 /// Adds to the coefficient in place `i`; a term whose coefficient becomes 0 is dropped.
-pub fn raise(sum: &mut Vec<Term>, i: usize, coefficient: u64)
+fn raise(sum: &mut Vec<Term>, i: usize, coefficient: u64)
     requires within { i < length sum.old.items }
-    ensures value { (fs : List Normal) (t : Term) → polynomial_form fs sum.new.items
-        ≡ polynomial_onto fs (take i sum.old.items) (led_by (monomial_form fs (slice_index_or sum.old.items i t).factors.items) ((coefficient + (slice_index_or sum.old.items i t).coefficient) % 2 ^ 64) (polynomial_form fs (drop (i + 1) sum.old.items))) }
-    ensures reach { (n : ℕ) → reach_of_terms sum.old.items ≤ n → reach_of_terms sum.new.items ≤ n }
+    requires terms { AreTerms sum.old.items }
+    ensures value { (fs : List Normal) (t : Term) → polynomial_form fs sum.new.items ≡ sum_with (monomial_form fs (slice_index_or sum.old.items i t).factors.items) coefficient (polynomial_form fs sum.old.items) }
+    ensures terms { AreTerms sum.new.items }
+    ensures reach { (fs : List Normal) (n : ℕ) → reach_of_terms fs sum.old.items ≤ n → reach_of_terms fs sum.new.items ≤ n }
+    ensures count { length sum.new.items ≤ length sum.old.items }
 {
     let total = coefficient.wrapping_add(sum[i].coefficient);
     let vanishes = total == 0;
@@ -49,81 +53,95 @@ pub fn raise(sum: &mut Vec<Term>, i: usize, coefficient: u64)
     }
 }
 
+/// Puts a term in place `i`, unless its coefficient is 0.
+fn insert(
+    sum: &mut Vec<Term>,
+    i: usize,
+    factors: Vec<Factor>,
+    coefficient: u64,
+) -> Result<(), AllocError>
+    requires terms { AreTerms sum.old.items }
+    requires place { IsPlace sum.old.items factors.items i }
+    requires factors { AreOrdered factors.items }
+    ensures value { IfOk result (λ _. (fs : List Normal) → polynomial_form fs sum.new.items ≡ sum_with (monomial_form fs factors.items) coefficient (polynomial_form fs sum.old.items)) }
+    ensures terms { AreTerms sum.new.items }
+    ensures reach { (fs : List Normal) (n : ℕ) → reach_of_terms fs sum.old.items ≤ n → reach_of_factors fs factors.items ≤ n → reach_of_terms fs sum.new.items ≤ n }
+    ensures count { length sum.new.items ≤ length sum.old.items + 1 }
+{
+    if coefficient == 0 {
+        return Ok(());
+    }
+    sum.insert(
+        i,
+        Term {
+            factors,
+            coefficient,
+        },
+    )?;
+    Ok(())
+}
+
 /// Adds a term, which is handed over.
 pub fn add_term(
-    entries: &[Entry],
     sum: &mut Vec<Term>,
     factors: Vec<Factor>,
     coefficient: u64,
 ) -> Result<(), AllocError>
-    requires terms { reach_of_terms sum.old.items ≤ length entries.now }
-    requires factors { reach_of_factors factors.items ≤ length entries.now }
-    requires earlier { NamesEarlier entries.now }
-    ensures value { IfOk result (λ _. polynomial_form (forms_of entries.now) sum.new.items ≡ sum_with (monomial_form (forms_of entries.now) factors.items) coefficient (polynomial_form (forms_of entries.now) sum.old.items)) }
-    ensures reach { reach_of_terms sum.new.items ≤ length entries.now }
+    requires terms { AreTerms sum.old.items }
+    requires factors { AreOrdered factors.items }
+    ensures value { IfOk result (λ _. (fs : List Normal) → polynomial_form fs sum.new.items ≡ sum_with (monomial_form fs factors.items) coefficient (polynomial_form fs sum.old.items)) }
+    ensures terms { AreTerms sum.new.items }
+    ensures reach { (fs : List Normal) (n : ℕ) → reach_of_terms fs sum.old.items ≤ n → reach_of_factors fs factors.items ≤ n → reach_of_terms fs sum.new.items ≤ n }
+    ensures count { length sum.new.items ≤ length sum.old.items + 1 }
 {
-    let (i, order) = place_of(entries, sum, &factors);
-    if order == Ordering::Equal {
-        raise(sum, i, coefficient);
-        return Ok(());
+    match place_of(sum, &factors) {
+        Ok(i) => {
+            raise(sum, i, coefficient);
+            Ok(())
+        }
+        Err(i) => insert(sum, i, factors, coefficient),
     }
-    if coefficient != 0 {
-        sum.insert(
-            i,
-            Term {
-                factors,
-                coefficient,
-            },
-        )?;
-    }
-    Ok(())
 }
 
 /// Adds a term, which is copied only where it becomes a term of the sum.
-pub fn add_copy(entries: &[Entry], sum: &mut Vec<Term>, term: &Term) -> Result<(), AllocError>
-    requires terms { reach_of_terms sum.old.items ≤ length entries.now }
-    requires factors { reach_of_factors term.now.factors.items ≤ length entries.now }
-    requires earlier { NamesEarlier entries.now }
-    ensures value { IfOk result (λ _. polynomial_form (forms_of entries.now) sum.new.items ≡ sum_with (monomial_form (forms_of entries.now) term.now.factors.items) term.now.coefficient (polynomial_form (forms_of entries.now) sum.old.items)) }
-    ensures reach { reach_of_terms sum.new.items ≤ length entries.now }
+fn add_copy(sum: &mut Vec<Term>, term: &Term) -> Result<(), AllocError>
+    requires terms { AreTerms sum.old.items }
+    requires factors { AreOrdered term.now.factors.items }
+    ensures value { IfOk result (λ _. (fs : List Normal) → polynomial_form fs sum.new.items ≡ sum_with (monomial_form fs term.now.factors.items) term.now.coefficient (polynomial_form fs sum.old.items)) }
+    ensures terms { AreTerms sum.new.items }
+    ensures reach { (fs : List Normal) (n : ℕ) → reach_of_terms fs sum.old.items ≤ n → reach_of_factors fs term.now.factors.items ≤ n → reach_of_terms fs sum.new.items ≤ n }
 {
-    let (i, order) = place_of(entries, sum, &term.factors);
-    if order == Ordering::Equal {
-        raise(sum, i, term.coefficient);
-        return Ok(());
+    match place_of(sum, &term.factors) {
+        Ok(i) => {
+            raise(sum, i, term.coefficient);
+            Ok(())
+        }
+        Err(i) => {
+            let factors = term.factors.clone()?;
+            insert(sum, i, factors, term.coefficient)
+        }
     }
-    if term.coefficient != 0 {
-        let factors = term.factors.clone()?;
-        sum.insert(
-            i,
-            Term {
-                factors,
-                coefficient: term.coefficient,
-            },
-        )?;
-    }
-    Ok(())
 }
 
 /// Adds each term.
-fn add_terms(entries: &[Entry], sum: &mut Vec<Term>, terms: &[Term]) -> Result<(), AllocError>
-    requires sum { reach_of_terms sum.old.items ≤ length entries.now }
-    requires terms { reach_of_terms terms.now ≤ length entries.now }
-    requires earlier { NamesEarlier entries.now }
-    ensures value { IfOk result (λ _. polynomial_form (forms_of entries.now) sum.new.items ≡ total (polynomial_form (forms_of entries.now) terms.now) (polynomial_form (forms_of entries.now) sum.old.items)) }
-    ensures reach { reach_of_terms sum.new.items ≤ length entries.now }
+fn add_terms(sum: &mut Vec<Term>, terms: &[Term]) -> Result<(), AllocError>
+    requires sum { AreTerms sum.old.items }
+    requires terms { AreTerms terms.now }
+    ensures value { IfOk result (λ _. (fs : List Normal) → polynomial_form fs sum.new.items ≡ total (polynomial_form fs terms.now) (polynomial_form fs sum.old.items)) }
+    ensures terms { AreTerms sum.new.items }
+    ensures reach { (fs : List Normal) (n : ℕ) → reach_of_terms fs sum.old.items ≤ n → reach_of_terms fs terms.now ≤ n → reach_of_terms fs sum.new.items ≤ n }
 {
     for t in terms {
-        add_copy(entries, sum, t)?;
+        add_copy(sum, t)?;
     }
     Ok(())
 }
 
-/// A copy of these terms.
-fn copy_terms(alloc: Global, terms: &[Term]) -> Result<Vec<Term>, AllocError>
+/// A copy of these terms, with room for `more` beside them.
+fn copy_terms(alloc: Global, terms: &[Term], more: usize) -> Result<Vec<Term>, AllocError>
     ensures { IfOk result (λ v. map parts v.items ≡ map parts terms.now) }
 {
-    let mut copies = Vec::with_capacity(alloc, terms.len())?;
+    let mut copies = Vec::with_capacity(alloc, terms.len().saturating_add(more))?;
     for t in terms {
         let factors = t.factors.clone()?;
         copies.push(Term {
@@ -141,12 +159,11 @@ fn negated(coefficient: u64) -> u64
     coefficient.wrapping_neg()
 }
 
-/// These terms with each coefficient negated.
-pub fn negated_terms(alloc: Global, terms: &[Term]) -> Result<Vec<Term>, AllocError>
-    ensures value { IfOk result (λ v. (fs : List Normal) → polynomial_form fs v.items ≡ negation (polynomial_form fs terms.now)) }
-    ensures reach { IfOk result (λ v. reach_of_terms v.items ≡ reach_of_terms terms.now) }
+/// These terms with each coefficient negated, with room for `more` beside them.
+pub fn negated_terms(alloc: Global, terms: &[Term], more: usize) -> Result<Vec<Term>, AllocError>
+    ensures { IfOk result (λ v. map parts v.items ≡ map negated_parts terms.now) }
 {
-    let mut negation = Vec::with_capacity(alloc, terms.len())?;
+    let mut negation = Vec::with_capacity(alloc, terms.len().saturating_add(more))?;
     for t in terms {
         let factors = t.factors.clone()?;
         negation.push(Term {
@@ -157,38 +174,28 @@ pub fn negated_terms(alloc: Global, terms: &[Term]) -> Result<Vec<Term>, AllocEr
     Ok(negation)
 }
 
-/// The terms of the sum of the polynomials `a` and `b`.
-pub fn sum_terms(
-    alloc: Global,
-    entries: &[Entry],
-    a: usize,
-    b: usize,
-) -> Result<Vec<Term>, AllocError>
-    requires first { a < length entries.now }
-    requires second { b < length entries.now }
-    requires earlier { NamesEarlier entries.now }
-    ensures value { IfOk result (λ v. polynomial_form (forms_of entries.now) v.items ≡ total (polynomial_at (forms_of entries.now) a) (polynomial_at (forms_of entries.now) b)) }
-    ensures reach { IfOk result (λ v. reach_of_terms v.items ≤ length entries.now) }
+/// The terms of the sum of `p` and `q`.
+pub fn sum_terms(alloc: Global, p: &[Term], q: &[Term]) -> Result<Vec<Term>, AllocError>
+    requires first { AreTerms p.now }
+    requires second { AreTerms q.now }
+    ensures value { IfOk result (λ v. (fs : List Normal) → polynomial_form fs v.items ≡ total (polynomial_form fs p.now) (polynomial_form fs q.now)) }
+    ensures terms { IfOk result (λ v. AreTerms v.items) }
+    ensures reach { IfOk result (λ v. (fs : List Normal) (n : ℕ) → reach_of_terms fs p.now ≤ n → reach_of_terms fs q.now ≤ n → reach_of_terms fs v.items ≤ n) }
 {
-    let mut sum = copy_terms(alloc, terms_at(entries, b))?;
-    add_terms(entries, &mut sum, terms_at(entries, a))?;
+    let mut sum = copy_terms(alloc, q, p.len())?;
+    add_terms(&mut sum, p)?;
     Ok(sum)
 }
 
-/// The terms of the polynomial `a` and of the negation of the polynomial `b`, added up.
-pub fn difference_terms(
-    alloc: Global,
-    entries: &[Entry],
-    a: usize,
-    b: usize,
-) -> Result<Vec<Term>, AllocError>
-    requires first { a < length entries.now }
-    requires second { b < length entries.now }
-    requires earlier { NamesEarlier entries.now }
-    ensures value { IfOk result (λ v. polynomial_form (forms_of entries.now) v.items ≡ total (polynomial_at (forms_of entries.now) a) (negation (polynomial_at (forms_of entries.now) b))) }
-    ensures reach { IfOk result (λ v. reach_of_terms v.items ≤ length entries.now) }
+/// The terms of `p` and of the negation of `q`, added up.
+pub fn difference_terms(alloc: Global, p: &[Term], q: &[Term]) -> Result<Vec<Term>, AllocError>
+    requires first { AreTerms p.now }
+    requires second { AreTerms q.now }
+    ensures value { IfOk result (λ v. (fs : List Normal) → polynomial_form fs v.items ≡ total (polynomial_form fs p.now) (negation (polynomial_form fs q.now))) }
+    ensures terms { IfOk result (λ v. AreTerms v.items) }
+    ensures reach { IfOk result (λ v. (fs : List Normal) (n : ℕ) → reach_of_terms fs p.now ≤ n → reach_of_terms fs q.now ≤ n → reach_of_terms fs v.items ≤ n) }
 {
-    let mut difference = negated_terms(alloc, terms_at(entries, b))?;
-    add_terms(entries, &mut difference, terms_at(entries, a))?;
+    let mut difference = negated_terms(alloc, q, p.len())?;
+    add_terms(&mut difference, p)?;
     Ok(difference)
 }

@@ -1,9 +1,12 @@
-ghost use Rattle.std.specs.Prelude.{◌+◌, ◌≤◌, IfOk};
-ghost use Rattle.ft_norm.specs.Held.{IsInteger, Keeps};
+ghost use Rattle.std.specs.Prelude.{◌≡◌, ◌+◌, ◌<◌, ◌≤◌, IfOk};
+ghost use Rattle.ft_norm.specs.Held.{IsInteger, IsMemory, Keeps};
 
 use crate::{Form, Interner};
 use ft_isa::{NoMemory, Op};
 use ft_static::{Node, Nodes, Shape, examples_of_nodes};
+use ft_steps::Steps;
+use std::marker::Brand;
+use std::sync::ledger::{Blank, Ledger};
 use std::test::Fail;
 
 /// The sum of `count` variables from `first` on, each added on the right or on the left.
@@ -23,6 +26,114 @@ fn sum(forms: &mut Interner, first: u8, count: u8, on_right: bool) -> Result<For
         };
     }
     Ok(total)
+}
+
+/// The word of a memory at an address, by a counter of its own.
+fn counted<L: Ledger>(
+    forms: &mut Interner,
+    memory: Form,
+    at: Form,
+    blank: Blank,
+) -> Result<Form, NoMemory>
+    requires name { blank.name ≡ L.name }
+    requires parts { blank.parts ≡ L.parts }
+    requires some { 0 < L.parts }
+    requires memory { IsMemory forms.old memory }
+    requires address { IsInteger forms.old at }
+    ensures kept { Keeps forms.old forms.new }
+    ensures sort { IfOk result (λ f. IsInteger forms.new f) }
+{
+    let mut steps = Steps::<L>::new(blank);
+    forms.sel(memory, at, &mut steps)
+}
+
+/// The same, whatever the counter.
+fn sel(forms: &mut Interner, memory: Form, at: Form) -> Result<Form, NoMemory>
+    requires memory { IsMemory forms.old memory }
+    requires address { IsInteger forms.old at }
+    ensures kept { Keeps forms.old forms.new }
+    ensures sort { IfOk result (λ f. IsInteger forms.new f) }
+{
+    counted::<Brand>(forms, memory, at, Blank::new(1))
+}
+
+/// A tower of comparisons over a variable, each of the one below with itself.
+#[tactic(auto, using(crate::proofs::Places::keeps_both))]
+fn tower(forms: &mut Interner, variable: u8, height: u32) -> Result<Form, NoMemory>
+    ensures kept { Keeps forms.old forms.new }
+    ensures sort { IfOk result (λ f. IsInteger forms.new f) }
+{
+    let mut top = forms.var(variable)?;
+    for _ in 0..height {
+        top = forms.op(Op::Ltu, top, top)?;
+    }
+    Ok(top)
+}
+
+#[test]
+fn towers_are_compared_by_number(rt: HostRuntime) -> Result<(), Fail> {
+    let mut forms = Interner::new(rt.alloc())?;
+    let x = tower(&mut forms, 0, 100_000)?;
+    let again = tower(&mut forms, 0, 100_000)?;
+    assert!(rt; forms.same(x, again));
+    let y = tower(&mut forms, 1, 100_000)?;
+    let up = forms.op(Op::Add, x, y)?;
+    let down = forms.op(Op::Add, y, x)?;
+    assert!(rt; forms.same(up, down));
+    Ok(())
+}
+
+/// A tower of tests, with a sum at each level, over the two towers that are added there.
+#[tactic(auto, using(crate::proofs::Places::keeps_both))]
+fn levels(forms: &mut Interner, height: u32) -> Result<Form, NoMemory>
+    ensures kept { Keeps forms.old forms.new }
+    ensures sort { IfOk result (λ f. IsInteger forms.new f) }
+{
+    let mut left = forms.var(0)?;
+    let mut right = forms.var(1)?;
+    let mut sum = forms.op(Op::Add, left, right)?;
+    for _ in 0..height {
+        left = forms.op(Op::Ltu, left, sum)?;
+        right = forms.op(Op::Ltu, right, sum)?;
+        sum = forms.op(Op::Add, right, left)?;
+    }
+    Ok(sum)
+}
+
+#[test]
+fn sums_at_many_levels_do_not_go_down(rt: HostRuntime) -> Result<(), Fail> {
+    let mut forms = Interner::keyed(rt.alloc(), 1, 2)?;
+    let top = levels(&mut forms, 100_000)?;
+    let again = levels(&mut forms, 100_000)?;
+    assert!(rt; forms.same(top, again));
+    Ok(())
+}
+
+/// Whether the product of the sum and the difference of two forms is the difference of their squares.
+fn is_binomial(forms: &mut Interner, p: Form, q: Form) -> Result<bool, NoMemory>
+    requires first { IsInteger forms.old p }
+    requires second { IsInteger forms.old q }
+    ensures { Keeps forms.old forms.new }
+{
+    let sum = forms.op(Op::Add, p, q)?;
+    let difference = forms.op(Op::Sub, p, q)?;
+    let product = forms.op(Op::Mul, sum, difference)?;
+    let square = forms.op(Op::Mul, p, p)?;
+    let other = forms.op(Op::Mul, q, q)?;
+    let squares = forms.op(Op::Sub, square, other)?;
+    Ok(forms.same(product, squares))
+}
+
+#[test]
+fn forms_do_not_depend_on_the_order_of_making(rt: HostRuntime) -> Result<(), Fail> {
+    let mut forms = Interner::new(rt.alloc())?;
+    let x = forms.var(0)?;
+    let y = forms.var(1)?;
+    let p = forms.op(Op::Ltu, x, y)?;
+    let q = forms.op(Op::Eq, x, y)?;
+    assert!(rt; is_binomial(&mut forms, p, q)?);
+    assert!(rt; is_binomial(&mut forms, q, p)?);
+    Ok(())
 }
 
 #[test]
@@ -110,7 +221,7 @@ fn walk_goes_past_a_known_difference(rt: HostRuntime) -> Result<(), Fail> {
     let at_x = forms.upd(memory, x, seven)?;
     let next = forms.op(Op::Add, x, seven)?;
     let past_x = forms.upd(at_x, next, x)?;
-    let found = forms.sel(past_x, x)?;
+    let found = sel(&mut forms, past_x, x)?;
     assert!(rt; forms.same(found, seven));
     Ok(())
 }
@@ -124,7 +235,7 @@ fn walk_stops_at_the_unknown(rt: HostRuntime) -> Result<(), Fail> {
     let x = forms.var(0)?;
     let at_x = forms.upd(memory, x, seven)?;
     let then_y = forms.upd(at_x, y, x)?;
-    let unknown = forms.sel(then_y, x)?;
+    let unknown = sel(&mut forms, then_y, x)?;
     assert!(rt; !forms.same(unknown, seven));
     Ok(())
 }
@@ -186,17 +297,27 @@ impl Nodes for Example {
     }
 }
 
-#[test]
-fn node_is_found_under_a_substitution(rt: HostRuntime) -> Result<(), Fail> {
-    let mut forms = Interner::new(rt.alloc())?;
+/// The sum and the word of the example, under a substitution, and how many steps they took.
+fn found<L: Ledger>(forms: &mut Interner, blank: Blank) -> Result<bool, NoMemory>
+    requires name { blank.name ≡ L.name }
+    requires parts { blank.parts ≡ L.parts }
+    requires some { 0 < L.parts }
+{
     examples_of_nodes();
+    let mut steps = Steps::<L>::new(blank);
     let two = forms.word(2)?;
     let seven = forms.word(7)?;
     let memory = forms.memory()?;
     let memory = forms.upd(memory, seven, two)?;
-    let sum = forms.under(&Example, 3, &[two], memory)?;
-    assert!(rt; forms.same(sum, seven));
-    let word = forms.under(&Example, 4, &[two], memory)?;
-    assert!(rt; forms.same(word, two));
+    let sum = forms.under(&Example, 3, &[two], memory, &mut steps)?;
+    let word = forms.under(&Example, 4, &[two], memory, &mut steps)?;
+    Ok(forms.same(sum, seven) && forms.same(word, two))
+}
+
+#[test]
+fn node_is_found_under_a_substitution(rt: HostRuntime) -> Result<(), Fail> {
+    let mut forms = Interner::new(rt.alloc())?;
+    let right = found::<Brand>(&mut forms, Blank::new(1))?;
+    assert!(rt; right);
     Ok(())
 }

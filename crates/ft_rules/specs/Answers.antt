@@ -1,7 +1,7 @@
 -- What the answers of the rules say of a typing row.
-use Rattle.std.specs.Prelude.{◌≡◌, ℕ, List, Result, Ok, Err, OnErr, Some, slice_get}
+use Rattle.std.specs.Prelude.{◌≡◌, ◌+◌, ◌*◌, ◌≤◌, ℕ, List, length, Result, Ok, Err, OnErr, Some, slice_get}
 use Rattle.ft_isa.specs.declared.instr.Instr.{Instr}
-use Rattle.ft_static.specs.Form.{Form as Normal}
+use Rattle.ft_static.specs.Form.{Form as Normal, updates}
 use Rattle.ft_types.specs.declared.object.Object.{Object}
 use Rattle.ft_types.specs.Premise as premise
 use Rattle.ft_types.specs.Premise.{Premise}
@@ -14,6 +14,9 @@ use Rattle.ft_rules.specs.declared.why.Next.{Next}
 use Rattle.ft_rules.specs.declared.why.Next.TheVariants as next
 use Rattle.ft_contexts.specs.declared.context.Context.{Context}
 use Rattle.ft_norm.specs.Held.{Keeps}
+use Rattle.ft_isa.specs.declared.instr.Instr.TheVariants.{Ld, JmpB, BzB}
+use Rattle.ft_types.specs.Context.{Context as Defined}
+use Rattle.ft_contexts.specs.Costs.{tree_cost}
 use Rattle.ft_contexts.specs.Contexts.{context_in, HoldsForms, NamesTypes}
 
 -- the premise of a refusal
@@ -36,7 +39,7 @@ premise_of MemoryUnlike = premise.MemoryUnlike
 premise_of Annotation = premise.Annotation
 premise_of BlockEnd = premise.BlockEnd
 
--- what an error says of what a row gives: a refusal names the first failing premise; want of memory says nothing
+-- what an error says of what a row gives: a refusal names the first failing premise; out of memory says nothing
 abbrev pub IsRefusal : Outcome → RuleError → Type 0
 IsRefusal x (Refused why) = x ≡ Fails (premise_of why)
 IsRefusal x NoMemory = Unit {0}
@@ -60,6 +63,18 @@ pub record IsInstrOf (o : Object) (i : Instr) : Type 0 where
   pub index : ℕ
   pub found : slice_get o.instrs index ≡ Some i
 
+-- the memory has at most one update more, and the static queue no more than 8 pairs where it had no more before
+pub record Grows (fs gs : List Normal) (c d : Context) : Type 0 where
+  pub memory : updates (context_in gs d).memory ≤ updates (context_in fs c).memory + 1
+  pub queue : length (context_in fs c).queue ≤ 8 → length (context_in gs d).queue ≤ 8
+
+-- the most steps that a row takes
+abbrev pub rule_cost : Object → Defined → Instr → ℕ
+rule_cost o c (JmpB rd subst) = 210 * tree_cost o (length o.nodes)
+rule_cost o c (BzB rz rd subst) = 210 * tree_cost o (length o.nodes)
+rule_cost o c (Ld colour rd rs) = updates c.memory + 2 * length c.queue
+rule_cost o c i = 0
+
 -- what a row does: it answers so, from the context before and the one afterwards; an error leaves the context; what
 -- was held is held; the context's forms are held, and its code types are the object's
 pub record Does (x : Outcome) (o : Object) (fs gs : List Normal) (c d : Context) (r : Result Next RuleError) : Type 0 where
@@ -68,3 +83,4 @@ pub record Does (x : Outcome) (o : Object) (fs gs : List Normal) (c d : Context)
   pub kept : Keeps fs gs
   pub held : HoldsForms gs d
   pub types : NamesTypes o d
+  pub grows : Grows fs gs c d

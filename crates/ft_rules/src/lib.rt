@@ -12,7 +12,7 @@ mod transfer;
 mod typed_words;
 mod why;
 
-pub use ft_contexts::{Context, RegForm, StateD};
-pub use rows::apply_rule;
+pub use ft_contexts::{Context, RegForm, Shared, StateD};
+pub use rows::{apply_rule, apply_rule_over};
 pub use typed_words::has_type;
 pub use why::{Next, RuleError, Why};

@@ -1,21 +1,25 @@
 //! The typing rows.
-ghost use Rattle.std.specs.Prelude.{◌≡◌, OnErr, length};
+ghost use Rattle.std.specs.Prelude.{◌≡◌, ◌+◌, ◌*◌, ◌≤◌, OnErr, length};
+ghost use Rattle.ft_static.specs.Form.{updates};
 ghost use Rattle.ft_norm.specs.Held.{Keeps};
 ghost use Rattle.ft_types.specs.Spellable.{IsBase, IsSpellable, IsSubst};
 ghost use Rattle.ft_types.specs.TypingRow.{row};
 ghost use Rattle.ft_types.specs.declared.object.Object.{Object};
-ghost use Rattle.ft_contexts.specs.Contexts.{HoldsForms, NamesTypes, context_in};
-ghost use Rattle.ft_rules.specs.Answers.{Answers, Does, IsInstrOf};
+ghost use Rattle.ft_contexts.specs.Contexts.{HoldsForms, HoldsOwn, NamesTypes, context_in};
+ghost use Rattle.ft_contexts.specs.Costs.{tree_cost};
+ghost use Rattle.ft_rules.specs.Answers.{Answers, Does, Grows, IsInstrOf, rule_cost};
 
 use crate::premises::{conditional, need, oldest, referred, target, typed, zero};
 use crate::reads::{branched, jumped, one, same_target, stored};
 use crate::transfer::leads;
 use crate::typed_words::has_type;
 use crate::why::{Next, RuleError, Why};
-use ft_contexts::{Context, QUEUE_ROOM, RegForm, StateD, same_colour, same_integers};
+use ft_contexts::{Context, QUEUE_ROOM, RegForm, Shared, StateD, same_colour, same_integers};
 use ft_isa::{Base, Basic, Colour, Coloured, Instr, Op, Reg, Subst};
 use ft_norm::Interner;
+use ft_steps::Steps;
 use ft_types::Program;
+use std::sync::ledger::Ledger;
 
 /// The basic type of every word.
 const INT: Basic = Basic {
@@ -106,20 +110,22 @@ fn claim<P: Program>(
 }
 
 /// A load.
-fn load(
+fn load<L: Ledger>(
     context: &mut Context,
     colour: Colour,
     rd: Reg,
     rs: Reg,
     forms: &mut Interner,
+    steps: &mut Steps<L>,
 ) -> Result<Next, RuleError>
     requires { HoldsForms forms.old context.old }
-    ensures { (o : Object) → NamesTypes o context.old → Does (row o (context_in forms.old context.old) (Instr.Ld colour rd rs)) o forms.old forms.new context.old context.new result }
+    ensures row { (o : Object) → NamesTypes o context.old → Does (row o (context_in forms.old context.old) (Instr.Ld colour rd rs)) o forms.old forms.new context.old context.new result }
+    ensures steps { steps.new ≤ steps.old + updates (context_in forms.old context.old).memory + 2 * length (context_in forms.old context.old).queue }
 {
     let address = one(context, rs, colour)?;
     let basic = referred(address.basic)?;
-    let memory = context.seen(colour, forms)?;
-    let form = forms.sel(memory, address.form)?;
+    let memory = context.seen(colour, forms, steps)?;
+    let form = forms.sel(memory, address.form, steps)?;
     context.put(
         rd,
         RegForm {
@@ -193,18 +199,23 @@ fn jump_green(context: &mut Context, rd: Reg, forms: &Interner) -> Result<Next, 
 }
 
 /// A blue jump, which ends the block.
-fn jump_blue<P: Program>(
+fn jump_blue<P: Program, L: Ledger>(
     context: &Context,
+    shared: &mut Shared,
     program: &P,
     rd: Reg,
     subst: Subst,
     forms: &mut Interner,
+    steps: &mut Steps<L>,
 ) -> Result<Next, RuleError>
     requires spellable { IsSpellable (P.object program.now) }
     requires held { HoldsForms forms.old context.now }
     requires types { NamesTypes (P.object program.now) context.now }
     requires subst { IsSubst (P.object program.now).nodes (length (P.object program.now).substs) subst.first subst }
-    ensures { Does (row (P.object program.now) (context_in forms.old context.now) (Instr.JmpB rd subst)) (P.object program.now) forms.old forms.new context.now context.now result }
+    requires own { HoldsOwn (P.object program.now) forms.old shared.old.own }
+    ensures own { HoldsOwn (P.object program.now) forms.new shared.new.own }
+    ensures row { Does (row (P.object program.now) (context_in forms.old context.now) (Instr.JmpB rd subst)) (P.object program.now) forms.old forms.new context.now context.now result }
+    ensures steps { steps.new ≤ steps.old + 210 * tree_cost (P.object program.now) (length (P.object program.now).nodes) }
 {
     let (code_type, form) = jumped(context, rd, Colour::Blue)?;
     let (d_type, d_form) = target(context)?;
@@ -212,7 +223,15 @@ fn jump_blue<P: Program>(
         Why::Targets,
         same_target(forms, code_type, form, d_type, d_form),
     )?;
-    leads(context, program, subst, code_type as u32, forms)?;
+    leads(
+        context,
+        shared,
+        program,
+        subst,
+        code_type as u32,
+        forms,
+        steps,
+    )?;
     Ok(Next::Ends)
 }
 
@@ -237,19 +256,24 @@ fn branch_green(
 }
 
 /// A blue branch, after which the block goes on.
-fn branch_blue<P: Program>(
+fn branch_blue<P: Program, L: Ledger>(
     context: &mut Context,
+    shared: &mut Shared,
     program: &P,
     rz: Reg,
     rd: Reg,
     subst: Subst,
     forms: &mut Interner,
+    steps: &mut Steps<L>,
 ) -> Result<Next, RuleError>
     requires spellable { IsSpellable (P.object program.now) }
     requires held { HoldsForms forms.old context.old }
     requires types { NamesTypes (P.object program.now) context.old }
     requires subst { IsSubst (P.object program.now).nodes (length (P.object program.now).substs) subst.first subst }
-    ensures { Does (row (P.object program.now) (context_in forms.old context.old) (Instr.BzB rz rd subst)) (P.object program.now) forms.old forms.new context.old context.new result }
+    requires own { HoldsOwn (P.object program.now) forms.old shared.old.own }
+    ensures own { HoldsOwn (P.object program.now) forms.new shared.new.own }
+    ensures row { Does (row (P.object program.now) (context_in forms.old context.old) (Instr.BzB rz rd subst)) (P.object program.now) forms.old forms.new context.old context.new result }
+    ensures steps { steps.new ≤ steps.old + 210 * tree_cost (P.object program.now) (length (P.object program.now).nodes) }
 {
     let (test, code_type, form) = branched(context, rz, rd, Colour::Blue)?;
     let (d_test, d_type, d_form) = conditional(context)?;
@@ -258,7 +282,15 @@ fn branch_blue<P: Program>(
         Why::Targets,
         same_target(forms, code_type, form, d_type, d_form),
     )?;
-    leads(context, program, subst, code_type as u32, forms)?;
+    leads(
+        context,
+        shared,
+        program,
+        subst,
+        code_type as u32,
+        forms,
+        steps,
+    )?;
     context.put_d(StateD::Zero);
     Ok(Next::On)
 }
@@ -276,13 +308,14 @@ fn halt(context: &Context, forms: &Interner) -> Result<Next, RuleError>
 
 /// Types one instruction. `On` comes where the block goes on after it, and the context is then that of
 /// the next instruction; `Ends` where the block ends with it, a blue jump or `halt`. `Refused` names
-/// the first failing premise, never `BlockEnd`, and leaves the context as before. After want of memory
-/// the context is as before, too.
-pub fn apply_rule<P: Program>(
+/// the first failing premise, never `BlockEnd`, and leaves the context as before. When out of memory,
+/// the context stays as before, too.
+pub fn apply_rule<P: Program, L: Ledger>(
     ctx: &mut Context,
     forms: &mut Interner,
     program: &P,
     instr: &Instr,
+    steps: &mut Steps<L>,
 ) -> Result<Next, RuleError>
     requires spellable { IsSpellable (P.object program.now) }
     requires held { HoldsForms forms.old ctx.old }
@@ -293,17 +326,48 @@ pub fn apply_rule<P: Program>(
     ensures kept { Keeps forms.old forms.new }
     ensures held { HoldsForms forms.new ctx.new }
     ensures types { NamesTypes (P.object program.now) ctx.new }
+    ensures grows { Grows forms.old forms.new ctx.old ctx.new }
+    ensures steps { steps.new ≤ steps.old + rule_cost (P.object program.now) (context_in forms.old ctx.old) instr.now }
+{
+    let mut shared = Shared::new(ctx.alloc(), forms)?;
+    apply_rule_over(ctx, &mut shared, forms, program, instr, steps)
+}
+
+/// The same, over what other instructions may have used before.
+pub fn apply_rule_over<P: Program, L: Ledger>(
+    ctx: &mut Context,
+    shared: &mut Shared,
+    forms: &mut Interner,
+    program: &P,
+    instr: &Instr,
+    steps: &mut Steps<L>,
+) -> Result<Next, RuleError>
+    requires spellable { IsSpellable (P.object program.now) }
+    requires held { HoldsForms forms.old ctx.old }
+    requires types { NamesTypes (P.object program.now) ctx.old }
+    requires instr { IsInstrOf (P.object program.now) instr.now }
+    requires own { HoldsOwn (P.object program.now) forms.old shared.old.own }
+    ensures row { Answers (row (P.object program.now) (context_in forms.old ctx.old) instr.now) forms.new ctx.new result }
+    ensures before { OnErr result (ctx.new ≡ ctx.old) }
+    ensures kept { Keeps forms.old forms.new }
+    ensures held { HoldsForms forms.new ctx.new }
+    ensures types { NamesTypes (P.object program.now) ctx.new }
+    ensures grows { Grows forms.old forms.new ctx.old ctx.new }
+    ensures own { HoldsOwn (P.object program.now) forms.new shared.new.own }
+    ensures steps { steps.new ≤ steps.old + rule_cost (P.object program.now) (context_in forms.old ctx.old) instr.now }
 {
     match *instr {
         Instr::OpReg { op, rd, rs, rt } => operate(ctx, op, rd, rs, rt, forms),
         Instr::OpWord { op, rd, rs, value } => operate_word(ctx, op, rd, rs, value, forms),
         Instr::Mov { rd, value, basic } => claim(ctx, program, rd, value, basic, forms),
-        Instr::Ld { colour, rd, rs } => load(ctx, colour, rd, rs, forms),
+        Instr::Ld { colour, rd, rs } => load(ctx, colour, rd, rs, forms, steps),
         Instr::St { colour, rd, rs } => store(ctx, colour, rd, rs, forms),
         Instr::JmpG { rd } => jump_green(ctx, rd, forms),
-        Instr::JmpB { rd, subst } => jump_blue(ctx, program, rd, subst, forms),
+        Instr::JmpB { rd, subst } => jump_blue(ctx, shared, program, rd, subst, forms, steps),
         Instr::BzG { rz, rd } => branch_green(ctx, rz, rd, forms),
-        Instr::BzB { rz, rd, subst } => branch_blue(ctx, program, rz, rd, subst, forms),
+        Instr::BzB { rz, rd, subst } => {
+            branch_blue(ctx, shared, program, rz, rd, subst, forms, steps)
+        }
         Instr::Halt => halt(ctx, forms),
     }
 }

@@ -1,42 +1,52 @@
 //! The premises on the target of a transfer: what holds here is as the target's code type wants it,
 //! after the substitution.
-ghost use Rattle.std.specs.Prelude.{◌<◌, length};
+ghost use Rattle.std.specs.Prelude.{◌+◌, ◌*◌, ◌<◌, ◌≤◌, length};
 ghost use Rattle.ft_norm.specs.Held.{Keeps};
 ghost use Rattle.ft_types.specs.Spellable.{IsSpellable, IsSubst};
 ghost use Rattle.ft_types.specs.TypingRow.{Outcome, leads};
-ghost use Rattle.ft_contexts.specs.Contexts.{HoldsForms, context_in};
+ghost use Rattle.ft_contexts.specs.Contexts.{HoldsForms, HoldsOwn, context_in};
+ghost use Rattle.ft_contexts.specs.Costs.{tree_cost};
 ghost use Rattle.ft_rules.specs.Answers.{Passes};
 
 use crate::premises::need;
 use crate::why::{RuleError, Why};
-use ft_contexts::Context;
+use ft_contexts::{Context, Shared};
 use ft_isa::Subst;
 use ft_norm::Interner;
+use ft_steps::Steps;
 use ft_types::Program;
+use std::sync::ledger::Ledger;
 
 /// The premises of a transfer to code type `t` by a substitution.
 #[tactic(auto, unfolding(ft_types::specs::TypingRow::leads))]
-pub fn leads<P: Program>(
+pub fn leads<P: Program, L: Ledger>(
     context: &Context,
+    shared: &mut Shared,
     program: &P,
     subst: Subst,
     t: u32,
     forms: &mut Interner,
+    steps: &mut Steps<L>,
 ) -> Result<(), RuleError>
     requires spellable { IsSpellable (P.object program.now) }
     requires there { t < length (P.object program.now).types }
     requires subst { IsSubst (P.object program.now).nodes (length (P.object program.now).substs) subst.first subst }
     requires held { HoldsForms forms.old context.now }
+    requires own { HoldsOwn (P.object program.now) forms.old shared.old.own }
     ensures kept { Keeps forms.old forms.new }
+    ensures own { HoldsOwn (P.object program.now) forms.new shared.new.own }
     ensures passes { (next : Outcome) → Passes (leads (P.object program.now) subst t (context_in forms.old context.now) next) (λ _. next) result }
+    ensures steps { steps.new ≤ steps.old + 210 * tree_cost (P.object program.now) (length (P.object program.now).nodes) }
 {
     let annotated = context.is_annotated(program, subst, t);
     need(Why::Annotation, annotated)?;
-    let put = context.replaced(program, subst, forms)?;
-    let registers = context.registers_are_like(&put, program, t, forms)?;
+    shared.replace(program, subst, forms, steps)?;
+    let put = &shared.put;
+    let made = &mut shared.made;
+    let registers = context.registers_are_like(put, made, program, t, forms, steps)?;
     need(Why::RegisterUnlike, registers)?;
-    let queue = context.queue_is_like(&put, program, t, forms)?;
+    let queue = context.queue_is_like(put, made, program, t, forms, steps)?;
     need(Why::QueueUnlike, queue)?;
-    let memory = context.memory_is_like(&put, program, t, forms)?;
+    let memory = context.memory_is_like(put, made, program, t, forms, steps)?;
     need(Why::MemoryUnlike, memory)
 }

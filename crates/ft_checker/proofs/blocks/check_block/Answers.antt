@@ -1,9 +1,17 @@
-use Rattle.std.proofs.Common.{◌≡◌, ◌≤◌, ◌-◌, ◌+◌, ℕ, suc, length, slice_range, Option, sym, subst, ap, ◌∙◌, arith}
+use Rattle.std.proofs.Common.{◌≡◌, ◌≤◌, ◌-◌, ◌+◌, ℕ, suc, length, slice_range, Option, sym, subst, ap, ◌∙◌, arith, Some, take}
 use Rattle.std.specs.Option.{option_map}
 use Rattle.ft_types.specs.Accepted.{walk, Refusal, Refused as refused_at}
 use Rattle.ft_types.specs.Premise.{Premise}
-use Rattle.ft_contexts.specs.Contexts.{context_in}
+use Rattle.ft_static.specs.Form.{updates}
+use Rattle.ft_types.specs.Context.{start_context}
+use Rattle.ft_contexts.specs.declared.context.Context.{Context}
+use Rattle.ft_contexts.specs.Contexts.{context_in, pair_in}
+use Rattle.ft_contexts.proofs.Kept.{keeps_itself, keeps_on}
 use Rattle.ft_checker.specs.Judges.{IsRefusalOf, StopsAt}
+use Rattle.std.proofs.lemmas.List.{length-map}
+use Rattle.ft_types.specs.declared.object.Block.{Block}
+use Rattle.ft_checker.specs.Costs.{instrs_cost}
+use Rattle.ft_checker.proofs.Costs.{cost_more, cost_rises, rule_within}
 use Rattle.ft_checker.proofs.Turned.{block_ends, none_left, walk_begins, walk_there, walk_past, block_walk, judges_stop}
 use Rattle.ft_checker.proofs.blocks.check_block.Goals as goal
 
@@ -18,11 +26,25 @@ pub turn-requires-clause-instr : goal.turn-requires-clause-instr
 turn-requires-clause-instr g c = record { index = c.loop-i.i; found = c.instr-instr.ensures }
 
 pub loop-i-init : goal.loop-i-init
-loop-i-init g c = record {
-  held = c.in_ok-context.ensures.held;
-  types = c.in_ok-context.ensures.types;
-  left = walk_begins (g.P.Program.object c.args.program.now) c.args.b c.block-block.result c.end_of-past.result _ _ c.block-block.ensures c.end_of-past.ensures c.in_ok-context.ensures.context (omega arith);
-}
+loop-i-init g c =
+    let o = g.P.Program.object c.args.program.now in
+    let fs = c.args.forms.now in
+    let same : c.in_ok-context.context ≡ c.args.start.now.context = c.in_ok-context.ensures in
+    let k : context_in fs c.in_ok-context.context ≡ start_context o c.block-block.result.code_type = ap (context_in fs) same ∙ (c.requires.start.context ∙ ap (start_context o) (c.requires.code_type c.block-block.result c.block-block.ensures)) in
+    let m = ap (λ (x : Context). updates (context_in fs x).memory) same in
+    let q = ap (λ (x : Context). length (context_in fs x).queue) same in
+    let n = length-map c.args.start.now.context.queue (pair_in fs) in
+    record {
+      kept = keeps_itself _;
+      own = c.requires.own;
+      held = rw same c.requires.start.held;
+      types = rw same c.requires.start.types;
+      from = omega arith;
+      queue = omega (arith, n, q, c.requires.start.pending);
+      memory = omega (arith, m, c.requires.start.count);
+      steps = omega arith;
+      left = walk_begins o c.args.b c.block-block.result c.end_of-past.result _ _ c.block-block.ensures c.end_of-past.ensures k (omega arith);
+    }
 
 pub loop-i-preserved : goal.loop-i-preserved
 loop-i-preserved g c =
@@ -37,17 +59,29 @@ loop-i-preserved g c =
     let whole = sym there ∙ c.loop-i.invariant.left in
     let goes = rw c.if-ended.false at (c.in-Ok.ensures.turns k others (λ d. walk o d (suc k) others) left) in
     let n : c.loop-i.i + 1 - c.block-block.result.start ≡ suc k = omega arith in
+    let so = g.P.Program.object c.args.program.now in
+    let sends = block_ends so c.args.b c.block-block.result c.requires.spellable c.block-block.ensures in
+    let spast = c.end_of-past.ensures in
+    let slast = sends.1 in
+    let sw = rule_within so (context_in c.loop-i.forms c.loop-i.context) c.instr-instr.result (omega (arith, c.loop-i.invariant.memory, c.loop-i-test.true, spast, slast)) c.loop-i.invariant.queue in
+    let sm = cost_more so so.instrs c.loop-i.i c.instr-instr.result c.instr-instr.ensures in
     record {
+      from = omega (arith, c.loop-i.invariant.from);
+      queue = c.turn.ensures.grows.queue c.loop-i.invariant.queue;
+      memory = omega (arith, c.turn.ensures.grows.memory, c.loop-i.invariant.memory);
+      steps = omega (arith, c.turn.ensures.steps, c.loop-i.invariant.steps, sw, sm);
+      kept = keeps_on _ _ _ c.loop-i.invariant.kept c.turn.ensures.kept;
+      own = c.turn.ensures.own;
       held = c.turn.ensures.held;
       types = c.turn.ensures.types;
       left = ap (λ (m : ℕ). walk o (context_in c.turn.new.forms c.turn.new.context) m others) n ∙ sym goes ∙ whole;
     }
 
-pub returns-in_err-context : goal.returns-in_err-context
-returns-in_err-context g c = λ x f. judges_stop _ _ c.from_residual.ensures.1
+pub returns-in_err-context-clause-judged : goal.returns-in_err-context-clause-judged
+returns-in_err-context-clause-judged g c = λ x f. judges_stop _ _ c.from_residual.ensures.1
 
-pub returns-in-Err : goal.returns-in-Err
-returns-in-Err g c = λ x f.
+pub returns-in-Err-clause-judged : goal.returns-in-Err-clause-judged
+returns-in-Err-clause-judged g c = λ x f.
     let o = (g.P.Program.object c.args.program.now) in
     let k = c.loop-i.i - c.block-block.result.start in
     let others = slice_range o.instrs (c.loop-i.i + 1) c.end_of-past.result in
@@ -61,8 +95,8 @@ returns-in-Err g c = λ x f.
     let at = subst (λ (w : Option (ℕ × Premise)). StopsAt w k c.in-Err.error) whole stops in
     subst (λ (w : Option Refusal). IsRefusalOf w c.refused.result) (sym (block_walk o c.args.b x c.block-block.result f c.block-block.ensures)) (c.refused.ensures _ at)
 
-pub returns-then-ended : goal.returns-then-ended
-returns-then-ended g c = λ x f.
+pub returns-then-ended-clause-judged : goal.returns-then-ended-clause-judged
+returns-then-ended-clause-judged g c = λ x f.
     let o = (g.P.Program.object c.args.program.now) in
     let k = c.loop-i.i - c.block-block.result.start in
     let others = slice_range o.instrs (c.loop-i.i + 1) c.end_of-past.result in
@@ -75,8 +109,8 @@ returns-then-ended g c = λ x f.
     let ended = rw c.if-ended.true at (c.in-Ok.ensures.turns k others (λ d. walk o d (suc k) others) left) in
     block_walk o c.args.b x c.block-block.result f c.block-block.ensures ∙ ap (option_map (λ r. refused_at c.args.b r.0 r.1)) (sym whole ∙ ended)
 
-pub returns : goal.returns
-returns g c = λ x f.
+pub returns-clause-judged : goal.returns-clause-judged
+returns-clause-judged g c = λ x f.
     let o = (g.P.Program.object c.args.program.now) in
     let ends = block_ends o c.args.b c.block-block.result c.requires.spellable c.block-block.ensures in
     let past = c.end_of-past.ensures in
@@ -91,3 +125,59 @@ overflow_sub-past g c =
     let past = c.end_of-past.ensures in
     let first = ends.0 in
     omega arith
+
+pub returns-in-Err-clause-steps : goal.returns-in-Err-clause-steps
+returns-in-Err-clause-steps g c = λ x f.
+    let so = g.P.Program.object c.args.program.now in
+    let ends = block_ends so c.args.b c.block-block.result c.requires.spellable c.block-block.ensures in
+    let past = c.end_of-past.ensures in
+    let last = ends.1 in
+    let sw = rule_within so (context_in c.loop-i.forms c.loop-i.context) c.instr-instr.result (omega (arith, c.loop-i.invariant.memory, c.loop-i-test.true, past, last)) c.loop-i.invariant.queue in
+    let sm = cost_more so so.instrs c.loop-i.i c.instr-instr.result c.instr-instr.ensures in
+    let sb : x ≡ c.block-block.result = (let q : Some x ≡ Some c.block-block.result = sym f ∙ c.block-block.ensures in cc) in
+    let ss = ap (λ (y : Block). instrs_cost so (take y.start so.instrs)) sb in
+    let sp = ap (λ (n : ℕ). instrs_cost so (take n so.instrs)) past in
+    let sr = cost_rises so so.instrs (c.loop-i.i + 1) c.end_of-past.result (omega (arith, c.loop-i-test.true)) in
+    omega (arith, c.turn.ensures.steps, c.loop-i.invariant.steps, sw, sm, ss, sp, sr)
+
+pub returns-then-ended-clause-steps : goal.returns-then-ended-clause-steps
+returns-then-ended-clause-steps g c = λ x f.
+    let so = g.P.Program.object c.args.program.now in
+    let ends = block_ends so c.args.b c.block-block.result c.requires.spellable c.block-block.ensures in
+    let past = c.end_of-past.ensures in
+    let last = ends.1 in
+    let sw = rule_within so (context_in c.loop-i.forms c.loop-i.context) c.instr-instr.result (omega (arith, c.loop-i.invariant.memory, c.loop-i-test.true, past, last)) c.loop-i.invariant.queue in
+    let sm = cost_more so so.instrs c.loop-i.i c.instr-instr.result c.instr-instr.ensures in
+    let sb : x ≡ c.block-block.result = (let q : Some x ≡ Some c.block-block.result = sym f ∙ c.block-block.ensures in cc) in
+    let ss = ap (λ (y : Block). instrs_cost so (take y.start so.instrs)) sb in
+    let sp = ap (λ (n : ℕ). instrs_cost so (take n so.instrs)) past in
+    let sr = cost_rises so so.instrs (c.loop-i.i + 1) c.end_of-past.result (omega (arith, c.loop-i-test.true)) in
+    omega (arith, c.turn.ensures.steps, c.loop-i.invariant.steps, sw, sm, ss, sp, sr)
+
+pub returns-clause-steps : goal.returns-clause-steps
+returns-clause-steps g c = λ x f.
+    let so = g.P.Program.object c.args.program.now in
+    let ends = block_ends so c.args.b c.block-block.result c.requires.spellable c.block-block.ensures in
+    let past = c.end_of-past.ensures in
+    let sb : x ≡ c.block-block.result = (let q : Some x ≡ Some c.block-block.result = sym f ∙ c.block-block.ensures in cc) in
+    let ss = ap (λ (y : Block). instrs_cost so (take y.start so.instrs)) sb in
+    let sp = ap (λ (n : ℕ). instrs_cost so (take n so.instrs)) past in
+    let sr = cost_rises so so.instrs c.loop-i.i c.end_of-past.result (omega (arith, c.loop-i.auto.i-end, ends.0)) in
+    omega (arith, c.loop-i.invariant.steps, ss, sp, sr)
+
+pub returns-in_err-context-clause-steps : goal.returns-in_err-context-clause-steps
+returns-in_err-context-clause-steps g c = λ x f.
+    let so = g.P.Program.object c.args.program.now in
+    let ends = block_ends so c.args.b c.block-block.result c.requires.spellable c.block-block.ensures in
+    let past = c.end_of-past.ensures in
+    let sb : x ≡ c.block-block.result = (let q : Some x ≡ Some c.block-block.result = sym f ∙ c.block-block.ensures in cc) in
+    let ss = ap (λ (y : Block). instrs_cost so (take y.start so.instrs)) sb in
+    let sp = ap (λ (n : ℕ). instrs_cost so (take n so.instrs)) past in
+    let sr = cost_rises so so.instrs c.block-block.result.start c.end_of-past.result (omega (arith, past, ends.0)) in
+    omega (arith, ss, sp, sr)
+
+pub returns-in-Err-clause-kept : goal.returns-in-Err-clause-kept
+returns-in-Err-clause-kept g c = keeps_on _ _ _ c.loop-i.invariant.kept c.turn.ensures.kept
+
+pub returns-then-ended-clause-kept : goal.returns-then-ended-clause-kept
+returns-then-ended-clause-kept g c = keeps_on _ _ _ c.loop-i.invariant.kept c.turn.ensures.kept

@@ -1,4 +1,5 @@
-use Rattle.std.proofs.Common.{sym, ◌∙◌}
+use Rattle.std.proofs.Common.{arith, sym, ◌∙◌}
+use Rattle.ft_contexts.proofs.Costs.{put_steps}
 use Rattle.ft_contexts.proofs.Kept.{keeps_on, integer_stays, polynomial_found, variables_kept, replacement_stays}
 use Rattle.ft_contexts.proofs.likeness.pair_is_like.Goals as goal
 
@@ -16,3 +17,13 @@ returns-clause-like g c =
     let q = polynomial_found new c.in_ok-value.value _ c.in_ok-value.ensures.form in
     let x = replacement_stays c.args.forms.now mid c.args.put.now c.integer.ensures.kept c.requires.put in
     rw first (rw (t, q, x) at c.same_integers-2.ensures)
+
+pub returns-in_err-value-clause-steps : goal.returns-in_err-value-clause-steps
+returns-in_err-value-clause-steps g c =
+    let x = put_steps (g.P.Program.object c.args.program.now) c.args.forms.now c.integer.new.forms c.args.put.now c.integer.new.steps c.integer-2.new.steps c.integer.ensures.kept c.requires.put c.integer-2.ensures.steps in
+    omega (arith, c.integer.ensures.steps, x)
+
+pub returns-clause-steps : goal.returns-clause-steps
+returns-clause-steps g c =
+    let x = put_steps (g.P.Program.object c.args.program.now) c.args.forms.now c.integer.new.forms c.args.put.now c.integer.new.steps c.integer-2.new.steps c.integer.ensures.kept c.requires.put c.integer-2.ensures.steps in
+    omega (arith, c.integer.ensures.steps, x)

@@ -1,11 +1,13 @@
-use Rattle.std.proofs.Common.{◌≡◌, ◌≤◌, drop, length}
+use Rattle.std.proofs.Common.{ℕ, ◌≡◌, ◌≤◌, List, drop}
+use Rattle.ft_static.specs.Form.{Form as Normal}
 use Rattle.ft_static.specs.NormalForm.{total}
-use Rattle.ft_norm.specs.Entries.{forms_of, polynomial_form, reach_of_terms}
+use Rattle.ft_norm.specs.Entries.{polynomial_form, reach_of_terms}
+use Rattle.ft_norm.specs.Orders.{AreTerms}
 use Rattle.ft_norm.proofs.sum.add_terms.Given as goal
 
 abbrev pub invariant-loop-t : goal.invariant-loop-t
 invariant-loop-t l = record {
-  value : total (polynomial_form (forms_of l.entries) l.terms) (polynomial_form (forms_of l.entries) l.initial.sum.items)
-      ≡ total (polynomial_form (forms_of l.entries) (drop l.t-index l.terms)) (polynomial_form (forms_of l.entries) l.sum.items);
-  reach : reach_of_terms l.sum.items ≤ length l.entries;
+  value : (fs : List Normal) → total (polynomial_form fs l.terms) (polynomial_form fs l.initial.sum.items) ≡ total (polynomial_form fs (drop l.t-index l.terms)) (polynomial_form fs l.sum.items);
+  terms : AreTerms l.sum.items;
+  reach : (fs : List Normal) (n : ℕ) → reach_of_terms fs l.initial.sum.items ≤ n → reach_of_terms fs l.terms ≤ n → reach_of_terms fs l.sum.items ≤ n;
 }

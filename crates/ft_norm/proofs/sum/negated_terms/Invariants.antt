@@ -1,11 +1,6 @@
-use Rattle.std.proofs.Common.{◌≡◌, List, take}
-use Rattle.ft_static.specs.Form.{Form}
-use Rattle.ft_static.specs.NormalForm.{negation as minus}
-use Rattle.ft_norm.specs.Entries.{polynomial_form, reach_of_terms}
+use Rattle.std.proofs.Common.{◌≡◌, take, map}
+use Rattle.ft_norm.specs.Entries.{negated_parts, parts}
 use Rattle.ft_norm.proofs.sum.negated_terms.Given as goal
 
 abbrev pub invariant-loop-t : goal.invariant-loop-t
-invariant-loop-t l = record {
-  value : (fs : List Form) → polynomial_form fs l.negation.items ≡ minus (polynomial_form fs (take l.t-index l.terms));
-  reach : reach_of_terms l.negation.items ≡ reach_of_terms (take l.t-index l.terms);
-}
+invariant-loop-t l = map parts l.negation.items ≡ map negated_parts (take l.t-index l.terms)

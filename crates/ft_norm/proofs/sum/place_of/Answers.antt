@@ -1,14 +1,48 @@
-use Rattle.std.proofs.Common.{arith, ◌∙◌, sym}
-use Rattle.ft_norm.specs.Entries.{forms_of, monomial_form}
-use Rattle.ft_norm.proofs.Compare.{term_reach_read}
-use Rattle.ft_norm.proofs.Sums.{place_read, is_greater_from}
+use Rattle.std.proofs.Common.{◌≡◌, ℕ, arith}
+use Rattle.ft_norm.specs.declared.entry.Term.{Term}
+use Rattle.ft_norm.proofs.Ordered.{halves, search_after, search_before, search_there}
 use Rattle.ft_norm.proofs.sum.place_of.Goals as goal
 
-pub compare_factors-order-requires-clause-second : goal.compare_factors-order-requires-clause-second
-compare_factors-order-requires-clause-second c =
-    let x = term_reach_read c.args.sum.now c.index-sum-i.result c.deref.result.now c.loop-i.i c.loop-i-test.true c.index-sum-i.is c.deref.ensures.value in
-    omega arith
+pub loop-low-init : goal.loop-low-init
+loop-low-init c = record {
+  within = omega arith;
+  order = omega arith;
+  after = λ (t : Term) (j : ℕ) e. absurd (omega (arith, e));
+  before = λ (t : Term) l. absurd (omega (arith, l));
+}
 
-pub loop-i-preserved : goal.loop-i-preserved
-loop-i-preserved c = λ k. c.loop-i.invariant k ∙ place_read (forms_of c.args.entries.now) (monomial_form (forms_of c.args.entries.now) c.args.factors.now) k c.args.sum.now c.index-sum-i.result c.deref.result.now c.loop-i.i c.loop-i-test.true c.index-sum-i.is c.deref.ensures.value
-    (sym c.compare_factors-order.ensures ∙ is_greater_from c.compare_factors-order.result c.ne.result c.if-ne.false c.ne.ensures)
+pub bounds-sum-middle : goal.bounds-sum-middle
+bounds-sum-middle c = let h = halves c.loop-low.low c.loop-low.high c.loop-low-test.true in let w = c.loop-low.invariant.within in omega (arith, h, w)
+
+pub returns-in-Equal-clause-there : goal.returns-in-Equal-clause-there
+returns-in-Equal-clause-there c =
+    let h = halves c.loop-low.low c.loop-low.high c.loop-low-test.true in
+    let w = c.loop-low.invariant.within in
+    search_there c.args.sum.now c.args.factors.now c.deref.result.now c.index-sum-middle.result _ c.compare.result (omega (arith, h, w)) c.deref.ensures.value c.compare.ensures c.in-Equal.is
+
+pub loop-low-preserved-in-Less : goal.loop-low-preserved-in-Less
+loop-low-preserved-in-Less c =
+    let h = halves c.loop-low.low c.loop-low.high c.loop-low-test.true in
+    let w = c.loop-low.invariant.within in
+    record {
+      within = w;
+      order = omega (arith, h);
+      after = search_after c.args.sum.now c.args.factors.now c.deref.result.now c.index-sum-middle.result _ c.compare.result (omega (arith, h, w)) c.deref.ensures.value c.compare.ensures c.in-Less.is;
+      before = c.loop-low.invariant.before;
+    }
+
+pub loop-low-preserved : goal.loop-low-preserved
+loop-low-preserved c =
+    let h = halves c.loop-low.low c.loop-low.high c.loop-low-test.true in
+    let w = c.loop-low.invariant.within in
+    record {
+      within = omega (arith, h, w);
+      order = omega (arith, h);
+      after = c.loop-low.invariant.after;
+      before = search_before c.args.sum.now c.args.factors.now c.deref.result.now c.index-sum-middle.result _ c.compare.result (omega (arith, h, w)) c.deref.ensures.value c.compare.ensures c.in-Greater.is;
+    }
+
+pub returns-clause-place : goal.returns-clause-place
+returns-clause-place c =
+    let e : c.loop-low.low ≡ c.loop-low.high = let o = c.loop-low.invariant.order in let t = c.loop-low-test.false in omega (arith, o, t) in
+    record { within = let w = c.loop-low.invariant.within in omega (arith, e, w); after = c.loop-low.invariant.after; before = rw e c.loop-low.invariant.before }

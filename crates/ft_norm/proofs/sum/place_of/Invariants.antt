@@ -1,8 +1,16 @@
-use Rattle.std.proofs.Common.{◌≡◌, ℕ, take, drop}
-use Rattle.ft_static.specs.NormalForm.{add_term as sum_with}
-use Rattle.ft_norm.specs.Entries.{forms_of, monomial_form, polynomial_form, polynomial_onto}
+use Rattle.std.proofs.Common.{◌-◌, ◌≡◌, ◌<◌, ◌≤◌, ◌+◌, ℕ, length, slice_index_or}
+use Rattle.std.specs.declared.cmp.Ordering.TheVariants.{Less}
+use Rattle.ft_norm.specs.declared.entry.Term.{Term}
+use Rattle.ft_norm.specs.Orders.{cmp_factors}
 use Rattle.ft_norm.proofs.sum.place_of.Given as goal
 
-abbrev pub invariant-loop-i : goal.invariant-loop-i
-invariant-loop-i l = (c : ℕ) → sum_with (monomial_form (forms_of l.entries) l.factors) c (polynomial_form (forms_of l.entries) l.sum)
-    ≡ polynomial_onto (forms_of l.entries) (take l.i l.sum) (sum_with (monomial_form (forms_of l.entries) l.factors) c (polynomial_form (forms_of l.entries) (drop l.i l.sum)))
+abbrev pub invariant-loop-low : goal.invariant-loop-low
+invariant-loop-low l = record {
+  within : l.high ≤ length l.sum;
+  order : l.low ≤ l.high;
+  after : (t : Term) (j : ℕ) → j + 1 ≡ l.low → cmp_factors (slice_index_or l.sum j t).factors.items l.factors ≡ Less;
+  before : (t : Term) → l.high < length l.sum → cmp_factors l.factors (slice_index_or l.sum l.high t).factors.items ≡ Less;
+}
+
+abbrev pub decreases-loop-low : goal.decreases-loop-low
+decreases-loop-low l = l.high - l.low

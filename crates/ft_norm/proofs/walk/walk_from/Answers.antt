@@ -1,41 +1,75 @@
-use Rattle.std.proofs.Common.{arith, ◌<◌, ◌∙◌, length}
+use Rattle.std.proofs.Common.{arith, refl, ◌∙◌}
 use Rattle.ft_norm.specs.Held.{polynomial_at, updates_at}
 use Rattle.ft_norm.specs.Entries.{forms_of}
-use Rattle.ft_norm.proofs.Forms.{link, link_reach, link_value, no_link}
-use Rattle.ft_norm.proofs.Walking.{walk_end, walk_value, walk_stop, walk_on}
+use Rattle.ft_norm.proofs.Forms.{link, link_address, link_reach, link_value, no_link}
+use Rattle.ft_norm.proofs.Walking.{address_differs, integer_bound, memory_bound, memory_reached_at, older_count, older_reach, one_is_same, walk_end, walk_value, walk_stop, walk_on}
 use Rattle.ft_norm.proofs.walk.walk_from.Goals as goal
 
-pub returns-in_default : goal.returns-in_default
-returns-in_default c =
-    let es = c.args.entries.now in
-    let l : c.loop-m.m < length es = omega (arith, c.loop-m.invariant.bound, c.requires.memory) in
-    let a = no_link es c.loop-m.m c.index-entries-m.result c.requires.entries.earlier l c.index-entries-m.is c.in_default.not-Update in
-    record { ends = c.loop-m.invariant.bound; form = walk_end (updates_at (forms_of es) c.loop-m.m) (polynomial_at (forms_of es) c.args.p) a ∙ c.loop-m.invariant.form }
+pub loop-m-init : goal.loop-m-init
+loop-m-init g c = record {
+  bound = memory_bound c.args.entries.now c.args.memory c.requires.memory;
+  sort = memory_reached_at c.args.entries.now c.args.memory c.requires.memory;
+  form = refl;
+  steps = omega arith;
+}
 
-pub returns-then-are_same_polynomials : goal.returns-then-are_same_polynomials
-returns-then-are_same_polynomials c =
+pub returns-in_default : goal.returns-in_default
+returns-in_default g c =
     let es = c.args.entries.now in
-    let l : c.loop-m.m < length es = omega (arith, c.loop-m.invariant.bound, c.requires.memory) in
+    let l = c.loop-m.invariant.bound in
+    let a = no_link es c.loop-m.m c.index-entries-m.result c.requires.entries.earlier l c.index-entries-m.is c.in_default.not-Update in
+    record { ends = c.loop-m.invariant.sort; form = walk_end (updates_at (forms_of es) c.loop-m.m) (polynomial_at (forms_of es) c.args.p) a ∙ c.loop-m.invariant.form; steps = omega (arith, c.loop-m.invariant.steps) }
+
+pub returns-then-at-p : goal.returns-then-at-p
+returns-then-at-p g c =
+    let es = c.args.entries.now in
+    let l = c.loop-m.invariant.bound in
     let a = link es c.loop-m.m c.index-entries-m.result c.in-Update.at c.in-Update.value c.in-Update.older c.requires.entries.earlier l c.index-entries-m.is c.in-Update.is in
     record {
-      ends = link_value es c.loop-m.m c.index-entries-m.result c.in-Update.at c.in-Update.value c.in-Update.older c.requires.entries.values l c.index-entries-m.is c.in-Update.is;
-      form = walk_value _ _ _ _ _ c.are_same_polynomials.result a c.are_same_polynomials.ensures c.if-are_same_polynomials.true ∙ c.loop-m.invariant.form;
+      ends = link_value es c.loop-m.m c.index-entries-m.result c.in-Update.at c.in-Update.value c.in-Update.older c.requires.entries.earlier l c.index-entries-m.is c.in-Update.is;
+      form = walk_value _ _ _ _ _ _ a refl (one_is_same (forms_of es) c.in-Update.at c.args.p c.if-at-p.true) ∙ c.loop-m.invariant.form;
+      steps = omega (arith, c.loop-m.invariant.steps);
     }
 
-pub returns-then-not-branch-clause-form : goal.returns-then-not-branch-clause-form
-returns-then-not-branch-clause-form c =
+pub differs-requires-clause-first : goal.differs-requires-clause-first
+differs-requires-clause-first g c = integer_bound c.args.entries.now c.args.p c.requires.at
+
+pub differs-requires-clause-second : goal.differs-requires-clause-second
+differs-requires-clause-second g c =
     let es = c.args.entries.now in
-    let l : c.loop-m.m < length es = omega (arith, c.loop-m.invariant.bound, c.requires.memory) in
+    integer_bound es c.in-Update.at (link_address es c.loop-m.m c.index-entries-m.result c.in-Update.at c.in-Update.value c.in-Update.older c.requires.entries.earlier c.loop-m.invariant.bound c.index-entries-m.is c.in-Update.is)
+
+pub returns-in_err-differs-clause-steps : goal.returns-in_err-differs-clause-steps
+returns-in_err-differs-clause-steps g c = omega (arith, c.loop-m.invariant.steps)
+
+pub returns-then-not-branch : goal.returns-then-not-branch
+returns-then-not-branch g c =
+    let es = c.args.entries.now in
+    let l = c.loop-m.invariant.bound in
     let a = link es c.loop-m.m c.index-entries-m.result c.in-Update.at c.in-Update.value c.in-Update.older c.requires.entries.earlier l c.index-entries-m.is c.in-Update.is in
-    walk_stop _ _ _ _ _ c.are_same_polynomials.result c.in_ok-differs.field-0 a c.are_same_polynomials.ensures c.if-are_same_polynomials.false c.in_ok-differs.ensures c.if-not-branch.true ∙ c.loop-m.invariant.form
+    let f = address_differs es c.loop-m.m c.index-entries-m.result c.in-Update.at c.in-Update.value c.in-Update.older c.args.p c.requires.entries l c.index-entries-m.is c.in-Update.is c.requires.at c.if-at-p.false in
+    record {
+      ends = c.loop-m.invariant.sort;
+      form = walk_stop _ _ _ _ _ _ c.in_ok-differs.field-0 a refl f c.in_ok-differs.ensures c.if-not-branch.true ∙ c.loop-m.invariant.form;
+      steps = omega (arith, c.loop-m.invariant.steps);
+    }
 
 pub loop-m-preserved : goal.loop-m-preserved
-loop-m-preserved c =
+loop-m-preserved g c =
     let es = c.args.entries.now in
-    let l : c.loop-m.m < length es = omega (arith, c.loop-m.invariant.bound, c.requires.memory) in
+    let l = c.loop-m.invariant.bound in
     let a = link es c.loop-m.m c.index-entries-m.result c.in-Update.at c.in-Update.value c.in-Update.older c.requires.entries.earlier l c.index-entries-m.is c.in-Update.is in
     let r = link_reach es c.loop-m.m c.index-entries-m.result c.in-Update.at c.in-Update.value c.in-Update.older c.requires.entries.earlier l c.index-entries-m.is c.in-Update.is in
+    let f = address_differs es c.loop-m.m c.index-entries-m.result c.in-Update.at c.in-Update.value c.in-Update.older c.args.p c.requires.entries l c.index-entries-m.is c.in-Update.is c.requires.at c.if-at-p.false in
+    let n = older_count es c.loop-m.m c.index-entries-m.result c.in-Update.at c.in-Update.value c.in-Update.older c.requires.entries l c.index-entries-m.is c.in-Update.is in
     record {
-      bound = omega (arith, c.loop-m.invariant.bound, r);
-      form = walk_on _ _ _ _ _ c.are_same_polynomials.result c.in_ok-differs.field-0 a c.are_same_polynomials.ensures c.if-are_same_polynomials.false c.in_ok-differs.ensures c.if-not-branch.false ∙ c.loop-m.invariant.form;
+      bound = omega (arith, l, r);
+      sort = older_reach es c.loop-m.m c.index-entries-m.result c.in-Update.at c.in-Update.value c.in-Update.older c.requires.entries l c.index-entries-m.is c.in-Update.is;
+      form = walk_on _ _ _ _ _ _ c.in_ok-differs.field-0 a refl f c.in_ok-differs.ensures c.if-not-branch.false ∙ c.loop-m.invariant.form;
+      steps = omega (arith, c.loop-m.invariant.steps, n, c.tick.ensures);
     }
+
+pub loop-m-smaller : goal.loop-m-smaller
+loop-m-smaller g c =
+    let r = link_reach c.args.entries.now c.loop-m.m c.index-entries-m.result c.in-Update.at c.in-Update.value c.in-Update.older c.requires.entries.earlier c.loop-m.invariant.bound c.index-entries-m.is c.in-Update.is in
+    omega (arith, r)

@@ -1,3 +1,4 @@
+use Rattle.ft_norm.proofs.Made.{updates-norm_upd}
 use Rattle.std.proofs.Common.{refl, sym, ◌∙◌}
 use Rattle.ft_rules.proofs.Chains.{does_commit, does_exit, does_stop}
 use Rattle.ft_contexts.proofs.Kept.{keeps_itself}
@@ -22,4 +23,4 @@ pub returns : goal.returns
 returns c = λ o t.
     does_commit _ o c.args.forms.now c.upd.new.self c.args.context.now c.commit.new.self c.in_ok-memory.memory _
     (c.in_ok-address.ensures.passes c.args.forms.now _ ∙ c.in_ok-pending_address.ensures.passes c.args.forms.now _ ∙ (rw c.same_integers.ensures at c.in_ok-need.ensures.passes) _ ∙ (rw c.same_integers-2.ensures at c.in_ok-need-2.ensures.passes) _)
-    (rw (sym (c.memory.ensures.form c.args.forms.now)) at c.in_ok-memory.ensures.form) c.upd.ensures.kept c.requires t (c.commit.ensures.context _) (c.commit.ensures.held _) (c.commit.ensures.types o)
+    (rw (sym (c.memory.ensures.form c.args.forms.now)) at c.in_ok-memory.ensures.form) (updates-norm_upd _ _ _) c.upd.ensures.kept c.requires t (c.commit.ensures.context _) (c.commit.ensures.held _) (c.commit.ensures.types o)

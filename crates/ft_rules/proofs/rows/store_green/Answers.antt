@@ -1,7 +1,8 @@
+use Rattle.ft_contexts.specs.Contexts.{pair_in}
 use Rattle.std.proofs.Common.{refl, sym, ap, ◌∙◌}
 use Rattle.ft_types.specs.TypingRow.{Goes}
 use Rattle.ft_contexts.proofs.Kept.{keeps_itself}
-use Rattle.ft_rules.proofs.Chains.{does_go, does_exit, does_stop}
+use Rattle.ft_rules.proofs.Chains.{grows_pair, does_go, does_exit, does_stop}
 use Rattle.ft_rules.proofs.rows.store_green.Goals as goal
 
 pub returns-in_err-pair : goal.returns-in_err-pair
@@ -17,4 +18,4 @@ pub returns : goal.returns
 returns c = λ o t.
     does_go _ o _ _ _ _
     (c.in_ok-pair.ensures.passes c.args.forms.now _ ∙ (rw (sym (c.queue_len.ensures.pairs c.args.forms.now)) at c.in_ok-need.ensures.passes) _ ∙ ap Goes (sym (c.in_ok-pend.ensures.context c.args.forms.now)))
-    (keeps_itself _) (c.in_ok-pend.ensures.held c.args.forms.now c.requires (c.in_ok-pair.ensures.held c.args.forms.now c.requires)) (c.in_ok-pend.ensures.types o t)
+    (keeps_itself _) (c.in_ok-pend.ensures.held c.args.forms.now c.requires (c.in_ok-pair.ensures.held c.args.forms.now c.requires)) (c.in_ok-pend.ensures.types o t) (grows_pair c.args.forms.now c.args.context.now c.pend.new.self (pair_in c.args.forms.now c.in_ok-pair.pair) c.queue_len.result (c.in_ok-pend.ensures.context c.args.forms.now) (c.queue_len.ensures.pairs c.args.forms.now) c.in_ok-need.ensures.holds)

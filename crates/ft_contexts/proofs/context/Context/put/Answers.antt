@@ -15,7 +15,6 @@ returns-clause-context c = λ fs.
 
 pub returns-clause-held : goal.returns-clause-held
 returns-clause-held c = λ fs h i. record {
-  own = h.own;
   registers = registers_held_set fs c.args.self.now.registers c.number.result c.args.known h.registers i;
   d = h.d;
   queue = h.queue;

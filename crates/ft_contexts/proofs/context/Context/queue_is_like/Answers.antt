@@ -1,8 +1,12 @@
-use Rattle.std.proofs.Common.{map, sym, ◌∙◌, arith}
+use Rattle.std.proofs.Common.{map, sym, ◌∙◌, arith, ◌≤◌, ◌+◌, ◌*◌, refl}
 use Rattle.std.proofs.lemmas.List.{length-map}
 use Rattle.ft_types.specs.Objects.{queue_rows}
 use Rattle.ft_contexts.specs.Contexts.{pair_in, replacement_in}
-use Rattle.ft_contexts.proofs.Kept.{keeps_on, variables_kept, replacement_stays, integer_kept, integer_stays}
+use Rattle.ft_static.specs.Form.{updates}
+use Rattle.ft_norm.specs.Held.{updates_held}
+use Rattle.ft_contexts.specs.Costs.{tree_cost}
+use Rattle.ft_contexts.proofs.Costs.{few_queue_rows, one_tree, some_trees}
+use Rattle.ft_contexts.proofs.Kept.{keeps_on, variables_kept, replacement_stays, integer_kept, integer_stays, memory_stays}
 use Rattle.ft_contexts.proofs.Lists.{map_there}
 use Rattle.ft_contexts.proofs.Spelled.{queue_row_spelled}
 use Rattle.ft_contexts.proofs.Turns.{head_says, unlike_lengths, queue_turn, queue_end}
@@ -48,8 +52,15 @@ loop-j-preserved g c =
     let x = replacement_stays c.args.forms.now c.loop-j.forms c.args.put.now c.loop-j.invariant.kept c.requires.put in
     let turn = queue_turn (g.P.Program.object c.args.program.now) (replacement_in c.args.forms.now c.args.put.now) (map (pair_in c.args.forms.now) c.args.self.now.queue) (queue_rows (g.P.Program.object c.args.program.now) c.args.t) c.loop-j.j (pair_in c.args.forms.now pair) row c.in_ok-like.like (map_there (pair_in c.args.forms.now) c.args.self.now.queue c.loop-j.j pair c.at.ensures) c.queue_row-row.ensures (rw (a, v, x) at c.in_ok-like.ensures.like) in
     let go = rw c.if-not-like.false at turn in
+    let so = g.P.Program.object c.args.program.now in
+    let cost = tree_cost (g.P.Program.object c.args.program.now) (updates (updates_held c.args.forms.now c.args.put.now.memory)) in
+    let sz = memory_stays c.args.forms.now c.loop-j.forms c.args.put.now.memory c.loop-j.invariant.kept c.requires.put.memory in
+    let sx : c.pair_is_like.new.steps ≤ c.loop-j.steps + 2 * cost = rw sz at c.pair_is_like.ensures.steps in
+    let sy = one_tree c.loop-j.steps c.pair_is_like.new.steps (c.loop-j.j + 1) c.args.steps.now c.loop-j.j (2 * cost) c.loop-j.invariant.steps sx refl in
     record {
+      steps = sy;
       kept = keeps_on _ _ _ c.loop-j.invariant.kept c.pair_is_like.ensures.kept;
+      made = c.pair_is_like.ensures.made;
       count = c.loop-j.invariant.count;
       left = sym go ∙ c.loop-j.invariant.left;
     }
@@ -60,3 +71,33 @@ returns-clause-like g c =
     let n = length-map c.args.self.now.queue (pair_in c.args.forms.now) in
     let m = c.loop-j.invariant.count in
     sym (queue_end (g.P.Program.object c.args.program.now) _ _ _ c.loop-j.j (omega arith) (omega arith)) ∙ c.loop-j.invariant.left
+
+pub returns-in_err-like-clause-steps : goal.returns-in_err-like-clause-steps
+returns-in_err-like-clause-steps g c =
+    let o = g.P.Program.object c.args.program.now in
+    let cost = tree_cost (g.P.Program.object c.args.program.now) (updates (updates_held c.args.forms.now c.args.put.now.memory)) in
+    let z = memory_stays c.args.forms.now c.loop-j.forms c.args.put.now.memory c.loop-j.invariant.kept c.requires.put.memory in
+    let x : c.pair_is_like.new.steps ≤ c.loop-j.steps + 2 * cost = rw z at c.pair_is_like.ensures.steps in
+    let y = one_tree c.loop-j.steps c.pair_is_like.new.steps (c.loop-j.j + 1) c.args.steps.now c.loop-j.j (2 * cost) c.loop-j.invariant.steps x refl in
+    let n = (head_says o c.args.t c.code_type-rows.result c.code_type-rows.ensures).2 in
+    let f = few_queue_rows o c.args.t c.requires.spellable c.requires.there in
+    (let w = some_trees c.pair_is_like.new.steps c.args.steps.now (c.loop-j.j + 1) 8 (2 * cost) y (omega (arith, n, f, c.loop-j-test.true)) in omega (arith, w))
+
+pub returns-then-not-like-clause-steps : goal.returns-then-not-like-clause-steps
+returns-then-not-like-clause-steps g c =
+    let o = g.P.Program.object c.args.program.now in
+    let cost = tree_cost (g.P.Program.object c.args.program.now) (updates (updates_held c.args.forms.now c.args.put.now.memory)) in
+    let z = memory_stays c.args.forms.now c.loop-j.forms c.args.put.now.memory c.loop-j.invariant.kept c.requires.put.memory in
+    let x : c.pair_is_like.new.steps ≤ c.loop-j.steps + 2 * cost = rw z at c.pair_is_like.ensures.steps in
+    let y = one_tree c.loop-j.steps c.pair_is_like.new.steps (c.loop-j.j + 1) c.args.steps.now c.loop-j.j (2 * cost) c.loop-j.invariant.steps x refl in
+    let n = (head_says o c.args.t c.code_type-rows.result c.code_type-rows.ensures).2 in
+    let f = few_queue_rows o c.args.t c.requires.spellable c.requires.there in
+    (let w = some_trees c.pair_is_like.new.steps c.args.steps.now (c.loop-j.j + 1) 8 (2 * cost) y (omega (arith, n, f, c.loop-j-test.true)) in omega (arith, w))
+
+pub returns-clause-steps : goal.returns-clause-steps
+returns-clause-steps g c =
+    let o = g.P.Program.object c.args.program.now in
+    let cost = tree_cost (g.P.Program.object c.args.program.now) (updates (updates_held c.args.forms.now c.args.put.now.memory)) in
+    let n = (head_says o c.args.t c.code_type-rows.result c.code_type-rows.ensures).2 in
+    let f = few_queue_rows o c.args.t c.requires.spellable c.requires.there in
+    (let w = some_trees c.loop-j.steps c.args.steps.now c.loop-j.j 8 (2 * cost) c.loop-j.invariant.steps (omega (arith, n, f, c.loop-j.auto.j-end)) in omega (arith, w))

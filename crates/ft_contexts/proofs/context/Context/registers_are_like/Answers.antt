@@ -1,4 +1,4 @@
-use Rattle.std.proofs.Common.{◌≡◌, sym, ap, ◌∙◌, arith}
+use Rattle.std.proofs.Common.{◌≡◌, sym, ap, ◌∙◌, arith, ◌+◌, refl}
 use Rattle.std.specs.List.{list_all}
 use Rattle.ft_types.specs.declared.object.RegType.{RegType}
 use Rattle.ft_types.specs.Objects.{reg_rows}
@@ -6,6 +6,10 @@ use Rattle.ft_types.specs.Context.{typed, Replacement}
 use Rattle.ft_types.specs.Context.{Context as Defined}
 use Rattle.ft_types.specs.TypingRow.{is_like}
 use Rattle.ft_contexts.specs.Contexts.{context_in, replacement_in}
+use Rattle.ft_static.specs.Form.{updates}
+use Rattle.ft_norm.specs.Held.{updates_held}
+use Rattle.ft_contexts.specs.Costs.{tree_cost}
+use Rattle.ft_contexts.proofs.Costs.{few_reg_rows, one_tree, put_steps, some_trees}
 use Rattle.ft_contexts.proofs.Kept.{keeps_on, forms_kept, variables_kept, context_stays, replacement_stays}
 use Rattle.ft_contexts.proofs.Lists.{drop_there, drop_all, all_turn, all_stop}
 use Rattle.ft_contexts.proofs.Turns.{head_says}
@@ -33,8 +37,14 @@ loop-j-preserved g c =
     let k = context_stays c.args.forms.now c.loop-j.forms c.args.self.now c.loop-j.invariant.kept c.requires.held in
     let is : c.in_ok-like.like ≡ is_like (g.P.Program.object c.args.program.now) (replacement_in c.args.forms.now c.args.put.now) (typed (context_in c.args.forms.now c.args.self.now) row.reg.number) row =
     c.in_ok-like.ensures.like ∙ ap (λ (y : Replacement). is_like (g.P.Program.object c.args.program.now) y (typed (context_in c.loop-j.forms c.args.self.now) row.reg.number) row) x ∙ ap (λ (y : Defined). is_like (g.P.Program.object c.args.program.now) (replacement_in c.args.forms.now c.args.put.now) (typed y row.reg.number) row) k in
+    let so = g.P.Program.object c.args.program.now in
+    let cost = tree_cost (g.P.Program.object c.args.program.now) (updates (updates_held c.args.forms.now c.args.put.now.memory)) in
+    let sx = put_steps so c.args.forms.now c.loop-j.forms c.args.put.now c.loop-j.steps c.register_is_like.new.steps c.loop-j.invariant.kept c.requires.put c.register_is_like.ensures.steps in
+    let sy = one_tree c.loop-j.steps c.register_is_like.new.steps (c.loop-j.j + 1) c.args.steps.now c.loop-j.j cost c.loop-j.invariant.steps sx refl in
     record {
+      steps = sy;
       kept = keeps_on _ _ _ c.loop-j.invariant.kept c.register_is_like.ensures.kept;
+      made = c.register_is_like.ensures.made;
       left = sym (all_turn (λ (r : RegType). is_like (g.P.Program.object c.args.program.now) (replacement_in c.args.forms.now c.args.put.now) (typed (context_in c.args.forms.now c.args.self.now) r.reg.number) r) _ _ row (drop_there (reg_rows (g.P.Program.object c.args.program.now) c.args.t) c.loop-j.j row c.reg_row-row.ensures) (sym is ∙ c.if-not-like.false)) ∙ c.loop-j.invariant.left;
     }
 
@@ -42,3 +52,31 @@ pub returns-clause-like : goal.returns-clause-like
 returns-clause-like g c =
     let n = (head_says (g.P.Program.object c.args.program.now) c.args.t c.code_type-j-end.result c.code_type-j-end.ensures).1 in
     sym (ap (list_all (λ (r : RegType). is_like (g.P.Program.object c.args.program.now) (replacement_in c.args.forms.now c.args.put.now) (typed (context_in c.args.forms.now c.args.self.now) r.reg.number) r)) (drop_all (reg_rows (g.P.Program.object c.args.program.now) c.args.t) c.loop-j.j (omega arith))) ∙ c.loop-j.invariant.left
+
+pub returns-in_err-like-clause-steps : goal.returns-in_err-like-clause-steps
+returns-in_err-like-clause-steps g c =
+    let o = g.P.Program.object c.args.program.now in
+    let cost = tree_cost (g.P.Program.object c.args.program.now) (updates (updates_held c.args.forms.now c.args.put.now.memory)) in
+    let x = put_steps o c.args.forms.now c.loop-j.forms c.args.put.now c.loop-j.steps c.register_is_like.new.steps c.loop-j.invariant.kept c.requires.put c.register_is_like.ensures.steps in
+    let y = one_tree c.loop-j.steps c.register_is_like.new.steps (c.loop-j.j + 1) c.args.steps.now c.loop-j.j cost c.loop-j.invariant.steps x refl in
+    let n = (head_says o c.args.t c.code_type-j-end.result c.code_type-j-end.ensures).1 in
+    let f = few_reg_rows o c.args.t c.requires.spellable c.requires.there in
+    some_trees c.register_is_like.new.steps c.args.steps.now (c.loop-j.j + 1) 64 cost y (omega (arith, n, f, c.loop-j-test.true))
+
+pub returns-then-not-like-clause-steps : goal.returns-then-not-like-clause-steps
+returns-then-not-like-clause-steps g c =
+    let o = g.P.Program.object c.args.program.now in
+    let cost = tree_cost (g.P.Program.object c.args.program.now) (updates (updates_held c.args.forms.now c.args.put.now.memory)) in
+    let x = put_steps o c.args.forms.now c.loop-j.forms c.args.put.now c.loop-j.steps c.register_is_like.new.steps c.loop-j.invariant.kept c.requires.put c.register_is_like.ensures.steps in
+    let y = one_tree c.loop-j.steps c.register_is_like.new.steps (c.loop-j.j + 1) c.args.steps.now c.loop-j.j cost c.loop-j.invariant.steps x refl in
+    let n = (head_says o c.args.t c.code_type-j-end.result c.code_type-j-end.ensures).1 in
+    let f = few_reg_rows o c.args.t c.requires.spellable c.requires.there in
+    some_trees c.register_is_like.new.steps c.args.steps.now (c.loop-j.j + 1) 64 cost y (omega (arith, n, f, c.loop-j-test.true))
+
+pub returns-clause-steps : goal.returns-clause-steps
+returns-clause-steps g c =
+    let o = g.P.Program.object c.args.program.now in
+    let cost = tree_cost (g.P.Program.object c.args.program.now) (updates (updates_held c.args.forms.now c.args.put.now.memory)) in
+    let n = (head_says o c.args.t c.code_type-j-end.result c.code_type-j-end.ensures).1 in
+    let f = few_reg_rows o c.args.t c.requires.spellable c.requires.there in
+    some_trees c.loop-j.steps c.args.steps.now c.loop-j.j 64 cost c.loop-j.invariant.steps (omega (arith, n, f, c.loop-j.auto.j-end))

@@ -1,20 +1,19 @@
-use Rattle.std.proofs.Common.{◌≤◌, arith}
-use Rattle.std.proofs.lemmas.Option.{slice_get_within}
-use Rattle.ft_norm.specs.Entries.{forms_of}
+use Rattle.std.proofs.Common.{◌≡◌, ◌≤◌, ◌∙◌, ap, arith, length}
+use Rattle.ft_norm.specs.Entries.{forms_of, memory_reach}
 use Rattle.ft_norm.specs.Walks.{EndsWithin}
-use Rattle.ft_norm.proofs.Places.{within}
+use Rattle.ft_norm.proofs.Places.{integer_seen, integer_within, memory_seen}
 use Rattle.ft_norm.proofs.interner.Interner.sel.Goals as goal
 
 pub walk_from-requires-clause-memory : goal.walk_from-requires-clause-memory
-walk_from-requires-clause-memory c = within c.self.inside.entries.items c.deref.result.now c.args.self.now c.args.memory.0 _ c.self.view_is c.deref.ensures.value c.requires.memory.found
+walk_from-requires-clause-memory g c = memory_seen c.self.inside.entries.keys c.as_slice.result.now c.args.self.now c.args.memory c.self.view_is c.as_slice.ensures.keys c.requires.memory
 
 pub walk_from-requires-clause-at : goal.walk_from-requires-clause-at
-walk_from-requires-clause-at c = within c.self.inside.entries.items c.deref.result.now c.args.self.now c.args.at.0 _ c.self.view_is c.deref.ensures.value c.requires.address.found
+walk_from-requires-clause-at g c = integer_seen c.self.inside.entries.keys c.as_slice.result.now c.args.self.now c.args.at c.self.view_is c.as_slice.ensures.keys c.requires.address
 
 pub alone-requires : goal.alone-requires
-alone-requires c =
-    let x = slice_get_within c.args.self.now c.args.memory.0 _ c.requires.memory.found in
-    let y = slice_get_within c.args.self.now c.args.at.0 _ c.requires.address.found in
-    let e : EndsWithin (forms_of c.deref.result.now) c.args.memory.0 c.in_ok-value.field-0 = c.in_ok-value.ensures.ends in
-    let w : c.in-Stop.older ≤ c.args.memory.0 = rw c.in-Stop.is at e in
-    omega arith
+alone-requires g c =
+    let y = integer_within c.args.self.now c.args.at _ c.requires.address.found in
+    let v : forms_of c.as_slice.result.now ≡ c.args.self.now = ap forms_of c.as_slice.ensures.keys ∙ c.self.view_is in
+    let e : EndsWithin c.args.self.now c.in_ok-value.field-0 = rw v at c.in_ok-value.ensures.ends in
+    let w : memory_reach c.args.self.now c.in-Stop.older ≤ length c.args.self.now = rw c.in-Stop.is at e in
+    omega (arith, w, y)

@@ -1,0 +1,190 @@
+//! The forms of nodes under one substitution.
+ghost use Rattle.std.specs.Prelude.{◌≡◌, ◌+◌, ◌*◌, ◌<◌, ◌≤◌, IfOk, IfSome, List, None, Some, false, length, nat_eq, slice_get, true};
+ghost use Rattle.indexmap.specs.IndexMap.{get};
+ghost use Rattle.ft_static.specs.Form.{Form as Normal, updates};
+ghost use Rattle.ft_static.specs.FormUnder.{form_of, form_under};
+ghost use Rattle.ft_static.specs.NodeRules.{AreNodes, is_memory};
+ghost use Rattle.ft_static.specs.NodeTree.{tree_at};
+ghost use Rattle.ft_static.specs.declared.node.Node.{Node as Numbered};
+ghost use Rattle.ft_norm.specs.Held.{AreIntegers, IsInteger, IsMemory, Keeps, held, polynomials, updates_held};
+ghost use Rattle.ft_norm.specs.Parts.{HaveSorts, form_of_parts, updates_of_parts};
+
+use crate::form::Form;
+use crate::interner::Interner;
+use crate::parts::{Parts, parts_of};
+use ft_isa::NoMemory;
+use ft_static::{Nodes, Shape};
+use ft_steps::Steps;
+use indexmap::IndexMap;
+use std::alloc::Global;
+use std::sync::ledger::Ledger;
+
+/// How many nodes' memory is kept when they are forgotten.
+const FEW: usize = 64;
+
+/// The forms of the nodes that were made so far, while the same forms are put for the variables. It
+/// serves many calls: a node is made at most once.
+#[derive(Drop)]
+pub struct Memo {
+    alloc: Global,
+    made: IndexMap<u32, Form>,
+}
+
+/// The form of a variable after `ints[i]` is put for integer variable `i`, and `memory` for the memory
+/// variable. Any other node, and a variable beyond `ints`, has none here.
+fn leaf(shape: Shape, ints: &[Form], memory: Form) -> Option<Form>
+    ensures { (fs gs : List Normal) → AreIntegers fs ints.now → IsMemory fs memory → IfSome result (λ f. held fs f ≡ Some (form_of (polynomials fs ints.now) (updates_held fs memory) gs shape)) }
+{
+    match shape {
+        Shape::Var(i) => match ints.get(i as usize) {
+            Some(form) => Some(*form),
+            None => None,
+        },
+        Shape::Memory => Some(memory),
+        _ => None,
+    }
+}
+
+/// The form of a node from the forms of its parts. A variable beyond `ints` is the word 0.
+fn form_from<L: Ledger>(
+    forms: &mut Interner,
+    parts: Parts,
+    ints: &[Form],
+    memory: Form,
+    steps: &mut Steps<L>,
+) -> Result<Form, NoMemory>
+    requires parts { HaveSorts forms.old parts }
+    requires ints { AreIntegers forms.old ints.now }
+    requires memory { IsMemory forms.old memory }
+    ensures kept { Keeps forms.old forms.new }
+    ensures form { IfOk result (λ f. held forms.new f ≡ Some (form_of_parts (polynomials forms.old ints.now) (updates_held forms.old memory) forms.old parts)) }
+    ensures steps { steps.new ≤ steps.old + updates_of_parts forms.old parts }
+{
+    match parts {
+        Parts::Word(w) => forms.word(w),
+        Parts::Var(i) => match ints.get(i as usize) {
+            Some(form) => Ok(*form),
+            None => forms.word(0),
+        },
+        Parts::Op { op, a, b } => forms.op(op, a, b),
+        Parts::Sel { memory: m, at } => forms.sel(m, at, steps),
+        Parts::Memory => Ok(memory),
+        Parts::Upd {
+            memory: m,
+            at,
+            value,
+        } => forms.upd(m, at, value),
+    }
+}
+
+impl Memo {
+    ghost use Rattle.ft_norm.specs.Memos.{IsFresh, Remembers};
+
+    /// No node is made yet.
+    pub fn new(alloc: Global) -> Memo
+        ensures { IsFresh result }
+    {
+        Memo {
+            alloc,
+            made: IndexMap::new(alloc),
+        }
+    }
+
+    /// Forgets the nodes that were made. The memory of a few is kept for others, so that this takes no
+    /// longer than it took to make them.
+    pub fn clear(&mut self)
+        ensures { IsFresh self.new }
+    {
+        if self.made.len() <= FEW {
+            self.made.clear();
+        } else {
+            self.made = IndexMap::new(self.alloc);
+        }
+    }
+
+    /// The form of node `n` after `ints[i]` is put for integer variable `i`, and `memory` for the
+    /// memory variable, as `Interner::under` gives it. What was made before is not made again. A
+    /// variable and a node that was made before take no memory. After an error what was made stays.
+    #[inline]
+    pub fn form<N: Nodes, L: Ledger>(
+        &mut self,
+        forms: &mut Interner,
+        nodes: &N,
+        n: u32,
+        ints: &[Form],
+        memory: Form,
+        steps: &mut Steps<L>,
+    ) -> Result<Form, NoMemory>
+        requires nodes { AreNodes (N.nodes nodes.now) }
+        requires node { n < length (N.nodes nodes.now) }
+        requires ints { AreIntegers forms.old ints.now }
+        requires memory { IsMemory forms.old memory }
+        requires made { Remembers (N.nodes nodes.now) forms.old ints.now memory self.old }
+        ensures kept { Keeps forms.old forms.new }
+        ensures made { Remembers (N.nodes nodes.now) forms.new ints.now memory self.new }
+        ensures form { IfOk result (λ f. held forms.new f ≡ Some (form_under (polynomials forms.old ints.now) (updates_held forms.old memory) (tree_at (N.nodes nodes.now) n))) }
+        ensures integer { (x : Numbered) → slice_get (N.nodes nodes.now) n ≡ Some x → is_memory x.shape ≡ false → IfOk result (λ f. IsInteger forms.new f) }
+        ensures memory { (x : Numbered) → slice_get (N.nodes nodes.now) n ≡ Some x → is_memory x.shape ≡ true → IfOk result (λ f. IsMemory forms.new f) }
+        ensures count { IfOk result (λ f. updates (updates_held forms.new f) ≤ updates (updates_held forms.old memory) + n) }
+        ensures steps { steps.new ≤ steps.old + (n + 1) * (1 + updates (updates_held forms.old memory) + n) }
+    {
+        if let Some(form) = leaf(nodes.node(n).shape, ints, memory) {
+            steps.tick();
+            return Ok(form);
+        }
+        if let Some(form) = self.made.get(&n) {
+            return Ok(*form);
+        }
+        self.make(forms, nodes, n, ints, memory, steps)
+    }
+
+    /// The form of a node that was not made before. Each node that its tree reaches and that was not
+    /// made before is handled once, after its parts, without recursion.
+    #[inline(never)]
+    fn make<N: Nodes, L: Ledger>(
+        &mut self,
+        forms: &mut Interner,
+        nodes: &N,
+        n: u32,
+        ints: &[Form],
+        memory: Form,
+        steps: &mut Steps<L>,
+    ) -> Result<Form, NoMemory>
+        requires nodes { AreNodes (N.nodes nodes.now) }
+        requires node { n < length (N.nodes nodes.now) }
+        requires ints { AreIntegers forms.old ints.now }
+        requires memory { IsMemory forms.old memory }
+        requires made { Remembers (N.nodes nodes.now) forms.old ints.now memory self.old }
+        requires absent { get nat_eq self.old.made n ≡ None }
+        ensures kept { Keeps forms.old forms.new }
+        ensures made { Remembers (N.nodes nodes.now) forms.new ints.now memory self.new }
+        ensures form { IfOk result (λ f. held forms.new f ≡ Some (form_under (polynomials forms.old ints.now) (updates_held forms.old memory) (tree_at (N.nodes nodes.now) n))) }
+        ensures steps { steps.new ≤ steps.old + (n + 1) * (1 + updates (updates_held forms.old memory) + n) }
+    {
+        let mut open: Vec<u32> = Vec::new(self.alloc);
+        let mut k = n;
+        loop {
+            match parts_of(&self.made, nodes.node(k).shape) {
+                Err(part) => {
+                    match open.push(k) {
+                        Ok(()) => {}
+                        Err(_) => return Err(NoMemory),
+                    }
+                    k = part;
+                }
+                Ok(parts) => {
+                    steps.tick();
+                    let form = form_from(forms, parts, ints, memory, steps)?;
+                    match self.made.insert(k, form) {
+                        Ok(_) => {}
+                        Err(_) => return Err(NoMemory),
+                    }
+                    match open.pop() {
+                        Some(above) => k = above,
+                        None => return Ok(form),
+                    }
+                }
+            }
+        }
+    }
+}
