@@ -5,6 +5,26 @@ use ft_object::ObjectError;
 /// A field, or a rule of it; places with the bytes that are put there; and the error with its place.
 pub(crate) type Row = (&'static str, &'static [(usize, u8)], ObjectError);
 
+/// Rows over `A`, one for each error but the length.
+pub(crate) const EACH_ERROR: &[Row] = &[
+    ("magic", &[(0, 0x55)], ObjectError::Magic { at: 0 }),
+    ("cells", &[(10, 4), (11, 1)], ObjectError::Count { at: 8 }),
+    ("padding of a node", &[(67, 1)], ObjectError::Pad { at: 67 }),
+    (
+        "kind of an instruction",
+        &[(104, 8)],
+        ObjectError::Kind { at: 104 },
+    ),
+    (
+        "a node that names itself",
+        &[(64, 2)],
+        ObjectError::Index { at: 68 },
+    ),
+    ("first block", &[(99, 1)], ObjectError::Order { at: 96 }),
+    ("name", &[(216, 0x30)], ObjectError::Name { at: 216 }),
+    ("entry", &[(47, 1)], ObjectError::Entry { at: 44 }),
+];
+
 /// Rows of the header, over `J`.
 pub(crate) const HEADER: &[Row] = &[
     ("magic", &[(0, 55)], ObjectError::Magic { at: 0 }),

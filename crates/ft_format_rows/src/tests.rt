@@ -1,9 +1,12 @@
 //! Worked objects, whose bytes another implementation of the format made, and altered ones.
 use crate::altered::{
-    BLOCKS, CELLS, HEADER, LAWFUL, LONG_SUBSTITUTIONS, MOST_SUBSTITUTIONS, NAMES, NODES,
-    OPERATIONS, QUEUE_ROWS, REGISTER_ROWS, Row, SECOND_CELLS, SUBSTITUTION_ROWS, TRANSFERS, TYPES,
+    BLOCKS, CELLS, EACH_ERROR, HEADER, LAWFUL, LONG_SUBSTITUTIONS, MOST_SUBSTITUTIONS, NAMES,
+    NODES, OPERATIONS, QUEUE_ROWS, REGISTER_ROWS, Row, SECOND_CELLS, SUBSTITUTION_ROWS, TRANSFERS,
+    TYPES,
 };
 use ft_object::{DecodeError, ObjectError, decode, encode};
+use ft_types::Program;
+use ft_view::View;
 use ft_worked_objects::{
     A, A2, J, J64, K, L, M, N, P1, P3, P4, P5, P6, P8, P9, P11, P12, P13, P14, P15, P16, P17, Q, X,
     X2,
@@ -28,11 +31,29 @@ fn is_written_again(rt: &impl AllocGlobal, bytes: &[u8]) -> bool {
     }
 }
 
-/// Whether the bytes are refused by this error.
+/// Whether the bytes are refused by this error, in place.
+fn is_refused_in_place(bytes: &[u8], error: ObjectError) -> bool {
+    match View::over(bytes) {
+        Ok(_) => false,
+        Err(found) => found == error,
+    }
+}
+
+/// Whether the bytes are refused by this error, in place and when they are decoded.
 fn is_refused(rt: &impl AllocGlobal, bytes: &[u8], error: ObjectError) -> bool {
-    match decode(rt.alloc(), bytes) {
+    let decoded = match decode(rt.alloc(), bytes) {
         Ok(_) => false,
         Err(found) => found == DecodeError::Object(error),
+    };
+    decoded && is_refused_in_place(bytes, error)
+}
+
+/// The name of the first cell, which is a slice of the bytes.
+#[tactic(auto, using(ft_types::proofs::Counted::spellable_counted))]
+fn first_name(bytes: &[u8]) -> Option<&[u8]> {
+    match View::over(bytes) {
+        Ok(view) if 0 < view.counts().cells => Some(view.name_of(0)),
+        _ => None,
     }
 }
 
@@ -62,6 +83,11 @@ fn check_rows(rt: &(impl AllocGlobal + Abort), object: &[u8], rows: &[Row]) -> R
 }
 
 #[test]
+fn names_are_kept_when_their_view_is_gone(rt: HostRuntime) {
+    assert!(&rt; first_name(J) == Some(b"out".as_slice()));
+}
+
+#[test]
 fn worked_objects_are_written_again(rt: HostRuntime) {
     for object in OBJECTS {
         assert!(&rt; is_written_again(&rt, object));
@@ -83,6 +109,9 @@ fn lawful_alterations_are_written_again(rt: HostRuntime) -> Result<(), Fail> {
 
 #[test]
 fn prefixes_are_refused_by_their_length(rt: HostRuntime) {
+    for n in 0..A.len() {
+        assert!(&rt; is_refused(&rt, &A[..n], ObjectError::Length { at: n }));
+    }
     for n in 0..J.len() {
         assert!(&rt; is_refused(&rt, &J[..n], ObjectError::Length { at: n }));
     }
@@ -105,6 +134,7 @@ fn too_many_bytes_are_refused_by_their_limit(rt: HostRuntime) -> Result<(), Fail
 
 #[test]
 fn altered_tables_are_refused_at_their_fields(rt: HostRuntime) -> Result<(), Fail> {
+    check_rows(&rt, A, EACH_ERROR)?;
     check_rows(&rt, J, HEADER)?;
     check_rows(&rt, J, CELLS)?;
     check_rows(&rt, P9, SECOND_CELLS)?;

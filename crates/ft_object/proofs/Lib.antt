@@ -1,3 +1,2 @@
 pub mod Answered
-pub mod EndsRise
-pub mod Judging
+mod Copied

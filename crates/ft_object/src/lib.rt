@@ -5,11 +5,10 @@
 //! `ft_format`; `specs/Judged.antt` says what a reader may answer. Writing is `encode` of `ft_encode`.
 #![tactic(auto)]
 
+mod copying;
 mod decode_error;
 mod memory;
-mod part;
 mod reading;
-mod sections;
 
 pub use decode_error::DecodeError;
 pub use ft_encode::encode;

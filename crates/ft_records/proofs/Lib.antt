@@ -1,2 +1,3 @@
-pub mod Names
-pub mod RowsPast
+mod Names
+mod NodeRows
+pub mod Records

@@ -1,5 +1,5 @@
 //! Blocks, which begin one after the other.
-ghost use Rattle.std.specs.Prelude.{◌≡◌, ◌≤◌, ◌^◌, IfOk};
+ghost use Rattle.std.specs.Prelude.{◌≡◌, ◌≤◌, ◌^◌};
 ghost use Rattle.ft_records.specs.Found.{Finds};
 ghost use Rattle.ft_format.specs.Fields.{pair_numbers};
 ghost use Rattle.ft_format.specs.Rules.{may_begin, block_broken};
@@ -19,24 +19,29 @@ fn may_begin(previous: Option<u32>, start: u32) -> bool
     }
 }
 
-/// The block of the record at a place, after a block that begins at the previous instruction; `previous` is
-/// `None` for block 0, which begins at 0. `Order` where it begins elsewhere, not behind the previous one or not
-/// within the instructions, `Index` for a type that is not there.
-pub fn read_block(
+/// The rules of the record of a block, after a block that begins at the previous instruction; `previous` is `None`
+/// for block 0, which begins at 0. `Order` where it begins elsewhere, not behind the previous one or not within the
+/// instructions, `Index` for a type that is not there.
+pub fn check_block(
     header: Header,
     previous: Option<u32>,
     at: usize,
     row: PairRow,
-) -> Result<Block, ObjectError>
+) -> Result<(), ObjectError>
     requires { at ≤ 2 ^ 27 }
-    ensures judged { Finds result (block_broken header previous at (pair_numbers row)) }
-    ensures read { IfOk result (λ b. b ≡ block_of (pair_numbers row)) }
+    ensures { Finds result (block_broken header previous at (pair_numbers row)) }
 {
     check(may_begin(previous, row.first), ObjectError::Order { at })?;
     check(row.first < header.instrs, ObjectError::Order { at })?;
-    check(row.second < header.types, ObjectError::Index { at: at + 4 })?;
-    Ok(Block {
+    check(row.second < header.types, ObjectError::Index { at: at + 4 })
+}
+
+/// The block of a record.
+pub fn read_block(row: PairRow) -> Block
+    ensures { result ≡ block_of (pair_numbers row) }
+{
+    Block {
         start: row.first,
         code_type: row.second,
-    })
+    }
 }

@@ -6,14 +6,14 @@ ghost use Rattle.ft_format.specs.Fields.{type_numbers};
 ghost use Rattle.ft_format.specs.Rules.{type_broken};
 ghost use Rattle.ft_format.specs.Broken.{types_broken};
 
+use crate::node_records::NodeRecords;
 use crate::rules::{check, check_count, check_named, check_zero};
 use ft_format::{Header, ObjectError, TypeRow};
-use ft_static::Node;
 
 /// The rules of a type's record, where the rows of the types before end at `regs` and `queue`.
 fn check_type(
     header: Header,
-    nodes: &[Node],
+    nodes: &NodeRecords,
     regs: u32,
     queue: u32,
     at: usize,
@@ -40,7 +40,7 @@ fn check_type(
 /// their rows, `Index` and `Kind` for the memory, `Count` for the variables, `Pad`.
 pub fn check_types(
     header: Header,
-    nodes: &[Node],
+    nodes: &NodeRecords,
     at: usize,
     bytes: &[u8],
 ) -> Result<(), ObjectError>

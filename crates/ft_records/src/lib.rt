@@ -1,29 +1,35 @@
 //! One record of an object at a time: its rules, and the part of an object that it stands for.
 //!
-//! Each reader promises the part that the record's numbers stand for (of a cell's record its basic
-//! type), or exactly the first of the record's rules that they break, with its place
-//! (`specs/Found.antt`), and each check the rules alone; none takes memory. The rules are those of
-//! `ft_format`. A place is counted in bytes from the object's first one.
+//! Each check promises exactly the first of the record's rules that its numbers break, with its place
+//! (`specs/Found.antt`), and each reader the part that the numbers of a record stand for that breaks none; none
+//! takes memory. The rules are those of `ft_format`. A place is counted in bytes from the object's first one.
 #![tactic(auto)]
 
 mod block;
+mod byte_part;
 mod cell;
 mod code_type;
 mod header;
 mod instr;
+mod instr_parts;
 mod name;
 mod node;
+mod node_records;
+mod parts;
 mod queue_pair;
 mod reg;
 mod rules;
 
-pub use block::read_block;
-pub use cell::read_cell_type;
+pub use block::{check_block, read_block};
+pub use byte_part::stretch;
+pub use cell::{check_cell, read_cell};
 pub use code_type::check_types;
 pub use header::check_header;
-pub use instr::{read_instr, rows_past};
-pub use name::check_names;
-pub use node::read_node;
-pub use queue_pair::read_queue_row;
-pub use reg::read_reg;
+pub use instr::{check_instr, rows_past};
+pub use instr_parts::read_instr;
+pub use name::check_name_bytes;
+pub use node::{check_node, read_node};
+pub use node_records::NodeRecords;
+pub use queue_pair::check_queue_row;
+pub use reg::{check_reg, read_reg};
 pub use rules::{check, check_node_number};

@@ -1,13 +1,10 @@
-//! Rules that several records share. Each answers the error with its place where its rule is broken; otherwise
-//! a check answers nothing, and a reader the value.
-ghost use Rattle.std.specs.Prelude.{◌≡◌, ◌≤◌, ◌^◌, Some, IfOk, slice_get};
+//! Rules that several records share. Each answers the error with its place where its rule is broken.
+ghost use Rattle.std.specs.Prelude.{◌≤◌, ◌^◌};
 ghost use Rattle.ft_records.specs.Found.{Finds};
-ghost use Rattle.ft_format.specs.Rules.{must, zero_broken, count_broken, some_broken, colour_broken, op_broken, register_broken, code_type_broken, basic_broken, is_of_sort, node_number_broken, named_broken};
-ghost use Rattle.ft_format.specs.Values.{register_of, colour_of, op_of, joined, base_of, basic_type_of};
+ghost use Rattle.ft_format.specs.Rules.{must, zero_broken, count_broken, some_broken, colour_broken, op_broken, register_broken, code_type_broken, basic_broken, node_number_broken, named_broken};
 
+use crate::node_records::NodeRecords;
 use ft_format::ObjectError;
-use ft_isa::{Base, Basic, Colour, Op, Reg};
-use ft_static::{Node, Shape};
 
 /// Nothing where the test holds, else the error.
 pub fn check(holds: bool, error: ObjectError) -> Result<(), ObjectError>
@@ -38,63 +35,25 @@ pub(crate) fn check_some(most: u32, at: usize, n: u32) -> Result<(), ObjectError
     check_count(most, at, n)
 }
 
-/// The colour of a code, where any but 0 is blue.
-fn colour(code: u8) -> Colour
-    ensures { result ≡ colour_of code }
+/// The colour whose code is at this place.
+pub(crate) fn check_colour(at: usize, code: u8) -> Result<(), ObjectError>
+    ensures { Finds result (colour_broken at code) }
 {
-    match code {
-        0 => Colour::Green,
-        _ => Colour::Blue,
-    }
+    check(code <= 1, ObjectError::Kind { at })
 }
 
-/// The colour of the code at this place.
-pub(crate) fn read_colour(at: usize, code: u8) -> Result<Colour, ObjectError>
-    ensures judged { Finds result (colour_broken at code) }
-    ensures read { IfOk result (λ c. c ≡ colour_of code) }
+/// The operation whose code is at this place.
+pub(crate) fn check_op(at: usize, code: u32) -> Result<(), ObjectError>
+    ensures { Finds result (op_broken at code) }
 {
-    check(code <= 1, ObjectError::Kind { at })?;
-    Ok(colour(code))
+    check(code <= 4, ObjectError::Kind { at })
 }
 
-/// The operation of a code, where any above 3 is `eq`.
-pub(crate) fn op(code: u32) -> Op
-    ensures { result ≡ op_of code }
+/// The register whose number is at this place.
+pub(crate) fn check_register(at: usize, number: u8) -> Result<(), ObjectError>
+    ensures { Finds result (register_broken at number) }
 {
-    match code {
-        0 => Op::Add,
-        1 => Op::Sub,
-        2 => Op::Mul,
-        3 => Op::Ltu,
-        _ => Op::Eq,
-    }
-}
-
-/// The operation of the code at this place.
-pub(crate) fn read_op(at: usize, code: u32) -> Result<Op, ObjectError>
-    ensures judged { Finds result (op_broken at code) }
-    ensures read { IfOk result (λ op. op ≡ op_of code) }
-{
-    check(code <= 4, ObjectError::Kind { at })?;
-    Ok(op(code))
-}
-
-/// The word of two halves.
-pub(crate) fn word(high: u32, low: u32) -> u64
-    ensures { result ≡ joined high low }
-{
-    (u64::from(high) << 32) | u64::from(low)
-}
-
-/// The register of the number at this place.
-pub(crate) fn read_register(at: usize, number: u8) -> Result<Reg, ObjectError>
-    ensures judged { Finds result (register_broken at number) }
-    ensures read { IfOk result (λ r. r ≡ register_of number) }
-{
-    match Reg::new(number) {
-        Some(register) => Ok(register),
-        None => Err(ObjectError::Index { at }),
-    }
+    check(number < 64, ObjectError::Index { at })
 }
 
 /// The code type at this place: zero for `int`, one of so many for `code`.
@@ -108,71 +67,39 @@ fn check_code_type(types: u32, at: usize, base: u8, code_type: u16) -> Result<()
     }
 }
 
-fn base(code: u8, code_type: u16) -> Base
-    ensures { result ≡ base_of code code_type }
-{
-    if code == 0 {
-        Base::Int
-    } else {
-        Base::Code(code_type)
-    }
-}
-
 /// The basic type at this place, where there are so many code types.
-pub(crate) fn read_basic(
+pub(crate) fn check_basic(
     types: u32,
     at: usize,
     refs: u8,
-    code: u8,
+    base: u8,
     code_type: u16,
-) -> Result<Basic, ObjectError>
+) -> Result<(), ObjectError>
     requires { at ≤ 2 ^ 28 }
-    ensures judged { Finds result (basic_broken types at refs code code_type) }
-    ensures read { IfOk result (λ b. b ≡ basic_type_of refs code code_type) }
+    ensures { Finds result (basic_broken types at refs base code_type) }
 {
     check(refs <= 8, ObjectError::Kind { at })?;
-    check(code <= 1, ObjectError::Kind { at: at + 1 })?;
-    check_code_type(types, at + 2, code, code_type)?;
-    let base = base(code, code_type);
-    Ok(Basic { refs, base })
-}
-
-/// Whether the node is of the sort: an integer, or a memory.
-fn is_of_sort(memory: bool, node: Node) -> bool
-    ensures { result ≡ is_of_sort memory (Some node) }
-{
-    match node.shape {
-        Shape::Memory | Shape::Upd { .. } => memory,
-        Shape::Word(_) | Shape::Var(_) | Shape::Op { .. } | Shape::Sel { .. } => !memory,
-    }
-}
-
-/// The node of the number at this place, which is of the sort.
-fn find_node(nodes: &[Node], memory: bool, at: usize, n: u32) -> Result<Node, ObjectError>
-    ensures judged { Finds result (node_number_broken nodes.now memory at n) }
-    ensures found { IfOk result (λ node. slice_get nodes.now n ≡ Some node) }
-{
-    match nodes.get(n as usize) {
-        Some(node) => {
-            check(is_of_sort(memory, *node), ObjectError::Kind { at })?;
-            Ok(*node)
-        }
-        None => Err(ObjectError::Index { at }),
-    }
+    check(base <= 1, ObjectError::Kind { at: at + 1 })?;
+    check_code_type(types, at + 2, base, code_type)
 }
 
 /// The number at this place is that of a node, else `Index`, and of a memory or an integer as wanted, else
 /// `Kind`.
-pub fn check_node_number(nodes: &[Node], memory: bool, at: usize, n: u32) -> Result<(), ObjectError>
+pub fn check_node_number(
+    nodes: &NodeRecords,
+    memory: bool,
+    at: usize,
+    n: u32,
+) -> Result<(), ObjectError>
     ensures { Finds result (node_number_broken nodes.now memory at n) }
 {
-    find_node(nodes, memory, at, n)?;
-    Ok(())
+    check(nodes.has(n), ObjectError::Index { at })?;
+    check(nodes.is_of_sort(memory, n), ObjectError::Kind { at })
 }
 
 /// The number at this place is that of a node of the sort and of at most the scope.
 pub(crate) fn check_named(
-    nodes: &[Node],
+    nodes: &NodeRecords,
     scope: u8,
     memory: bool,
     at: usize,
@@ -180,6 +107,6 @@ pub(crate) fn check_named(
 ) -> Result<(), ObjectError>
     ensures { Finds result (named_broken nodes.now scope memory at n) }
 {
-    let node = find_node(nodes, memory, at, n)?;
-    check(node.scope <= scope, ObjectError::Index { at })
+    check_node_number(nodes, memory, at, n)?;
+    check(nodes.is_within(scope, n), ObjectError::Index { at })
 }

@@ -1,0 +1,7 @@
+use Rattle.std.proofs.Common.{◌≡◌, take}
+use Rattle.ft_types.specs.Objects.{reg_rows}
+use Rattle.ft_format.specs.Broken.{object_of}
+use Rattle.ft_object.proofs.copying.copy_regs.Given as goal
+
+abbrev pub invariant-loop-i : goal.invariant-loop-i
+invariant-loop-i l = record { items : l.regs.items ≡ take l.i (reg_rows (object_of l.view) l.t) }

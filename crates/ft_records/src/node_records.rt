@@ -1,0 +1,74 @@
+//! Nodes as their records.
+ghost use Rattle.std.specs.Prelude.{◌≡◌, ◌<◌, ◌≤◌, ◌*◌, Some, length, map, nat_lt, slice_get};
+ghost use Rattle.ft_format.specs.Fields.{node_numbers};
+ghost use Rattle.ft_format.specs.Layout.{rows, code_layout};
+ghost use Rattle.ft_format.specs.Rules.{is_of_sort, is_within};
+ghost use Rattle.ft_format.specs.Values.{node_of};
+
+use crate::byte_part::stretch;
+use ft_format::NodeRow;
+use std::marker::Model;
+
+/// So many records of nodes, one after the other. They are seen as the nodes that they stand for.
+#[derive(Drop)]
+pub struct NodeRecords<'a> {
+    count: u32,
+    bytes: &'a [u8],
+}
+
+impl<'a> Model for NodeRecords<'a> {
+    ghost use Rattle.std.specs.Prelude.{◌≤◌, ◌*◌, List, length, map};
+    ghost use Rattle.ft_static.specs.declared.node.Node.{Node};
+    ghost use Rattle.ft_format.specs.Layout.{rows, code_layout};
+    ghost use Rattle.ft_format.specs.Values.{node_of};
+
+    ghost Value = { List Node };
+
+    ghost view = { λ r. map node_of (rows code_layout r.count r.bytes.now) };
+
+    ghost invariant = { λ r. 16 * r.count ≤ length r.bytes.now };
+}
+
+impl<'a> NodeRecords<'a> {
+    /// The nodes of so many records, which stand first in the bytes.
+    pub fn new(count: u32, bytes: &'a [u8]) -> NodeRecords<'a>
+        requires { 16 * count ≤ length bytes.now }
+        ensures { result ≡ map node_of (rows code_layout count bytes.now) }
+    {
+        NodeRecords { count, bytes }
+    }
+
+    /// Whether there is a node of this number.
+    pub(crate) fn has(&self, n: u32) -> bool
+        ensures { result ≡ nat_lt n (length self.now) }
+    {
+        n < self.count
+    }
+
+    /// The record of node `n`.
+    fn row(&self, n: u32) -> NodeRow
+        requires { n < length self.now }
+        ensures { slice_get self.now n ≡ Some (node_of (node_numbers result)) }
+    {
+        NodeRow::read(stretch(self.bytes, 16 * n as usize, 16))
+    }
+
+    /// Whether node `n` is of the sort: an integer, or a memory.
+    #[tactic(auto, using(crate::proofs::NodeRows::memory_sort, crate::proofs::NodeRows::integer_sort))]
+    pub(crate) fn is_of_sort(&self, memory: bool, n: u32) -> bool
+        requires { n < length self.now }
+        ensures { result ≡ is_of_sort memory (slice_get self.now n) }
+    {
+        let row = self.row(n);
+        if memory { 4 <= row.kind } else { row.kind < 4 }
+    }
+
+    /// Whether node `n` is of at most the scope.
+    #[tactic(auto, using(crate::proofs::NodeRows::scope_is))]
+    pub(crate) fn is_within(&self, scope: u8, n: u32) -> bool
+        requires { n < length self.now }
+        ensures { result ≡ is_within scope (slice_get self.now n) }
+    {
+        self.row(n).scope <= scope
+    }
+}

@@ -1,0 +1,10 @@
+mod At
+mod EndsRise
+mod Named
+mod NodePlain
+mod Opened
+mod Parts
+mod Plain
+mod RegPlain
+mod RowsAfter
+mod Whole

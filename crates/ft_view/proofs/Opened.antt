@@ -1,0 +1,68 @@
+-- What a view's bytes tell at a place.
+use Rattle.std.proofs.Common.{◌≡◌, ℕ, ◌+◌, ◌*◌, ◌<◌, ◌≤◌, List, [], ◌∷◌, length, take, drop, Some, sym, ap, ◌∙◌, subst, arith}
+use Rattle.std.specs.Prelude.{slice_get}
+use Rattle.std.specs.Option.{option_map}
+use Rattle.std.specs.Int.{Width}
+use Rattle.std.proofs.lemmas.List.{length-map}
+use Rattle.std.proofs.lemmas.Option.{slice_get-map}
+use Rattle.ft_format.specs.declared.header.Header.{Header}
+use Rattle.ft_format.specs.declared.places.Places.{Places}
+use Rattle.ft_format.specs.Layout.{size, numbers, rows, code_layout}
+use Rattle.ft_format.specs.Broken.{header_at, instrs_at, instrs_part, instr_rows_of, nodes_read, object_of, tables_read}
+use Rattle.ft_format.specs.Values.{instr_of}
+use Rattle.ft_format.proofs.Layouts.{length_rows}
+use Rattle.ft_view.specs.Viewed.{IsView}
+use Rattle.ft_view.proofs.Whole.{AreUnbroken, unbroken}
+use Rattle.ft_records.proofs.Records.{record_at}
+use Rattle.ft_view.proofs.Plain.{AreBelow, plain_at}
+
+-- the sections under the view's own header
+pub sections : (h : Header) (p : Places) (bytes : List ℕ) → IsView h p bytes → AreUnbroken h bytes
+sections h p bytes v = subst (λ k. AreUnbroken k bytes) (sym v.header) (unbroken bytes v.unbroken)
+
+-- a count under the header that the bytes have
+pub below : (h : Header) (p : Places) (bytes seen : List ℕ) (count : Header → ℕ) (i : ℕ) → IsView h p bytes → seen ≡ bytes → i < count (header_at seen) → i < count h
+below h p bytes seen count i v e lt = subst (λ k. i < count k) (ap header_at e ∙ sym v.header) lt
+
+-- the record of an instruction
+pub instr_inside : (h : Header) (p : Places) (bytes seen : List ℕ) (i : ℕ) → IsView h p bytes → seen ≡ bytes → i < (header_at seen).instrs → p.instrs + 16 * i + 16 ≤ length bytes
+instr_inside h p bytes seen i v e lt =
+    let u = sections h p bytes v in
+    omega (arith, u.whole.whole, v.places.instrs, below h p bytes seen (λ k. k.instrs) i v e lt)
+
+pub instr_there : (h : Header) (p : Places) (bytes seen part row : List ℕ) (i : ℕ) → IsView h p bytes → seen ≡ bytes → i < (header_at seen).instrs → part ≡ take 16 (drop (p.instrs + 16 * i) bytes) → row ≡ numbers code_layout part
+    → slice_get (instr_rows_of (header_at seen) seen) i ≡ Some row
+instr_there h p bytes seen part row i v e lt is numbers_are =
+    let lower = below h p bytes seen (λ k. k.instrs) i v e lt in
+    let place : p.instrs + 16 * i ≡ instrs_at h + 16 * i = omega (arith, v.places.instrs) in
+    let there : slice_get (instr_rows_of h bytes) i ≡ Some row = record_at code_layout h.instrs i (instrs_at h) (p.instrs + 16 * i) bytes part row lower place is numbers_are in
+    rw (e, ← v.header) there
+
+-- its fields a, b and c
+pub instr_plain : (h : Header) (p : Places) (bytes seen : List ℕ) (i kind a b c x high low : ℕ) → IsView h p bytes → seen ≡ bytes
+    → slice_get (instr_rows_of (header_at seen) seen) i ≡ Some (kind ∷ a ∷ b ∷ c ∷ x ∷ high ∷ low ∷ []) → AreBelow a b c
+instr_plain h p bytes seen i kind a b c x high low v e there =
+    let u = sections h p bytes v in
+    let here : slice_get (instr_rows_of h bytes) i ≡ Some (kind ∷ a ∷ b ∷ c ∷ x ∷ high ∷ low ∷ []) = subst (λ k. slice_get (instr_rows_of k bytes) i ≡ Some (kind ∷ a ∷ b ∷ c ∷ x ∷ high ∷ low ∷ [])) (sym v.header) (subst (λ l. slice_get (instr_rows_of (header_at l) l) i ≡ Some (kind ∷ a ∷ b ∷ c ∷ x ∷ high ∷ low ∷ [])) e there) in
+    plain_at h (nodes_read h bytes) 0 (instrs_at h) (instr_rows_of h bytes) i kind a b c x high low u.instrs here
+
+-- how many instructions the object has
+pub instr_count : (bytes : List ℕ) → length (object_of bytes).instrs ≡ (header_at bytes).instrs
+unfolding tables_read
+instr_count bytes =
+    let h = header_at bytes in
+    length-map (instr_rows_of h bytes) instr_of ∙ length_rows code_layout h.instrs (instrs_part h bytes)
+
+pub instr_is : (bytes row : List ℕ) (i : ℕ) (x : _) → slice_get (instr_rows_of (header_at bytes) bytes) i ≡ Some row → x ≡ instr_of row → slice_get (object_of bytes).instrs i ≡ Some x
+unfolding tables_read
+instr_is bytes row i x there is =
+    let h = header_at bytes in
+    slice_get-map instr_of (instr_rows_of h bytes) i ∙ ap (option_map instr_of) there ∙ ap Some (sym is)
+
+-- record i of a section
+pub row_there : (ws : List Width) (count start : Header → ℕ) (h : Header) (p : Places) (bytes seen part row : List ℕ) (i at : ℕ) → IsView h p bytes → seen ≡ bytes → i < count (header_at seen) → at ≡ start h + size ws * i
+    → part ≡ take (size ws) (drop at bytes) → row ≡ numbers ws part → slice_get (rows ws (count (header_at seen)) (drop (start (header_at seen)) seen)) i ≡ Some row
+row_there ws count start h p bytes seen part row i at v e lt place is numbers_are =
+    let lower = below h p bytes seen count i v e lt in
+    let there : slice_get (rows ws (count h) (drop (start h) bytes)) i ≡ Some row = record_at ws (count h) i (start h) at bytes part row lower place is numbers_are in
+    rw (e, ← v.header) there

@@ -1,0 +1,80 @@
+//! Names of cells, one after the other.
+ghost use Rattle.std.specs.Prelude.{◌≡◌, ◌+◌, ◌*◌, ◌≤◌, ◌^◌, [], length};
+ghost use Rattle.std.specs.List.{list_any};
+ghost use Rattle.std.specs.Str.{bytes_eq};
+ghost use Rattle.ft_format.specs.Layout.{rows, cell_layout};
+ghost use Rattle.ft_format.specs.Values.{past_of, cells_of};
+ghost use Rattle.ft_format.specs.Broken.{name_broken, names_broken};
+ghost use Rattle.ft_records.specs.Found.{Finds};
+ghost use Rattle.ft_view.specs.Ends.{AreEnds};
+
+use crate::same_name::is_same;
+use ft_format::{CellRow, ObjectError};
+use ft_records::{check, check_name_bytes, stretch};
+
+/// Whether one of the first cells has this name.
+fn has_name(names: &[u8], count: u32, records: &[u8], name: &[u8]) -> bool
+    requires there { 16 * count ≤ length records.now }
+    requires ends { AreEnds past_of (length names.now) 0 (rows cell_layout count records.now) }
+    ensures { result ≡ list_any (λ c. bytes_eq name.now c.name) (cells_of names.now 0 (rows cell_layout count records.now)) }
+{
+    let mut start: u32 = 0;
+    let mut rest = records;
+    for _ in 0..count {
+        let (record, after) = rest.split_at(16);
+        let row = CellRow::read(record);
+        let other = stretch(names, start as usize, (row.past - start) as usize);
+        if is_same(name, other) {
+            return true;
+        }
+        start = row.past;
+        rest = after;
+    }
+    false
+}
+
+/// The rules of a name at a place, after those of so many earlier cells.
+fn check_name(
+    names: &[u8],
+    earlier: u32,
+    records: &[u8],
+    at: usize,
+    name: &[u8],
+) -> Result<(), ObjectError>
+    requires there { 16 * earlier ≤ length records.now }
+    requires ends { AreEnds past_of (length names.now) 0 (rows cell_layout earlier records.now) }
+    requires places { at + length name.now ≤ 2 ^ 27 }
+    ensures { Finds result (name_broken (cells_of names.now 0 (rows cell_layout earlier records.now)) at name.now) }
+{
+    check_name_bytes(at, name)?;
+    let is_there = has_name(names, earlier, records, name);
+    check(!is_there, ObjectError::Name { at })
+}
+
+/// The rules of the names of so many cells, whose bytes begin at a place and take all up to the end: `Name` for a byte
+/// that may not stand there or a name that an earlier cell has, `Order` for a byte that is left.
+pub(crate) fn check_names(
+    end: usize,
+    at: usize,
+    names: &[u8],
+    count: u32,
+    records: &[u8],
+) -> Result<(), ObjectError>
+    requires there { 16 * count ≤ length records.now }
+    requires ends { AreEnds past_of (length names.now) 0 (rows cell_layout count records.now) }
+    requires places { at + length names.now ≤ 2 ^ 27 }
+    ensures { Finds result (names_broken end [] at (cells_of names.now 0 (rows cell_layout count records.now))) }
+{
+    let mut start: u32 = 0;
+    let mut rest = records;
+    for i in 0..count {
+        let (record, after) = rest.split_at(16);
+        let row = CellRow::read(record);
+        let name = stretch(names, start as usize, (row.past - start) as usize);
+        check_name(names, i, records, at + start as usize, name)?;
+        start = row.past;
+        rest = after;
+    }
+    let place = at + start as usize;
+    check(place == end, ObjectError::Order { at: place })
+}
