@@ -1,5 +1,11 @@
+pub mod Begun
 pub mod Ends
 pub mod Equal
 pub mod Faults
+pub mod Following
 pub mod Judged
+pub mod Judgements
+pub mod Keeping
+pub mod Meetings
 pub mod Puts
+pub mod Racing

@@ -40,7 +40,7 @@ pub record IsLong (lines : List (List ℕ)) : Type 0 where
   pub goes_on : GoesOn lines before line
   pub counted : length before ≡ 65536
 
--- a refusal, in the order in which they come; want of memory says nothing
+-- a refusal, in the order in which they come; out of memory says nothing
 abbrev pub IsListError : List ℕ → ListError → Type 0
 IsListError text (Line number) = (length text ≤ 4194304) × IsFirstBad (lines_of text) number
 IsListError text TooMany = (4194304 < length text) ⊎ ((length text ≤ 4194304) × IsLong (lines_of text))

@@ -2,4 +2,5 @@ pub mod FaultList
 pub mod Verdicts
 pub mod Texts
 pub mod Campaigns
-pub mod Outcomes
+pub mod Snapshots
+pub mod Follows

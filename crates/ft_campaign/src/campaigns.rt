@@ -1,5 +1,7 @@
 //! Campaigns.
-ghost use Rattle.std.specs.Prelude.{◌≡◌, ◌<◌, ◌≤◌, ◌+◌, ◌*◌, length};
+ghost use Rattle.std.specs.Prelude.{◌≡◌, ◌<◌, ◌≤◌, ◌+◌, ◌*◌, ℕ, length, sum_by};
+ghost use Rattle.ft_isa.specs.declared.plan.Strike.{Strike as Fault};
+ghost use Rattle.ft_campaign.specs.Snapshots.{IsCost};
 ghost use Rattle.ft_types.specs.Spellable.{IsSpellable};
 ghost use Rattle.ft_campaign.specs.Campaigns.{EndsAs, IsExcused, IsUncorrupted};
 
@@ -21,7 +23,7 @@ const PRODUCT_LIMIT: u64 = 1_000_000_000;
 /// Takes the run of a program without a fault and its run under each fault, each for at most `n` steps
 /// and with the same answers to wild loads. Puts a line of the verdict of each fault, in the list's
 /// order, and then a line of the totals. `steps` counts the machine's steps. `TooMuch` comes exactly
-/// where the number of faults times `n` is above 1,000,000,000; it and `NoMemory` put nothing.
+/// when the number of faults times `n` is above 1,000,000,000; it and `NoMemory` put nothing.
 /// `WriteFault` comes only where a put failed, and nothing is put after it.
 pub fn survey<P: Program, K: Sink, L: Ledger>(
     alloc: Global,
@@ -40,6 +42,7 @@ pub fn survey<P: Program, K: Sink, L: Ledger>(
     ensures count { K.faults out.old ≤ K.faults out.new }
     ensures cause { IsExcused result (K.faults out.old) (K.faults out.new) }
     ensures steps { steps.new ≤ steps.old + (length faults.now + 1) * n }
+    ensures cost { (cost : Fault → ℕ) → ((x : Fault) → IsCost (P.object program.now) wild.now n x (cost x)) → steps.new ≤ steps.old + (n + sum_by cost faults.now) }
 {
     let product = faults.len() as u64 * n;
     if product > PRODUCT_LIMIT {
@@ -74,6 +77,7 @@ pub fn campaign<'a, P: Program, K: Sink, L: Ledger>(
     ensures count { K.faults out.old ≤ K.faults out.new }
     ensures cause { IsExcused result (K.faults out.old) (K.faults out.new) }
     ensures steps { steps.new ≤ steps.old + (length faults.now + 1) * n }
+    ensures cost { (cost : Fault → ℕ) → ((x : Fault) → IsCost (P.object checked.now) wild.now n x (cost x)) → steps.new ≤ steps.old + (n + sum_by cost faults.now) }
 {
     survey(alloc, checked.program(), faults, wild, n, out, steps)
 }

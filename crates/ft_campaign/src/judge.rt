@@ -1,58 +1,64 @@
 //! The verdicts of faults.
-ghost use Rattle.std.specs.Prelude.{◌≡◌, ◌≤◌, ◌+◌, ◌*◌, ℕ, List, None, Some, Decides, IfOk, length};
+ghost use Rattle.std.specs.Prelude.{◌≡◌, ◌≤◌, ◌+◌, ◌*◌, ℕ, IfOk, length, sum_by};
 ghost use Rattle.ft_isa.specs.declared.plan.Strike.{Strike as Fault};
-ghost use Rattle.ft_isa.specs.declared.plan.Wild.{Wild as Answer};
-ghost use Rattle.ft_types.specs.declared.object.Object.{Object};
-ghost use Rattle.ft_types.specs.Agrees.{IsPrefix};
 ghost use Rattle.ft_types.specs.Spellable.{IsSpellable};
-ghost use Rattle.ft_campaign.specs.Outcomes.{IsOutcome};
+ghost use Rattle.ft_types.specs.State.{HasCells};
+ghost use Rattle.ft_campaign.specs.Snapshots.{IsClean, IsCost};
 ghost use Rattle.ft_campaign.specs.Verdicts.{IsVerdict, AreVerdicts};
 
-use crate::outcome::{Outcome, run_from_start};
+use crate::clean::Clean;
+use crate::clean_run::run_clean;
+use crate::follow::count_outputs;
+use crate::race::race;
 use crate::verdict::Verdict;
-use ft_isa::{NoMemory, Plan, Strike, Wild};
+use ft_isa::{NoMemory, Strike, Wild};
+use ft_machine::{Machine, WildLeft};
 use ft_steps::Steps;
-use ft_types::{Program, Status};
+use ft_types::Program;
 use std::alloc::Global;
 use std::sync::ledger::Ledger;
 
-/// Whether two runs have equal outputs and equal status.
-fn is_same(clean: &Outcome, struck: &Outcome) -> bool
-    ensures { Decides result ((struck.now.outputs.items ≡ clean.now.outputs.items) × (struck.now.status ≡ clean.now.status)) }
+/// The verdict of a fault: its run from the last snapshot at or before its strike.
+fn judge_fault<'w, P: Program, L: Ledger>(
+    program: &P,
+    clean: &Clean<'w>,
+    fault: Strike,
+    wild: &[Wild],
+    n: u64,
+    machine: &mut Machine,
+    left: &mut WildLeft<'w>,
+    steps: &mut Steps<L>,
+) -> Verdict
+    requires spellable { IsSpellable (P.object program.now) }
+    requires n { n ≤ 1000000 }
+    requires clean { IsClean (P.object program.now) wild.now n clean.now }
+    requires cells { HasCells (length (P.object program.now).cells) machine.old }
+    ensures verdict { IsVerdict (P.object program.now) fault wild.now n result }
+    ensures cells { HasCells (length (P.object program.now).cells) machine.new }
+    ensures steps { (c : ℕ) → IsCost (P.object program.now) wild.now n fault c → steps.new ≤ steps.old + c }
 {
-    if struck.status != clean.status {
-        return false;
-    }
-    struck.outputs.as_slice() == clean.outputs.as_slice()
-}
-
-/// Whether a run noticed a fault before it committed anything else.
-fn is_noticed(clean: &Outcome, struck: &Outcome) -> bool
-    ensures { Decides result ((struck.now.status ≡ Status.Detected) × IsPrefix struck.now.outputs.items clean.now.outputs.items) }
-{
-    if struck.status != Status::Detected {
-        return false;
-    }
-    clean
-        .outputs
-        .as_slice()
-        .starts_with(struck.outputs.as_slice())
-}
-
-/// The verdict of the fault of a run, against the run without it.
-fn verdict_of(clean: &Outcome, struck: &Outcome) -> Verdict
-    ensures { (o : Object) (x : Fault) (w : List Answer) (n : ℕ) → IsOutcome o None w n clean.now → IsOutcome o (Some x) w n struck.now → IsVerdict o x w n result }
-{
-    if !struck.struck {
+    if !clean.is_struck(fault) {
         return Verdict::Idle;
     }
-    if is_same(clean, struck) {
-        return Verdict::Masked;
-    }
-    if is_noticed(clean, struck) {
-        return Verdict::Detected { at: struck.last };
-    }
-    Verdict::Corrupt
+    let _limit = clean.outputs.len();
+    let snapshots = clean.snapshots.as_slice();
+    let snapshot = &snapshots[(fault.step / 1024) as usize];
+    machine.copy_from(&snapshot.machine);
+    left.copy_from(&snapshot.wild);
+    let count = count_outputs(machine, program, left, fault.step % 1024, steps);
+    let _ = machine.strike(fault.site, fault.value);
+    race(
+        program,
+        clean,
+        fault,
+        wild,
+        n,
+        machine,
+        left,
+        fault.step,
+        snapshot.count + count,
+        steps,
+    )
 }
 
 /// Finds the verdict of each fault, in the list's order.
@@ -64,20 +70,27 @@ pub(crate) fn find_verdicts<P: Program, L: Ledger>(
     n: u64,
     steps: &mut Steps<L>,
 ) -> Result<Vec<Verdict>, NoMemory>
-    requires { IsSpellable (P.object program.now) }
+    requires spellable { IsSpellable (P.object program.now) }
+    requires n { n ≤ 1000000 }
     ensures verdicts { IfOk result (λ verdicts. AreVerdicts (P.object program.now) faults.now wild.now n verdicts.items) }
     ensures steps { steps.new ≤ steps.old + (length faults.now + 1) * n }
+    ensures cost { (cost : Fault → ℕ) → ((x : Fault) → IsCost (P.object program.now) wild.now n x (cost x)) → steps.new ≤ steps.old + (n + sum_by cost faults.now) }
 {
-    let plan = Plan { strike: None, wild };
-    let clean = run_from_start(alloc, program, plan, n, steps)?;
+    let clean = run_clean(alloc, program, wild, n, steps)?;
+    let mut machine = Machine::new(alloc, program)?;
+    let mut left = WildLeft::new(wild);
     let mut verdicts = Vec::new(alloc);
     for fault in faults {
-        let plan = Plan {
-            strike: Some(*fault),
+        let verdict = judge_fault(
+            program,
+            &clean,
+            *fault,
             wild,
-        };
-        let struck = run_from_start(alloc, program, plan, n, steps)?;
-        let verdict = verdict_of(&clean, &struck);
+            n,
+            &mut machine,
+            &mut left,
+            steps,
+        );
         verdicts.push(verdict).map_err(|_| NoMemory)?;
     }
     Ok(verdicts)

@@ -1,18 +1,22 @@
 //! Campaigns: the verdict of each fault of a list on a program.
 //!
 //! The crate promises that a fault list is read exactly, that a campaign finds each fault's verdict by
-//! its definition and writes the lines of the verdicts and of their totals, and that a fault of an
-//! accepted program is never corrupt. Its definitions: `specs/FaultList.antt`, `specs/Verdicts.antt`,
-//! `specs/Texts.antt`, `specs/Campaigns.antt`.
+//! its definition and writes the lines of the verdicts and of their totals, that each fault costs few
+//! steps, and that a fault of an accepted program is never corrupt. Its definitions:
+//! `specs/FaultList.antt`, `specs/Verdicts.antt`, `specs/Texts.antt`, `specs/Campaigns.antt`,
+//! `specs/Snapshots.antt`.
 #![tactic(auto)]
 
 mod campaign_end;
 mod campaigns;
+mod clean;
+mod clean_run;
 mod fault_list;
+mod follow;
 mod judge;
 mod laws;
 mod lines;
-mod outcome;
+mod race;
 mod report;
 mod totals;
 mod verdict;
@@ -21,7 +25,9 @@ pub use campaign_end::CampaignEnd;
 pub use campaigns::{campaign, survey};
 pub use fault_list::{ListError, read_faults};
 pub use laws::{
-    faults_of_accepted_objects_are_not_corrupt, one_text_has_one_list, verdicts_are_one,
+    faults_of_accepted_objects_are_not_corrupt, one_text_has_one_list,
+    runs_that_meet_stay_together, verdicts_are_one,
 };
+pub use lines::end_line;
 pub use totals::Totals;
 pub use verdict::Verdict;

@@ -67,7 +67,7 @@ pub(crate) fn verdict_line(strike: Strike, verdict: Verdict) -> Line
 }
 
 /// A campaign's last line.
-pub(crate) fn end_line(faults: usize, totals: Totals) -> Line
+pub fn end_line(faults: usize, totals: Totals) -> Line
     ensures { result ≡ end_line faults totals }
 {
     let mut line = Line::new();

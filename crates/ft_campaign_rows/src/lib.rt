@@ -1,4 +1,4 @@
-//! Worked rows of the commands `campaign` and `survey`, over files in memory.
+//! Worked rows of the commands `campaign`, `survey` and `demo`, over files in memory.
 //!
 //! The crate holds tests alone: for each row the words, the fault list, the text that is written and the
 //! status, or which load or put is to fail. The values come from the definitions and from another
@@ -7,6 +7,10 @@
 
 #[cfg(test)]
 mod campaigns;
+#[cfg(test)]
+mod counted;
+#[cfg(test)]
+mod demonstrations;
 #[cfg(test)]
 mod every_fault;
 #[cfg(test)]

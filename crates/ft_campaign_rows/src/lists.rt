@@ -17,11 +17,15 @@ pub fn check_list(rt: &impl AllocGlobal, list: &[u8], row: Row) -> Result<(), Fa
     check_row(rt, row, &mut shelf, &mut sink)
 }
 
-/// Fails unless these words over a list of faults answer 0, after a text that ends so.
-pub fn check_end(rt: &impl AllocGlobal, list: &[u8], words: &str, end: &[u8]) -> Result<(), Fail> {
-    let mut shelf = objects_and_list(rt, list)?;
+/// Fails unless these words over a shelf answer 0, after a text that ends so.
+pub fn check_end_over(
+    rt: &impl AllocGlobal,
+    shelf: &mut MemShelf,
+    words: &str,
+    end: &[u8],
+) -> Result<(), Fail> {
     let mut sink = MemSink::new(rt.alloc(), 300_000)?;
-    let status = status_of(rt, words, &mut shelf, &mut sink)?;
+    let status = status_of(rt, words, shelf, &mut sink)?;
     if status != 0 {
         return Err(Fail::new(format_args!("{words} answers {status}")));
     }
@@ -29,4 +33,10 @@ pub fn check_end(rt: &impl AllocGlobal, list: &[u8], words: &str, end: &[u8]) ->
         return Err(Fail::new(format_args!("{words} ends otherwise")));
     }
     Ok(())
+}
+
+/// Fails unless these words over a list of faults answer 0, after a text that ends so.
+pub fn check_end(rt: &impl AllocGlobal, list: &[u8], words: &str, end: &[u8]) -> Result<(), Fail> {
+    let mut shelf = objects_and_list(rt, list)?;
+    check_end_over(rt, &mut shelf, words, end)
 }

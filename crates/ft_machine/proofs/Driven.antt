@@ -44,7 +44,7 @@ pub written_next : (o : Object) (first old new : Option (List ℕ)) (xs more : L
 written_next o first old new xs more eo en =
     en ∙ ap (λ k. append_known k (lines o more)) eo ∙ append_known-more first (lines o xs) (lines o more) ∙ ap (append_known first) (sym (lines-append o xs more))
 
-ends_later : (o : Object) (strike : Option Strike) (w : List Wild) (e : RunEnd) (k j : ℕ) → TurnEnds (Some e) (run o strike w k).state.status → EndsAs e (run o strike w (k + j)).state.status
+pub ends_later : (o : Object) (strike : Option Strike) (w : List Wild) (e : RunEnd) (k j : ℕ) → TurnEnds (Some e) (run o strike w k).state.status → EndsAs e (run o strike w (k + j)).state.status
 ends_later o strike w Done k j h = ap (λ r. r.state.status) (run_stopped o strike w k j (subst HasStopped (sym h) tt)) ∙ h
 ends_later o strike w Detected k j h = ap (λ r. r.state.status) (run_stopped o strike w k j (subst HasStopped (sym h) tt)) ∙ h
 ends_later o strike w OutOfSteps k j h = absurd h
@@ -57,7 +57,7 @@ ends o strike w e k n l h = subst (λ m. EndsAs e (run o strike w m).state.statu
 regrouped : (a b c d : List ℕ) → (a ++ (b ++ c)) ++ d ≡ (a ++ b) ++ (c ++ d)
 regrouped a b c d = ap (λ t. t ++ d) (sym (append_assoc a b c)) ∙ append_assoc (a ++ b) c d
 
-front_later : (o : Object) (first old new : Option (List ℕ)) (xs more rest : List Output) → old ≡ append_known first (lines o xs) → AddsPrefix old new (lines o more)
+pub front_later : (o : Object) (first old new : Option (List ℕ)) (xs more rest : List Output) → old ≡ append_known first (lines o xs) → AddsPrefix old new (lines o more)
     → AddsPrefix first new (lines o ((xs ++ more) ++ rest))
 front_later o first old new xs more rest eo f = record {
   front = lines o xs ++ f.front;
@@ -70,7 +70,7 @@ front_later o first old new xs more rest eo f = record {
 stopped_outputs : (o : Object) (strike : Option Strike) (w : List Wild) (k j : ℕ) → HasStopped (run o strike w k).state.status → (run o strike w k).outputs ≡ (run o strike w (k + j)).outputs
 stopped_outputs o strike w k j h = ap (λ r. r.outputs) (sym (run_stopped o strike w k j h))
 
-writes_later : (o : Object) (strike : Option Strike) (w : List Wild) (e : RunEnd) (k j : ℕ) (first old new : Option (List ℕ)) (xs more : List Output) → TurnEnds (Some e) (run o strike w k).state.status
+pub writes_later : (o : Object) (strike : Option Strike) (w : List Wild) (e : RunEnd) (k j : ℕ) (first old new : Option (List ℕ)) (xs more : List Output) → TurnEnds (Some e) (run o strike w k).state.status
     → (run o strike w k).outputs ≡ xs ++ more → old ≡ append_known first (lines o xs) → Writes e old new (lines o more) → Writes e first new (lines o (run o strike w (k + j)).outputs)
 writes_later o strike w Done k j first old new xs more h eq eo f =
     written_next o first old new xs more eo f ∙ ap (λ ys. append_known first (lines o ys)) (sym eq ∙ stopped_outputs o strike w k j (subst HasStopped (sym h) tt))
@@ -112,7 +112,7 @@ taken_later o strike w k j s first now stopped h =
     let same = run_stopped o strike w k j stopped in
     record { state_is = h.state_is ∙ ap (λ (r : Ran). r.state) (sym same); puts = h.puts ∙ ap (λ (r : Ran). puts_after (length r.outputs) first) (sym same) }
 
-stops_later : (o : Object) (strike : Option Strike) (w : List Wild) (e : RunEnd) (k j : ℕ) (s : State) (first now : Option ℕ) → TurnEnds (Some e) (run o strike w k).state.status → HasTaken o strike w k s first now → Stops e (λ i. HasTaken o strike w i s first now) (k + j)
+pub stops_later : (o : Object) (strike : Option Strike) (w : List Wild) (e : RunEnd) (k j : ℕ) (s : State) (first now : Option ℕ) → TurnEnds (Some e) (run o strike w k).state.status → HasTaken o strike w k s first now → Stops e (λ i. HasTaken o strike w i s first now) (k + j)
 stops_later o strike w Done k j s first now h taken = taken_later o strike w k j s first now (subst HasStopped (sym h) tt) taken
 stops_later o strike w Detected k j s first now h taken = taken_later o strike w k j s first now (subst HasStopped (sym h) tt) taken
 stops_later o strike w OutOfSteps k j s first now h taken = absurd h

@@ -1,6 +1,12 @@
-pub mod Maps
 pub mod Tabulated
+pub mod Arrayed
 pub mod Rows
+pub mod Banks
 pub mod Steps
 pub mod Runs
 pub mod Driven
+pub mod Spanned
+pub mod Advancing
+pub mod SameArrays
+pub mod SameAnswers
+pub mod SameInstr

@@ -22,7 +22,8 @@ HasStopped status.Running = ⊥
 HasStopped status.Done = Unit {0}
 HasStopped status.Detected = Unit {0}
 
-stays_at : (o : Object) (v : Status) (s : State) (w : List Wild) → HasStopped v → step_at o v s w ≡ quiet s w
+-- a step of a machine that has stopped
+pub stays_at : (o : Object) (v : Status) (s : State) (w : List Wild) → HasStopped v → step_at o v s w ≡ quiet s w
 stays_at o status.Running s w h = absurd h
 stays_at o status.Done s w h = refl
 stays_at o status.Detected s w h = refl

@@ -92,7 +92,7 @@ jump_blue_is_proper a s w = checked_is_proper s (transfers a s) (not (s.d == 0) 
 pass_is_proper : (s : State) (w : List Wild) → IsProper s (pass s w)
 pass_is_proper s w = checked_is_proper s (goes_on s) (s.d == 0) w refl
 
-execute_is_proper : (i : Instr) (s : State) (w : List Wild) → IsProper s (execute i s w)
+pub execute_is_proper : (i : Instr) (s : State) (w : List Wild) → IsProper s (execute i s w)
 execute_is_proper (OpReg op rd rs rt) s w = writes_is_proper rd (colour s rs) (apply op (word s rs) (word s rt)) s w
 execute_is_proper (OpWord op rd rs value) s w = writes_is_proper rd (colour s rs) (apply op (word s rs) value.word) s w
 execute_is_proper (Mov rd value basic) s w = writes_is_proper rd value.colour value.word s w

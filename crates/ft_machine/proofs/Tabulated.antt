@@ -1,13 +1,10 @@
 -- The keys of a map with numbered entries.
-use Rattle.std.proofs.Common.{◌≡◌, ℕ, zero, suc, ◌+◌, ◌<◌, Bool, true, false, ◌&&◌, cond, Some, IsTrue, is_some, nat_lt, nat_le, refl, ap, ◌∙◌, arith, Option, inl, inr}
-use Rattle.std.proofs.lemmas.Bool.Decides.{nat_tests, eqb_tells}
+use Rattle.std.proofs.Common.{◌≡◌, ℕ, zero, suc, ◌+◌, Bool, true, false, ◌&&◌, cond, Some, is_some, nat_lt, nat_le, refl, ap, ◌∙◌, arith, Option}
+use Rattle.std.proofs.lemmas.Bool.Decides.{nat_tests}
 use Rattle.std.specs.Ordering.{nat_cmp, eq_by_cmp}
 use Rattle.std.specs.Cmp.{nat_cmp_total, unsigned_tied}
 use Rattle.std.specs.FinMap.{get, insert, contains_key, get-insert, get-empty}
 use Rattle.std.specs.Prelude.{◌||◌, ◌==◌}
-use Rattle.std.proofs.Common.{⊎_elim, sym}
-use Rattle.std.proofs.lemmas.Bool.{false≢true}
-use Rattle.ft_machine.proofs.Maps.{key_there}
 use Rattle.ft_isa.specs.Words.{cell_address}
 use Rattle.ft_types.specs.State.{tabulate}
 
@@ -18,16 +15,6 @@ either_way false v o = refl
 -- the keys after one is inserted
 pub contains_key-insert : {V : Type 0} (m : _) (k : ℕ) (v : V) (q : ℕ) → contains_key (insert {R = nat_cmp} m k v) q ≡ ((q == k) || contains_key m q)
 contains_key-insert m k v q = ap is_some (get-insert nat_cmp_total m k v q) ∙ either_way (eq_by_cmp nat_cmp q k) v (get m q) ∙ ap (λ b. b || contains_key m q) (unsigned_tied q k)
-
-pub registers_there : {V : Type 0} (value : ℕ → V) (n r : ℕ) → r < n → IsTrue (contains_key (tabulate n (λ r. r) value) r)
-unfolding tabulate
-registers_there value zero r h = absurd (omega arith)
-registers_there value (suc n) r h =
-    contains_key-insert _ n (value n) r
-    ∙ elim (eqb_tells r n) [
-      | inl e ↦ ap (λ b. b || contains_key (tabulate n (λ r. r) value) r) e.0
-      | inr e ↦ ap (λ b. b || contains_key (tabulate n (λ r. r) value) r) e.0 ∙ registers_there value n r (omega arith)
-    ]
 
 between : (a n : ℕ) → ((a == cell_address n) || (nat_le 1048576 a && nat_lt a (1048576 + n))) ≡ (nat_le 1048576 a && nat_lt a (1048576 + suc n))
 between a n = grind (arith, nat_tests)
@@ -42,10 +29,3 @@ cells_there value zero a = ap is_some (get-empty nat_cmp a) ∙ none_between a
 cells_there value (suc n) a =
     contains_key-insert _ (cell_address n) (value n) a
     ∙ ap (λ b. (a == cell_address n) || b) (cells_there value n a) ∙ between a n
-
--- and no register beyond
-pub no_registers_beyond : {V : Type 0} (value : ℕ → V) (n r : ℕ) → IsTrue (contains_key (tabulate n (λ r. r) value) r) → r < n
-unfolding tabulate
-no_registers_beyond value zero r h = absurd (false≢true (sym (ap is_some (get-empty nat_cmp r)) ∙ h))
-no_registers_beyond value (suc n) r h =
-    ⊎_elim (λ (e : r ≡ n). omega arith) (λ (i : IsTrue (contains_key (tabulate n (λ r. r) value) r)). let below = no_registers_beyond value n r i in omega arith) (key_there (tabulate n (λ r. r) value) n (value n) r h)

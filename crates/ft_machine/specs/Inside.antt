@@ -1,23 +1,25 @@
--- The state that a machine's fields stand for, and what they keep.
-use Rattle.std.specs.Prelude.{ℕ, ◌<◌, IsTrue}
-use Rattle.std.specs.FinMap as map
+-- The state that a machine's fields stand for.
+use Rattle.std.specs.Prelude.{◌≡◌}
 use Rattle.ft_types.specs.State.{State}
 use Rattle.ft_machine.specs.declared.machine.Machine.TheInside.{Inside}
 
 -- the state that the fields hold
 abbrev pub state_of : Inside → State
 state_of m = record {
-  registers = m.registers;
-  d = m.d;
+  registers = m.bank.registers;
+  d = m.bank.d;
   pc_green = m.pc_green;
   pc_blue = m.pc_blue;
-  queue = m.queue;
-  cells = m.cells;
+  queue = m.bank.queue;
+  cells = m.bank.cells;
   fetched = m.fetched;
   status = m.status;
 }
 
--- each of the 64 registers is there, and no other
-pub record HasRegisters (m : Inside) : Type 0 where
-  pub registers : (r : ℕ) → r < 64 → IsTrue (map.contains_key m.registers r)
-  pub few : (r : ℕ) → IsTrue (map.contains_key m.registers r) → r < 64
+-- all but registers, queue and cells are equal
+pub record Stands (s t : State) : Type 0 where
+  pub d : s.d ≡ t.d
+  pub pc_green : s.pc_green ≡ t.pc_green
+  pub pc_blue : s.pc_blue ≡ t.pc_blue
+  pub status : s.status ≡ t.status
+  pub fetched : s.fetched ≡ t.fetched

@@ -1,18 +1,21 @@
 //! The machine, step by step and over whole runs.
 //!
 //! The crate promises that a `Machine` is a state of the machine's definition: `new` is the start,
-//! `step` one step and `strike` one strike; and that `drive` is a run under a plan, with a line for
-//! each output. The definitions are those of `ft_types`; what the calls answer stands in
-//! `specs/Answers.antt` and `specs/Drives.antt`.
+//! `step` one step, `advance` steps up to the first that is not quiet and `strike` one strike; and that
+//! `drive` is a run under a plan, with a line for each output. The definitions are those of `ft_types`;
+//! what the calls answer stands in `specs/Answers.antt`, `specs/Advances.antt` and `specs/Drives.antt`.
 #![tactic(auto)]
 
+mod bank;
+mod cells;
 mod first;
 mod machine;
+mod registers;
 mod run;
-mod slots;
+mod stretch;
 mod wild;
 
 pub use ft_types::Status;
-pub use machine::{Machine, Stepped};
+pub use machine::{Advance, Machine, Stepped};
 pub use run::{RunEnd, drive};
 pub use wild::WildLeft;

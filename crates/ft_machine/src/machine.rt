@@ -1,19 +1,24 @@
 //! The machine.
-ghost use Rattle.std.specs.Prelude.{◌≡◌, ℕ, IfOk, IsTrue, true, None, Some, ◌<◌, length};
-ghost use Rattle.ft_isa.specs.Words.{apply, cell_address};
-ghost use Rattle.ft_isa.specs.Pending.{is_oldest};
+ghost use Rattle.std.specs.Prelude.{◌≡◌, ℕ, ◌≤◌, ◌<◌, IfOk, IsTrue, Decides, true, None, Some, length};
+ghost use Rattle.ft_isa.specs.Words.{cell_address};
 ghost use Rattle.ft_types.specs.Objects.{instr_at};
 ghost use Rattle.ft_types.specs.Spellable.{IsSpellable};
-ghost use Rattle.ft_types.specs.State.{start, held, cell_at, is_cell, word, colour, HasCells};
-ghost use Rattle.ft_types.specs.Step.{step, advance, execute, detected, writes, goes_on, transfers, put, found, load, wild_load, store_green, store_blue, commit, commits, jump_green, jump_blue, pass};
-ghost use Rattle.ft_types.specs.Strike.{is_there, struck_state, with_word};
+ghost use Rattle.ft_types.specs.State.{start, held, cell_at, is_cell, HasCells};
+ghost use Rattle.ft_types.specs.Step.{step, advance, detected, goes_on};
+ghost use Rattle.ft_types.specs.Strike.{is_there, struck_state};
 ghost use Rattle.ft_machine.specs.Answers.{Takes, TakesQuietly};
+ghost use Rattle.ft_machine.specs.Advances.{Advances, status_told, fetched_where};
+ghost use Rattle.ft_machine.specs.Effects.{doing, followed, told_effect, bank_of};
+ghost use Rattle.ft_machine.specs.Inside.{Stands};
 ghost use Rattle.ft_isa.specs.declared.output.Output as outputs;
 
-use crate::first::{CELL_BASE, entry_address, first_cells, first_registers};
-use crate::slots::Slots;
+use crate::bank::{Bank, Effect};
+use crate::cells::CELL_BASE;
+use crate::first::{entry_address, first_cells};
+use crate::registers::Registers;
+use crate::stretch::do_instructions;
 use crate::wild::WildLeft;
-use ft_isa::{Colour, Coloured, Instr, NoMemory, Op, Output, Reg, Site, Subst, Wild, apply};
+use ft_isa::{Colour, Coloured, Instr, NoMemory, Output, Reg, Site};
 use ft_queue::StoreQueue;
 use ft_types::{Program, Status};
 use std::alloc::Global;
@@ -32,16 +37,23 @@ pub enum Stepped {
     Detected,
 }
 
+/// Steps that were taken one after the other: how many, and what the last of them did. Those before it
+/// were quiet.
+#[derive(Clone, Copy, Debug, PartialEq, Eq)]
+pub struct Advance {
+    /// The number of steps.
+    pub taken: u64,
+    /// What the last step did; `Quiet` where no step was to be taken.
+    pub last: Stepped,
+}
+
 /// A machine of 64 registers, the destination register d, two program counters, a store queue and
 /// cells. Contracts see it as a state of the machine's definition.
 #[derive(Drop)]
 pub struct Machine {
-    registers: Slots<Coloured>,
-    d: u64,
+    bank: Bank,
     pc_green: u64,
     pc_blue: u64,
-    queue: StoreQueue,
-    cells: Slots<u64>,
     fetched: Option<Instr>,
     status: Status,
 }
@@ -57,11 +69,9 @@ impl Model for Machine {
 
     ghost coded = { Prim.hlevel (codes, map.code {R = nat_cmp} coded_ℕ coloured.the_row.coded, map.code {R = nat_cmp} coded_ℕ coded_ℕ) };
 
-    ghost use Rattle.ft_machine.specs.Inside.{state_of, HasRegisters};
+    ghost use Rattle.ft_machine.specs.Inside.{state_of};
 
     ghost view = { state_of };
-
-    ghost invariant = { HasRegisters };
 }
 
 impl Machine {
@@ -71,17 +81,19 @@ impl Machine {
         ensures start { IfOk result (λ m. m ≡ start (P.object program.now)) }
         ensures cells { IfOk result (λ m. HasCells (length (P.object program.now).cells) m) }
     {
-        let registers = first_registers(alloc)?;
         let cells = first_cells(alloc, program)?;
         let queue = StoreQueue::new(alloc)?;
         let entry = entry_address(program);
-        Ok(Machine {
-            registers,
+        let bank = Bank {
+            registers: Registers::new(),
             d: 0,
-            pc_green: entry,
-            pc_blue: entry,
             queue,
             cells,
+        };
+        Ok(Machine {
+            bank,
+            pc_green: entry,
+            pc_blue: entry,
             fetched: None,
             status: Status::Running,
         })
@@ -92,32 +104,64 @@ impl Machine {
         requires { (a : ℕ) → is_cell self.old.cells a ≡ is_cell other.now.cells a }
         ensures { self.new ≡ other.now }
     {
-        self.registers.copy_from(&other.registers);
-        self.d = other.d;
+        self.bank.registers.copy_from(&other.bank.registers);
+        self.bank.d = other.bank.d;
         self.pc_green = other.pc_green;
         self.pc_blue = other.pc_blue;
-        self.queue.copy_from(&other.queue);
-        self.cells.copy_from(&other.cells);
+        self.bank.queue.copy_from(&other.bank.queue);
+        self.bank.cells.copy_from(&other.bank.cells);
         self.fetched = other.fetched;
         self.status = other.status;
     }
 
+    /// Whether another machine is in the same state. It takes no memory.
+    pub fn same_as(&self, other: &Machine) -> bool
+        ensures { Decides result (self.now ≡ other.now) }
+    {
+        if !self.stands_as(other) {
+            return false;
+        }
+        if !self.bank.queue.same_as(&other.bank.queue) {
+            return false;
+        }
+        if !self.bank.registers.same_as(&other.bank.registers) {
+            return false;
+        }
+        self.bank.cells.same_as(&other.bank.cells)
+    }
+
+    /// Whether another machine agrees in all but its registers, queue and cells.
+    fn stands_as(&self, other: &Machine) -> bool
+        ensures { Decides result (Stands self.now other.now) }
+    {
+        if self.bank.d != other.bank.d {
+            return false;
+        }
+        if self.pc_green != other.pc_green {
+            return false;
+        }
+        if self.pc_blue != other.pc_blue {
+            return false;
+        }
+        if self.status != other.status {
+            return false;
+        }
+        same_fetched(self.fetched, other.fetched)
+    }
+
     /// What a register holds.
-    #[tactic(auto, unfolding(ft_types::specs::State::held))]
+    #[inline(always)]
     pub fn reg(&self, r: Reg) -> Coloured
         ensures { result ≡ held self.now.registers r.number }
     {
-        match self.registers.get(r.number() as u64) {
-            Some(value) => value,
-            None => unreachable!(),
-        }
+        self.bank.registers.get(r)
     }
 
     /// The destination register.
     pub fn d(&self) -> u64
         ensures { result ≡ self.now.d }
     {
-        self.d
+        self.bank.d
     }
 
     /// The program counter of a colour.
@@ -135,7 +179,7 @@ impl Machine {
     pub fn queue(&self) -> &StoreQueue
         ensures { result.now ≡ self.now.queue }
     {
-        &self.queue
+        &self.bank.queue
     }
 
     /// The word of cell `k`.
@@ -143,7 +187,7 @@ impl Machine {
         requires { IsTrue (is_cell self.now.cells (cell_address k)) }
         ensures { cell_at self.now.cells (cell_address k) ≡ Some result }
     {
-        match self.cells.get(CELL_BASE + k as u64) {
+        match self.bank.cells.get(CELL_BASE + k as u64) {
             Some(word) => word,
             None => unreachable!(),
         }
@@ -163,7 +207,7 @@ impl Machine {
         self.status
     }
 
-    /// Strikes a site: the word there becomes `value`, and its colour stays. `false` exactly where the
+    /// Strikes a site: the word there becomes `value`, and its colour stays. `false` exactly when the
     /// machine has stopped or the site is not there, and then nothing changes.
     pub fn strike(&mut self, site: Site, value: u64) -> bool
         ensures there { result ≡ is_there self.old site }
@@ -186,7 +230,7 @@ impl Machine {
         match site {
             Site::R(r) => {
                 let colour = self.reg(r).colour;
-                self.put(
+                self.bank.registers.put(
                     r,
                     Coloured {
                         colour,
@@ -196,7 +240,7 @@ impl Machine {
                 true
             }
             Site::D => {
-                self.d = value;
+                self.bank.d = value;
                 true
             }
             Site::PcG => {
@@ -207,8 +251,8 @@ impl Machine {
                 self.pc_blue = value;
                 true
             }
-            Site::QAddr(i) => self.queue.strike_addr(i, value),
-            Site::QVal(i) => self.queue.strike_value(i, value),
+            Site::QAddr(i) => self.bank.queue.strike_addr(i, value),
+            Site::QVal(i) => self.bank.queue.strike_value(i, value),
         }
     }
 
@@ -222,21 +266,24 @@ impl Machine {
         ensures commits { (output : outputs.Output) → result ≡ Stepped.Commit output → is_cell self.old.cells output.addr ≡ true }
     {
         match self.status {
-            Status::Running => self.advance(program, wild),
+            Status::Running => self.fetch_or_execute(program, wild),
             Status::Done => Stepped::Done,
             Status::Detected => Stepped::Detected,
         }
     }
 
     /// Fetches an instruction, or does the one that is fetched.
-    fn advance<P: Program>(&mut self, program: &P, wild: &mut WildLeft) -> Stepped
+    fn fetch_or_execute<P: Program>(&mut self, program: &P, wild: &mut WildLeft) -> Stepped
         requires spellable { IsSpellable (P.object program.now) }
         requires running { self.old.status ≡ Status.Running }
         ensures { Takes (advance (P.object program.now) self.old.fetched self.old wild.old) self.new wild.new result }
     {
         match self.fetched {
             None => self.fetch(program),
-            Some(instr) => self.execute(instr, wild),
+            Some(instr) => {
+                let effect = self.bank.execute(instr, wild);
+                self.follow(effect)
+            }
         }
     }
 
@@ -257,37 +304,36 @@ impl Machine {
         }
     }
 
-    fn execute(&mut self, instr: Instr, wild: &mut WildLeft) -> Stepped
+    /// Takes over what an instruction did.
+    #[inline(always)]
+    fn follow(&mut self, effect: Effect) -> Stepped
         requires running { self.old.status ≡ Status.Running }
-        ensures { Takes (execute instr self.old wild.old) self.new wild.new result }
+        ensures state { self.new ≡ followed effect (bank_of self.old) self.old.pc_green self.old.pc_blue self.old.fetched }
+        ensures answer { result ≡ told_effect effect }
     {
-        match instr {
-            Instr::OpReg { op, rd, rs, rt } => {
-                let other = self.reg(rt).word;
-                self.operate(op, rd, rs, other)
+        match effect {
+            Effect::On => {
+                self.go_on();
+                Stepped::Quiet
             }
-            Instr::OpWord { op, rd, rs, value } => self.operate(op, rd, rs, value.word),
-            Instr::Mov {
-                rd,
-                value,
-                basic: _,
-            } => self.write(rd, value),
-            Instr::Ld { colour, rd, rs } => self.load(colour, rd, rs, wild),
-            Instr::St {
-                colour: Colour::Green,
-                rd,
-                rs,
-            } => self.store_green(rd, rs),
-            Instr::St {
-                colour: Colour::Blue,
-                rd,
-                rs,
-            } => self.store_blue(rd, rs),
-            Instr::JmpG { rd } => self.jump_green(rd),
-            Instr::JmpB { rd, subst: _ } => self.jump_blue(rd),
-            Instr::BzG { rz, rd } => self.branch_green(rz, rd),
-            Instr::BzB { rz, rd, subst } => self.branch_blue(rz, rd, subst),
-            Instr::Halt => self.end(),
+            Effect::To(target) => {
+                self.pc_green = target;
+                self.pc_blue = target;
+                self.fetched = None;
+                Stepped::Quiet
+            }
+            Effect::Commit(output) => {
+                self.go_on();
+                Stepped::Commit(output)
+            }
+            Effect::Done => {
+                self.status = Status::Done;
+                Stepped::Done
+            }
+            Effect::Detected => {
+                self.status = Status::Detected;
+                Stepped::Detected
+            }
         }
     }
 
@@ -299,14 +345,6 @@ impl Machine {
         Stepped::Detected
     }
 
-    /// Stops at the end.
-    fn end(&mut self) -> Stepped
-        ensures { TakesQuietly (execute Instr.Halt self.old) self.new result }
-    {
-        self.status = Status::Done;
-        Stepped::Done
-    }
-
     /// Both counters grow by 1, and nothing is fetched.
     fn go_on(&mut self)
         ensures { self.new ≡ goes_on self.old }
@@ -316,169 +354,78 @@ impl Machine {
         self.fetched = None;
     }
 
-    /// Puts a coloured word into a register.
-    fn put(&mut self, rd: Reg, value: Coloured)
-        ensures { self.new ≡ put rd value self.old }
-    {
-        self.registers.replace(rd.number() as u64, value);
-    }
-
-    /// Writes a register and goes on.
-    fn write(&mut self, rd: Reg, value: Coloured) -> Stepped
+    /// Takes at most `most` steps of a running machine, and stops at the first that is not quiet.
+    pub fn advance<P: Program>(&mut self, program: &P, wild: &mut WildLeft, most: u64) -> Advance
+        requires spellable { IsSpellable (P.object program.now) }
         requires running { self.old.status ≡ Status.Running }
-        ensures { TakesQuietly (writes rd value.colour value.word self.old) self.new result }
-    {
-        self.put(rd, value);
-        self.go_on();
-        Stepped::Quiet
-    }
+        ensures advances { Advances (P.object program.now) self.old wild.old self.new wild.new most result.taken result.last }
+        ensures few { result.taken ≤ most }
+        ensures some { 0 < most → 0 < result.taken }
 
-    /// Writes what an operation gives, in the colour of its first source.
-    fn operate(&mut self, op: Op, rd: Reg, rs: Reg, other: u64) -> Stepped
-        requires running { self.old.status ≡ Status.Running }
-        ensures { TakesQuietly (writes rd (colour self.old rs) (apply op (word self.old rs) other) self.old) self.new result }
+        // The cells keep their addresses, and a pair that is committed goes to one of them.
+        ensures cells { (n : ℕ) → HasCells n self.old → HasCells n self.new }
+        ensures commits { (output : outputs.Output) → result.last ≡ Stepped.Commit output → is_cell self.old.cells output.addr ≡ true }
     {
-        let Coloured { colour, word } = self.reg(rs);
-        let word = apply(op, word, other);
-        self.write(rd, Coloured { colour, word })
-    }
-
-    fn load(&mut self, colour: Colour, rd: Reg, rs: Reg, wild: &mut WildLeft) -> Stepped
-        requires running { self.old.status ≡ Status.Running }
-        ensures { Takes (load colour rd (found colour self.old (word self.old rs)) self.old wild.old) self.new wild.new result }
-    {
-        let addr = self.reg(rs).word;
-        match self.found(colour, addr) {
-            Some(word) => self.write(rd, Coloured { colour, word }),
-            None => self.load_wild(colour, rd, wild),
-        }
-    }
-
-    /// What a load finds without the plan: green looks at the pending stores first.
-    fn found(&self, colour: Colour, addr: u64) -> Option<u64>
-        ensures { result ≡ found colour self.now addr }
-    {
-        match colour {
-            Colour::Green => match self.queue.newest_at(addr) {
-                Some(word) => Some(word),
-                None => self.cells.get(addr),
-            },
-            Colour::Blue => self.cells.get(addr),
-        }
-    }
-
-    fn load_wild(&mut self, colour: Colour, rd: Reg, wild: &mut WildLeft) -> Stepped
-        requires running { self.old.status ≡ Status.Running }
-        ensures { Takes (wild_load colour rd self.old wild.old) self.new wild.new result }
-    {
-        match wild.next() {
-            Wild::Word(word) => self.write(rd, Coloured { colour, word }),
-            Wild::Stop => self.detect(),
-        }
-    }
-
-    fn store_green(&mut self, rd: Reg, rs: Reg) -> Stepped
-        requires running { self.old.status ≡ Status.Running }
-        ensures { TakesQuietly (store_green (word self.old rd) (word self.old rs) self.old) self.new result }
-    {
-        let addr = self.reg(rd).word;
-        let value = self.reg(rs).word;
-        match self.queue.push(addr, value) {
-            Ok(()) => {
-                self.go_on();
-                Stepped::Quiet
+        let mut taken = 0;
+        while taken < most {
+            let next = self.advance_some(program, wild, most - taken);
+            taken += next.taken;
+            if !is_quiet(next.last) {
+                return Advance {
+                    taken,
+                    last: next.last,
+                };
             }
-            Err(_) => self.detect(),
+        }
+        Advance {
+            taken,
+            last: Stepped::Quiet,
         }
     }
 
-    fn store_blue(&mut self, rd: Reg, rs: Reg) -> Stepped
+    /// Takes some steps: whole instructions where the machine is ready for them, and else one step.
+    fn advance_some<P: Program>(&mut self, program: &P, wild: &mut WildLeft, most: u64) -> Advance
+        requires spellable { IsSpellable (P.object program.now) }
         requires running { self.old.status ≡ Status.Running }
-        ensures { TakesQuietly (store_blue (word self.old rd) (word self.old rs) self.old) self.new result }
+        requires some { 0 < most }
+        ensures some { 0 < result.taken }
+        ensures few { result.taken ≤ most }
+        ensures advances { Advances (P.object program.now) self.old wild.old self.new wild.new result.taken result.taken result.last }
     {
-        let addr = self.reg(rd).word;
-        let value = self.reg(rs).word;
-        if self.commits(addr, value) {
-            return self.commit(addr, value);
+        if most > 1 && self.is_ready() {
+            return self.advance_ready(program, wild, most);
         }
-        self.detect()
-    }
-
-    /// Whether the oldest entry is this pair, and its address is a cell's.
-    fn commits(&self, addr: u64, value: u64) -> bool
-        ensures { result ≡ commits addr value self.now }
-    {
-        is_oldest(&self.queue, addr, value) && self.cells.contains(addr)
-    }
-
-    fn commit(&mut self, addr: u64, value: u64) -> Stepped
-        requires { IsTrue (commits addr value self.old) }
-        ensures { TakesQuietly (commit addr value self.old) self.new result }
-    {
-        let _ = self.queue.pop_oldest();
-        self.cells.replace(addr, value);
-        self.go_on();
-        Stepped::Commit(Output { addr, value })
-    }
-
-    fn jump_green(&mut self, rd: Reg) -> Stepped
-        requires running { self.old.status ≡ Status.Running }
-        ensures { TakesQuietly (jump_green (word self.old rd) self.old) self.new result }
-    {
-        if self.d != 0 {
-            return self.detect();
-        }
-        self.d = self.reg(rd).word;
-        self.go_on();
-        Stepped::Quiet
-    }
-
-    fn jump_blue(&mut self, rd: Reg) -> Stepped
-        requires running { self.old.status ≡ Status.Running }
-        ensures { TakesQuietly (jump_blue (word self.old rd) self.old) self.new result }
-    {
-        let target = self.reg(rd).word;
-        if self.d == 0 || self.d != target {
-            return self.detect();
-        }
-        self.pc_green = self.d;
-        self.pc_blue = target;
-        self.d = 0;
-        self.fetched = None;
-        Stepped::Quiet
-    }
-
-    /// A branch that is not taken.
-    fn pass(&mut self) -> Stepped
-        requires running { self.old.status ≡ Status.Running }
-        ensures { TakesQuietly (pass self.old) self.new result }
-    {
-        if self.d != 0 {
-            return self.detect();
-        }
-        self.go_on();
-        Stepped::Quiet
-    }
-
-    fn branch_green(&mut self, rz: Reg, rd: Reg) -> Stepped
-        requires running { self.old.status ≡ Status.Running }
-        ensures { TakesQuietly (execute (Instr.BzG rz rd) self.old) self.new result }
-    {
-        if self.reg(rz).word == 0 {
-            self.jump_green(rd)
-        } else {
-            self.pass()
+        Advance {
+            taken: 1,
+            last: self.step(program, wild),
         }
     }
 
-    fn branch_blue(&mut self, rz: Reg, rd: Reg, subst: Subst) -> Stepped
-        requires running { self.old.status ≡ Status.Running }
-        ensures { TakesQuietly (execute (Instr.BzB rz rd subst) self.old) self.new result }
+    /// Whether nothing is fetched and the counters are equal.
+    fn is_ready(&self) -> bool
+        requires { self.now.status ≡ Status.Running }
+        ensures { IsTrue result → self.now ≡ doing (bank_of self.now) self.now.pc_green self.now.pc_green None }
     {
-        if self.reg(rz).word == 0 {
-            self.jump_blue(rd)
-        } else {
-            self.pass()
+        self.fetched.is_none() && self.pc_green == self.pc_blue
+    }
+
+    /// Takes whole instructions of a machine that is ready for one, each in two steps.
+    fn advance_ready<P: Program>(&mut self, program: &P, wild: &mut WildLeft, most: u64) -> Advance
+        requires spellable { IsSpellable (P.object program.now) }
+        requires ready { self.old ≡ doing (bank_of self.old) self.old.pc_green self.old.pc_green None }
+        requires some { 1 < most }
+        ensures some { 0 < result.taken }
+        ensures few { result.taken ≤ most }
+        ensures advances { Advances (P.object program.now) self.old wild.old self.new wild.new result.taken result.taken result.last }
+    {
+        let stretch = do_instructions(&mut self.bank, program, self.pc_green, most, wild);
+        self.pc_green = stretch.pc;
+        self.pc_blue = stretch.pc;
+        self.fetched = fetched_where(program, stretch.pc, stretch.last);
+        self.status = status_told(stretch.last);
+        Advance {
+            taken: stretch.taken,
+            last: stretch.last,
         }
     }
 }
@@ -495,12 +442,47 @@ fn instr_at<P: Program>(program: &P, pc: u64) -> Option<Instr>
     Some(program.instr((pc - 1) as u32))
 }
 
-/// Whether the oldest entry is this pair.
-fn is_oldest(queue: &StoreQueue, addr: u64, value: u64) -> bool
-    ensures { result ≡ is_oldest queue.now addr value }
+/// Whether the same is fetched.
+fn same_fetched(a: Option<Instr>, b: Option<Instr>) -> bool
+    ensures { Decides result (a ≡ b) }
 {
-    match queue.get(0) {
-        Some((a, v)) => a == addr && v == value,
-        None => false,
+    a == b
+}
+
+/// Whether a step did nothing beyond the machine.
+#[inline(always)]
+pub(crate) fn is_quiet(stepped: Stepped) -> bool
+    ensures { Decides result (stepped ≡ Stepped.Quiet) }
+{
+    match stepped {
+        Stepped::Quiet => true,
+        Stepped::Commit(_) => false,
+        Stepped::Done => false,
+        Stepped::Detected => false,
+    }
+}
+
+/// How a machine stands after a step.
+fn status_told(stepped: Stepped) -> Status
+    ensures { result ≡ status_told stepped }
+{
+    match stepped {
+        Stepped::Quiet => Status::Running,
+        Stepped::Commit(_) => Status::Running,
+        Stepped::Done => Status::Done,
+        Stepped::Detected => Status::Detected,
+    }
+}
+
+/// What is fetched after the last step of whole instructions.
+fn fetched_where<P: Program>(program: &P, pc: u64, last: Stepped) -> Option<Instr>
+    requires { IsSpellable (P.object program.now) }
+    ensures { result ≡ fetched_where (P.object program.now) pc last }
+{
+    match last {
+        Stepped::Quiet => None,
+        Stepped::Commit(_) => None,
+        Stepped::Done => instr_at(program, pc),
+        Stepped::Detected => instr_at(program, pc),
     }
 }

@@ -1,18 +1,21 @@
 //! Whole runs under a plan, with a line for each output.
-ghost use Rattle.std.specs.Prelude.{◌≡◌, ◌<◌, ◌≤◌, ◌+◌, length, OnOk, OnErr};
+ghost use Rattle.std.specs.Prelude.{◌≡◌, ℕ, ◌<◌, ◌≤◌, ◌+◌, ◌-◌, ◌*◌, length, None, IfSome, IfNone, OnOk, OnErr};
 ghost use Rattle.std.specs.Option.{option_to_list};
 ghost use Rattle.std.specs.Io.KnownBytes.{append_known};
 ghost use Rattle.ft_edge.specs.Causes.{Rose, AddsPrefix};
 ghost use Rattle.ft_edge.specs.Puts.{one_more, puts_after};
+ghost use Rattle.ft_types.specs.Objects.{instr_at};
 ghost use Rattle.ft_types.specs.Spellable.{IsSpellable};
 ghost use Rattle.ft_types.specs.State.{start, HasCells};
 ghost use Rattle.ft_types.specs.Step.{step};
 ghost use Rattle.ft_types.specs.Strike.{struck_before};
 ghost use Rattle.ft_types.specs.Run.{outputs_after, status_after};
 ghost use Rattle.ft_types.specs.Texts.{line_at, lines};
+ghost use Rattle.ft_machine.specs.Effects.{doing};
+ghost use Rattle.ft_machine.specs.Spans.{Goes, HasGone, HasDriven, Spares};
 ghost use Rattle.ft_machine.specs.Drives.{EndsAs, Writes, IsExcused, HasTaken, Stops, TurnEnds, TurnWrites, TurnIsExcused};
 
-use crate::first::CELL_BASE;
+use crate::cells::CELL_BASE;
 use crate::machine::{Machine, Stepped};
 use crate::wild::WildLeft;
 use ft_edge::{Failed, Sink};
@@ -63,35 +66,81 @@ fn strike_before(machine: &mut Machine, strike: Option<Strike>, k: u64)
     }
 }
 
-/// Takes one step of a running machine and puts its output, if it has one. Answers how the run ended,
-/// if it did.
-#[tactic(auto, unfolding(ft_edge::specs::Puts::puts_after))]
-fn turn<P: Program, K: Sink>(
+/// Takes some steps of a running machine, and puts a line for each output.
+fn take_all<P: Program, K: Sink>(
     machine: &mut Machine,
     program: &P,
+    number: u64,
     wild: &mut WildLeft,
     out: &mut K,
 ) -> Option<RunEnd>
     requires spellable { IsSpellable (P.object program.now) }
     requires running { machine.old.status ≡ Status.Running }
     requires cells { HasCells (length (P.object program.now).cells) machine.old }
-    ensures state { machine.new ≡ (step (P.object program.now) machine.old wild.old).state }
-    ensures wild { wild.new ≡ (step (P.object program.now) machine.old wild.old).wild }
-    ensures ends { TurnEnds result (step (P.object program.now) machine.old wild.old).state.status }
-    ensures writes { TurnWrites result (K.written out.old) (K.written out.new) (lines (P.object program.now)
-        (option_to_list (step (P.object program.now) machine.old wild.old).output)) }
-    ensures puts { K.puts out.new ≡ puts_after (length (option_to_list (step (P.object program.now) machine.old wild.old).output)) (K.puts out.old) }
+    ensures goes { Goes result number (HasGone (P.object program.now) machine.old wild.old result machine.new wild.new
+        (K.written out.old) (K.written out.new) (K.puts out.old) (K.puts out.new)) }
     ensures count { K.faults out.old ≤ K.faults out.new }
     ensures cause { TurnIsExcused result (K.faults out.old) (K.faults out.new) }
 {
-    match machine.step(program, wild) {
-        Stepped::Quiet => None,
-        Stepped::Commit(output) => match put_line(program, output, out) {
-            Ok(()) => None,
-            Err(_) => Some(RunEnd::WriteFault),
-        },
-        Stepped::Done => Some(RunEnd::Done),
-        Stepped::Detected => Some(RunEnd::Detected),
+    let mut left = number;
+    while left > 0 {
+        let advance = machine.advance(program, wild, left);
+        left -= advance.taken;
+        match advance.last {
+            Stepped::Quiet => {}
+            Stepped::Commit(output) => match put_line(program, output, out) {
+                Ok(()) => {}
+                Err(_) => return Some(RunEnd::WriteFault),
+            },
+            Stepped::Done => return Some(RunEnd::Done),
+            Stepped::Detected => return Some(RunEnd::Detected),
+        }
+    }
+    None
+}
+
+/// How many steps of a run come before its strike.
+fn steps_before(strike: Option<Strike>, steps: u64) -> u64
+    ensures within { result ≤ steps }
+    ensures before { (j : ℕ) → j < result → Spares strike j }
+    ensures after { (j : ℕ) → result < steps → result < j → Spares strike j }
+{
+    let Some(strike) = strike else {
+        return steps;
+    };
+    if strike.step < steps {
+        return strike.step;
+    }
+    steps
+}
+
+/// Runs a machine from its start under a plan, as `drive` does.
+fn run_through<P: Program, K: Sink>(
+    machine: &mut Machine,
+    program: &P,
+    plan: Plan,
+    steps: u64,
+    out: &mut K,
+) -> RunEnd
+    requires spellable { IsSpellable (P.object program.now) }
+    requires start { machine.old ≡ start (P.object program.now) }
+    ensures driven { HasDriven (P.object program.now) plan.entry.strike plan.entry.wild.now result machine.new
+        (K.written out.old) (K.written out.new) (K.puts out.old) (K.puts out.new) steps }
+    ensures count { K.faults out.old ≤ K.faults out.new }
+    ensures cause { IsExcused result (K.faults out.old) (K.faults out.new) }
+{
+    let mut wild = WildLeft::new(plan.wild);
+    let before = steps_before(plan.strike, steps);
+    if let Some(end) = take_all(machine, program, before, &mut wild, out) {
+        return end;
+    }
+    if before == steps {
+        return RunEnd::OutOfSteps;
+    }
+    strike_before(machine, plan.strike, before);
+    match take_all(machine, program, steps - before, &mut wild, out) {
+        Some(end) => end,
+        None => RunEnd::OutOfSteps,
     }
 }
 
@@ -114,12 +163,5 @@ pub fn drive<P: Program, K: Sink>(
     ensures count { K.faults out.old ≤ K.faults out.new }
     ensures cause { IsExcused result (K.faults out.old) (K.faults out.new) }
 {
-    let mut wild = WildLeft::new(plan.wild);
-    for k in 0..steps {
-        strike_before(machine, plan.strike, k);
-        if let Some(end) = turn(machine, program, &mut wild, out) {
-            return end;
-        }
-    }
-    RunEnd::OutOfSteps
+    run_through(machine, program, plan, steps, out)
 }

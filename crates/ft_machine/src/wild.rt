@@ -1,5 +1,5 @@
 //! The answers to wild loads.
-ghost use Rattle.std.specs.Prelude.{◌≡◌, drop, length};
+ghost use Rattle.std.specs.Prelude.{◌≡◌, drop, length, Decides};
 ghost use Rattle.ft_machine.specs.Answers.{next_answer};
 
 use ft_isa::Wild;
@@ -33,6 +33,13 @@ impl<'w> WildLeft<'w> {
         ensures { self.new ≡ other.now }
     {
         self.rest = other.rest;
+    }
+
+    /// Whether the same answers are left.
+    pub fn same_as(&self, other: &WildLeft<'w>) -> bool
+        ensures { Decides result (self.now ≡ other.now) }
+    {
+        self.rest == other.rest
     }
 
     /// Takes the next answer; `Stop` where none is left.

@@ -1,14 +1,41 @@
 //! Runs of an accepted object that are struck once.
-ghost use Rattle.std.specs.Prelude.{◌≡◌, Some};
+ghost use Rattle.std.specs.Prelude.{◌≡◌, ◌<◌, Some};
+ghost use Rattle.ft_types.specs.Spellable.{IsSpellable};
 
-use ft_checker::check;
+use ft_checker::{CheckError, Checked};
 use ft_inject::{Clean, Hit, Struck};
 use ft_isa::{Colour, Site};
 use ft_machine::Stepped;
 use ft_object::decode;
-use ft_types::Program;
+use ft_steps::Steps;
+use ft_types::{Object, Program};
 use ft_worked_objects::A;
+use std::alloc::Global;
+use std::marker::Brand;
+use std::sync::ledger::{Blank, Ledger};
 use std::test::Fail;
+
+/// Checks an object, and counts the steps.
+fn check_counted<'a, L: Ledger>(
+    alloc: Global,
+    object: &'a Object,
+    blank: Blank,
+) -> Result<Checked<'a, Object>, CheckError>
+    requires name { blank.name ≡ L.name }
+    requires parts { blank.parts ≡ L.parts }
+    requires some { 0 < L.parts }
+    requires spellable { IsSpellable object.now }
+{
+    let mut steps = Steps::<L>::new(blank);
+    ft_checker::check(alloc, object, &mut steps)
+}
+
+/// Checks an object.
+fn check<'a>(alloc: Global, object: &'a Object) -> Result<Checked<'a, Object>, CheckError>
+    requires { IsSpellable object.now }
+{
+    check_counted::<Brand>(alloc, object, Blank::new(1))
+}
 
 /// The run that was struck, if one was.
 fn struck<'a, 'w, P: Program>(hit: Hit<'a, 'w, P>) -> Option<Struck<'a, 'w, P>>

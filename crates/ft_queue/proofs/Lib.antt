@@ -1,1 +1,2 @@
 pub mod PendingLemmas
+pub mod SameLists

@@ -1,6 +1,9 @@
 -- Pending stores by index, as the code goes over them.
 use Rattle.std.proofs.Common.{◌≡◌, ◌≢◌, ℕ, zero, suc, ◌+◌, ◌<◌, ◌≤◌, cond, [], ◌∷◌, ◌++◌, length, take, Option, Some, None, refl, ap, sym, ◌∙◌, arith, nat_eq, slice_index_or, slice_set, Bool, true, false}
-use Rattle.std.proofs.lemmas.List.{take_more}
+use Rattle.std.proofs.lemmas.List.{take_more, length-append}
+use Rattle.std.proofs.Math.Seq.{take-length}
+use Rattle.std.proofs.lemmas.Option.{get_or_from_slice_get}
+use Rattle.std.specs.Prelude.{min, slice_get, ◌-◌}
 use Rattle.std.proofs.lemmas.Bool.{eq-eqb, ne_eqb}
 use Rattle.std.specs.Option.{option_or}
 use Rattle.ft_isa.specs.Pending.{Pending, newest_at, with_address, with_value}
@@ -58,3 +61,52 @@ unfolding with_value
 with_value-beyond [] i v beyond = refl
 with_value-beyond (f ∷ q) zero v beyond = absurd (omega arith)
 with_value-beyond (f ∷ q) (suc i) v beyond = ap (λ r. f ∷ r) (with_value-beyond q i v (omega arith))
+
+-- the entry that is gone over has the address
+pub newest_now : (q : Pending) (i a : ℕ) (e : ℕ × ℕ) → i < length q → slice_get q i ≡ Some e → e.0 ≡ a → Some e.1 ≡ newest_at (take (i + 1) q) a
+newest_now q i a e below h here =
+    let g = get_or_from_slice_get q i e (0, 0) h in
+    ap (λ (x : ℕ × ℕ). Some x.1) (sym g) ∙ newest_at-take_here q i a (0, 0) below (ap (λ (x : ℕ × ℕ). x.0) g ∙ here)
+
+-- the entry that is gone over has another address
+pub newest_before : (q : Pending) (i a : ℕ) (e : ℕ × ℕ) → i < length q → slice_get q i ≡ Some e → e.0 ≢ a → newest_at (take i q) a ≡ newest_at (take (i + 1) q) a
+newest_before q i a e below h other =
+    let g = get_or_from_slice_get q i e (0, 0) h in
+    newest_at-take_other q i a (0, 0) below (λ is. other (ap (λ (x : ℕ × ℕ). x.0) (sym g) ∙ is))
+
+-- another address in an entry that was found
+pub address_put : (q : Pending) (i v : ℕ) (e : ℕ × ℕ) → Some e ≡ slice_get q i → slice_set q i (v, e.1) ≡ with_address q i v
+unfolding with_address
+address_put [] i v e h = absurd (cc)
+address_put (f ∷ q) zero v e h = let same : e ≡ f = cc in ap (λ (x : ℕ × ℕ). (v, x.1) ∷ q) same
+address_put (f ∷ q) (suc i) v e h = ap (λ r. f ∷ r) (address_put q i v e h)
+
+-- another value in an entry that was found
+pub value_put : (q : Pending) (i v : ℕ) (e : ℕ × ℕ) → Some e ≡ slice_get q i → slice_set q i (e.0, v) ≡ with_value q i v
+unfolding with_value
+value_put [] i v e h = absurd (cc)
+value_put (f ∷ q) zero v e h = let same : e ≡ f = cc in ap (λ (x : ℕ × ℕ). (x.0, v) ∷ q) same
+value_put (f ∷ q) (suc i) v e h = ap (λ r. f ∷ r) (value_put q i v e h)
+
+-- no entry was found
+pub address_none : (q : Pending) (i v : ℕ) → None ≡ slice_get q i → q ≡ with_address q i v
+unfolding with_address
+address_none [] i v h = refl
+address_none (f ∷ q) zero v h = absurd (cc)
+address_none (f ∷ q) (suc i) v h = ap (λ r. f ∷ r) (address_none q i v h)
+
+pub value_none : (q : Pending) (i v : ℕ) → None ≡ slice_get q i → q ≡ with_value q i v
+unfolding with_value
+value_none [] i v h = refl
+value_none (f ∷ q) zero v h = absurd (cc)
+value_none (f ∷ q) (suc i) v h = ap (λ r. f ∷ r) (value_none q i v h)
+
+-- a queue of at most eight pairs fits into an empty one in two parts
+pub refilled : (xs ys zs : Pending) (n m : ℕ) → length zs ≤ 8 → xs ++ ys ≡ zs → n ≡ min (length xs) 8 → m ≡ min (length ys) (8 - length (take n xs)) → take n xs ++ take m ys ≡ zs
+refilled xs ys zs n m few is first second =
+    let sum : length xs + length ys ≡ length zs = sym (length-append xs ys) ∙ ap length is in
+    let n_is : n ≡ length xs = omega (arith, sum) in
+    let all : take n xs ≡ xs = ap (λ k. take k xs) n_is ∙ take-length xs in
+    let room : 8 - length (take n xs) ≡ 8 - length xs = ap (λ t. 8 - length t) all in
+    let m_is : m ≡ length ys = omega (arith, sum, room) in
+    ap (λ t. t ++ take m ys) all ∙ ap (λ k. xs ++ take k ys) m_is ∙ ap (λ t. xs ++ t) (take-length ys) ∙ is

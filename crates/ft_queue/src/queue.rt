@@ -1,7 +1,8 @@
 //! The store queue.
-ghost use Rattle.std.specs.Prelude.{◌≡◌, ◌<◌, ◌≤◌, ◌↔◌, [], ◌∷◌, ◌++◌, length, slice_get, IfOk, OnOk, OnErr, IsErr, IfSome, IfNone, IsTrue, option_to_list};
+ghost use Rattle.std.specs.Prelude.{◌≡◌, ◌<◌, ◌≤◌, ◌↔◌, [], ◌∷◌, ◌++◌, length, slice_get, Decides, IfOk, OnOk, OnErr, IsErr, IfSome, IfNone, IsTrue, option_to_list};
 ghost use Rattle.ft_isa.specs.Pending.{newest_at, with_address, with_value};
 
+use circular_buffer::HeapCircularBuffer;
 use ft_isa::NoMemory;
 use std::alloc::Global;
 use std::marker::Model;
@@ -18,7 +19,7 @@ pub struct Full;
 /// The stores that wait for their blue half: at most eight pairs of address and value, oldest first.
 #[derive(Drop)]
 pub struct StoreQueue {
-    pairs: Vec<(u64, u64)>,
+    pairs: HeapCircularBuffer<(u64, u64)>,
 }
 
 impl Model for StoreQueue {
@@ -38,7 +39,7 @@ impl StoreQueue {
         ensures { IfOk result (λ q. q ≡ []) }
     {
         Ok(StoreQueue {
-            pairs: Vec::with_capacity(alloc, ROOM)?,
+            pairs: HeapCircularBuffer::with_capacity(alloc, ROOM)?,
         })
     }
 
@@ -46,14 +47,31 @@ impl StoreQueue {
     pub fn copy_from(&mut self, other: &StoreQueue)
         ensures { self.new ≡ other.now }
     {
+        let _len = other.pairs.len();
+        let (front, back) = other.pairs.as_slices();
         self.pairs.clear();
-        match self.pairs.extend_from_slice(&other.pairs) {
-            Ok(()) => {}
-            Err(_) => unreachable!(),
+        self.pairs.fill_from_slice(front);
+        self.pairs.fill_from_slice(back);
+    }
+
+    /// Whether another queue holds the same pairs.
+    pub fn same_as(&self, other: &StoreQueue) -> bool
+        ensures { Decides result (self.now ≡ other.now) }
+    {
+        let n = self.len();
+        if n != other.len() {
+            return false;
         }
+        for i in 0..n {
+            if self.get(i) != other.get(i) {
+                return false;
+            }
+        }
+        true
     }
 
     /// How many pairs wait, at most eight.
+    #[inline]
     pub fn len(&self) -> usize
         ensures pairs { result ≡ length self.now }
         ensures bound { result ≤ ROOM }
@@ -62,13 +80,15 @@ impl StoreQueue {
     }
 
     /// Whether no pair waits.
+    #[inline]
     pub fn is_empty(&self) -> bool
         ensures { IsTrue result ↔ (self.now ≡ []) }
     {
         self.pairs.is_empty()
     }
 
-    /// Pair `i`, counted from the oldest as 0; `None` exactly where there is none.
+    /// Pair `i`, counted from the oldest as 0; `None` exactly when there is none.
+    #[inline]
     pub fn get(&self, i: usize) -> Option<(u64, u64)>
         ensures { result ≡ slice_get self.now i }
     {
@@ -76,6 +96,7 @@ impl StoreQueue {
     }
 
     /// Adds a pair as the newest. `Full` comes exactly at eight pairs, and then nothing changes.
+    #[inline]
     pub fn push(&mut self, addr: u64, value: u64) -> Result<(), Full>
         ensures full { IsErr result ↔ (length self.old ≡ ROOM) }
         ensures bound { length self.old ≤ ROOM }
@@ -85,61 +106,64 @@ impl StoreQueue {
         if self.pairs.len() >= ROOM {
             return Err(Full);
         }
-        self.pairs.push((addr, value)).unwrap();
-        Ok(())
+        match self.pairs.try_push_back((addr, value)) {
+            Ok(()) => Ok(()),
+            Err(_) => unreachable!(),
+        }
     }
 
-    /// Takes the oldest pair; `None` exactly where the queue is empty.
+    /// Takes the oldest pair; `None` exactly when the queue is empty.
+    #[inline]
     pub fn pop_oldest(&mut self) -> Option<(u64, u64)>
         ensures oldest { self.old ≡ option_to_list result ++ self.new }
         ensures none { IfNone result (self.old ≡ []) }
     {
-        if self.pairs.is_empty() {
-            return None;
-        }
-        Some(self.pairs.remove(0))
+        self.pairs.pop_front()
     }
 
-    /// The value of the newest pair with this address; `None` exactly where there is none.
+    /// The value of the newest pair with this address; `None` exactly when there is none.
+    #[inline]
     pub fn newest_at(&self, addr: u64) -> Option<u64>
         ensures { result ≡ newest_at self.now addr }
     {
         let mut newest = None;
-        for (a, value) in &self.pairs {
-            if *a == addr {
-                newest = Some(*value);
+        for i in 0..self.pairs.len() {
+            if let Some((a, value)) = self.get(i) {
+                if a == addr {
+                    newest = Some(value);
+                }
             }
         }
         newest
     }
 
-    /// Puts another address into pair `i`; `false` exactly where there is none, and then nothing
+    /// Puts another address into pair `i`; `false` exactly when there is none, and then nothing
     /// changes.
     pub fn strike_addr(&mut self, i: u8, addr: u64) -> bool
         ensures there { IsTrue result ↔ (i < length self.old) }
         ensures struck { self.new ≡ with_address self.old i addr }
     {
-        let i = i as usize;
-        if i >= self.pairs.len() {
-            return false;
+        match self.pairs.get_mut(i as usize) {
+            Some(pair) => {
+                pair.0 = addr;
+                true
+            }
+            None => false,
         }
-        let (_, value) = self.pairs[i];
-        self.pairs[i] = (addr, value);
-        true
     }
 
-    /// Puts another value into pair `i`; `false` exactly where there is none, and then nothing
+    /// Puts another value into pair `i`; `false` exactly when there is none, and then nothing
     /// changes.
     pub fn strike_value(&mut self, i: u8, value: u64) -> bool
         ensures there { IsTrue result ↔ (i < length self.old) }
         ensures struck { self.new ≡ with_value self.old i value }
     {
-        let i = i as usize;
-        if i >= self.pairs.len() {
-            return false;
+        match self.pairs.get_mut(i as usize) {
+            Some(pair) => {
+                pair.1 = value;
+                true
+            }
+            None => false,
         }
-        let (addr, _) = self.pairs[i];
-        self.pairs[i] = (addr, value);
-        true
     }
 }

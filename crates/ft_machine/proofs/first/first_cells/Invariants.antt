@@ -1,8 +1,9 @@
-use Rattle.std.proofs.Common.{◌≡◌}
-use Rattle.ft_types.specs.State.{tabulate}
+use Rattle.std.proofs.Common.{◌≡◌, ℕ, ◌<◌, length, get_or}
 use Rattle.ft_types.specs.Objects.{init_of}
-use Rattle.ft_isa.specs.Words.{cell_address}
 use Rattle.ft_machine.proofs.first.first_cells.Given as goal
 
 abbrev pub invariant-loop-k : goal.invariant-loop-k
-invariant-loop-k g l = l.cells ≡ tabulate l.k cell_address (init_of (g.P.Program.object l.program))
+invariant-loop-k g l = record {
+  count : length l.words.items ≡ l.k;
+  words : (i : ℕ) → i < l.k → get_or l.words.items i 0 ≡ init_of (g.P.Program.object l.program) i;
+}

@@ -1,22 +1,19 @@
-use Rattle.std.proofs.Common.{ap, ◌∙◌, refl}
-use Rattle.std.proofs.lemmas.List.{take_all}
+use Rattle.std.proofs.Common.{◌<◌, refl, ap, sym, ◌∙◌, length, get_or, arith}
+use Rattle.std.proofs.lemmas.Option.{slice_get-get_or}
 use Rattle.ft_isa.specs.Pending.{newest_at}
-use Rattle.ft_queue.proofs.PendingLemmas.{newest_at-take_here, newest_at-take_other}
+use Rattle.ft_queue.proofs.PendingLemmas.{newest_now, newest_before}
 use Rattle.ft_queue.proofs.queue.StoreQueue.newest_at.Goals as goal
-use Rattle.ft_queue.proofs.queue.StoreQueue.newest_at.Goals.{then-a-addr, else-a-addr}
+use Rattle.ft_queue.proofs.queue.StoreQueue.newest_at.Goals.{in-Some+then-a-addr, in-Some+else-a-addr, in_default}
 
-pub loop-a-init : goal.loop-a-init
+pub loop-i-init : goal.loop-i-init
 unfolding newest_at
-loop-a-init c = refl
+loop-i-init c = refl
 
-pub loop-a-preserved : goal.loop-a-preserved
-loop-a-preserved c =
-    elim c.if-a-addr.branch [
-      | then-a-addr w ↦ w.newest-is ∙ newest_at-take_here _ _ _ (0, 0) c.loop-a-test.true w.if-a-addr.true
-      | else-a-addr w ↦ w.newest-is ∙ c.loop-a.invariant ∙ newest_at-take_other _ _ _ (0, 0) c.loop-a-test.true w.if-a-addr.false
+pub loop-i-preserved : goal.loop-i-preserved
+loop-i-preserved c =
+    let below : c.loop-i.i < length c.args.self.now = omega (arith, c.loop-i-test.true, c.len-i-end.ensures.len, ap length c.self.view_is) in
+    elim c.match-get.branch [
+      | in-Some+then-a-addr w ↦ w.newest-is ∙ newest_now c.args.self.now c.loop-i.i c.args.addr (w.in-Some.a, w.in-Some.value) below (sym c.get.ensures ∙ w.in-Some.is) w.if-a-addr.true
+      | in-Some+else-a-addr w ↦ w.newest-is ∙ c.loop-i.invariant ∙ newest_before c.args.self.now c.loop-i.i c.args.addr (w.in-Some.a, w.in-Some.value) below (sym c.get.ensures ∙ w.in-Some.is) w.if-a-addr.false
+      | in_default w ↦ absurd (w.in_default.not-Some (get_or c.args.self.now c.loop-i.i (0, 0)) (c.get.ensures ∙ slice_get-get_or c.args.self.now c.loop-i.i (0, 0) below))
     ]
-
-pub returns : goal.returns
-returns c =
-    c.loop-a.invariant
-    ∙ ap (λ q. newest_at q c.args.addr) (take_all _ _ c.loop-a-test.false ∙ c.deref-a-items.ensures.value ∙ c.self.view_is)

@@ -1,12 +1,18 @@
-use Rattle.std.proofs.Common.{ap, sym, ◌∙◌, arith, length}
+use Rattle.std.proofs.Common.{ap, sym, ◌∙◌}
+use Rattle.std.specs.Option.{option_copied_mut}
 use Rattle.ft_isa.specs.Pending.{with_address}
-use Rattle.ft_queue.proofs.PendingLemmas.{set-with_address, with_address-beyond}
+use Rattle.ft_queue.specs.declared.queue.StoreQueue.TheInside.{Inside}
+use Rattle.ft_queue.proofs.PendingLemmas.{address_put, address_none}
+use Rattle.ft_queue.proofs.queue.StoreQueue.strike_addr.Goals.{in-Some, in-None}
 use Rattle.ft_queue.proofs.queue.StoreQueue.strike_addr.Goals as goal
-
-pub returns-then-i-len-clause-struck : goal.returns-then-i-len-clause-struck
-returns-then-i-len-clause-struck c = sym (with_address-beyond _ _ _ (omega (arith, ap length c.self.view_is)))
 
 pub returns-clause-struck : goal.returns-clause-struck
 returns-clause-struck c =
-    set-with_address c.self.inside.pairs.items c.args.i c.args.addr c.index.result.now (omega arith) c.index.ensures
-    ∙ ap (λ q. with_address q c.args.i c.args.addr) c.self.view_is
+    elim c.match-get_mut.branch [
+      | in-Some w ↦ ap (λ (q : Inside). q.pairs.items) w.self-inside-is
+          ∙ address_put c.self.inside.pairs.items c.args.i c.args.addr w.in-Some.pair.now (sym (ap option_copied_mut w.in-Some.is) ∙ c.get_mut.ensures.value)
+          ∙ ap (λ q. with_address q c.args.i c.args.addr) c.self.view_is
+      | in-None w ↦ ap (λ (q : Inside). q.pairs.items) w.self-inside-is
+          ∙ address_none c.self.inside.pairs.items c.args.i c.args.addr (sym (ap option_copied_mut w.in-None.is) ∙ c.get_mut.ensures.value)
+          ∙ ap (λ q. with_address q c.args.i c.args.addr) c.self.view_is
+    ]

@@ -1,0 +1,90 @@
+-- What the run without a fault keeps.
+use Rattle.std.proofs.Common.{◌≡◌, ℕ, zero, suc, ◌+◌, ◌*◌, ◌/◌, ◌<◌, ◌≤◌, ◌⊎◌, List, [], ◌∷◌, ◌++◌, length, Some, None, inl, inr, slice_get, refl, ap, sym, subst, ◌∙◌, ⊎_elim, arith}
+use Rattle.std.proofs.lemmas.List.{length-append}
+use Rattle.ft_isa.specs.declared.plan.Wild.{Wild}
+use Rattle.ft_types.specs.declared.object.Object.{Object}
+use Rattle.ft_types.specs.declared.status.Status.TheVariants.{Running}
+use Rattle.ft_types.specs.Run.{Ran, state_after, outputs_after, status_after}
+use Rattle.ft_machine.proofs.Runs.{HasStopped}
+use Rattle.ft_campaign.specs.declared.clean.Clean.{Clean}
+use Rattle.ft_campaign.specs.declared.clean.Snapshot.{Snapshot}
+use Rattle.ft_campaign.specs.Snapshots.{IsSnapshot, IsClean, Kept, AreSnapshots, AreLengths}
+use Rattle.ft_campaign.proofs.Ends.{stays}
+use Rattle.ft_campaign.proofs.Following.{not_running}
+
+-- an element of a list with one more
+pushed_get : {X : Type 0} (xs : List X) (x : X) (j : ℕ) (y : X) → slice_get (xs ++ x ∷ []) j ≡ Some y → (slice_get xs j ≡ Some y) ⊎ ((j ≡ length xs) × (x ≡ y))
+pushed_get [] x zero y e = inr (refl, some_is e)
+  where
+    some_is : {X : Type 0} {a b : X} → Some a ≡ Some b → a ≡ b
+    some_is e = cc
+pushed_get [] x (suc j) y e = absurd (cc)
+pushed_get (z ∷ xs) x zero y e = inl e
+pushed_get (z ∷ xs) x (suc j) y e = ⊎_elim (λ h. inl h) (λ h. inr (ap suc h.0, h.1)) (pushed_get xs x j y e)
+
+pub snapshots_none : (o : Object) (w : List Wild) → AreSnapshots o w 0 []
+snapshots_none o w = record { row = omega arith; snapshots_are = λ j s e. absurd (cc) }
+
+pub lengths_none : (o : Object) (w : List Wild) → AreLengths o w 0 []
+lengths_none o w = record { long = refl; queues = λ i b e. absurd (cc) }
+
+pub snapshots_same : (o : Object) (w : List Wild) (k : ℕ) (xs : List Snapshot) → AreSnapshots o w k xs → k / 1024 < length xs → AreSnapshots o w (k + 1) xs
+snapshots_same o w k xs h lt = record { row = omega (arith, lt); snapshots_are = h.snapshots_are }
+
+pub snapshots_more : (o : Object) (w : List Wild) (k : ℕ) (xs : List Snapshot) (s : Snapshot) → AreSnapshots o w k xs → length xs ≤ k / 1024 → IsSnapshot o w k s → AreSnapshots o w (k + 1) (xs ++ s ∷ [])
+snapshots_more o w k xs s h le is =
+    let row = h.row in
+    let long = length-append xs (s ∷ []) in
+    let here : k ≡ 1024 * length xs = omega (arith, row, le) in
+    record {
+      row = omega (arith, long, here);
+      snapshots_are = λ j t e.
+          ⊎_elim (λ (old : slice_get xs j ≡ Some t). h.snapshots_are j t old)
+          (λ (new : (j ≡ length xs) × (s ≡ t)). subst (λ i. IsSnapshot o w (1024 * i) t) (sym new.0) (subst (λ i. IsSnapshot o w i t) here (subst (λ u. IsSnapshot o w k u) new.1 is)))
+          (pushed_get xs s j t e);
+    }
+
+pub lengths_more : (o : Object) (w : List Wild) (k : ℕ) (xs : List ℕ) (b : ℕ) → AreLengths o w k xs → status_after o None w k ≡ Running → b ≡ length (state_after o None w k).queue → AreLengths o w (k + 1) (xs ++ b ∷ [])
+lengths_more o w k xs b h running is =
+    let long = h.long in
+    let more = length-append xs (b ∷ []) in
+    record {
+      long = omega (arith, long, more);
+      queues = λ i c e.
+          ⊎_elim (λ (old : slice_get xs i ≡ Some c). h.queues i c old)
+          (λ (new : (i ≡ length xs) × (b ≡ c)).
+          let at : i ≡ k = new.0 ∙ long in (ap (status_after o None w) at ∙ running, sym new.1 ∙ is ∙ ap (λ j. length (state_after o None w j).queue) (sym at)))
+          (pushed_get xs b i c e);
+    }
+
+kept_by : (o : Object) (w : List Wild) (k : ℕ) (ls : List ℕ) (xs : List Snapshot) → AreLengths o w k ls → AreSnapshots o w k xs → Kept o w k ls xs
+kept_by o w k ls xs a b = record { long = a.long; queues = a.queues; row = b.row; snapshots_are = b.snapshots_are }
+
+-- a run that stopped at step k
+pub clean_stopped : (o : Object) (w : List Wild) (k n : ℕ) (c : Clean) → k < n → HasStopped (status_after o None w (k + 1)) → c.outputs.items ≡ outputs_after o None w (k + 1) → c.status ≡ status_after o None w (k + 1) → c.last ≡ k
+    → status_after o None w k ≡ Running → AreLengths o w (k + 1) c.lengths.items → AreSnapshots o w (k + 1) c.snapshots.items → IsClean o w n c
+clean_stopped o w k n c lt stop outputs status last running a b =
+    let same = stays o None w (k + 1) n (omega (arith, lt)) stop in
+    record {
+      outputs = outputs ∙ sym (ap (λ (x : Ran). x.outputs) same);
+      status = status ∙ sym (ap (λ (x : Ran). x.state.status) same);
+      running = λ _. ap (status_after o None w) last ∙ running;
+      detected = λ d. ap (λ j. status_after o None w (j + 1)) last ∙ sym status ∙ d;
+      upto = k + 1;
+      kept = kept_by o w (k + 1) c.lengths.items c.snapshots.items a b;
+      within = omega (arith, lt);
+      past = λ i le below e. not_running (status_after o None w (k + 1)) stop (sym (ap (λ (x : Ran). x.state.status) (stays o None w (k + 1) i le stop)) ∙ e);
+    }
+
+-- a run that is still running
+pub clean_running : (o : Object) (w : List Wild) (k n : ℕ) (c : Clean) → k ≡ n → c.outputs.items ≡ outputs_after o None w k → c.status ≡ Running → status_after o None w k ≡ Running → AreLengths o w k c.lengths.items → AreSnapshots o w k c.snapshots.items → IsClean o w n c
+clean_running o w k n c e outputs status running a b = record {
+  outputs = outputs ∙ ap (outputs_after o None w) e;
+  status = status ∙ sym running ∙ ap (status_after o None w) e;
+  running = λ d. (let bad = sym status ∙ d in cc);
+  detected = λ d. (let bad = sym status ∙ d in cc);
+  upto = k;
+  kept = kept_by o w k c.lengths.items c.snapshots.items a b;
+  within = omega (arith, e);
+  past = λ i le below. absurd (omega (arith, e, le, below));
+}

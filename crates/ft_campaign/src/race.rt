@@ -1,0 +1,127 @@
+//! A struck run, from its strike on.
+ghost use Rattle.std.specs.Prelude.{◌≡◌, ◌≤◌, ◌<◌, ◌+◌, ◌-◌, ◌*◌, ℕ, List, length, Decides, IfSome, IfNone, true, None, Some};
+ghost use Rattle.ft_isa.specs.declared.plan.Strike.{Strike as Fault};
+ghost use Rattle.ft_isa.specs.declared.plan.Wild.{Wild as Answer};
+ghost use Rattle.ft_types.specs.declared.object.Object.{Object};
+ghost use Rattle.ft_types.specs.Spellable.{IsSpellable};
+ghost use Rattle.ft_types.specs.State.{HasCells};
+ghost use Rattle.ft_types.specs.Run.{state_after, wild_after, status_after, is_struck};
+ghost use Rattle.ft_campaign.specs.Verdicts.{IsVerdict};
+ghost use Rattle.ft_campaign.specs.Snapshots.{IsClean, IsRacing, IsMeeting, IsEnd, Meets};
+
+use crate::clean::{Clean, Snapshot};
+use crate::follow::{How, follow};
+use crate::verdict::Verdict;
+use ft_isa::{Strike, Wild};
+use ft_machine::{Machine, WildLeft};
+use ft_steps::Steps;
+use ft_types::{Program, Status};
+use std::sync::ledger::Ledger;
+
+/// Where a run is compared next after step `s`, at the latest after step `n`.
+fn next_place(s: u64, n: u64) -> u64
+    requires before { s < n }
+    requires n { n ≤ 1000000 }
+    ensures after { s < result }
+    ensures within { result ≤ n }
+    ensures first { (j : ℕ) → s < 1024 * j → 1024 * j ≤ n → result ≤ 1024 * j }
+{
+    let next = 1024 * (s / 1024 + 1);
+    if next < n {
+        return next;
+    }
+    n
+}
+
+/// Whether a machine is in the state of another.
+fn same_state(machine: &Machine, other: &Machine) -> bool
+    ensures { Decides result (machine.now ≡ other.now) }
+{
+    machine.same_as(other)
+}
+
+/// Whether the same answers are left.
+fn same_answers(left: &WildLeft, other: &WildLeft) -> bool
+    ensures { Decides result (left.now ≡ other.now) }
+{
+    left.same_as(other)
+}
+
+/// Whether a machine and the answers left are those of a snapshot.
+fn is_here(snapshot: &Snapshot, machine: &Machine, left: &WildLeft) -> bool
+    ensures { Decides result ((machine.now ≡ snapshot.now.machine) × (left.now ≡ snapshot.now.wild)) }
+{
+    if !same_state(machine, &snapshot.machine) {
+        return false;
+    }
+    same_answers(left, &snapshot.wild)
+}
+
+/// The number of outputs of the run without a fault, where the struck run meets it after step `s`.
+fn meeting(clean: &Clean, s: u64, machine: &Machine, left: &WildLeft) -> Option<usize>
+    ensures some { (o : Object) (x : Fault) (w : List Answer) (n : ℕ) → IsClean o w n clean.now → machine.now ≡ state_after o (Some x) w s
+        → left.now ≡ wild_after o (Some x) w s → IfSome result (IsMeeting o x w s) }
+    ensures none { (o : Object) (x : Fault) (w : List Answer) (n : ℕ) → IsClean o w n clean.now → machine.now ≡ state_after o (Some x) w s
+        → left.now ≡ wild_after o (Some x) w s → status_after o (Some x) w s ≡ Status.Running → s < n → IfNone result (¬ (Meets o x w s)) }
+{
+    if s % 1024 != 0 {
+        return None;
+    }
+    let Some(snapshot) = clean.snapshots.get((s / 1024) as usize) else {
+        return None;
+    };
+    if !is_here(snapshot, machine, left) {
+        return None;
+    }
+    Some(snapshot.count)
+}
+
+/// Follows a struck run from its strike on, to its verdict.
+pub(crate) fn race<P: Program, L: Ledger>(
+    program: &P,
+    clean: &Clean,
+    fault: Strike,
+    wild: &[Wild],
+    n: u64,
+    machine: &mut Machine,
+    left: &mut WildLeft,
+    from: u64,
+    begun: usize,
+    steps: &mut Steps<L>,
+) -> Verdict
+    requires spellable { IsSpellable (P.object program.now) }
+    requires n { n ≤ 1000000 }
+    requires clean { IsClean (P.object program.now) wild.now n clean.now }
+    requires struck { is_struck (P.object program.now) (Some fault) wild.now n ≡ true }
+    requires racing { IsRacing (P.object program.now) fault wild.now n from machine.old left.old begun }
+    ensures verdict { IsVerdict (P.object program.now) fault wild.now n result }
+    ensures cells { HasCells (length (P.object program.now).cells) machine.new }
+    ensures steps { (e : ℕ) → IsEnd (P.object program.now) fault wild.now n e → steps.new ≤ steps.old + (e - from) }
+{
+    let mut s = from;
+    let mut at = begun;
+    while s < n {
+        let next = next_place(s, n);
+        let followed = follow(
+            machine,
+            program,
+            left,
+            next - s,
+            clean.outputs.as_slice(),
+            &mut at,
+            steps,
+        );
+        match followed.how {
+            How::Apart => return Verdict::Corrupt,
+            How::Stopped => {
+                return clean.verdict_at_end(at, machine.status(), s + followed.done - 1);
+            }
+            How::On => {}
+        }
+        s = next;
+        if let Some(count) = meeting(clean, s, machine, left) {
+            return clean.verdict_at_meeting(at, count);
+        }
+    }
+    clean.verdict_at_end(at, Status::Running, n)
+}

@@ -1,0 +1,63 @@
+-- What a call answers and leaves that takes steps up to the first that is not quiet.
+use Rattle.std.specs.Prelude.{◌≡◌, ℕ, ◌≤◌, ◌<◌, List, [], Option, Some, None}
+use Rattle.std.specs.Option.{option_to_list}
+use Rattle.ft_isa.specs.declared.instr.Instr.{Instr}
+use Rattle.ft_isa.specs.declared.output.Output.{Output}
+use Rattle.ft_isa.specs.declared.plan.Wild.{Wild}
+use Rattle.ft_types.specs.declared.object.Object.{Object}
+use Rattle.ft_types.specs.declared.status.Status.{Status}
+use Rattle.ft_types.specs.declared.status.Status.TheVariants as status
+use Rattle.ft_types.specs.Objects.{instr_at}
+use Rattle.ft_types.specs.State.{State}
+use Rattle.ft_types.specs.Run.{Ran}
+use Rattle.ft_machine.specs.Spans.{span}
+use Rattle.ft_machine.specs.Effects.{doing}
+use Rattle.ft_machine.specs.declared.bank.Bank.{Bank}
+use Rattle.ft_machine.specs.declared.machine.Stepped.{Stepped}
+use Rattle.ft_machine.specs.declared.machine.Stepped.TheVariants.{Quiet, Commit, Done, Detected}
+
+-- the output of a step that answers so
+abbrev pub output_told : Stepped → Option Output
+output_told Quiet = None
+output_told (Commit output) = Some output
+output_told Done = None
+output_told Detected = None
+
+-- how a machine stands after a step that answers so
+abbrev pub status_told : Stepped → Status
+status_told Quiet = status.Running
+status_told (Commit output) = status.Running
+status_told Done = status.Done
+status_told Detected = status.Detected
+
+-- all of the steps were taken, or the last one that was taken is not quiet
+abbrev pub IsEnough : Stepped → ℕ → ℕ → Type 0
+IsEnough Quiet taken most = taken ≡ most
+IsEnough (Commit output) taken most = (0 < taken) × (taken ≤ most)
+IsEnough Done taken most = (0 < taken) × (taken ≤ most)
+IsEnough Detected taken most = (0 < taken) × (taken ≤ most)
+
+-- the machine runs on, and nothing was committed so far
+pub record IsQuiet (r : Ran) : Type 0 where
+  pub running : r.state.status ≡ status.Running
+  pub nothing : r.outputs ≡ []
+
+-- so many of at most so many steps were taken from a state on: those before the last one were quiet, and this is what the last one did
+pub record Advances (o : Object) (s : State) (w : List Wild) (s' : State) (w' : List Wild) (most taken : ℕ) (last : Stepped) : Type 0 where
+  pub enough : IsEnough last taken most
+  pub state_is : s' ≡ (span o taken s w).state
+  pub wild_is : w' ≡ (span o taken s w).wild
+  pub outputs : (span o taken s w).outputs ≡ option_to_list (output_told last)
+  pub status_is : (span o taken s w).state.status ≡ status_told last
+  pub before : (j : ℕ) → j < taken → IsQuiet (span o j s w)
+
+-- what is fetched after whole instructions of which the last step did this: private to the crate
+abbrev pub fetched_where : Object → ℕ → Stepped → Option Instr
+fetched_where o pc Quiet = None
+fetched_where o pc (Commit output) = None
+fetched_where o pc Done = instr_at o pc
+fetched_where o pc Detected = instr_at o pc
+
+-- the state after whole instructions of which the last step did this: private to the crate
+abbrev pub state_where : Object → ℕ → Stepped → Bank → State
+state_where o pc last b = record (doing b pc pc (fetched_where o pc last)) { status = status_told last }

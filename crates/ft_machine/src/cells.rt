@@ -1,0 +1,95 @@
+//! The words of the cells, in one block, which contracts see as a finite map from addresses.
+ghost use Rattle.std.specs.Prelude.{◌≡◌, ℕ, IsTrue, slice_get, Decides};
+ghost use Rattle.ft_types.specs.State.{is_cell, cell_at, with_cell};
+ghost use Rattle.ft_machine.specs.Arrays.{cells_of};
+
+use std::marker::Model;
+
+/// The address of the first cell.
+pub const CELL_BASE: u64 = 1_048_576;
+
+/// The words of the cells, from the first cell's address on.
+#[derive(Drop)]
+pub struct Cells {
+    words: Vec<u64>,
+}
+
+impl Model for Cells {
+    ghost use Rattle.std.specs.FinMap as map;
+    ghost use Rattle.std.specs.Ordering.{nat_cmp};
+    ghost use Rattle.std.specs.Coded.{coded_ℕ};
+    ghost use Rattle.ft_types.specs.State as state;
+
+    ghost Value = { state.Cells };
+
+    ghost coded = { map.code {R = nat_cmp} coded_ℕ coded_ℕ };
+
+    ghost use Rattle.ft_machine.specs.Arrays.{cells_of};
+
+    ghost view = { λ c. cells_of c.words.items };
+}
+
+/// The word at a place of a list of words, if there is one.
+#[inline(always)]
+fn word_at(words: &[u64], k: usize) -> Option<u64>
+    ensures { result ≡ slice_get words.now k }
+{
+    words.get(k).copied()
+}
+
+impl Cells {
+    /// The cells with these words.
+    pub fn new(words: Vec<u64>) -> Cells
+        ensures { result ≡ cells_of words.items }
+    {
+        Cells { words }
+    }
+
+    /// The word of the cell at an address, if there is one.
+    #[inline(always)]
+    pub fn get(&self, addr: u64) -> Option<u64>
+        ensures { result ≡ cell_at self.now addr }
+    {
+        let words = self.words.as_slice();
+        if addr < CELL_BASE {
+            return None;
+        }
+        word_at(words, (addr - CELL_BASE) as usize)
+    }
+
+    /// Whether a cell has this address.
+    #[inline(always)]
+    pub fn contains(&self, addr: u64) -> bool
+        ensures { result ≡ is_cell self.now addr }
+    {
+        self.get(addr).is_some()
+    }
+
+    /// Puts a word into the cell at an address that is there.
+    #[inline(always)]
+    pub fn replace(&mut self, addr: u64, word: u64)
+        requires { IsTrue (is_cell self.old addr) }
+        ensures { self.new ≡ with_cell self.old addr word }
+    {
+        let _count = self.words.len();
+        let k = (addr - CELL_BASE) as usize;
+        self.words[k] = word;
+    }
+
+    /// Whether other cells have the same addresses and words.
+    pub fn same_as(&self, other: &Cells) -> bool
+        ensures { Decides result (self.now ≡ other.now) }
+    {
+        self.words.as_slice() == other.words.as_slice()
+    }
+
+    /// Takes over the words of other cells at the same addresses.
+    pub fn copy_from(&mut self, other: &Cells)
+        requires { (a : ℕ) → is_cell self.old a ≡ is_cell other.now a }
+        ensures { self.new ≡ other.now }
+    {
+        self.words
+            .as_mut_slice()
+            .copy_from_slice(other.words.as_slice());
+    }
+}
