@@ -2,6 +2,7 @@ pub mod Causes
 pub mod Puts
 pub mod Loads
 pub mod Streams
+pub mod Gathered
 pub mod FolderFaults
 pub mod Calls
 pub mod MemoryShelf

@@ -12,7 +12,7 @@ use std::marker::Model;
 use std::rt::Files;
 
 /// How many bytes are read at once at most.
-const PIECE: usize = 4096;
+const PIECE: usize = 65_536;
 
 /// Files of the system, by path. It does not tell them. A file that is missing or cannot be read is a
 /// fault, and the count of faults stands still at 2^64 - 1.
@@ -98,6 +98,10 @@ impl<R: Files> Shelf for FolderShelf<R> {
     ghost faults = { λ faults. faults.count };
 
     ghost failed_name = { λ faults. faults.failed_name };
+
+    ghost loads = { λ _. None };
+
+    ghost asked = { λ _. None };
 
     /// Loads the file at a path. It reads at most `limit` + 1 bytes.
     fn load(&mut self, name: &str, limit: usize, into: &mut Vec<u8>) -> Result<Load, LoadFault> {

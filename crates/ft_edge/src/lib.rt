@@ -9,6 +9,7 @@
 mod counter;
 mod failed;
 mod folder_shelf;
+mod gathering_sink;
 mod mem_shelf;
 mod mem_sink;
 mod mem_source;
@@ -20,9 +21,11 @@ mod stdin_source;
 mod stdout_sink;
 mod sure_source;
 mod system;
+mod writing;
 
 pub use failed::Failed;
 pub use folder_shelf::FolderShelf;
+pub use gathering_sink::GatheringSink;
 pub use mem_shelf::MemShelf;
 pub use mem_sink::MemSink;
 pub use mem_source::MemSource;

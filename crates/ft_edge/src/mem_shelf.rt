@@ -27,6 +27,7 @@ pub struct MemShelf {
     // The newest first: a file hides the earlier ones of its name.
     files: VecDeque<Stored>,
     calls: Counter,
+    asked: u64,
     failed: Option<String>,
 }
 
@@ -53,6 +54,7 @@ impl MemShelf {
             alloc,
             files: VecDeque::new(alloc),
             calls: Counter::new(alloc),
+            asked: 0,
             failed: None,
         }
     }
@@ -115,16 +117,21 @@ impl Shelf for MemShelf {
 
     ghost failed_name = { λ shelf. shelf.failed_name };
 
+    ghost loads = { λ shelf. Some shelf.calls.next };
+
+    ghost asked = { λ shelf. Some shelf.asked };
+
     /// Loads the file of a name. A name that the shelf does not hold is a fault. A load that finds no
     /// memory is a call like any other, and counts no fault.
     fn load(&mut self, name: &str, limit: usize, into: &mut Vec<u8>) -> Result<Load, LoadFault>
         requires { into.old.items ≡ [] }
         ensures loads { Loads (Some self.old.files) name.now limit into.new.items result }
         ensures answer { result ≢ Err LoadFault.NoMemory → result ≡ load_answer self.old name.now limit }
-        ensures after { self.new ≡ after_load self.old name.now result }
+        ensures after { self.new ≡ after_load self.old name.now limit result }
         ensures count { self.old.calls.faults ≤ self.new.calls.faults }
     {
         let is_to_fail = self.calls.begin();
+        self.asked = self.asked.saturating_add(limit as u64);
         let copy = match String::from_str(self.alloc, name) {
             Ok(copy) => copy,
             Err(_) => return Err(LoadFault::NoMemory),

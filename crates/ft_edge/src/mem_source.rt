@@ -59,6 +59,8 @@ impl Source for MemSource {
 
     ghost faults = { λ source. source.calls.faults };
 
+    ghost takes = { λ source. Some source.calls.next };
+
     /// Takes as many bytes as there are left, or as many as the buffer holds.
     fn take(&mut self, buf: &mut [u8]) -> Result<usize, Failed>
         requires { 0 < length buf.old }
@@ -67,6 +69,7 @@ impl Source for MemSource {
         ensures many { IfOk result (λ count. count ≡ min (length self.old.left) (length buf.new)) }
         ensures bytes { IfOk result (λ count. take count buf.new ≡ take count self.old.left) }
         ensures after { self.new ≡ after_take self.old result }
+        ensures left { OnErr result (buf.new ≡ buf.old) }
     {
         if self.calls.begin() {
             self.calls.count_fault();

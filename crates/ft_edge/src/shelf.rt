@@ -1,6 +1,7 @@
 //! Files by name.
 ghost use Rattle.std.specs.Prelude.{◌≡◌, ◌≤◌, ℕ, List, [], Option};
-ghost use Rattle.ft_edge.specs.Loads.{Files, Loads, LoadCause};
+ghost use Rattle.ft_edge.specs.Loads.{Files, Loads, LoadCause, asked_more};
+ghost use Rattle.ft_edge.specs.Puts.{one_more};
 
 use thiserror::Error;
 
@@ -35,11 +36,19 @@ pub trait Shelf {
     // The name of the last load that failed, if there was one.
     ghost failed_name: { Self → Option (List ℕ) };
 
+    // How many loads were made, where the shelf tells it; the count stands still at 2^64 - 1.
+    ghost loads: { Self → Option ℕ };
+
+    // The limits of those loads, added up, where the shelf tells it; the sum stands still at 2^64 - 1.
+    ghost asked: { Self → Option ℕ };
+
     /// Loads the file of a name into an empty vector, if the file has at most `limit` bytes. After any
     /// answer but `Whole` the vector is empty.
     fn load(&mut self, name: &str, limit: usize, into: &mut Vec<u8>) -> Result<Load, LoadFault>
         requires { into.old.items ≡ [] }
         ensures files { files self.new ≡ files self.old }
+        ensures made { loads self.new ≡ one_more (loads self.old) }
+        ensures asked { asked self.new ≡ asked_more limit (asked self.old) }
         ensures loads { Loads (files self.old) name.now limit into.new.items result }
         ensures count { faults self.old ≤ faults self.new }
         ensures cause { LoadCause (faults self.old) (faults self.new) (failed_name self.old)

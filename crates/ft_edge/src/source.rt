@@ -3,6 +3,7 @@ ghost use Rattle.std.specs.Prelude.{◌≡◌, ◌<◌, ◌≤◌, ℕ, List, Op
 ghost use Rattle.std.specs.Io.{ReadsAtMost};
 ghost use Rattle.std.specs.Io.KnownBytes.{ReadConsumes};
 ghost use Rattle.ft_edge.specs.Causes.{Rose};
+ghost use Rattle.ft_edge.specs.Puts.{one_more};
 
 use crate::Failed;
 
@@ -14,10 +15,14 @@ pub trait Source {
     // How many takes failed; a source may stop counting at 2^64 - 1.
     ghost faults: { Self → ℕ };
 
+    // How many takes were made, where the source tells it; the count stands still at 2^64 - 1.
+    ghost takes: { Self → Option ℕ };
+
     /// Takes the next bytes into the front of a buffer that is not empty, and answers how many there
     /// are: at least one where any are left, and 0 at the end. A take that fails takes nothing.
     fn take(&mut self, buf: &mut [u8]) -> Result<usize, Failed>
         requires { 0 < length buf.old }
+        ensures takes { takes self.new ≡ one_more (takes self.old) }
         ensures bound { ReadsAtMost result buf.new }
         ensures bytes { ReadConsumes (left self.old) (left self.new) result buf.new }
         ensures told { is_some (left self.new) ≡ is_some (left self.old) }

@@ -55,6 +55,8 @@ impl<R: Input> Source for StdinSource<R> {
 
     ghost faults = { λ faults. faults };
 
+    ghost takes = { λ _. None };
+
     fn take(&mut self, buf: &mut [u8]) -> Result<usize, Failed> {
         take_from(&mut self.rt.reader(), buf, &mut self.faults)
     }

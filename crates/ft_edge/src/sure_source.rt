@@ -1,5 +1,7 @@
 //! Bytes to be taken that never fail.
-ghost use Rattle.std.specs.Prelude.{◌≡◌, Some};
+ghost use Rattle.std.specs.Prelude.{◌≡◌, ◌<◌, None, Ok, Some, length, min};
+ghost use Rattle.std.specs.Io.{ReadsAtMost};
+ghost use Rattle.std.specs.Io.KnownBytes.{ReadConsumes};
 
 use crate::{Failed, Source};
 use std::marker::Model;
@@ -32,8 +34,15 @@ impl<'a> Source for SureSource<'a> {
 
     ghost faults = { λ _. 0 };
 
-    /// Takes the next bytes. It never fails, since the count of faults cannot rise.
-    fn take(&mut self, buf: &mut [u8]) -> Result<usize, Failed> {
+    ghost takes = { λ _. None };
+
+    /// Takes as many bytes as there are left, or as many as the buffer holds. It never fails.
+    fn take(&mut self, buf: &mut [u8]) -> Result<usize, Failed>
+        requires { 0 < length buf.old }
+        ensures bound { ReadsAtMost result buf.new }
+        ensures many { result ≡ Ok (min (length self.old) (length buf.new)) }
+        ensures bytes { ReadConsumes (Some self.old) (Some self.new) result buf.new }
+    {
         let count = self.left.len().min(buf.len());
         let (front, rest) = self.left.split_at(count);
         buf[..count].copy_from_slice(front);

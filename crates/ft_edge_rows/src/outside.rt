@@ -1,6 +1,6 @@
 use ft_edge::{
-    Failed, FolderShelf, Load, LoadFault, MemShelf, MemSink, MemSource, NullSink, Shelf, Sink,
-    Source, StdinSource, StdoutSink, SureSource,
+    Failed, FolderShelf, GatheringSink, Load, LoadFault, MemShelf, MemSink, MemSource, NullSink,
+    Shelf, Sink, Source, StdinSource, StdoutSink, SureSource,
 };
 use std::test::Fail;
 
@@ -83,5 +83,22 @@ fn standard_streams_start(rt: HostRuntime) -> Result<(), Fail> {
     let _script = StdinSource::new(rt.clone()?);
     let mut out = StdoutSink::new(rt.clone()?);
     assert_eq!(rt; out.put(b""), Ok(()));
+    Ok(())
+}
+
+#[test]
+fn gathering_sink_hands_on_all_in_order(rt: HostRuntime) -> Result<(), Fail> {
+    let mut sink = GatheringSink::new(rt.alloc(), Vec::new(rt.alloc()))?;
+    let line = [b'x'; 1000];
+    for _ in 0..70 {
+        sink.put(&line)?;
+    }
+    sink.put(b"end")?;
+    let written = sink.finish()?;
+    assert_eq!(rt; written.len(), 70_003);
+    assert_eq!(rt; &written[69_999..], b"xend".as_slice());
+    let mut sink = GatheringSink::new(rt.alloc(), Vec::new(rt.alloc()))?;
+    sink.put(b"let go")?;
+    assert_eq!(rt; sink.discard().len(), 0);
     Ok(())
 }

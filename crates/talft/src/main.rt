@@ -1,16 +1,21 @@
 //! The tool over the files of the system, standard input and standard output.
 //!
-//! The program's words are its arguments and its status is the answer of `ft_tool::tool`, whose
-//! contract says what it writes and answers. What is here only hands things over: arguments that are
-//! no text are no command, so they are handed over as no words at all.
+//! The program's words are its arguments, and `ft_tool::tool` does what they ask for: its contract says
+//! what it writes and answers. Arguments that are no text are no command, so they are handed over as no
+//! words at all. Lines are gathered and written in large pieces. What is gathered at the end is written
+//! before the program ends; the status is that of `tool`, or 4 when this last write fails.
 #![tactic(auto)]
 
-use ft_edge::{FolderShelf, StdinSource, StdoutSink};
+use ft_edge::{FolderShelf, GatheringSink, StdinSource};
+use std::io::Write;
 use std::process::ExitCode;
 use std::rt::{Env, Files};
 use std::{env, io};
 
-/// The status of want of memory.
+/// The status of an output that could not be written.
+const NOT_WRITTEN: u8 = 4;
+
+/// The status of a call that ran out of memory.
 const NO_MEMORY: u8 = 5;
 
 /// The program's arguments, without its own name.
@@ -30,14 +35,29 @@ fn run<R: Env + Files + Print + Input + AllocGlobal + Clone + Drop>(rt: &R) -> i
     };
     let mut shelf = FolderShelf::new(rt.clone()?, rt.alloc());
     let mut script = StdinSource::new(rt.clone()?);
-    let mut out = StdoutSink::new(rt.clone()?);
-    Ok(ft_tool::tool(
+    let Ok(mut out) = GatheringSink::new(rt.alloc(), io::writer(rt)) else {
+        return Ok(NO_MEMORY);
+    };
+    let status = ft_tool::tool(
         rt.alloc(),
         words.as_slice(),
         &mut shelf,
         &mut script,
         &mut out,
-    ))
+    );
+    Ok(ended(out, status))
+}
+
+/// Hands on what is still gathered, unless a put failed: then nothing more is written.
+fn ended<W: Write + Drop>(out: GatheringSink<W>, status: u8) -> u8 {
+    if status == NOT_WRITTEN {
+        let _ = out.discard();
+        return status;
+    }
+    match out.finish() {
+        Ok(_) => status,
+        Err(_) => NOT_WRITTEN,
+    }
 }
 
 fn main(rt: HostRuntime) -> ExitCode {
