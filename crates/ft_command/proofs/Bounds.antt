@@ -1,11 +1,13 @@
 -- The number that `--steps` gives is within what the command allows.
 use Rattle.std.proofs.Common.{ℕ, ◌≤◌, List, [], ◌∷◌, Option, Some, None, sym, subst, arith}
 use Rattle.std.specs.Option.{option_map, unwrap_or}
+use Rattle.std.specs.Prelude.{IfSome}
 use Rattle.ft_command.specs.declared.allowed.Allowed.{Allowed}
 use Rattle.ft_command.specs.declared.verb.Verb.{Verb}
 use Rattle.ft_command.specs.declared.verb.Verb.TheVariants as verb
 use Rattle.ft_command.specs.Options.{Word, Given, none_given, IsNumberUpTo, Gives, by_steps, by_turns, by_strike, by_wild, by_faults, GivesAll}
-use Rattle.ft_command.specs.Commands.{allowed_of, campaign_of, request_of, Request, Strikes, Surveys, AreCommand, HasFewSteps}
+use Rattle.ft_command.specs.Commands.{allowed_of, campaign_of, turns_up_to, request_of, Request, Strikes, Surveys, Demonstrates, AreCommand, HasFewSteps, HasTurns}
+use Rattle.ft_command.proofs.Numbers.{turns_within}
 
 -- a number that was given is allowed and at most the greatest
 abbrev IsUpTo : Option ℕ → Option ℕ → Type 0
@@ -41,6 +43,10 @@ few_of_list : (f : Word → Request) (x : Option Word) → ((w : Word) → HasFe
 few_of_list f None h = tt
 few_of_list f (Some w) h = h w
 
+few_of_turns : (x : Option ℕ) → HasFewStepsIfSome (option_map Demonstrates x)
+few_of_turns None = tt
+few_of_turns (Some n) = tt
+
 few_of : (v : Verb) (operand : Word) (given : Given) → IsUpTo (allowed_of v).steps given.steps → HasFewStepsIfSome (request_of v operand given)
 few_of verb.Check operand given h = tt
 few_of verb.Run operand given h = tt
@@ -51,6 +57,7 @@ few_of verb.Compile operand given h = tt
 few_of verb.Exec operand given h = tt
 few_of verb.Mean operand given h = tt
 few_of verb.Debug operand given h = tt
+few_of verb.Demo operand given h = few_of_turns (turns_up_to 10921 operand)
 
 none_up_to : (v : Verb) → IsUpTo (allowed_of v).steps none_given.steps
 none_up_to v = tt
@@ -58,3 +65,33 @@ none_up_to v = tt
 -- what words that are a command ask for has few steps
 pub few_steps : (words : List Word) (request : Request) → AreCommand words request → HasFewSteps request
 few_steps words request h = subst HasFewStepsIfSome h.request_is (few_of h.verb h.operand h.given (after_options (allowed_of h.verb) h.options none_given h.given (none_up_to h.verb) h.gives))
+
+-- TURNS
+
+abbrev HasTurnsIfSome : Option Request → Type 0
+HasTurnsIfSome None = Unit {0}
+HasTurnsIfSome (Some request) = HasTurns request
+
+turns_of_list : (f : Word → Request) (x : Option Word) → ((w : Word) → HasTurns (f w)) → HasTurnsIfSome (option_map f x)
+turns_of_list f None h = tt
+turns_of_list f (Some w) h = h w
+
+turns_of_number : (x : Option ℕ) → IfSome x (λ n. (1 ≤ n) × (n ≤ 10921)) → HasTurnsIfSome (option_map Demonstrates x)
+turns_of_number None h = tt
+turns_of_number (Some n) h = h
+
+turns_of : (v : Verb) (operand : Word) (given : Given) → HasTurnsIfSome (request_of v operand given)
+turns_of verb.Check operand given = tt
+turns_of verb.Run operand given = tt
+turns_of verb.Trial operand given = tt
+turns_of verb.Campaign operand given = turns_of_list (λ faults. Strikes (campaign_of operand given faults)) given.faults (λ w. tt)
+turns_of verb.Survey operand given = turns_of_list (λ faults. Surveys (campaign_of operand given faults)) given.faults (λ w. tt)
+turns_of verb.Compile operand given = tt
+turns_of verb.Exec operand given = tt
+turns_of verb.Mean operand given = tt
+turns_of verb.Debug operand given = tt
+turns_of verb.Demo operand given = turns_of_number (turns_up_to 10921 operand) (turns_within 10921 operand)
+
+-- a demonstration that words ask for has from 1 to 10,921 turns
+pub few_turns : (words : List Word) (request : Request) → AreCommand words request → HasTurns request
+few_turns words request h = subst HasTurnsIfSome h.request_is (turns_of h.verb h.operand h.given)

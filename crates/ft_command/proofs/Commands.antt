@@ -1,10 +1,10 @@
 -- Commands by their first words.
-use Rattle.std.proofs.Common.{◌≡◌, List, [], ◌∷◌, refl, sym, ap, ◌∙◌, subst, slice_index, slice_index_or, drop, if◌then◌else◌, ◌==◌, Option, Some, None}
+use Rattle.std.proofs.Common.{◌≡◌, ℕ, List, [], ◌∷◌, refl, sym, ap, ◌∙◌, subst, slice_index, slice_index_or, drop, if◌then◌else◌, ◌==◌, Option, Some, None}
 use Rattle.std.specs.Option.{option_map, unwrap_or}
 use Rattle.ft_command.specs.declared.verb.Verb.{Verb}
 use Rattle.ft_command.specs.declared.verb.Verb.TheVariants as verb
 use Rattle.ft_command.specs.Options.{Word, Given, none_given, GivesAll}
-use Rattle.ft_command.specs.Commands.{name_of, allowed_of, request_of, Request, Usage, Checks, Runs, Tries, Strikes, Surveys, Compiles, Executes, Means, Debugs, AreCommand, Asks}
+use Rattle.ft_command.specs.Commands.{name_of, allowed_of, turns_up_to, request_of, Request, Usage, Checks, Runs, Tries, Strikes, Surveys, Compiles, Executes, Means, Debugs, Demonstrates, AreCommand, Asks}
 
 -- the command that a name is of, by its letters
 verb_by : Word → Verb
@@ -16,7 +16,8 @@ verb_by w =
     else if slice_index w 1 == 111 then verb.Compile
     else if slice_index w 0 == 99 then verb.Campaign
     else if slice_index w 0 == 115 then verb.Survey
-    else if slice_index w 0 == 100 then verb.Debug
+    else if slice_index w 2 == 98 then verb.Debug
+    else if slice_index w 0 == 100 then verb.Demo
     else verb.Mean
 
 verb_by-name_of : (v : Verb) → verb_by (name_of v) ≡ v
@@ -30,6 +31,7 @@ verb_by-name_of verb.Compile = refl
 verb_by-name_of verb.Exec = refl
 verb_by-name_of verb.Mean = refl
 verb_by-name_of verb.Debug = refl
+verb_by-name_of verb.Demo = refl
 
 -- commands with one name are one
 same_verb : (u v : Verb) → name_of u ≡ name_of v → u ≡ v
@@ -59,6 +61,11 @@ no_usage_of : (f : Word → Request) (x : Option Word) → ((w : Word) → Some 
 no_usage_of f None h e = absurd (cc)
 no_usage_of f (Some w) h e = h w e
 
+-- no number of turns asks for the line on usage
+no_usage_of_number : (x : Option ℕ) → option_map Demonstrates x ≡ Some Usage → ⊥
+no_usage_of_number None e = absurd (cc)
+no_usage_of_number (Some n) e = absurd (cc)
+
 -- no command asks for the line on usage
 no_usage : (v : Verb) (operand : Word) (given : Given) → request_of v operand given ≡ Some Usage → ⊥
 no_usage verb.Check operand given e = absurd (cc)
@@ -70,6 +77,7 @@ no_usage verb.Compile operand given e = absurd (cc)
 no_usage verb.Exec operand given e = absurd (cc)
 no_usage verb.Mean operand given e = absurd (cc)
 no_usage verb.Debug operand given e = absurd (cc)
+no_usage verb.Demo operand given e = no_usage_of_number (turns_up_to 10921 operand) e
 
 -- what a command asks for, the words ask for
 pub asks : (words : List Word) (request : Request) → AreCommand words request → Asks words request
@@ -83,6 +91,7 @@ asks words (Compiles source) h = h
 asks words (Executes execution) h = h
 asks words (Means meaning) h = h
 asks words (Debugs debugging) h = h
+asks words (Demonstrates turns) h = h
 
 -- what words ask for but usage, they are a command for
 pub by_command : (words : List Word) (request other : Request) → AreCommand words request → Asks words other → AreCommand words other
@@ -96,6 +105,7 @@ by_command words request (Compiles source) asked h = h
 by_command words request (Executes execution) asked h = h
 by_command words request (Means meaning) asked h = h
 by_command words request (Debugs debugging) asked h = h
+by_command words request (Demonstrates turns) asked h = h
 
 -- words that are a command ask for nothing else
 pub asks_only : (words options : List Word) (v : Verb) (operand : Word) (given : Given) (request : Request) → words ≡ name_of v ∷ operand ∷ options
@@ -132,3 +142,4 @@ usage_only words none (Compiles source) h = absurd (none (Compiles source) h)
 usage_only words none (Executes execution) h = absurd (none (Executes execution) h)
 usage_only words none (Means meaning) h = absurd (none (Means meaning) h)
 usage_only words none (Debugs debugging) h = absurd (none (Debugs debugging) h)
+usage_only words none (Demonstrates turns) h = absurd (none (Demonstrates turns) h)

@@ -1,4 +1,5 @@
-mod Given
-mod Commands
 mod Bounds
+mod Commands
+mod Given
+mod Numbers
 mod One

@@ -1,6 +1,7 @@
 -- What words ask for: the table of commands.
-use Rattle.std.specs.Prelude.{◌≡◌, ℕ, ◌≤◌, true, false, List, [], ◌∷◌, Option, Some, None, codes}
+use Rattle.std.specs.Prelude.{◌≡◌, ℕ, zero, suc, ◌≤◌, true, false, if◌then◌else◌, List, [], ◌∷◌, Option, Some, None, codes, decimal}
 use Rattle.std.specs.Option.{unwrap_or, option_map}
+use Rattle.std.specs.Str.{bytes_eq}
 use Rattle.ft_isa.specs.declared.plan.Strike.{Strike}
 use Rattle.ft_isa.specs.declared.plan.Wild.{Wild}
 use Rattle.ft_command.specs.declared.allowed.Allowed.{Allowed}
@@ -19,6 +20,7 @@ name_of verb.Compile = codes "compile"
 name_of verb.Exec = codes "exec"
 name_of verb.Mean = codes "mean"
 name_of verb.Debug = codes "debug"
+name_of verb.Demo = codes "demo"
 
 -- no options
 abbrev pub no_options : Allowed
@@ -55,6 +57,7 @@ allowed_of verb.Compile = no_options
 allowed_of verb.Exec = execution_options
 allowed_of verb.Mean = meaning_options
 allowed_of verb.Debug = debugging_options
+allowed_of verb.Demo = no_options
 
 -- the run of an object, for at most so many steps, under a plan
 pub record Run : Type 0 where
@@ -115,6 +118,11 @@ pub record Debugging : Type 0 where
 abbrev pub debugging_of : Word → Given → Debugging
 debugging_of object given = record { object = object; wild = unwrap_or given.wild [] }
 
+-- the number from 1 to the most of which these are the decimal digits
+unfoldable pub turns_up_to : ℕ → Word → Option ℕ
+turns_up_to zero text = None
+turns_up_to (suc n) text = if bytes_eq text (decimal (suc n)) then Some (suc n) else turns_up_to n text
+
 -- what words ask for
 pub data Request : Type 0 where
   -- the line on usage
@@ -137,8 +145,10 @@ pub data Request : Type 0 where
   Means : Meaning → Request
   -- a debugging of an object that is not checked
   Debugs : Debugging → Request
+  -- the run of the object of this number of turns, and a campaign on it
+  Demonstrates : ℕ → Request
 
--- what a command asks for, with its operand and its options; campaigns need their list
+-- what a command asks for, with its operand and its options; campaigns need their list, and a demonstration a number of turns
 abbrev pub request_of : Verb → Word → Given → Option Request
 request_of verb.Check operand given = Some (Checks operand)
 request_of verb.Run operand given = Some (Runs (run_of operand given))
@@ -149,6 +159,7 @@ request_of verb.Compile operand given = Some (Compiles operand)
 request_of verb.Exec operand given = Some (Executes (execution_of operand given))
 request_of verb.Mean operand given = Some (Means (meaning_of operand given))
 request_of verb.Debug operand given = Some (Debugs (debugging_of operand given))
+request_of verb.Demo operand given = option_map Demonstrates (turns_up_to 10921 operand)
 
 -- the words are a command, its operand, and options that it takes, and ask for this
 pub record AreCommand (words : List Word) (request : Request) : Type 0 where
@@ -172,6 +183,7 @@ Asks words (Compiles source) = AreCommand words (Compiles source)
 Asks words (Executes execution) = AreCommand words (Executes execution)
 Asks words (Means meaning) = AreCommand words (Means meaning)
 Asks words (Debugs debugging) = AreCommand words (Debugs debugging)
+Asks words (Demonstrates turns) = AreCommand words (Demonstrates turns)
 
 -- each run of a campaign takes at most 1,000,000 steps
 abbrev pub HasFewSteps : Request → Type 0
@@ -185,3 +197,18 @@ HasFewSteps (Compiles source) = Unit {0}
 HasFewSteps (Executes execution) = Unit {0}
 HasFewSteps (Means meaning) = Unit {0}
 HasFewSteps (Debugs debugging) = Unit {0}
+HasFewSteps (Demonstrates turns) = Unit {0}
+
+-- a demonstration has from 1 to 10,921 turns
+abbrev pub HasTurns : Request → Type 0
+HasTurns Usage = Unit {0}
+HasTurns (Checks object) = Unit {0}
+HasTurns (Runs run) = Unit {0}
+HasTurns (Tries run) = Unit {0}
+HasTurns (Strikes campaign) = Unit {0}
+HasTurns (Surveys campaign) = Unit {0}
+HasTurns (Compiles source) = Unit {0}
+HasTurns (Executes execution) = Unit {0}
+HasTurns (Means meaning) = Unit {0}
+HasTurns (Debugs debugging) = Unit {0}
+HasTurns (Demonstrates turns) = (1 ≤ turns) × (turns ≤ 10921)

@@ -1,15 +1,18 @@
 //! What the words of a command line ask for.
 ghost use Rattle.std.specs.Prelude.{◌≡◌, map, string_bytes, IfOk};
-ghost use Rattle.ft_command.specs.Commands.{Asks, Request, HasFewSteps, run_of, campaign_of, meaning_of, execution_of, debugging_of, request_of};
+ghost use Rattle.ft_command.specs.Commands.{Asks, Request, HasFewSteps, HasTurns, run_of, campaign_of, meaning_of, execution_of, debugging_of, turns_up_to, request_of};
 ghost use Rattle.ft_command.specs.Asked.{given_of, run_view, campaign_view, meaning_view, execution_view, debugging_view, asked, asked_or_usage};
 
 use crate::options::{OptionError, Options, read_options};
 use crate::verb::Verb;
-use ft_isa::{NoMemory, Strike, Wild};
+use ft_isa::{NoMemory, Strike, Wild, read_number};
 use std::alloc::Global;
 
 /// How many steps a run takes at the most where `--steps` is not given.
 const STEPS: u64 = 1_000_000;
+
+/// The most turns of a demonstration.
+const DEMO_TURNS: u64 = 10_921;
 
 /// How many turns a meaning takes at the most where `--turns` is not given.
 const TURNS: u64 = 1_000_000;
@@ -37,6 +40,8 @@ pub enum Command<'w> {
     Mean(Meaning<'w>),
     /// Debugs an object without checking it.
     Debug(Debugging<'w>),
+    /// Makes an object of so many turns, runs it and tries faults on it.
+    Demo(u32),
 }
 
 /// The run of an object: the file's name, how many steps at the most, and the plan.
@@ -138,6 +143,22 @@ fn debugging_of<'w>(alloc: Global, object: &'w str, options: Options<'w>) -> Deb
     }
 }
 
+/// The number of turns of a demonstration, from 1 to 10,921; `None` exactly when the word is none.
+fn turns_of(operand: &str) -> Option<u32>
+    ensures { result ≡ turns_up_to 10921 operand.now }
+{
+    let Some(turns) = read_number(operand.as_bytes()) else {
+        return None;
+    };
+    if turns < 1 {
+        return None;
+    }
+    if turns > DEMO_TURNS {
+        return None;
+    }
+    Some(turns as u32)
+}
+
 /// The command of a verb with its operand and options, if it has the options that it needs.
 fn command_from<'w>(
     alloc: Global,
@@ -167,6 +188,10 @@ fn command_from<'w>(
         Verb::Exec => Command::Exec(execution_of(operand, options)),
         Verb::Mean => Command::Mean(meaning_of(operand, options)),
         Verb::Debug => Command::Debug(debugging_of(alloc, operand, options)),
+        Verb::Demo => match turns_of(operand) {
+            Some(turns) => Command::Demo(turns),
+            None => return None,
+        },
     };
     Some(command)
 }
@@ -175,6 +200,7 @@ fn command_from<'w>(
 pub fn command_of(alloc: Global, words: &[String]) -> Result<Command<'_>, NoMemory>
     ensures ok { IfOk result (λ command. Asks (map string_bytes words.now) (asked command)) }
     ensures few_steps { IfOk result (λ command. HasFewSteps (asked command)) }
+    ensures turns { IfOk result (λ command. HasTurns (asked command)) }
     ensures only { IfOk result (λ command. (other : Request) → Asks (map string_bytes words.now) other → other ≡ asked command) }
 {
     let [first, operand, rest @ ..] = words else {

@@ -43,6 +43,8 @@ pub enum Verb {
     Mean,
     /// `debug`: debugs an object without checking it.
     Debug,
+    /// `demo`: makes an object of so many turns, runs it and tries faults on it.
+    Demo,
 }
 
 impl Verb {
@@ -78,6 +80,9 @@ impl Verb {
         if word == "debug" {
             return Some(Verb::Debug);
         }
+        if word == "demo" {
+            return Some(Verb::Demo);
+        }
         None
     }
 
@@ -86,7 +91,7 @@ impl Verb {
         ensures { result ≡ allowed_of self }
     {
         match self {
-            Verb::Check | Verb::Compile => NONE,
+            Verb::Check | Verb::Compile | Verb::Demo => NONE,
             Verb::Exec => Allowed {
                 steps: Some(RUN_STEPS),
                 ..NONE

@@ -14,7 +14,7 @@ use Rattle.ft_types.proofs.Acceptance.{accepted_is_unrefused}
 use Rattle.ft_inject.proofs.Masking.{tolerant}
 use Rattle.ft_isa.specs.declared.plan.Strike.{Strike}
 use Rattle.ft_types.specs.Texts.{lines}
-use Rattle.ft_format.specs.Broken.{broken}
+use Rattle.ft_format.specs.Broken.{broken, object_of}
 use Rattle.ft_format.specs.declared.object_error.ObjectError.TheVariants.{Length}
 use Rattle.ft_command.specs.Options.{Word}
 use Rattle.ft_command.specs.Commands.{Run}
@@ -124,9 +124,9 @@ pub too_long_file : (files : Option Files) (name : Word) → IfSome files (λ fs
 too_long_file None name told = let h = longer_bytes 67108864 in (h.0, (tt, too_long h.0 h.1))
 too_long_file (Some files) name told = (told.bytes, (told.found, too_long told.bytes told.longer))
 
--- the answer over an object that a file's bytes spell is one over the file
-pub over_object : (Over : objects.Object → Answer → Type 0) (files : Option Files) (name : Word) (o : objects.Object) → LoadsObject files name (Ok o) → (a : Answer) → Over o a → OverFile Over name files a
-over_object Over files name o h a is = (h.0, (h.1.0, inl (o, (h.1.1, is))))
+-- the answer over the object that a file's bytes spell is one over the file
+pub over_object : (Over : objects.Object → Answer → Type 0) (files : Option Files) (name : Word) (bytes : List ℕ) → LoadsObject files name (Ok bytes) → (a : Answer) → Over (object_of bytes) a → OverFile Over name files a
+over_object Over files name bytes h a is = (bytes, (h.0, inl (object_of bytes, (h.1, is))))
 
 -- the answer to a file's bytes that are refused is one over the file
 pub over_fault : (Over : objects.Object → Answer → Type 0) (files : Option Files) (name : Word) (e : ObjectFault) → LoadsObject files name (Err e) → (a : Answer) → IsRefusedBy e a → OverFile Over name files a

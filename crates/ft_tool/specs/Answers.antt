@@ -14,7 +14,7 @@ use Rattle.ft_format.specs.declared.object_error.ObjectError.{ObjectError}
 use Rattle.ft_format.specs.Format.{Spells}
 use Rattle.ft_format.specs.Broken.{broken}
 use Rattle.ft_command.specs.Options.{Word}
-use Rattle.ft_command.specs.Commands.{Run, Campaign, Debugging, Request, Usage, Checks, Runs, Tries, Strikes, Surveys, Compiles, Executes, Means, Debugs, Asks}
+use Rattle.ft_command.specs.Commands.{Run, Campaign, Debugging, Request, Usage, Checks, Runs, Tries, Strikes, Surveys, Compiles, Executes, Means, Debugs, Demonstrates, Asks}
 use Rattle.ft_campaign.specs.declared.verdict.Verdict.{Verdict}
 use Rattle.ft_tool.specs.Texts.{object_line, accepted_line, check_line}
 use Rattle.ft_tool.specs.Replies.{Answer, ran, IsFile}
@@ -22,6 +22,7 @@ use Rattle.ft_scope.specs.Resolved.{Program}
 use Rattle.ft_tool.specs.Sources.{OverText, CompilesProgram, ExecutesProgram, MeansProgram}
 use Rattle.ft_tool.specs.Lists.{AnyVerdicts, NoneCorrupt, OverList}
 use Rattle.ft_tool.specs.Scripts.{DebugsObject}
+use Rattle.ft_tool.specs.Demonstrations.{ShowsSample}
 
 -- words that are no command
 abbrev pub usage : Answer
@@ -106,6 +107,7 @@ Answers (Compiles name) files script a = OverSource CompilesProgram name files a
 Answers (Executes e) files script a = OverSource (ExecutesProgram e.steps) e.source files a
 Answers (Means m) files script a = OverSource (MeansProgram m.turns) m.source files a
 Answers (Debugs d) files script a = OverFile (DebugsObject d script) d.object files a
+Answers (Demonstrates turns) files script a = ShowsSample turns a
 
 -- the answer of the command that the words ask for
 pub record IsAnswer (words : List Word) (files : Option Files) (script : Option (List ℕ)) (a : Answer) : Type 0 where
@@ -146,6 +148,7 @@ ComesTo (Compiles name) files file = file ≡ name
 ComesTo (Executes e) files file = file ≡ e.source
 ComesTo (Means m) files file = file ≡ m.source
 ComesTo (Debugs d) files file = file ≡ d.object
+ComesTo (Demonstrates turns) files file = ⊥
 
 -- a request came to load a file; that load was the last that failed, and the count of failed loads rose
 pub record FailsIn (request : Request) (files : Option Files) (before now : ℕ) (failed : Option (List ℕ)) : Type 0 where

@@ -2,9 +2,8 @@
 use Rattle.std.specs.Prelude.{◌≡◌, ℕ, ◌<◌, List, length, Option, Some, Result, Ok, Err}
 use Rattle.ft_edge.specs.Causes.{Rose}
 use Rattle.ft_edge.specs.Loads.{Files}
-use Rattle.ft_types.specs.declared.object.Object.{Object}
 use Rattle.ft_format.specs.Format.{Spells}
-use Rattle.ft_format.specs.Broken.{broken}
+use Rattle.ft_format.specs.Broken.{broken, object_of}
 use Rattle.ft_command.specs.Options.{Word}
 use Rattle.ft_types.specs.Accepted as accepted
 use Rattle.ft_rules.specs.Answers.{premise_of}
@@ -25,16 +24,16 @@ use Rattle.ft_tool.specs.declared.load.ListFault.TheVariants as list_faults
 use Rattle.ft_tool.specs.declared.load.ObjectFault.{ObjectFault}
 use Rattle.ft_tool.specs.declared.load.ObjectFault.TheVariants.{Refused, Failed, NoMemory}
 
--- the file's bytes spell the object, or break a rule of the format first
-abbrev pub LoadsObject : Option Files → Word → Result Object ObjectFault → Type 0
-LoadsObject files name (Ok o) = (bytes : List ℕ) × (IsFile files name bytes × Spells bytes o)
+-- the file's bytes, and that they spell an object, or the first rule of the format that they break
+abbrev pub LoadsObject : Option Files → Word → Result (List ℕ) ObjectFault → Type 0
+LoadsObject files name (Ok bytes) = IsFile files name bytes × Spells bytes (object_of bytes)
 LoadsObject files name (Err (Refused e)) = (bytes : List ℕ) × (IsFile files name bytes × (broken bytes ≡ Some e))
 LoadsObject files name (Err Failed) = Unit {0}
 LoadsObject files name (Err NoMemory) = Unit {0}
 
 -- a load that failed shows in the count and left its name; any other answer leaves both as they were
-abbrev pub LoadCause : ℕ → ℕ → Option (List ℕ) → Option (List ℕ) → Word → Result Object ObjectFault → Type 0
-LoadCause before now failed failed' name (Ok o) = (now ≡ before) × (failed' ≡ failed)
+abbrev pub LoadCause : ℕ → ℕ → Option (List ℕ) → Option (List ℕ) → Word → Result (List ℕ) ObjectFault → Type 0
+LoadCause before now failed failed' name (Ok bytes) = (now ≡ before) × (failed' ≡ failed)
 LoadCause before now failed failed' name (Err (Refused e)) = (now ≡ before) × (failed' ≡ failed)
 LoadCause before now failed failed' name (Err Failed) = Rose before now × (failed' ≡ Some name)
 LoadCause before now failed failed' name (Err NoMemory) = (now ≡ before) × (failed' ≡ failed)

@@ -3,6 +3,7 @@ pub mod Replies
 pub mod Lists
 pub mod Sources
 pub mod Scripts
+pub mod Demonstrations
 pub mod Answers
 pub mod Files
 pub mod Endings

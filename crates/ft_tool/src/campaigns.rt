@@ -9,23 +9,24 @@ ghost use Rattle.ft_tool.specs.Answers.{OverListFile, SurveysObject, StrikesObje
 ghost use Rattle.ft_tool.specs.Lists.{AnyVerdicts, NoneCorrupt, OverFaults};
 ghost use Rattle.ft_tool.specs.Endings.{Ends, Puts};
 
+use crate::checking::check;
 use crate::ending::{Ending, put_list_line, refuse_check, refuse_list};
 use crate::load::load_list;
 use ft_campaign::{CampaignEnd, campaign, survey};
-use ft_checker::{Checked, check};
+use ft_checker::Checked;
 use ft_command::Campaign;
 use ft_edge::{Shelf, Sink};
 use ft_isa::Strike;
 use ft_steps::Steps;
-use ft_types::Object;
+use ft_types::Program;
 use std::alloc::Global;
 use std::marker::Brand;
 use std::sync::ledger::{Blank, Ledger};
 
 /// A campaign on an object that is not checked, with a counter of its own.
-fn survey_counted<K: Sink, L: Ledger>(
+fn survey_counted<P: Program, K: Sink, L: Ledger>(
     alloc: Global,
-    object: &Object,
+    program: &P,
     faults: &[Strike],
     asked: &Campaign,
     out: &mut K,
@@ -34,17 +35,17 @@ fn survey_counted<K: Sink, L: Ledger>(
     requires name { blank.name ≡ L.name }
     requires parts { blank.parts ≡ L.parts }
     requires some { 0 < L.parts }
-    requires spellable { IsSpellable object.now }
+    requires spellable { IsSpellable (P.object program.now) }
     requires faults { length faults.now ≤ 65536 }
     requires steps { asked.now.steps ≤ 1000000 }
-    ensures ends { CampaignEnds result object.now faults.now asked.now.wild.items asked.now.steps (K.written out.old) (K.written out.new) (K.puts out.old) (K.puts out.new) }
+    ensures ends { CampaignEnds result (P.object program.now) faults.now asked.now.wild.items asked.now.steps (K.written out.old) (K.written out.new) (K.puts out.old) (K.puts out.new) }
     ensures too_much { 1000000000 < length faults.now * asked.now.steps → result ≡ CampaignEnd.TooMuch (length faults.now * asked.now.steps) }
     ensures cause { IsExcused result (K.faults out.old) (K.faults out.new) }
 {
     let mut steps = Steps::<L>::new(blank);
     survey(
         alloc,
-        object,
+        program,
         faults,
         asked.wild.as_slice(),
         asked.steps,
@@ -54,9 +55,9 @@ fn survey_counted<K: Sink, L: Ledger>(
 }
 
 /// A campaign on an object that is accepted, with a counter of its own.
-fn campaign_counted<K: Sink, L: Ledger>(
+fn campaign_counted<P: Program, K: Sink, L: Ledger>(
     alloc: Global,
-    checked: &Checked<Object>,
+    checked: &Checked<P>,
     faults: &[Strike],
     asked: &Campaign,
     out: &mut K,
@@ -67,7 +68,7 @@ fn campaign_counted<K: Sink, L: Ledger>(
     requires some { 0 < L.parts }
     requires faults { length faults.now ≤ 65536 }
     requires steps { asked.now.steps ≤ 1000000 }
-    ensures ends { CampaignEnds result checked.now faults.now asked.now.wild.items asked.now.steps (K.written out.old) (K.written out.new) (K.puts out.old) (K.puts out.new) }
+    ensures ends { CampaignEnds result (P.object checked.now) faults.now asked.now.wild.items asked.now.steps (K.written out.old) (K.written out.new) (K.puts out.old) (K.puts out.new) }
     ensures too_much { 1000000000 < length faults.now * asked.now.steps → result ≡ CampaignEnd.TooMuch (length faults.now * asked.now.steps) }
     ensures cause { IsExcused result (K.faults out.old) (K.faults out.new) }
     ensures uncorrupted { IsUncorrupted result }
@@ -85,22 +86,22 @@ fn campaign_counted<K: Sink, L: Ledger>(
 }
 
 /// The verdicts of faults on an object that is not checked.
-fn survey_faults<K: Sink>(
+fn survey_faults<P: Program, K: Sink>(
     alloc: Global,
-    object: &Object,
+    program: &P,
     faults: &[Strike],
     asked: &Campaign,
     out: &mut K,
 ) -> Ending
-    requires spellable { IsSpellable object.now }
+    requires spellable { IsSpellable (P.object program.now) }
     requires faults { length faults.now ≤ 65536 }
     requires steps { asked.now.steps ≤ 1000000 }
-    ensures ends { Ends result (OverFaults AnyVerdicts (campaign_view asked.now) object.now faults.now)
+    ensures ends { Ends result (OverFaults AnyVerdicts (campaign_view asked.now) (P.object program.now) faults.now)
         (K.written out.old) (K.written out.new) (K.faults out.old) (K.faults out.new) ⊥ }
     ensures puts { Puts result (K.puts out.old) (K.puts out.new) }
     ensures faults { result ≢ Ending.WriteFault → K.faults out.new ≡ K.faults out.old }
 {
-    match survey_counted::<K, Brand>(alloc, object, faults, asked, out, Blank::new(1)) {
+    match survey_counted::<P, K, Brand>(alloc, program, faults, asked, out, Blank::new(1)) {
         CampaignEnd::Finished(totals) => {
             if totals.corrupt == 0 {
                 Ending::Done
@@ -115,23 +116,23 @@ fn survey_faults<K: Sink>(
 }
 
 /// The verdicts of faults on an object that is accepted, of which none is corrupt.
-fn campaign_faults<K: Sink>(
+fn campaign_faults<P: Program, K: Sink>(
     alloc: Global,
-    checked: &Checked<Object>,
+    checked: &Checked<P>,
     faults: &[Strike],
     asked: &Campaign,
     out: &mut K,
 ) -> Ending
-    requires spellable { IsSpellable checked.now }
-    requires accepted { refusal checked.now ≡ None }
+    requires spellable { IsSpellable (P.object checked.now) }
+    requires accepted { refusal (P.object checked.now) ≡ None }
     requires faults { length faults.now ≤ 65536 }
     requires steps { asked.now.steps ≤ 1000000 }
-    ensures ends { Ends result (OverFaults NoneCorrupt (campaign_view asked.now) checked.now faults.now)
+    ensures ends { Ends result (OverFaults NoneCorrupt (campaign_view asked.now) (P.object checked.now) faults.now)
         (K.written out.old) (K.written out.new) (K.faults out.old) (K.faults out.new) ⊥ }
     ensures puts { Puts result (K.puts out.old) (K.puts out.new) }
     ensures faults { result ≢ Ending.WriteFault → K.faults out.new ≡ K.faults out.old }
 {
-    match campaign_counted::<K, Brand>(alloc, checked, faults, asked, out, Blank::new(1)) {
+    match campaign_counted::<P, K, Brand>(alloc, checked, faults, asked, out, Blank::new(1)) {
         CampaignEnd::Finished(_) => Ending::Done,
         CampaignEnd::TooMuch { product } => put_list_line(3, product, out),
         CampaignEnd::WriteFault => Ending::WriteFault,
@@ -140,16 +141,16 @@ fn campaign_faults<K: Sink>(
 }
 
 /// Loads a fault list and tries it on an object that is not checked.
-pub(crate) fn survey_object<F: Shelf, K: Sink>(
+pub(crate) fn survey_object<P: Program, F: Shelf, K: Sink>(
     alloc: Global,
-    object: &Object,
+    program: &P,
     asked: &Campaign,
     shelf: &mut F,
     out: &mut K,
 ) -> Ending
-    requires spellable { IsSpellable object.now }
+    requires spellable { IsSpellable (P.object program.now) }
     requires steps { asked.now.steps ≤ 1000000 }
-    ensures ends { Ends result (SurveysObject (campaign_view asked.now) (F.files shelf.old) object.now)
+    ensures ends { Ends result (SurveysObject (campaign_view asked.now) (F.files shelf.old) (P.object program.now))
         (K.written out.old) (K.written out.new) (K.faults out.old) (K.faults out.new)
         (Rose (F.faults shelf.old) (F.faults shelf.new) × (F.failed_name shelf.new ≡ Some asked.now.faults.now)) }
     ensures puts { Puts result (K.puts out.old) (K.puts out.new) }
@@ -157,23 +158,23 @@ pub(crate) fn survey_object<F: Shelf, K: Sink>(
     ensures load_faults { result ≢ Ending.LoadFault → (F.faults shelf.new ≡ F.faults shelf.old) × (F.failed_name shelf.new ≡ F.failed_name shelf.old) }
 {
     match load_list(alloc, asked.faults, shelf) {
-        Ok(faults) => survey_faults(alloc, object, faults.as_slice(), asked, out),
+        Ok(faults) => survey_faults(alloc, program, faults.as_slice(), asked, out),
         Err(fault) => refuse_list(fault, out),
     }
 }
 
 /// Loads a fault list and tries it on an object that is accepted.
-fn strike_checked<F: Shelf, K: Sink>(
+fn strike_checked<P: Program, F: Shelf, K: Sink>(
     alloc: Global,
-    checked: &Checked<Object>,
+    checked: &Checked<P>,
     asked: &Campaign,
     shelf: &mut F,
     out: &mut K,
 ) -> Ending
-    requires spellable { IsSpellable checked.now }
-    requires accepted { refusal checked.now ≡ None }
+    requires spellable { IsSpellable (P.object checked.now) }
+    requires accepted { refusal (P.object checked.now) ≡ None }
     requires steps { asked.now.steps ≤ 1000000 }
-    ensures ends { Ends result (OverListFile NoneCorrupt (campaign_view asked.now) (F.files shelf.old) checked.now)
+    ensures ends { Ends result (OverListFile NoneCorrupt (campaign_view asked.now) (F.files shelf.old) (P.object checked.now))
         (K.written out.old) (K.written out.new) (K.faults out.old) (K.faults out.new)
         (Rose (F.faults shelf.old) (F.faults shelf.new) × (F.failed_name shelf.new ≡ Some asked.now.faults.now)) }
     ensures puts { Puts result (K.puts out.old) (K.puts out.new) }
@@ -187,23 +188,23 @@ fn strike_checked<F: Shelf, K: Sink>(
 }
 
 /// Checks an object, and tries a fault list on it where it is accepted.
-pub(crate) fn strike_object<F: Shelf, K: Sink>(
+pub(crate) fn strike_object<P: Program, F: Shelf, K: Sink>(
     alloc: Global,
-    object: &Object,
+    program: &P,
     asked: &Campaign,
     shelf: &mut F,
     out: &mut K,
 ) -> Ending
-    requires spellable { IsSpellable object.now }
+    requires spellable { IsSpellable (P.object program.now) }
     requires steps { asked.now.steps ≤ 1000000 }
-    ensures ends { Ends result (StrikesObject (campaign_view asked.now) (F.files shelf.old) object.now)
+    ensures ends { Ends result (StrikesObject (campaign_view asked.now) (F.files shelf.old) (P.object program.now))
         (K.written out.old) (K.written out.new) (K.faults out.old) (K.faults out.new)
-        (Rose (F.faults shelf.old) (F.faults shelf.new) × (F.failed_name shelf.new ≡ Some asked.now.faults.now) × (refusal object.now ≡ None)) }
+        (Rose (F.faults shelf.old) (F.faults shelf.new) × (F.failed_name shelf.new ≡ Some asked.now.faults.now) × (refusal (P.object program.now) ≡ None)) }
     ensures puts { Puts result (K.puts out.old) (K.puts out.new) }
     ensures faults { result ≢ Ending.WriteFault → K.faults out.new ≡ K.faults out.old }
     ensures load_faults { result ≢ Ending.LoadFault → (F.faults shelf.new ≡ F.faults shelf.old) × (F.failed_name shelf.new ≡ F.failed_name shelf.old) }
 {
-    match check(alloc, object) {
+    match check(alloc, program) {
         Ok(checked) => strike_checked(alloc, &checked, asked, shelf, out),
         Err(error) => refuse_check(error, out),
     }

@@ -14,25 +14,25 @@ use crate::script::take_script;
 use ft_command::Debugging;
 use ft_debug::{DebugEnd, session};
 use ft_edge::{Shelf, Sink, Source};
-use ft_types::Object;
+use ft_types::Program;
 use std::alloc::Global;
 
 /// Runs the session of a script over an object.
-fn debug_text<K: Sink>(
+fn debug_text<P: Program, K: Sink>(
     alloc: Global,
-    object: &Object,
+    program: &P,
     asked: &Debugging,
     text: &[u8],
     out: &mut K,
 ) -> Ending
-    requires spellable { IsSpellable object.now }
+    requires spellable { IsSpellable (P.object program.now) }
     requires short { length text.now ≤ 1048576 }
-    ensures ends { Ends result (DebugsText (debugging_view asked.now) object.now text.now)
+    ensures ends { Ends result (DebugsText (debugging_view asked.now) (P.object program.now) text.now)
         (K.written out.old) (K.written out.new) (K.faults out.old) (K.faults out.new) ⊥ }
     ensures puts { Puts result (K.puts out.old) (K.puts out.new) }
     ensures faults { result ≢ Ending.WriteFault → K.faults out.new ≡ K.faults out.old }
 {
-    match session(alloc, object, asked.wild.as_slice(), text, out) {
+    match session(alloc, program, asked.wild.as_slice(), text, out) {
         DebugEnd::Ended => Ending::Done,
         DebugEnd::WriteFault => Ending::WriteFault,
         DebugEnd::NoMemory => Ending::NoMemory,
@@ -40,15 +40,15 @@ fn debug_text<K: Sink>(
 }
 
 /// Takes the script and runs its session over an object.
-fn debug_object<I: Source, K: Sink>(
+fn debug_object<P: Program, I: Source, K: Sink>(
     alloc: Global,
-    object: &Object,
+    program: &P,
     asked: &Debugging,
     script: &mut I,
     out: &mut K,
 ) -> Ending
-    requires spellable { IsSpellable object.now }
-    ensures ends { Ends result (DebugsObject (debugging_view asked.now) (I.left script.old) object.now)
+    requires spellable { IsSpellable (P.object program.now) }
+    ensures ends { Ends result (DebugsObject (debugging_view asked.now) (I.left script.old) (P.object program.now))
         (K.written out.old) (K.written out.new) (K.faults out.old) (K.faults out.new)
         (Rose (I.faults script.old) (I.faults script.new)) }
     ensures puts { Puts result (K.puts out.old) (K.puts out.new) }
@@ -56,7 +56,7 @@ fn debug_object<I: Source, K: Sink>(
     ensures script_faults { result ≢ Ending.LoadFault → I.faults script.new ≡ I.faults script.old }
 {
     match take_script(alloc, script) {
-        Ok(text) => debug_text(alloc, object, asked, text.as_slice(), out),
+        Ok(text) => debug_text(alloc, program, asked, text.as_slice(), out),
         Err(fault) => refuse_script(fault, out),
     }
 }
@@ -78,8 +78,9 @@ pub(crate) fn debug_file<F: Shelf, I: Source, K: Sink>(
     ensures load_faults { result ≢ Ending.LoadFault → (F.faults shelf.new ≡ F.faults shelf.old) × (F.failed_name shelf.new ≡ F.failed_name shelf.old) }
     ensures script_faults { result ≢ Ending.LoadFault → I.faults script.new ≡ I.faults script.old }
 {
-    match load_object(alloc, asked.object, shelf) {
-        Ok(object) => debug_object(alloc, &object, asked, script, out),
+    let mut bytes = Vec::new(alloc);
+    match load_object(asked.object, shelf, &mut bytes) {
+        Ok(view) => debug_object(alloc, &view, asked, script, out),
         Err(fault) => refuse_object(fault, out),
     }
 }

@@ -6,7 +6,9 @@
 #![tactic(auto)]
 
 mod campaigns;
+mod checking;
 mod debugging;
+mod demonstrating;
 mod ending;
 mod load;
 mod objects;
@@ -15,4 +17,5 @@ mod script;
 mod sources;
 mod top;
 
+pub use ft_sample::sample;
 pub use top::tool;

@@ -1,12 +1,12 @@
 //! What a command's files hold.
-ghost use Rattle.std.specs.Prelude.{◌≡◌};
+ghost use Rattle.std.specs.Prelude.{◌≡◌, []};
 ghost use Rattle.ft_tool.specs.Files.{LoadsObject, LoadCause, LoadsList, ListCause, LoadsSource, SourceCause};
 
 use ft_campaign::{ListError, read_faults};
 use ft_edge::{Load, LoadFault, Shelf};
 use ft_isa::Strike;
-use ft_object::{DecodeError, ObjectError, decode};
-use ft_types::Object;
+use ft_object::ObjectError;
+use ft_view::View;
 use std::alloc::Global;
 use thiserror::Error;
 
@@ -33,22 +33,21 @@ pub(crate) enum ObjectFault {
     NoMemory,
 }
 
-/// Loads the file of a name and decodes it.
-pub(crate) fn load_object<F: Shelf>(
-    alloc: Global,
+/// Loads the file of a name into an empty vector, and looks at the bytes as an object.
+pub(crate) fn load_object<'a, F: Shelf>(
     name: &str,
     shelf: &mut F,
-) -> Result<Object, ObjectFault>
+    bytes: &'a mut Vec<u8>,
+) -> Result<View<'a>, ObjectFault>
+    requires empty { bytes.old.items ≡ [] }
     ensures loads { LoadsObject (F.files shelf.old) name.now result }
     ensures files { F.files shelf.new ≡ F.files shelf.old }
     ensures cause { LoadCause (F.faults shelf.old) (F.faults shelf.new) (F.failed_name shelf.old) (F.failed_name shelf.new) name.now result }
 {
-    let mut bytes = Vec::new(alloc);
-    match shelf.load(name, OBJECT_LIMIT, &mut bytes) {
-        Ok(Load::Whole) => match decode(alloc, bytes.as_slice()) {
-            Ok(object) => Ok(object),
-            Err(DecodeError::Object(error)) => Err(ObjectFault::Refused(error)),
-            Err(DecodeError::NoMemory) => Err(ObjectFault::NoMemory),
+    match shelf.load(name, OBJECT_LIMIT, bytes) {
+        Ok(Load::Whole) => match View::over(bytes.as_slice()) {
+            Ok(view) => Ok(view),
+            Err(error) => Err(ObjectFault::Refused(error)),
         },
         Ok(Load::TooLong) => Err(ObjectFault::Refused(ObjectError::Length { at: OBJECT_LIMIT })),
         Err(LoadFault::Failed) => Err(ObjectFault::Failed),

@@ -5,25 +5,25 @@ ghost use Rattle.ft_types.specs.Spellable.{IsSpellable};
 ghost use Rattle.ft_tool.specs.Answers.{ChecksObject, RunsObject, TriesObject};
 ghost use Rattle.ft_tool.specs.Endings.{Ends, Puts};
 
+use crate::checking::check;
 use crate::ending::{Ending, refuse_check};
-use ft_checker::check;
 use ft_command::Run;
 use ft_edge::Sink;
 use ft_inject::Clean;
 use ft_isa::Plan;
 use ft_machine::{Machine, RunEnd, drive};
-use ft_types::Object;
+use ft_types::Program;
 use std::alloc::Global;
 
 /// Checks an object.
-pub(crate) fn check_object<K: Sink>(alloc: Global, object: &Object, out: &mut K) -> Ending
-    requires { IsSpellable object.now }
-    ensures ends { Ends result (ChecksObject object.now)
+pub(crate) fn check_object<P: Program, K: Sink>(alloc: Global, program: &P, out: &mut K) -> Ending
+    requires { IsSpellable (P.object program.now) }
+    ensures ends { Ends result (ChecksObject (P.object program.now))
         (K.written out.old) (K.written out.new) (K.faults out.old) (K.faults out.new) ⊥ }
     ensures puts { Puts result (K.puts out.old) (K.puts out.new) }
     ensures faults { result ≢ Ending.WriteFault → K.faults out.new ≡ K.faults out.old }
 {
-    match check(alloc, object) {
+    match check(alloc, program) {
         Ok(_) => match out.put(b"accepted\n") {
             Ok(()) => Ending::Done,
             Err(_) => Ending::WriteFault,
@@ -33,14 +33,19 @@ pub(crate) fn check_object<K: Sink>(alloc: Global, object: &Object, out: &mut K)
 }
 
 /// Runs an object that is accepted.
-pub(crate) fn run_object<K: Sink>(alloc: Global, object: &Object, run: &Run, out: &mut K) -> Ending
-    requires { IsSpellable object.now }
-    ensures ends { Ends result (RunsObject (run_view run.now) object.now)
+pub(crate) fn run_object<P: Program, K: Sink>(
+    alloc: Global,
+    program: &P,
+    run: &Run,
+    out: &mut K,
+) -> Ending
+    requires { IsSpellable (P.object program.now) }
+    ensures ends { Ends result (RunsObject (run_view run.now) (P.object program.now))
         (K.written out.old) (K.written out.new) (K.faults out.old) (K.faults out.new) ⊥ }
     ensures puts { Puts result (K.puts out.old) (K.puts out.new) }
     ensures faults { result ≢ Ending.WriteFault → K.faults out.new ≡ K.faults out.old }
 {
-    let checked = match check(alloc, object) {
+    let checked = match check(alloc, program) {
         Ok(checked) => checked,
         Err(error) => return refuse_check(error, out),
     };
@@ -60,14 +65,19 @@ pub(crate) fn run_object<K: Sink>(alloc: Global, object: &Object, run: &Run, out
 }
 
 /// Runs an object without checking it.
-pub(crate) fn try_object<K: Sink>(alloc: Global, object: &Object, run: &Run, out: &mut K) -> Ending
-    requires { IsSpellable object.now }
-    ensures ends { Ends result (TriesObject (run_view run.now) object.now)
+pub(crate) fn try_object<P: Program, K: Sink>(
+    alloc: Global,
+    program: &P,
+    run: &Run,
+    out: &mut K,
+) -> Ending
+    requires { IsSpellable (P.object program.now) }
+    ensures ends { Ends result (TriesObject (run_view run.now) (P.object program.now))
         (K.written out.old) (K.written out.new) (K.faults out.old) (K.faults out.new) ⊥ }
     ensures puts { Puts result (K.puts out.old) (K.puts out.new) }
     ensures faults { result ≢ Ending.WriteFault → K.faults out.new ≡ K.faults out.old }
 {
-    let mut machine = match Machine::new(alloc, object) {
+    let mut machine = match Machine::new(alloc, program) {
         Ok(machine) => machine,
         Err(_) => return Ending::NoMemory,
     };
@@ -75,7 +85,7 @@ pub(crate) fn try_object<K: Sink>(alloc: Global, object: &Object, run: &Run, out
         strike: run.strike,
         wild: run.wild.as_slice(),
     };
-    match drive(&mut machine, object, plan, run.steps, out) {
+    match drive(&mut machine, program, plan, run.steps, out) {
         RunEnd::Done => Ending::Done,
         RunEnd::Detected => Ending::Detected,
         RunEnd::OutOfSteps => Ending::OutOfSteps,

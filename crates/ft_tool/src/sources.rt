@@ -11,9 +11,10 @@ ghost use Rattle.ft_tool.specs.Endings.{Ends, Puts};
 ghost use Rattle.ft_tool.specs.Replies.{ran};
 ghost use Rattle.ft_tool.specs.Sources.{OverText, CompilesProgram, ExecutesProgram, MeansProgram};
 
+use crate::checking::check;
 use crate::ending::{Ending, refuse_long_source, refuse_source};
 use crate::load::load_source;
-use ft_checker::{CheckError, check};
+use ft_checker::CheckError;
 use ft_command::{Execution, Meaning};
 use ft_compile::compile;
 use ft_edge::{Shelf, Sink};

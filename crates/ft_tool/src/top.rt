@@ -9,6 +9,7 @@ ghost use Rattle.ft_tool.specs.Endings.{Ends, Puts};
 
 use crate::campaigns::{strike_object, survey_object};
 use crate::debugging::debug_file;
+use crate::demonstrating::demonstrate;
 use crate::ending::{Ending, put_usage, refuse_object};
 use crate::load::load_object;
 use crate::objects::{check_object, run_object, try_object};
@@ -26,8 +27,9 @@ fn check_file<F: Shelf, K: Sink>(alloc: Global, name: &str, shelf: &mut F, out: 
     ensures faults { result ≢ Ending.WriteFault → K.faults out.new ≡ K.faults out.old }
     ensures load_faults { result ≢ Ending.LoadFault → (F.faults shelf.new ≡ F.faults shelf.old) × (F.failed_name shelf.new ≡ F.failed_name shelf.old) }
 {
-    match load_object(alloc, name, shelf) {
-        Ok(object) => check_object(alloc, &object, out),
+    let mut bytes = Vec::new(alloc);
+    match load_object(name, shelf, &mut bytes) {
+        Ok(view) => check_object(alloc, &view, out),
         Err(fault) => refuse_object(fault, out),
     }
 }
@@ -41,8 +43,9 @@ fn run_file<F: Shelf, K: Sink>(alloc: Global, run: &Run, shelf: &mut F, out: &mu
     ensures faults { result ≢ Ending.WriteFault → K.faults out.new ≡ K.faults out.old }
     ensures load_faults { result ≢ Ending.LoadFault → (F.faults shelf.new ≡ F.faults shelf.old) × (F.failed_name shelf.new ≡ F.failed_name shelf.old) }
 {
-    match load_object(alloc, run.object, shelf) {
-        Ok(object) => run_object(alloc, &object, run, out),
+    let mut bytes = Vec::new(alloc);
+    match load_object(run.object, shelf, &mut bytes) {
+        Ok(view) => run_object(alloc, &view, run, out),
         Err(fault) => refuse_object(fault, out),
     }
 }
@@ -56,8 +59,9 @@ fn try_file<F: Shelf, K: Sink>(alloc: Global, run: &Run, shelf: &mut F, out: &mu
     ensures faults { result ≢ Ending.WriteFault → K.faults out.new ≡ K.faults out.old }
     ensures load_faults { result ≢ Ending.LoadFault → (F.faults shelf.new ≡ F.faults shelf.old) × (F.failed_name shelf.new ≡ F.failed_name shelf.old) }
 {
-    match load_object(alloc, run.object, shelf) {
-        Ok(object) => try_object(alloc, &object, run, out),
+    let mut bytes = Vec::new(alloc);
+    match load_object(run.object, shelf, &mut bytes) {
+        Ok(view) => try_object(alloc, &view, run, out),
         Err(fault) => refuse_object(fault, out),
     }
 }
@@ -77,8 +81,9 @@ fn strike_file<F: Shelf, K: Sink>(
     ensures faults { result ≢ Ending.WriteFault → K.faults out.new ≡ K.faults out.old }
     ensures load_faults { result ≢ Ending.LoadFault → (F.faults shelf.new ≡ F.faults shelf.old) × (F.failed_name shelf.new ≡ F.failed_name shelf.old) }
 {
-    match load_object(alloc, asked.object, shelf) {
-        Ok(object) => strike_object(alloc, &object, asked, shelf, out),
+    let mut bytes = Vec::new(alloc);
+    match load_object(asked.object, shelf, &mut bytes) {
+        Ok(view) => strike_object(alloc, &view, asked, shelf, out),
         Err(fault) => refuse_object(fault, out),
     }
 }
@@ -98,8 +103,9 @@ fn survey_file<F: Shelf, K: Sink>(
     ensures faults { result ≢ Ending.WriteFault → K.faults out.new ≡ K.faults out.old }
     ensures load_faults { result ≢ Ending.LoadFault → (F.faults shelf.new ≡ F.faults shelf.old) × (F.failed_name shelf.new ≡ F.failed_name shelf.old) }
 {
-    match load_object(alloc, asked.object, shelf) {
-        Ok(object) => survey_object(alloc, &object, asked, shelf, out),
+    let mut bytes = Vec::new(alloc);
+    match load_object(asked.object, shelf, &mut bytes) {
+        Ok(view) => survey_object(alloc, &view, asked, shelf, out),
         Err(fault) => refuse_object(fault, out),
     }
 }
@@ -134,6 +140,7 @@ fn carry_out<F: Shelf, I: Source, K: Sink>(
         Ok(Command::Exec(asked)) => execute_file(alloc, &asked, shelf, out),
         Ok(Command::Mean(asked)) => mean_file(alloc, &asked, shelf, out),
         Ok(Command::Debug(asked)) => debug_file(alloc, &asked, shelf, script, out),
+        Ok(Command::Demo(turns)) => demonstrate(alloc, turns, out),
         Err(_) => Ending::NoMemory,
     }
 }

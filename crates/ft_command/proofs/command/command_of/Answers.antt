@@ -1,7 +1,7 @@
 use Rattle.std.proofs.Common.{◌∷◌, string_bytes, length, take, drop, ◌-◌, map, ap, ◌∙◌, subst, sym, Err, refl}
 use Rattle.ft_command.specs.Asked.{given_of, asked}
 use Rattle.ft_command.specs.Options.{none_given, GivesAll}
-use Rattle.ft_command.proofs.Bounds.{few_steps}
+use Rattle.ft_command.proofs.Bounds.{few_steps, few_turns}
 use Rattle.ft_command.proofs.Given.{split_two}
 use Rattle.ft_command.proofs.Commands.{asks, asks_only, asks_nothing, no_command, usage_only}
 use Rattle.ft_command.proofs.command.command_of.Goals as goal
@@ -29,6 +29,22 @@ returns-in-Some-command_from-clause-few_steps c =
     let split = split_two string_bytes words c.first-item.result c.operand-item.result c.as_str.result.now c.as_str-in-Ok.result.now c.in-len2-up.len_at_least c.first-item.is c.operand-item.is c.as_str.ensures.value c.as_str-in-Ok.ensures.value in
     let words_are = split ∙ ap (λ w. w ∷ c.as_str-in-Ok.result.now ∷ options) c.in-Some.ensures.some in
     few_steps (map string_bytes words) (asked c.in-Some-command_from.command) (record {
+      verb = c.in-Some.verb;
+      operand = c.as_str-in-Ok.result.now;
+      options = options;
+      given = given_of c.in-Ok.options;
+      words_are = words_are;
+      gives = subst (λ a. GivesAll a options none_given (given_of c.in-Ok.options)) c.allowed.ensures c.in-Ok.ensures.ok;
+      request_is = sym c.in-Some-command_from.ensures;
+    })
+
+pub returns-in-Some-command_from-clause-turns : goal.returns-in-Some-command_from-clause-turns
+returns-in-Some-command_from-clause-turns c =
+    let words = c.args.words.now in
+    let options = map string_bytes (take (length words - 2) (drop 2 words)) in
+    let split = split_two string_bytes words c.first-item.result c.operand-item.result c.as_str.result.now c.as_str-in-Ok.result.now c.in-len2-up.len_at_least c.first-item.is c.operand-item.is c.as_str.ensures.value c.as_str-in-Ok.ensures.value in
+    let words_are = split ∙ ap (λ w. w ∷ c.as_str-in-Ok.result.now ∷ options) c.in-Some.ensures.some in
+    few_turns (map string_bytes words) (asked c.in-Some-command_from.command) (record {
       verb = c.in-Some.verb;
       operand = c.as_str-in-Ok.result.now;
       options = options;

@@ -4,12 +4,12 @@ use Rattle.ft_tool.proofs.debugging.debug_text.Goals as goal
 
 pub returns-in-Ended-clause-ends : goal.returns-in-Ended-clause-ends
 returns-in-Ended-clause-ends g c =
-    session_concludes (debugging_view c.args.asked.now) c.args.object.now c.as_slice.result.now c.args.text.now (g.K.Sink.written c.args.out.now) (g.K.Sink.written c.session.new.out) (g.K.Sink.puts c.args.out.now) (g.K.Sink.puts c.session.new.out)
+    session_concludes (debugging_view c.args.asked.now) (g.P.Program.object c.args.program.now) c.as_slice.result.now c.args.text.now (g.K.Sink.written c.args.out.now) (g.K.Sink.written c.session.new.out) (g.K.Sink.puts c.args.out.now) (g.K.Sink.puts c.session.new.out)
     c.requires.short c.as_slice.ensures.value c.in-Ended.ensures.ends
 
 pub returns-in-WriteFault-clause-ends : goal.returns-in-WriteFault-clause-ends
 returns-in-WriteFault-clause-ends g c = (
   c.in-WriteFault.ensures.cause,
-  session_breaks_off (debugging_view c.args.asked.now) c.args.object.now c.as_slice.result.now c.args.text.now (g.K.Sink.written c.args.out.now) (g.K.Sink.written c.session.new.out) (g.K.Sink.puts c.args.out.now) (g.K.Sink.puts c.session.new.out)
+  session_breaks_off (debugging_view c.args.asked.now) (g.P.Program.object c.args.program.now) c.as_slice.result.now c.args.text.now (g.K.Sink.written c.args.out.now) (g.K.Sink.written c.session.new.out) (g.K.Sink.puts c.args.out.now) (g.K.Sink.puts c.session.new.out)
       c.requires.short c.as_slice.ensures.value c.in-WriteFault.ensures.ends,
 )

@@ -1,0 +1,117 @@
+//! Demonstrations.
+ghost use Rattle.std.specs.Prelude.{◌≡◌, ◌≤◌, ◌<◌, [], length, None, IfOk};
+ghost use Rattle.ft_sample.specs.Sample.{sample_object};
+ghost use Rattle.ft_types.specs.Accepted.{IsAccepted, refusal};
+ghost use Rattle.ft_types.specs.Spellable.{IsSpellable};
+ghost use Rattle.ft_demo.specs.Demonstrations.{EndsAs, IsExcused};
+ghost use Rattle.ft_demo.specs.Shown.{IsShown, AreTotals};
+
+use crate::demo_end::DemoEnd;
+use crate::faults::all_faults;
+use crate::report::put_lines;
+use crate::tally::{STEPS, Tally, tally_run};
+use ft_campaign::{CampaignEnd, Totals, campaign};
+use ft_checker::{CheckError, Checked, check};
+use ft_edge::{NullSink, Sink};
+use ft_inject::Clean;
+use ft_isa::{NoMemory, Strike};
+use ft_sample::sample;
+use ft_steps::Steps;
+use ft_types::{Object, Program};
+use std::alloc::Global;
+use std::marker::Brand;
+use std::sync::ledger::{Blank, Ledger};
+
+/// What a demonstration shows.
+#[derive(Clone, Copy)]
+pub(crate) struct Shown {
+    /// The tally of the outputs.
+    pub(crate) tally: Tally,
+    /// How many faults have each verdict.
+    pub(crate) totals: Totals,
+}
+
+/// The totals of a campaign whose lines nobody reads.
+fn totals_of<P: Program, L: Ledger>(
+    alloc: Global,
+    checked: &Checked<P>,
+    faults: &[Strike],
+    steps: &mut Steps<L>,
+) -> Result<Totals, NoMemory>
+    requires few { length faults.now ≤ 64 }
+    ensures { IfOk result (AreTotals (P.object checked.now) faults.now) }
+{
+    let mut nowhere = NullSink::new();
+    match campaign(alloc, checked, faults, &[], STEPS, &mut nowhere, steps) {
+        CampaignEnd::Finished(totals) => Ok(totals),
+        CampaignEnd::NoMemory => Err(NoMemory),
+        CampaignEnd::TooMuch { product: _ } => unreachable!(),
+        CampaignEnd::WriteFault => unreachable!(),
+    }
+}
+
+/// What is shown of a checked program.
+fn show_checked<P: Program, L: Ledger>(
+    alloc: Global,
+    checked: &Checked<P>,
+    steps: &mut Steps<L>,
+) -> Result<Shown, NoMemory>
+    requires spellable { IsSpellable (P.object checked.now) }
+    requires accepted { IsAccepted (P.object checked.now) }
+    ensures { IfOk result (IsShown (P.object checked.now)) }
+{
+    let clean = Clean::start(alloc, checked)?;
+    let tally = tally_run(clean);
+    let faults = all_faults(alloc)?;
+    let totals = totals_of(alloc, checked, faults.as_slice(), steps)?;
+    Ok(Shown { tally, totals })
+}
+
+/// What is shown of an accepted object, with a counter of steps of its own.
+fn show<L: Ledger>(alloc: Global, object: &Object, blank: Blank) -> Result<Shown, NoMemory>
+    requires name { blank.name ≡ L.name }
+    requires parts { blank.parts ≡ L.parts }
+    requires some { 0 < L.parts }
+    requires spellable { IsSpellable object.now }
+    requires accepted { IsAccepted object.now }
+    requires unrefused { refusal object.now ≡ None }
+    ensures { IfOk result (IsShown object.now) }
+{
+    let mut steps = Steps::<L>::new(blank);
+    let checked = match check(alloc, object, &mut steps) {
+        Ok(checked) => checked,
+        Err(CheckError::NoMemory) => return Err(NoMemory),
+        Err(_) => unreachable!(),
+    };
+    show_checked(alloc, &checked, &mut steps)
+}
+
+/// What is shown of the object of `turns` turns.
+fn show_sample(alloc: Global, turns: u32) -> Result<Shown, NoMemory>
+    requires some { 1 ≤ turns }
+    requires few { turns ≤ 10921 }
+    ensures { IfOk result (IsShown (sample_object turns)) }
+{
+    let object = sample(alloc, turns)?;
+    show::<Brand>(alloc, &object, Blank::new(1))
+}
+
+/// Makes the object of `turns` turns, from 1 to 10,921, checks it, runs it without a fault for at most
+/// 131,072 steps, and tries 64 faults on it. Puts a line of the outputs and then the last line of the
+/// campaign; no verdict is `Corrupt`. `NoMemory` puts nothing. `WriteFault` comes only where a put failed,
+/// and nothing is put after it.
+pub fn demo<K: Sink>(alloc: Global, turns: u32, out: &mut K) -> DemoEnd
+    requires some { 1 ≤ turns }
+    requires few { turns ≤ 10921 }
+    ensures ends { EndsAs result turns (K.written out.old) (K.written out.new) (K.puts out.old) (K.puts out.new) }
+    ensures count { K.faults out.old ≤ K.faults out.new }
+    ensures cause { IsExcused result (K.faults out.old) (K.faults out.new) }
+{
+    let Ok(shown) = show_sample(alloc, turns) else {
+        return DemoEnd::NoMemory;
+    };
+    match put_lines(shown.tally, shown.totals, out) {
+        Ok(()) => DemoEnd::Finished,
+        Err(_) => DemoEnd::WriteFault,
+    }
+}

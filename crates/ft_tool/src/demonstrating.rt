@@ -1,0 +1,25 @@
+//! What `demo` does.
+ghost use Rattle.std.specs.Prelude.{◌≡◌, ◌≢◌, ◌≤◌};
+ghost use Rattle.ft_tool.specs.Demonstrations.{ShowsSample};
+ghost use Rattle.ft_tool.specs.Endings.{Ends, Puts};
+
+use crate::ending::Ending;
+use ft_demo::{DemoEnd, demo};
+use ft_edge::Sink;
+use std::alloc::Global;
+
+/// Demonstrates the object of so many turns.
+pub(crate) fn demonstrate<K: Sink>(alloc: Global, turns: u32, out: &mut K) -> Ending
+    requires some { 1 ≤ turns }
+    requires few { turns ≤ 10921 }
+    ensures ends { Ends result (ShowsSample turns)
+        (K.written out.old) (K.written out.new) (K.faults out.old) (K.faults out.new) ⊥ }
+    ensures puts { Puts result (K.puts out.old) (K.puts out.new) }
+    ensures faults { result ≢ Ending.WriteFault → K.faults out.new ≡ K.faults out.old }
+{
+    match demo(alloc, turns, out) {
+        DemoEnd::Finished => Ending::Done,
+        DemoEnd::WriteFault => Ending::WriteFault,
+        DemoEnd::NoMemory => Ending::NoMemory,
+    }
+}
