@@ -1,7 +1,7 @@
 #!/usr/bin/env bash
 # The proved program over real files, real standard input and output: what no proof speaks of. Each
 # line of the form `expect NAME STATUS TEXT WORDS..` runs it and compares what it wrote. At the end are
-# three programs over the libraries, of which only one may compile.
+# programs over the libraries, of which some must not compile.
 set -u
 top=$(cd "$(dirname "$0")/.." && pwd)
 work=$(mktemp -d)
@@ -41,6 +41,7 @@ expect 'a campaign' 0 '4:r1:6 detected 11\n10:r1:6 masked\n0:pcg:3 detected 0\n9
   campaign "$top/examples/five.obj" --faults "$top/examples/five.faults" --steps 14
 expect 'a survey' 10 '4:r1:6 corrupt\nfaults 1 masked 0 detected 0 idle 0 corrupt 1\n' \
   survey "$top/examples/mixed.obj" --faults "$top/examples/mixed.faults" --steps 14
+expect 'a demonstration' 0 'outputs 3 last 18\nfaults 64 masked 3 detected 0 idle 61 corrupt 0\n' demo 3
 expect 'a missing fault list' 3 '' campaign "$top/examples/five.obj" --faults "$work/missing"
 expect 'a fault list that is not' 11 'list 1 1\n' campaign "$top/examples/five.obj" --faults "$top/examples/five.obj"
 expect 'a meaning' 0 'out 0\nout 1\nout 1\nout 2\nout 3\nout 5\nout 8\nout 13\nout 21\nout 34\n' mean "$top/examples/fibonacci.src"
@@ -89,15 +90,55 @@ cat "$top/examples/five.obj" >pipe &
 expect 'a file that is a pipe' 0 'out 5\n' trial pipe
 wait
 
-# At most one fault: a run that was struck has no strike, and the run without a fault is spent by its
-# strike. Each line of the form `compiles NAME WANTED THEN` has a program that strikes a run, and then
-# does THEN; WANTED is what the compiler says of it.
+# An object is read where it stands. `large.obj` has 1,048,576 nodes and 65,536 instructions; `zeros` has as many bytes and
+# is refused at the first. A command over the object takes no more memory than loading `zeros`, but for 8 MB; a copy of the
+# nodes alone would take more than twice that.
+{
+  printf 'TALFT\0\0\1\0\0\0\0\0\20\0\0\0\0\0\1\0\0\0\0\0\0\0\0\0\0\0\1\0\1\0\0\0\0\0\0\0\0\0\0\0\0\0\0\4'
+  head -c 17825815 /dev/zero
+} >large.obj
+head -c 17825864 /dev/zero >zeros
+echo '0:r1:6' >one.faults
+
+# What the program writes and its status, under a limit on its memory in KB.
+within() {
+  local limit=$1
+  shift
+  (ulimit -v "$limit" && "$top/crates/talft/out/talft" "$@" </dev/null 2>errors; printf '/%d' $?)
+}
+
+limit=16384
+until [ "$(within "$limit" trial zeros)" = "$(printf 'object 1 0\n/7')" ] || [ "$limit" -gt 262144 ]; do
+  limit=$((limit + 1024))
+done
+in_place() {
+  local name=$1 status=$2 text=$3
+  shift 3
+  report "$name" "$(printf '%b/%d' "$text" "$status")" "$(within $((limit + 8192)) "$@")"
+}
+in_place 'a large object that is checked' 8 'check block 0 index 0 premise 1\n' check large.obj
+in_place 'a large object that is not run' 8 'check block 0 index 0 premise 1\n' run large.obj
+in_place 'a large object that is tried' 9 '' trial large.obj --steps 1000
+in_place 'a campaign over a large object' 8 'check block 0 index 0 premise 1\n' campaign large.obj --faults one.faults --steps 100
+in_place 'a survey of a large object' 0 '0:r1:6 masked\nfaults 1 masked 1 detected 0 idle 0 corrupt 0\n' \
+  survey large.obj --faults one.faults --steps 100
+in_place 'a session over a large object' 0 '' debug large.obj
+
+# Programs that may compile or not. `compiles NAME WANTED CRATE` compiles the program of a crate; WANTED is what
+# the compiler says of it.
 mkdir house
 tar -C "$top" --exclude=out -cf - crates crates.txt HANDLES | tar -C house -xf -
-mkdir -p house/crates/one_fault/src
+mkdir -p house/crates/one_fault/src house/crates/kept_name/src
 echo 'one_fault: ft_isa ft_types ft_machine ft_inject' >>house/crates.txt
+echo 'kept_name: ft_view' >>house/crates.txt
 
 compiles() {
+  report "$1" "$2" "$(cd "house/crates/$3" && rt try 2>&1 | grep -o 'run=ended status=0\|error\[[^:]*: [^:]*' | head -n 1)"
+}
+
+# At most one fault: a run that was struck has no strike, and the run without a fault is spent by its strike. The
+# program strikes a run, and then does THEN.
+strikes() {
   cat >house/crates/one_fault/src/main.rt <<END
 //! Strikes a run.
 use ft_inject::{Clean, Hit};
@@ -115,13 +156,43 @@ pub fn strike_and_go_on<'a, P: Program>(mut clean: Clean<'a, P>) -> Option<Stepp
 
 fn main(rt: HostRuntime) {}
 END
-  report "$1" "$2" "$(cd house/crates/one_fault && rt try 2>&1 | grep -o 'run=ended status=0\|error\[[^:]*: [^:]*' | head -n 1)"
+  compiles "$1" "$2" one_fault
 }
 
-compiles 'a step after a strike' 'run=ended status=0' 'struck.step()'
-compiles 'a second strike' 'error[unknown-method]: no method named `strike` found for type `Struck<P>`' \
+strikes 'a step after a strike' 'run=ended status=0' 'struck.step()'
+strikes 'a second strike' 'error[unknown-method]: no method named `strike` found for type `Struck<P>`' \
   '{ struck.strike(Site::D, 2, &[]); struck.step() }'
-compiles 'a step without the strike' 'error[borrow-e0382]: borrow of moved value' 'clean.step()'
+strikes 'a step without the strike' 'error[borrow-e0382]: borrow of moved value' 'clean.step()'
+
+# A name is a slice of an object's bytes: it may be kept when the view is gone, but not when the bytes are. The program
+# takes a name, then does THEN, and then reads the name.
+keeps() {
+  cat >house/crates/kept_name/src/main.rt <<END
+//! Keeps a name.
+use ft_view::View;
+use std::alloc::Global;
+
+/// The first byte of the name of cell 0.
+pub fn first_byte(alloc: Global, object: &[u8]) -> Option<u8> {
+    let Ok(bytes) = Vec::from_slice(alloc, object) else {
+        return None;
+    };
+    let view = match View::over(bytes.as_slice()) {
+        Ok(view) => view,
+        Err(_) => return None,
+    };
+    let name = view.name_of(0);
+    $3
+    Some(name[0])
+}
+
+fn main(rt: HostRuntime) {}
+END
+  compiles "$1" "$2" kept_name
+}
+
+keeps 'a name when the view is gone' 'run=ended status=0' 'drop(view);'
+keeps 'a name when the bytes are gone' 'error[borrow-e0505]: cannot move out of `bytes` because it is borrowed' 'drop(view); drop(bytes);'
 
 echo "$passed passed, $failed failed"
 [ "$failed" -eq 0 ]
