@@ -17,6 +17,7 @@ use Rattle.ft_norm.specs.Held.{Keeps}
 use Rattle.ft_contexts.proofs.Kept.{context_stays, forms_kept}
 use Rattle.ft_checker.specs.declared.blocks.Start.{Start}
 use Rattle.ft_checker.specs.Judges.{IsRefusalOf, IsStart, Judges}
+use Rattle.std.specs.Prelude.{IfSome}
 use Rattle.std.specs.Result.{IsErrAnd}
 use Rattle.ft_types.specs.Objects.{cell_head_of, start_of, code_type_of, block_type, block_end, block_start, block_instrs}
 use Rattle.ft_types.specs.Premise.{Premise, BlockEnd}
@@ -187,3 +188,8 @@ start_kept o fs gs s k h =
     let m = ap (λ (x : Context). updates x.memory) e in
     let c = h.count in
     record { context = e ∙ h.context; held = forms_kept fs gs s.context k h.held; types = h.types; pending = h.pending; count = omega (arith, m, c) }
+
+-- so does the last one, if there is one
+pub last_kept : (o : Object) (fs gs : List Normal) (x : Option Start) → Keeps fs gs → IfSome x (IsStart o fs) → IfSome x (IsStart o gs)
+last_kept o fs gs None k h = tt
+last_kept o fs gs (Some s) k h = start_kept o fs gs s k h

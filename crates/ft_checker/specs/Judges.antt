@@ -55,3 +55,8 @@ pub record IsStart (o : Object) (fs : List Normal) (s : Start) : Type 0 where
   pub types : NamesTypes o s.context
   pub pending : pending_count s.context ≤ 8
   pub count : updates (context_in fs s.context).memory ≤ length o.nodes
+
+-- a start is there, and it is of code type t
+abbrev pub IsStartOf : ℕ → Option Start → Type 0
+IsStartOf t None = ⊥
+IsStartOf t (Some s) = s.code_type ≡ t

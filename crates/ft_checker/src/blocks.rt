@@ -1,5 +1,5 @@
 //! The blocks and their instructions.
-ghost use Rattle.std.specs.Prelude.{◌≡◌, ◌+◌, ◌*◌, ◌<◌, ◌≤◌, ℕ, List, Option, IfOk, IfSome, length, slice_get, take, Some};
+ghost use Rattle.std.specs.Prelude.{◌≡◌, ◌+◌, ◌*◌, ◌<◌, ◌≤◌, ℕ, List, Option, IfSome, OnOk, length, slice_get, take, Some, true};
 ghost use Rattle.std.specs.Option.{option_map};
 ghost use Rattle.ft_isa.specs.declared.instr.Instr.{Instr as Instruction};
 ghost use Rattle.ft_norm.specs.Held.{Keeps};
@@ -13,7 +13,7 @@ ghost use Rattle.ft_types.specs.declared.object.Block.{Block as Started};
 ghost use Rattle.ft_rules.specs.Answers.{Grows, IsInstrOf, rule_cost};
 ghost use Rattle.ft_contexts.specs.Contexts.{HoldsForms, HoldsOwn, NamesTypes, context_in};
 ghost use Rattle.ft_checker.specs.Costs.{instrs_cost, visit_cost};
-ghost use Rattle.ft_checker.specs.Judges.{IsRefusalOf, IsStart, Judges, StopsAt, Turns};
+ghost use Rattle.ft_checker.specs.Judges.{IsRefusalOf, IsStart, IsStartOf, Judges, StopsAt, Turns};
 ghost use Rattle.ft_contexts.specs.Costs.{tree_cost};
 
 use crate::error::CheckError;
@@ -97,37 +97,47 @@ struct Start {
     context: Context,
 }
 
-/// The start of code type `t`: the last start that was made, where it is of that code type, or a new
-/// one.
-fn start_of<P: Program, L: Ledger>(
+/// Whether the last start that was made is of code type `t`.
+fn is_start_of(last: &Option<Start>, t: u32) -> bool
+    ensures { result ≡ true → IsStartOf t last.now }
+{
+    match last {
+        Some(start) => start.code_type == t,
+        None => false,
+    }
+}
+
+/// Makes the start of code type `t` in the place of the last start that was made, where that is of
+/// another code type.
+fn renew<P: Program, L: Ledger>(
+    last: &mut Option<Start>,
     alloc: Global,
     program: &P,
     t: u32,
-    last: Option<Start>,
     shared: &mut Shared,
     forms: &mut Interner,
     steps: &mut Steps<L>,
-) -> Result<Start, NoMemory>
+) -> Result<(), NoMemory>
     requires spellable { IsSpellable (P.object program.now) }
     requires there { t < length (P.object program.now).types }
-    requires last { IfSome last (IsStart (P.object program.now) forms.old) }
+    requires last { IfSome last.old (IsStart (P.object program.now) forms.old) }
     requires own { HoldsOwn (P.object program.now) forms.old shared.old.own }
     ensures kept { Keeps forms.old forms.new }
     ensures own { HoldsOwn (P.object program.now) forms.new shared.new.own }
-    ensures start { IfOk result (IsStart (P.object program.now) forms.new) }
-    ensures code_type { IfOk result (λ s. s.code_type ≡ t) }
+    ensures start { OnOk result (IfSome last.new (IsStart (P.object program.now) forms.new)) }
+    ensures code_type { OnOk result (IsStartOf t last.new) }
     ensures steps { steps.new ≤ steps.old + 81 * tree_cost (P.object program.now) 0 }
 {
-    if let Some(start) = last {
-        if start.code_type == t {
-            return Ok(start);
-        }
+    let goes_on = is_start_of(last, t);
+    if goes_on {
+        return Ok(());
     }
     let context = Context::start_over(alloc, program, t, &mut shared.own, forms, steps)?;
-    Ok(Start {
+    *last = Some(Start {
         code_type: t,
         context,
-    })
+    });
+    Ok(())
 }
 
 /// Types the instructions of block `b` in turn, from the start of its code type.
@@ -183,9 +193,11 @@ pub fn check_blocks<P: Program, L: Ledger>(
     let mut last = None;
     for b in 0..blocks {
         let t = program.block(b).code_type;
-        let start = start_of(alloc, program, t, last, &mut shared, &mut forms, steps)?;
-        check_block(program, b, &start, &mut shared, &mut forms, steps)?;
-        last = Some(start);
+        renew(&mut last, alloc, program, t, &mut shared, &mut forms, steps)?;
+        let Some(start) = &last else {
+            unreachable!();
+        };
+        check_block(program, b, start, &mut shared, &mut forms, steps)?;
     }
     Ok(())
 }

@@ -1,11 +1,13 @@
 //! Checked programs.
 ghost use Rattle.std.specs.Prelude.{◌≡◌};
+ghost use Rattle.ft_types.specs.Accepted.{IsAccepted};
+ghost use Rattle.ft_types.specs.Spellable.{IsSpellable};
 ghost use Rattle.ft_checker.specs.Judges.{IsChecked};
 
 use ft_types::Program;
 use std::marker::Model;
 
-/// A program that is accepted. Only `check` makes one.
+/// A program that is accepted: `check` found it so, or it is known where it was made.
 #[derive(Drop)]
 pub struct Checked<'a, P: Program> {
     pub(crate) program: &'a P,
@@ -24,6 +26,15 @@ impl<'a, P: Program> Model for Checked<'a, P> {
 }
 
 impl<'a, P: Program> Checked<'a, P> {
+    /// A program that is known to be accepted. Nothing is checked.
+    pub fn of_accepted(program: &'a P) -> Checked<'a, P>
+        requires spellable { IsSpellable (P.object program.now) }
+        requires accepted { IsAccepted (P.object program.now) }
+        ensures { result ≡ program.now }
+    {
+        Checked { program }
+    }
+
     /// The program.
     pub fn program(&self) -> &'a P
         ensures same { result.now ≡ self.now }

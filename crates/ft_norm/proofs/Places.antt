@@ -1,5 +1,5 @@
 -- Places of an interner's list, seen from its entries.
-use Rattle.std.proofs.Common.{ℕ, suc, ◌≡◌, ◌<◌, ◌≤◌, List, [], ◌∷◌, ◌++◌, length, refl, sym, ap, ◌∙◌, subst, arith, Option, Some, Result, Ok, Err, slice_get}
+use Rattle.std.proofs.Common.{ℕ, suc, ◌≡◌, ◌<◌, ◌≤◌, List, [], ◌∷◌, ◌++◌, length, refl, sym, ap, ◌∙◌, subst, arith, Option, Some, Result, Ok, Err, get_or, slice_get}
 use Rattle.std.specs.Prelude.{IfOk}
 use Rattle.std.specs.Option.{unwrap_or}
 use Rattle.std.proofs.lemmas.Option.{slice_get_within}
@@ -8,11 +8,11 @@ use Rattle.ft_norm.specs.declared.form.Form.{Form}
 use Rattle.ft_norm.specs.declared.entry.Entry.{Entry}
 use Rattle.ft_norm.specs.Held.{held, polynomial_at, updates_at, polynomial, polynomials, updates_held, IsInteger, IsMemory, AreIntegers, Keeps}
 use Rattle.ft_norm.specs.declared.entry.Term.{Term}
-use Rattle.ft_norm.specs.Entries.{AreEntries, IsDistinct, IsIntegerAt, IsMemoryAt, entry_form, forms_of, integer_reach, reach_of_terms}
+use Rattle.ft_norm.specs.Entries.{AreEntries, IsDistinct, IsIntegerAt, IsMemoryAt, NamesEarlier, entry_form, forms_of, integer_reach, reach_of_terms}
 use Rattle.ft_norm.specs.Orders.{AreTerms}
 use Rattle.ft_norm.specs.Terms.{AreOver}
 use Rattle.ft_norm.proofs.Lists.{slice_get-append}
-use Rattle.ft_norm.proofs.Forms.{integer_reaches, length-forms_of, forms_onto-push}
+use Rattle.ft_norm.proofs.Forms.{form_read, integer_reaches, length-forms_of, forms_onto-push}
 
 -- a place of the list is that of an entry
 pub within : (es xs : List Entry) (fs : List Normal) (i : ℕ) (x : Normal) → forms_of es ≡ fs → xs ≡ es → slice_get fs i ≡ Some x → i < length xs
@@ -106,3 +106,10 @@ over_seen es xs fs ts i h v e t r l = record {
       let n = as_many es xs fs v e in
       omega (arith, q, l, n);
 }
+
+-- an entry that was read, seen from the list
+pub entry_seen : (es xs : List Entry) (fs : List Normal) (i : ℕ) (e : Entry) → AreEntries es → forms_of es ≡ fs → xs ≡ es → i < length xs → e ≡ get_or xs i e → slice_get fs i ≡ Some (entry_form fs e)
+entry_seen es xs fs i e h v k l r =
+    let g : forms_of xs ≡ fs = ap forms_of k ∙ v in
+    let n : NamesEarlier xs = subst NamesEarlier (sym k) h.earlier in
+    rw g at (form_read xs i e e n l r refl)

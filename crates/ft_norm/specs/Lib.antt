@@ -1,4 +1,5 @@
 pub mod Held
+pub mod Hashing
 pub mod Orders
 pub mod Entries
 pub mod Terms

@@ -1,10 +1,11 @@
 //! Entries: how an interner keeps a normal form. A part that is itself a form is named by its number.
 //! Factors and terms are kept in an order that goes by these numbers: a comparison of two factors never
 //! goes into the forms that they name.
-ghost use Rattle.std.specs.Prelude.{◌≡◌, ◌<◌, ◌≤◌, List, length};
-ghost use Rattle.ft_static.specs.Form.{Form as Normal, integer_form};
+ghost use Rattle.std.specs.Prelude.{◌≡◌, ◌<◌, ◌≤◌, List, length, true};
+ghost use Rattle.ft_static.specs.Form.{Form as Normal, integer_form, nought};
+ghost use Rattle.ft_static.specs.NormalForm.{add_term, constant};
 ghost use Rattle.ft_norm.specs.Held.{polynomial_at};
-ghost use Rattle.ft_norm.specs.Entries.{AreEntries, IsCanonical, entry_form, forms_of, polynomial_form, reach_of_entry, reach_of_terms};
+ghost use Rattle.ft_norm.specs.Entries.{AreEntries, IsCanonical, entry_form, forms_of, monomial_form, polynomial_form, reach_of_entry, reach_of_terms};
 ghost use Rattle.ft_norm.specs.Orders.{AreTerms};
 
 use std::slice::from_ref;
@@ -83,5 +84,26 @@ pub fn terms_at(entries: &[Entry], i: usize) -> &[Term]
             value: _,
             older: _,
         } => &[],
+    }
+}
+
+/// Whether a term of these is a word.
+fn is_word_term(factors: &[Factor], coefficient: u64, w: u64) -> bool
+    ensures { (fs : List Normal) → result ≡ true → add_term (monomial_form fs factors.now) coefficient nought ≡ constant w }
+{
+    if factors.is_empty() {
+        coefficient == w
+    } else {
+        false
+    }
+}
+
+/// Whether an entry is a word's. A `false` says nothing.
+pub fn is_word(entry: &Entry, w: u64) -> bool
+    ensures { (fs : List Normal) → result ≡ true → entry_form fs entry.now ≡ integer_form (constant w) }
+{
+    match entry {
+        Entry::Single(term) => is_word_term(&term.factors, term.coefficient, w),
+        _ => false,
     }
 }

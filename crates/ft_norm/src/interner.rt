@@ -12,7 +12,7 @@ ghost use Rattle.ft_norm.specs.Entries.{IsCanonical, atom_form, entry_form, poly
 ghost use Rattle.ft_norm.specs.Orders.{AreTerms};
 ghost use Rattle.ft_norm.specs.Terms.{AreOver};
 
-use crate::entry::{Entry, Factor, MONOMIALS, Term, entry_of, terms_at};
+use crate::entry::{Entry, Factor, MONOMIALS, Term, entry_of, is_word, terms_at};
 use crate::form::Form;
 use crate::keys::Keys;
 use crate::product::{is_small, product_terms};
@@ -27,6 +27,9 @@ use std::alloc::{AllocError, Global};
 use std::marker::Model;
 use std::sync::ledger::Ledger;
 
+/// How many words the interner remembers places for.
+const RECENT: usize = 64;
+
 /// Normal forms, of integers and of memories. The list of them only grows, and a `Form` stands for
 /// one of them through all later calls. A call that makes a form answers `NoMemory` where memory runs
 /// out; all that was held stays then, too.
@@ -34,6 +37,8 @@ use std::sync::ledger::Ledger;
 pub struct Interner {
     alloc: Global,
     entries: IndexSet<Entry, Keys>,
+    /// Where a word may be among the entries, by its remainder. It is looked at before the table.
+    recent: [usize; RECENT],
 }
 
 impl Model for Interner {
@@ -67,7 +72,8 @@ impl Interner {
     {
         Ok(Interner {
             alloc,
-            entries: IndexSet::with_hasher(alloc, Keys { first, second }),
+            entries: IndexSet::with_hasher(alloc, Keys::new(first, second)),
+            recent: [0; RECENT],
         })
     }
 
@@ -77,7 +83,13 @@ impl Interner {
         ensures form { IfOk result (λ f. held self.new f ≡ Some (integer_form (constant w))) }
         ensures sort { IfOk result (λ f. IsInteger self.new f) }
     {
+        let slot = (w % RECENT as u64) as usize;
+        let place = self.recent[slot];
+        if self.is_word_at(place, w) {
+            return Ok(Form(place));
+        }
         let form = self.constant(w)?;
+        self.recent[slot] = form.0;
         Ok(form)
     }
 
@@ -207,6 +219,18 @@ impl Interner {
     {
         let (number, _) = self.entries.insert_full(entry)?;
         Ok(Form(number))
+    }
+
+    /// Whether the entry in this place is a word's. A `false` says nothing.
+    fn is_word_at(&self, place: usize, w: u64) -> bool
+        ensures { result ≡ true → slice_get self.now place ≡ Some (integer_form (constant w)) }
+    {
+        let entries = self.entries.as_slice();
+        if place < entries.len() {
+            is_word(&entries[place], w)
+        } else {
+            false
+        }
     }
 
     /// The terms of an integer.

@@ -1,4 +1,4 @@
-use Rattle.std.proofs.Common.{ℕ, suc, ◌≡◌, ◌+◌, ◌*◌, ◌≤◌, length, take, ap, sym, ◌∙◌, arith, refl, Some}
+use Rattle.std.proofs.Common.{ℕ, suc, ◌≡◌, ◌+◌, ◌*◌, ◌≤◌, length, take, ap, sym, ◌∙◌, arith, refl, subst, Some}
 use Rattle.ft_types.specs.Accepted.{block_refusal}
 use Rattle.std.proofs.Math.Nat.{mul-le-mul_right}
 use Rattle.ft_types.specs.Objects.{block_end}
@@ -7,7 +7,8 @@ use Rattle.ft_checker.proofs.Costs.{begins, begins_there, cost_all, none_cost, s
 use Rattle.ft_types.specs.declared.object.Block.{Block}
 use Rattle.ft_types.specs.Spellable.{HasCodeType}
 use Rattle.ft_contexts.proofs.Spelled.{all_at}
-use Rattle.ft_checker.proofs.Turned.{start_kept, first_turn, first_end, block_there, or_refused, judges_exit}
+use Rattle.ft_checker.proofs.Turned.{last_kept, first_turn, first_end, block_there, or_refused, judges_exit, judges_stop}
+use Rattle.ft_checker.specs.Judges.{IsStartOf}
 use Rattle.ft_checker.proofs.blocks.check_blocks.Goals as goal
 
 pub returns-in_err-check_block-clause-judged : goal.returns-in_err-check_block-clause-judged
@@ -24,7 +25,7 @@ returns-in_err-check_block-clause-steps g c =
     let x = block_there o.blocks c.loop-b.b (omega arith) in
     let e = ap (λ (n : ℕ). instrs_cost o (take n o.instrs)) (begins_there o c.loop-b.b x.0 c.requires x.1) in
     let s = c.check_block.ensures.steps x.0 x.1 in
-    let w = start_within o c.loop-b.steps c.start_of.new.steps c.start_of.ensures.steps in
+    let w = start_within o c.loop-b.steps c.renew.new.steps c.renew.ensures.steps in
     let m : (c.loop-b.b + 1) * visit_cost o ≡ c.loop-b.b * visit_cost o + visit_cost o = omega arith in
     let a = cost_all o o.instrs (block_end o c.loop-b.b) in
     let k : (c.loop-b.b + 1) * visit_cost o ≤ length o.blocks * visit_cost o = mul-le-mul_right (visit_cost o) (omega arith) in
@@ -43,7 +44,7 @@ loop-b-preserved g c =
     let x = block_there o.blocks c.loop-b.b (omega arith) in
     let e = ap (λ (n : ℕ). instrs_cost o (take n o.instrs)) (begins_there o c.loop-b.b x.0 c.requires x.1) in
     let s = c.check_block.ensures.steps x.0 x.1 in
-    let w = start_within o c.loop-b.steps c.start_of.new.steps c.start_of.ensures.steps in
+    let w = start_within o c.loop-b.steps c.renew.new.steps c.renew.ensures.steps in
     let m : (c.loop-b.b + 1) * visit_cost o ≡ c.loop-b.b * visit_cost o + visit_cost o = omega arith in
     let n : c.loop-b.b + 1 ≡ suc c.loop-b.b = omega arith in
     let z = ap (λ (k : ℕ). instrs_cost o (take (begins o k) o.instrs)) n in
@@ -52,7 +53,7 @@ loop-b-preserved g c =
     let passed = c.in_ok-check_block.ensures.judged y.0 y.1 in
     record {
       own = c.check_block.ensures.own;
-      start = start_kept o c.start_of.new.forms c.check_block.new.forms c.in_ok-start.start c.check_block.ensures.kept c.in_ok-start.ensures.start;
+      start = last_kept o c.renew.new.forms c.check_block.new.forms c.renew.new.last c.check_block.ensures.kept c.in_ok-renew.ensures.start;
       left = sym (rw passed at turn) ∙ c.loop-b.invariant.left;
       steps = omega (arith, e, s, w, m, z, c.loop-b.invariant.steps);
     }
@@ -60,8 +61,8 @@ loop-b-preserved g c =
 pub block-t-requires : goal.block-t-requires
 block-t-requires g c = omega arith
 
-pub start_of-requires-clause-there : goal.start_of-requires-clause-there
-start_of-requires-clause-there g c =
+pub renew-requires-clause-there : goal.renew-requires-clause-there
+renew-requires-clause-there g c =
     let o = g.P.Program.object c.args.program.now in
     all_at (HasCodeType (length o.types)) o.blocks c.loop-b.b c.block-t.result c.requires.block_types c.block-t.ensures
 
@@ -69,12 +70,12 @@ pub check_block-requires-clause-code_type : goal.check_block-requires-clause-cod
 check_block-requires-clause-code_type g c = λ x f.
     let o = g.P.Program.object c.args.program.now in
     let same : c.block-t.result ≡ x = (let q : Some c.block-t.result ≡ Some x = sym c.block-t.ensures ∙ f in cc) in
-    c.in_ok-start.ensures.code_type ∙ ap (λ (y : Block). y.code_type) same
+    subst (IsStartOf c.block-t.result.code_type) c.in-Some.is c.in_ok-renew.ensures.code_type ∙ ap (λ (y : Block). y.code_type) same
 
-pub returns-in_err-start-clause-steps : goal.returns-in_err-start-clause-steps
-returns-in_err-start-clause-steps g c =
+pub returns-in_err-renew-clause-steps : goal.returns-in_err-renew-clause-steps
+returns-in_err-renew-clause-steps g c =
     let o = g.P.Program.object c.args.program.now in
-    let w = start_within o c.loop-b.steps c.start_of.new.steps c.start_of.ensures.steps in
+    let w = start_within o c.loop-b.steps c.renew.new.steps c.renew.ensures.steps in
     let m : (c.loop-b.b + 1) * visit_cost o ≡ c.loop-b.b * visit_cost o + visit_cost o = omega arith in
     let a = cost_all o o.instrs (begins o c.loop-b.b) in
     let k : (c.loop-b.b + 1) * visit_cost o ≤ length o.blocks * visit_cost o = mul-le-mul_right (visit_cost o) (omega arith) in
@@ -82,3 +83,6 @@ returns-in_err-start-clause-steps g c =
 
 pub loop-b-init : goal.loop-b-init
 loop-b-init g c = let o = g.P.Program.object c.args.program.now in record { own = c.in_ok-shared.ensures.own o; start = tt; left = refl; steps = (let w = none_cost o in omega (arith, w)) }
+
+pub returns-in_err-renew-clause-judged : goal.returns-in_err-renew-clause-judged
+returns-in_err-renew-clause-judged g c = judges_stop _ _ c.from_residual-in_err-renew.ensures.1
