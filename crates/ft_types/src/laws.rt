@@ -1,12 +1,15 @@
 //! Laws of the definitions of the machine and of typing, for all objects and states.
 ghost use Rattle.std.specs.Prelude.{◌≡◌, ◌↔◌, ℕ, List, None, Decides};
 ghost use Rattle.ft_isa.specs.declared.basic.Basic.{Basic};
+ghost use Rattle.ft_isa.specs.declared.instr.Instr.{Instr};
 ghost use Rattle.ft_isa.specs.declared.plan.Wild.{Wild};
 ghost use Rattle.ft_types.specs.declared.object.Object.{Object};
 ghost use Rattle.ft_types.specs.declared.status.Status.TheVariants.{Running};
+ghost use Rattle.ft_types.specs.Context.{Context};
 ghost use Rattle.ft_types.specs.State.{State};
 ghost use Rattle.ft_types.specs.Step.{step, quiet};
 ghost use Rattle.ft_types.specs.StepTable.{IsTheTable, IsStopped};
+ghost use Rattle.ft_types.specs.TypingTable.{IsTheRow};
 ghost use Rattle.ft_types.specs.TypedWord.{HasType, IsSeenAs, has_type, is_seen_as};
 ghost use Rattle.ft_types.specs.Accepted.{IsAccepted, refusal};
 
@@ -19,6 +22,12 @@ pub fn steps_are_the_table()
 /// A machine that is Done or Detected stays as it is, takes no answer and has no output.
 pub fn stopped_machines_stay()
     ensures { (o : Object) (s : State) (w : List Wild) → IsStopped s → step o s w ≡ quiet s w }
+{}
+
+/// The typing rows are the table of typing rows: whatever the object and the context, the row of an
+/// instruction gives the premise of the first of its tests that fails, and where none fails its effect.
+pub fn rows_are_the_table()
+    ensures { (o : Object) (c : Context) (i : Instr) → IsTheRow o c i }
 {}
 
 /// The tests that the typing rows make of words and of basic types decide whether a word has a type

@@ -13,6 +13,13 @@ pub trait Program: Nodes {
 
     ghost object: { Self → Object };
 
+    /// What a loop holds on to while it fetches instructions one after the other: a slice of their
+    /// records, say, so that no fetch has to find them again.
+    type Code: Copy;
+
+    // What a loop holds on to is a program's.
+    ghost is_code: { Self → Self.Code → Type 0 };
+
     /// How many there are of each kind of part.
     fn counts(&self) -> Counts
         requires { IsCounted (object self.now) }
@@ -29,6 +36,16 @@ pub trait Program: Nodes {
     /// Instruction `i`.
     fn instr(&self, i: u32) -> Instr
         requires { i < length (object self.now).instrs }
+        ensures { slice_get (object self.now).instrs i ≡ Some result };
+
+    /// What instructions are fetched from.
+    fn code(&self) -> Self::Code
+        ensures { is_code self.now result };
+
+    /// Instruction `i`, from what `code` told.
+    fn fetch(&self, code: Self::Code, i: u32) -> Instr
+        requires there { i < length (object self.now).instrs }
+        requires code { is_code self.now code }
         ensures { slice_get (object self.now).instrs i ≡ Some result };
 
     /// Block `b`.
@@ -86,9 +103,13 @@ impl Nodes for Object {
 }
 
 impl Program for Object {
-    ghost use Rattle.std.specs.Prelude.{refl};
+    ghost use Rattle.std.specs.Prelude.{refl, ⊤};
 
     ghost object = { λ o. o };
+
+    type Code = ();
+
+    ghost is_code = { λ o c. ⊤ };
 
     ghost nodes_are = { λ o. refl };
 
@@ -107,6 +128,12 @@ impl Program for Object {
     }
 
     fn instr(&self, i: u32) -> Instr {
+        *self.instrs.at(i as usize)
+    }
+
+    fn code(&self) {}
+
+    fn fetch(&self, _: (), i: u32) -> Instr {
         *self.instrs.at(i as usize)
     }
 
