@@ -1,9 +1,9 @@
 -- What a view's bytes tell at a place.
-use Rattle.std.proofs.Common.{◌≡◌, ℕ, ◌+◌, ◌*◌, ◌<◌, ◌≤◌, List, [], ◌∷◌, length, take, drop, Some, sym, ap, ◌∙◌, subst, arith}
+use Rattle.std.proofs.Common.{◌≡◌, ℕ, ◌+◌, ◌-◌, ◌*◌, ◌<◌, ◌≤◌, List, [], ◌∷◌, length, take, drop, Some, sym, ap, ◌∙◌, subst, arith}
 use Rattle.std.specs.Prelude.{slice_get}
 use Rattle.std.specs.Option.{option_map}
 use Rattle.std.specs.Int.{Width}
-use Rattle.std.proofs.lemmas.List.{length-map}
+use Rattle.std.proofs.lemmas.List.{length-map, length-drop, length-take-le, drop-take, take-take}
 use Rattle.std.proofs.lemmas.Option.{slice_get-map}
 use Rattle.ft_format.specs.declared.header.Header.{Header}
 use Rattle.ft_format.specs.declared.places.Places.{Places}
@@ -12,8 +12,10 @@ use Rattle.ft_format.specs.Broken.{header_at, instrs_at, instrs_part, instr_rows
 use Rattle.ft_format.specs.Values.{instr_of}
 use Rattle.ft_format.proofs.Layouts.{length_rows}
 use Rattle.ft_view.specs.Viewed.{IsView}
+use Rattle.ft_view.specs.Sections.{section_of}
+use Rattle.ft_view.specs.declared.section.Section.TheVariants.{Instrs}
 use Rattle.ft_view.proofs.Whole.{AreUnbroken, unbroken}
-use Rattle.ft_records.proofs.Records.{record_at}
+use Rattle.ft_records.proofs.Records.{record_at, row_at}
 use Rattle.ft_view.proofs.Plain.{AreBelow, plain_at}
 
 -- the sections under the view's own header
@@ -66,3 +68,25 @@ row_there ws count start h p bytes seen part row i at v e lt place is numbers_ar
     let lower = below h p bytes seen count i v e lt in
     let there : slice_get (rows ws (count h) (drop (start h) bytes)) i ≡ Some row = record_at ws (count h) i (start h) at bytes part row lower place is numbers_are in
     rw (e, ← v.header) there
+
+-- the record of an instruction, from the section of the instructions
+pub code_inside : (h : Header) (p : Places) (bytes seen code : List ℕ) (i : ℕ) → IsView h p bytes → seen ≡ bytes → code ≡ section_of Instrs seen → i < (header_at seen).instrs → 16 * i + 16 ≤ length code
+code_inside h p bytes seen code i v e is lt =
+    let u = sections h p bytes v in
+    let k = header_at seen in
+    let whole : instrs_at k + 16 * k.instrs ≤ length seen = rw (e, ← v.header) (omega (arith, u.whole.whole)) in
+    let room : 16 * k.instrs ≤ length (drop (instrs_at k) seen) = omega (arith, whole, length-drop (instrs_at k) seen) in
+    let size_is : length code ≡ 16 * k.instrs = ap length is ∙ length-take-le (16 * k.instrs) (drop (instrs_at k) seen) room in
+    omega (arith, size_is, lt)
+
+pub code_there : (h : Header) (p : Places) (bytes seen code part row : List ℕ) (i : ℕ) → IsView h p bytes → seen ≡ bytes → code ≡ section_of Instrs seen → i < (header_at seen).instrs → part ≡ take 16 (drop (16 * i) code) → row ≡ numbers code_layout part
+    → slice_get (instr_rows_of (header_at seen) seen) i ≡ Some row
+code_there h p bytes seen code part row i v e code_is lt is numbers_are =
+    let k = header_at seen in
+    let bs = drop (instrs_at k) seen in
+    let rest : ℕ = 16 * k.instrs - 16 * i in
+    let all : 16 * i + rest ≡ 16 * k.instrs = omega (arith, lt) in
+    let same : take 16 (drop (16 * i) (take (16 * k.instrs) bs)) ≡ take 16 (drop (16 * i) bs) =
+    ap (λ n. take 16 (drop (16 * i) (take n bs))) (sym all) ∙ ap (take 16) (drop-take (16 * i) rest bs) ∙ take-take 16 rest (drop (16 * i) bs) (omega (arith, lt)) in
+    let there = row_at code_layout k.instrs i bs lt in
+    rw (numbers_are, is, code_is, same) there

@@ -131,6 +131,17 @@ impl<'a> View<'a> {
         CodeRow::read(stretch(self.bytes, self.at.instrs + 16 * i as usize, 16))
     }
 
+    /// The numbers of the record of instruction `i`, from the section of the instructions.
+    fn record_in(&self, code: &[u8], i: u32) -> CodeRow
+        requires there { i < (header_at self.now).instrs }
+        requires code { code.now ≡ section_of Section.Instrs self.now }
+        ensures there { slice_get (instr_rows_of (header_at self.now) self.now) i ≡ Some (code_numbers result) }
+        ensures below { (result.a < 64) × (result.b < 64) × (result.c < 64) }
+    {
+        let _ = &self.header;
+        CodeRow::read(stretch(code, 16 * i as usize, 16))
+    }
+
     /// Where the register rows and the queue rows of code type `t` begin.
     fn rows_before(&self, t: u32) -> (u32, u32)
         requires { t ≤ (header_at self.now).types }
@@ -215,8 +226,14 @@ impl<'a> Nodes for View<'a> {
 impl<'a> Program for View<'a> {
     ghost use Rattle.std.specs.Prelude.{refl};
     ghost use Rattle.ft_format.specs.Broken.{object_of};
+    ghost use Rattle.ft_view.specs.Sections.{section_of};
+    ghost use Rattle.ft_view.specs.declared.section.Section.TheVariants.{Instrs};
 
     ghost object = { object_of };
+
+    type Code = &'a [u8];
+
+    ghost is_code = { λ v code. code.now ≡ section_of Instrs v };
 
     ghost nodes_are = { λ v. refl };
 
@@ -236,6 +253,14 @@ impl<'a> Program for View<'a> {
 
     fn instr(&self, i: u32) -> Instr {
         read_instr(self.instr_record(i))
+    }
+
+    fn code(&self) -> &'a [u8] {
+        self.section(Section::Instrs)
+    }
+
+    fn fetch(&self, code: &'a [u8], i: u32) -> Instr {
+        read_instr(self.record_in(code, i))
     }
 
     fn block(&self, b: u32) -> Block {
