@@ -5,8 +5,8 @@ use Rattle.std.specs.Prelude.{if◌then◌else◌, IsErr}
 use Rattle.ft_edge.specs.declared.failed.Failed.{Failed}
 use Rattle.ft_isa.specs.declared.output.Output.{Output}
 use Rattle.ft_isa.specs.declared.plan.Wild.{Wild}
-use Rattle.ft_text.specs.Puts.{PutsLines, BreaksOff}
-use Rattle.ft_text.proofs.PutLines.{puts_none, puts_then, breaks_then, breaks_before}
+use Rattle.ft_edge.specs.Puts.{PutsLines, BreaksOff}
+use Rattle.ft_edge.proofs.PutLines.{puts_none, puts_then, breaks_then, breaks_before}
 use Rattle.ft_types.specs.declared.object.Object.{Object}
 use Rattle.ft_types.specs.declared.status.Status.{Status}
 use Rattle.ft_types.specs.declared.status.Status.TheVariants as status

@@ -6,8 +6,8 @@ use Rattle.std.proofs.lemmas.Bool.Decides.{nat_tests}
 use Rattle.ft_isa.specs.declared.plan.Site.{Site}
 use Rattle.ft_edge.specs.declared.failed.Failed.{Failed}
 use Rattle.ft_isa.specs.declared.plan.Wild.{Wild}
-use Rattle.ft_text.specs.Puts.{PutsLines, BreaksOff}
-use Rattle.ft_text.proofs.PutLines.{puts_none, puts_then, breaks_then, breaks_before}
+use Rattle.ft_edge.specs.Puts.{PutsLines, BreaksOff}
+use Rattle.ft_edge.proofs.PutLines.{puts_none, puts_then, breaks_then, breaks_before}
 use Rattle.ft_types.specs.declared.object.Object.{Object}
 use Rattle.ft_types.specs.Strike.{is_there}
 use Rattle.ft_script.specs.declared.command.Command as read

@@ -6,8 +6,8 @@ use Rattle.std.proofs.lemmas.List.{map-append, take_more, take_all}
 use Rattle.std.proofs.Math.Seq.{split_at}
 use Rattle.ft_edge.specs.declared.failed.Failed.{Failed}
 use Rattle.ft_isa.specs.declared.plan.Wild.{Wild}
-use Rattle.ft_text.specs.Puts.{PutsLines, BreaksOff}
-use Rattle.ft_text.proofs.PutLines.{puts_none, puts_then, breaks_then, breaks_before}
+use Rattle.ft_edge.specs.Puts.{PutsLines, BreaksOff}
+use Rattle.ft_edge.proofs.PutLines.{puts_none, puts_then, breaks_then, breaks_before}
 use Rattle.ft_types.specs.declared.object.Object.{Object}
 use Rattle.ft_types.specs.State.{State}
 use Rattle.ft_types.specs.Strike.{is_running, is_there}

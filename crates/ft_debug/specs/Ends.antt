@@ -2,7 +2,7 @@
 use Rattle.std.specs.Prelude.{◌≡◌, ℕ, List, Option}
 use Rattle.ft_edge.specs.Causes.{Rose}
 use Rattle.ft_isa.specs.declared.plan.Wild.{Wild}
-use Rattle.ft_text.specs.Puts.{PutsLines, BreaksOff, PutsNothing}
+use Rattle.ft_edge.specs.Puts.{PutsLines, BreaksOff, PutsNothing}
 use Rattle.ft_types.specs.declared.object.Object.{Object}
 use Rattle.ft_script.specs.Commands.{Command, AreCommands}
 use Rattle.ft_debug.specs.declared.debug_end.DebugEnd.{DebugEnd}

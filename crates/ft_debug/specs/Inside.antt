@@ -5,7 +5,7 @@ use Rattle.ft_edge.specs.Causes.{Rose}
 use Rattle.ft_edge.specs.declared.failed.Failed.{Failed}
 use Rattle.ft_isa.specs.declared.plan.Strike.{Strike}
 use Rattle.ft_isa.specs.declared.plan.Wild.{Wild}
-use Rattle.ft_text.specs.Puts.{PutsLines, BreaksOff}
+use Rattle.ft_edge.specs.Puts.{PutsLines, BreaksOff}
 use Rattle.ft_types.specs.declared.object.Object.{Object}
 use Rattle.ft_types.specs.State.{State, HasCells}
 use Rattle.ft_types.specs.Strike.{is_running}

@@ -2,8 +2,7 @@
 use Rattle.std.proofs.Common.{◌≡◌, ℕ, zero, suc, ◌+◌, ◌-◌, ◌*◌, ◌^◌, ◌<◌, ◌≤◌, List, [], ◌∷◌, ◌++◌, length, Option, Some, None, true, refl, ap, sym, subst, ◌∙◌, ⊎_elim, arith}
 use Rattle.std.proofs.lemmas.Bool.{cases_lt}
 use Rattle.std.specs.Option.{option_to_list}
-use Rattle.std.specs.Io.KnownBytes.{append_known}
-use Rattle.ft_edge.specs.Puts.{puts_after}
+use Rattle.ft_edge.specs.Puts.{puts_after, PutsLines}
 use Rattle.ft_isa.specs.declared.plan.Wild.{Wild}
 use Rattle.ft_isa.specs.declared.output.Output.{Output}
 use Rattle.ft_isa.specs.declared.instr.Instr.{Instr}
@@ -15,7 +14,6 @@ use Rattle.ft_types.specs.State.{State, is_cell, HasCells}
 use Rattle.ft_types.specs.Step.{next, step, execute}
 use Rattle.ft_types.specs.Objects.{instr_at}
 use Rattle.ft_types.specs.Run.{Ran, extended}
-use Rattle.ft_types.specs.Texts.{lines}
 use Rattle.ft_machine.specs.declared.bank.Bank.{Bank}
 use Rattle.ft_machine.specs.declared.bank.Effect.{Effect}
 use Rattle.ft_machine.specs.declared.bank.Effect.TheVariants as effects
@@ -23,7 +21,7 @@ use Rattle.ft_machine.specs.declared.machine.Stepped.{Stepped}
 use Rattle.ft_machine.specs.declared.machine.Stepped.TheVariants.{Quiet, Commit, Done, Detected}
 use Rattle.ft_machine.specs.declared.run.RunEnd.{RunEnd}
 use Rattle.ft_machine.specs.Answers.{Takes, told_output}
-use Rattle.ft_machine.specs.Drives.{TurnEnds, TurnWrites}
+use Rattle.ft_machine.specs.Drives.{TurnEnds, TurnPuts, output_lines}
 use Rattle.ft_machine.specs.Effects.{Does, doing, followed, put_out, told_effect}
 use Rattle.ft_machine.specs.Spans.{span, span-zero, span-add_one, HasGone, Goes}
 use Rattle.ft_machine.specs.Advances.{output_told, status_told, IsEnough, IsQuiet, Advances, state_where}
@@ -211,12 +209,12 @@ enough_few Detected n most h = h.1
 
 -- what was written and put with them
 gone_so_far : (o : Object) (s s' : State) (w w' : List Wild) (most n : ℕ) (last : Stepped) (e : Option RunEnd) (k k' : Option (List ℕ)) (p p' : Option ℕ) → Advances o s w s' w' most n last
-    → TurnEnds e (status_told last) → TurnWrites e k k' (lines o (option_to_list (output_told last))) → p' ≡ puts_after (length (option_to_list (output_told last))) p → HasGone o s w e s' w' k k' p p' n
-gone_so_far o s s' w w' most n last e k k' p p' a ends writes puts = record {
+    → TurnEnds e (status_told last) → TurnPuts e (output_lines o (option_to_list (output_told last))) k k' p p' → p' ≡ puts_after (length (option_to_list (output_told last))) p → HasGone o s w e s' w' k k' p p' n
+gone_so_far o s s' w w' most n last e k k' p p' a ends put puts = record {
   state_is = a.state_is;
   wild_is = a.wild_is;
   ends = subst (TurnEnds e) (sym a.status_is) ends;
-  writes = subst (λ xs. TurnWrites e k k' (lines o xs)) (sym a.outputs) writes;
+  lines = subst (λ xs. TurnPuts e (output_lines o xs) k k' p p') (sym a.outputs) put;
   puts = puts ∙ ap (λ (xs : List Output). puts_after (length xs) p) (sym a.outputs);
 }
 
@@ -232,22 +230,22 @@ some_more m n some = omega arith
 module _ (o : Object) (s s1 s2 : State) (w w1 w2 : List Wild) (k k1 k2 : Option (List ℕ)) (p p1 p2 : Option ℕ) (number left n : ℕ) (last : Stepped) (le : left ≤ number)
     (g : HasGone o s w None s1 w1 k k1 p p1 (number - left)) (a : Advances o s1 w1 s2 w2 left n last) where
   -- a run that goes on with these steps
-  pub gone_on : status_told last ≡ Running → k2 ≡ append_known k1 (lines o (option_to_list (output_told last))) → p2 ≡ puts_after (length (option_to_list (output_told last))) p1
+  pub gone_on : status_told last ≡ Running → PutsLines (output_lines o (option_to_list (output_told last))) k1 k2 p1 p2 → p2 ≡ puts_after (length (option_to_list (output_told last))) p1
       → HasGone o s w None s2 w2 k k2 p p2 (number - (left - n))
-  gone_on runs writes puts =
+  gone_on runs put puts =
       subst (HasGone o s w None s2 w2 k k2 p p2) (rest_less number left n le (enough_few last n left a.enough))
-      (gone_more o s s1 s2 w w1 w2 None k k1 k2 p p1 p2 (number - left) n g (gone_so_far o s1 s2 w1 w2 left n last None k1 k2 p1 p2 a runs writes puts))
+      (gone_more o s s1 s2 w w1 w2 None k k1 k2 p p1 p2 (number - left) n g (gone_so_far o s1 s2 w1 w2 left n last None k1 k2 p1 p2 a runs put puts))
 
   -- a run that ends with them
-  pub gone_to_end : (e : RunEnd) → 0 < n → TurnEnds (Some e) (status_told last) → TurnWrites (Some e) k1 k2 (lines o (option_to_list (output_told last))) → p2 ≡ puts_after (length (option_to_list (output_told last))) p1
+  pub gone_to_end : (e : RunEnd) → 0 < n → TurnEnds (Some e) (status_told last) → TurnPuts (Some e) (output_lines o (option_to_list (output_told last))) k1 k2 p1 p2 → p2 ≡ puts_after (length (option_to_list (output_told last))) p1
       → Goes (Some e) number (HasGone o s w (Some e) s2 w2 k k2 p p2)
-  gone_to_end e some ends writes puts = (
+  gone_to_end e some ends put puts = (
     (number - left) + n,
     (
       some_more (number - left) n some,
       (
         rest_few number left n le (enough_few last n left a.enough),
-        gone_more o s s1 s2 w w1 w2 (Some e) k k1 k2 p p1 p2 (number - left) n g (gone_so_far o s1 s2 w1 w2 left n last (Some e) k1 k2 p1 p2 a ends writes puts),
+        gone_more o s s1 s2 w w1 w2 (Some e) k k1 k2 p p1 p2 (number - left) n g (gone_so_far o s1 s2 w1 w2 left n last (Some e) k1 k2 p1 p2 a ends put puts),
       ),
     ),
   )

@@ -2,8 +2,8 @@
 use Rattle.std.proofs.Common.{◌≡◌, ℕ, zero, suc, ◌+◌, ◌-◌, ◌<◌, ◌≤◌, List, [], ◌++◌, length, Option, Some, None, is_some, true, ◌&&◌, nat_le, nat_lt, refl, ap, sym, subst, ◌∙◌, append_assoc, arith}
 use Rattle.std.proofs.lemmas.List.{append-nil}
 use Rattle.std.specs.Option.{option_to_list}
-use Rattle.ft_edge.specs.Causes.{AddsPrefix}
-use Rattle.ft_edge.specs.Puts.{puts_after}
+use Rattle.ft_edge.specs.Puts.{puts_after, PutsLines}
+use Rattle.ft_edge.proofs.PutLines.{after_none, puts_none}
 use Rattle.ft_isa.specs.declared.plan.Wild.{Wild}
 use Rattle.ft_isa.specs.declared.plan.Strike.{Strike}
 use Rattle.ft_isa.specs.declared.output.Output.{Output}
@@ -15,23 +15,21 @@ use Rattle.ft_types.specs.Objects.{instr_at}
 use Rattle.ft_isa.specs.declared.instr.Instr.{Instr}
 use Rattle.ft_types.specs.declared.status.Status.{Status}
 use Rattle.ft_types.specs.declared.status.Status.TheVariants as status
-use Rattle.std.specs.Io.KnownBytes.{append_known}
 use Rattle.std.specs.Prelude.{if◌then◌else◌, slice_get}
 use Rattle.std.proofs.lemmas.Bool.{eq-eqb, ne_eqb}
 use Rattle.std.proofs.lemmas.Bool.Decides.{nat_tests}
 use Rattle.ft_types.specs.Strike.{struck_before, struck_state}
 use Rattle.ft_types.specs.Run.{Ran, extended, after_step, run, run-zero, run-add_one}
-use Rattle.ft_types.specs.Texts.{lines}
 use Rattle.ft_machine.specs.declared.run.RunEnd.{RunEnd}
 use Rattle.ft_machine.specs.declared.run.RunEnd.TheVariants.{Done, Detected, OutOfSteps, WriteFault}
-use Rattle.ft_machine.specs.Drives.{TurnEnds, TurnWrites, EndsAs, Writes, Stops, HasTaken}
+use Rattle.ft_machine.specs.Drives.{TurnEnds, TurnPuts, EndsAs, Stops, HasTaken, output_lines, Puts}
 use Rattle.ft_machine.specs.Spans.{HasDriven, span, span-zero, span-add_one, HasGone, Goes, Spares}
 use Rattle.ft_machine.proofs.Runs.{HasStopped, stays_at}
 use Rattle.ft_machine.proofs.Steps.{step_is_proper}
 use Rattle.ft_machine.specs.declared.bank.Bank.{Bank}
 use Rattle.ft_machine.specs.declared.bank.Effect.{Effect}
 use Rattle.ft_machine.specs.Effects.{Does, doing, followed, put_out}
-use Rattle.ft_machine.proofs.Driven.{written_next, written_none, puts_next, puts_after-zero, front_later, ends_later, writes_later, stops_later}
+use Rattle.ft_machine.proofs.Driven.{lines_next, breaks_next, puts_next, ends_later, lines_later, stops_later}
 
 -- a run after these outputs
 abbrev pub joined : List Output → Ran → Ran
@@ -82,15 +80,12 @@ span_running o n m s w running =
     (λ h. let same = ap (λ (r : Ran). r.state) (span_join o n m s w) ∙ span_stays o m (span o n s w).state (span o n s w).wild h in
     subst HasStopped (sym (ap (λ (q : State). q.status) same) ∙ running) h)
 
-prefix_more : (o : Object) (first old new : Option (List ℕ)) (xs more : List Output) → old ≡ append_known first (lines o xs) → AddsPrefix old new (lines o more) → AddsPrefix first new (lines o (xs ++ more))
-prefix_more o first old new xs more eo f = subst (λ ys. AddsPrefix first new (lines o ys)) (append-nil (xs ++ more)) (front_later o first old new xs more [] eo f)
-
-writes_both : (o : Object) (e : Option RunEnd) (first old new : Option (List ℕ)) (xs more : List Output) → old ≡ append_known first (lines o xs) → TurnWrites e old new (lines o more) → TurnWrites e first new (lines o (xs ++ more))
-writes_both o None first old new xs more eo h = written_next o first old new xs more eo h
-writes_both o (Some Done) first old new xs more eo h = written_next o first old new xs more eo h
-writes_both o (Some Detected) first old new xs more eo h = written_next o first old new xs more eo h
-writes_both o (Some OutOfSteps) first old new xs more eo h = written_next o first old new xs more eo h
-writes_both o (Some WriteFault) first old new xs more eo h = prefix_more o first old new xs more eo h
+lines_both : (o : Object) (e : Option RunEnd) (first old new : Option (List ℕ)) (a b c : Option ℕ) (xs more : List Output) → PutsLines (output_lines o xs) first old a b → TurnPuts e (output_lines o more) old new b c → TurnPuts e (output_lines o (xs ++ more)) first new a c
+lines_both o None first old new a b c xs more eo h = lines_next o first old new a b c xs more eo h
+lines_both o (Some Done) first old new a b c xs more eo h = lines_next o first old new a b c xs more eo h
+lines_both o (Some Detected) first old new a b c xs more eo h = lines_next o first old new a b c xs more eo h
+lines_both o (Some OutOfSteps) first old new a b c xs more eo h = lines_next o first old new a b c xs more eo h
+lines_both o (Some WriteFault) first old new a b c xs more eo h = breaks_next o first old new a b c xs more eo h
 
 -- steps after steps
 pub gone_more : (o : Object) (s s1 s2 : State) (w w1 w2 : List Wild) (e : Option RunEnd) (k k1 k2 : Option (List ℕ)) (p p1 p2 : Option ℕ) (n m : ℕ)
@@ -104,7 +99,7 @@ gone_more o s s1 s2 w w1 w2 e k k1 k2 p p1 p2 n m a b =
       state_is = b.state_is ∙ ap (λ (r : Ran). r.state) (sym whole);
       wild_is = b.wild_is ∙ ap (λ (r : Ran). r.wild) (sym whole);
       ends = subst (λ (r : Ran). TurnEnds e r.state.status) (sym whole) b.ends;
-      writes = subst (λ (r : Ran). TurnWrites e k k2 (lines o r.outputs)) (sym whole) (writes_both o e k k1 k2 xs ys a.writes b.writes);
+      lines = subst (λ (r : Ran). TurnPuts e (output_lines o r.outputs) k k2 p p2) (sym whole) (lines_both o e k k1 k2 p p1 p2 xs ys a.lines b.lines);
       puts = puts_next xs ys p p1 p2 a.puts b.puts ∙ ap (λ (r : Ran). puts_after (length r.outputs) p) (sym whole);
     }
 
@@ -120,8 +115,8 @@ gone_none o s w k p running =
       state_is = ap (λ (r : Ran). r.state) (sym begun);
       wild_is = ap (λ (r : Ran). r.wild) (sym begun);
       ends = ap (λ (r : Ran). r.state.status) begun ∙ running;
-      writes = written_none k ∙ ap (λ (r : Ran). append_known k (lines o r.outputs)) (sym begun);
-      puts = sym (puts_after-zero p) ∙ ap (λ (r : Ran). puts_after (length r.outputs) p) (sym begun);
+      lines = subst (λ (r : Ran). PutsLines (output_lines o r.outputs) k k p p) (sym begun) (puts_none k p);
+      puts = after_none p ∙ ap (λ (r : Ran). puts_after (length r.outputs) p) (sym begun);
     }
 
 -- one step
@@ -130,12 +125,12 @@ span_one o s w = span-add_one o 0 s w ∙ ap (λ (r : Ran). extended r.outputs (
 
 -- steps that give this
 pub gone_so : (o : Object) (n : ℕ) (s s' : State) (w w' : List Wild) (e : Option RunEnd) (k k' : Option (List ℕ)) (p p' : Option ℕ) (r : Ran) → span o n s w ≡ r
-    → s' ≡ r.state → w' ≡ r.wild → TurnEnds e r.state.status → TurnWrites e k k' (lines o r.outputs) → p' ≡ puts_after (length r.outputs) p → HasGone o s w e s' w' k k' p p' n
-gone_so o n s s' w w' e k k' p p' r is state_is wild_is ends writes puts = record {
+    → s' ≡ r.state → w' ≡ r.wild → TurnEnds e r.state.status → TurnPuts e (output_lines o r.outputs) k k' p p' → p' ≡ puts_after (length r.outputs) p → HasGone o s w e s' w' k k' p p' n
+gone_so o n s s' w w' e k k' p p' r is state_is wild_is ends put puts = record {
   state_is = state_is ∙ ap (λ (x : Ran). x.state) (sym is);
   wild_is = wild_is ∙ ap (λ (x : Ran). x.wild) (sym is);
   ends = subst (λ (x : Ran). TurnEnds e x.state.status) (sym is) ends;
-  writes = subst (λ (x : Ran). TurnWrites e k k' (lines o x.outputs)) (sym is) writes;
+  lines = subst (λ (x : Ran). TurnPuts e (output_lines o x.outputs) k k' p p') (sym is) put;
   puts = puts ∙ ap (λ (x : Ran). puts_after (length x.outputs) p) (sym is);
 }
 
@@ -215,11 +210,11 @@ pub end_status : (o : Object) (strike : Option Strike) (w : List Wild) (e : RunE
 end_status o strike w e m n r is le h =
     subst (λ j. EndsAs e (run o strike w j).state.status) (rest_of m n le) (ends_later o strike w e m (n - m) (subst (λ (x : Ran). TurnEnds (Some e) x.state.status) (sym is) h))
 
-pub end_writes : (o : Object) (strike : Option Strike) (w : List Wild) (e : RunEnd) (m n : ℕ) (r : Ran) (k k1 k2 : Option (List ℕ)) (xs more : List Output) → run o strike w m ≡ r → m ≤ n → TurnEnds (Some e) r.state.status
-    → r.outputs ≡ xs ++ more → k1 ≡ append_known k (lines o xs) → Writes e k1 k2 (lines o more) → Writes e k k2 (lines o (run o strike w n).outputs)
-end_writes o strike w e m n r k k1 k2 xs more is le h outputs a b =
-    subst (λ j. Writes e k k2 (lines o (run o strike w j).outputs)) (rest_of m n le)
-    (writes_later o strike w e m (n - m) k k1 k2 xs more (subst (λ (x : Ran). TurnEnds (Some e) x.state.status) (sym is) h) (ap (λ (x : Ran). x.outputs) is ∙ outputs) a b)
+pub end_lines : (o : Object) (strike : Option Strike) (w : List Wild) (e : RunEnd) (m n : ℕ) (r : Ran) (k k1 k2 : Option (List ℕ)) (p p1 p2 : Option ℕ) (xs more : List Output) → run o strike w m ≡ r → m ≤ n → TurnEnds (Some e) r.state.status
+    → r.outputs ≡ xs ++ more → PutsLines (output_lines o xs) k k1 p p1 → Puts e (output_lines o more) k1 k2 p1 p2 → Puts e (output_lines o (run o strike w n).outputs) k k2 p p2
+end_lines o strike w e m n r k k1 k2 p p1 p2 xs more is le h outputs a b =
+    subst (λ j. Puts e (output_lines o (run o strike w j).outputs) k k2 p p2) (rest_of m n le)
+    (lines_later o strike w e m (n - m) k k1 k2 p p1 p2 xs more (subst (λ (x : Ran). TurnEnds (Some e) x.state.status) (sym is) h) (ap (λ (x : Ran). x.outputs) is ∙ outputs) a b)
 
 pub end_stops : (o : Object) (strike : Option Strike) (w : List Wild) (e : RunEnd) (m n : ℕ) (r : Ran) (s : State) (p p' : Option ℕ) → run o strike w m ≡ r → m ≤ n → TurnEnds (Some e) r.state.status
     → s ≡ r.state → p' ≡ puts_after (length r.outputs) p → Stops e (λ i. HasTaken o strike w i s p p') n
@@ -233,7 +228,7 @@ pub record Reached (o : Object) (strike : Option Strike) (w : List Wild) (s' : S
   pub state_is : s' ≡ (run o strike w n).state
   pub wild_is : w' ≡ (run o strike w n).wild
   pub running : (run o strike w n).state.status ≡ Running
-  pub written : k' ≡ append_known k (lines o (run o strike w n).outputs)
+  pub lines : PutsLines (output_lines o (run o strike w n).outputs) k k' p p'
   pub puts : p' ≡ puts_after (length (run o strike w n).outputs) p
 
 run_first : (o : Object) (strike : Option Strike) (w w0 : List Wild) (s0 : State) (m : ℕ) → s0 ≡ start o → w0 ≡ w → ((j : ℕ) → j < m → Spares strike j) → run o strike w m ≡ span o m s0 w0
@@ -247,7 +242,7 @@ reached_first o strike w w0 s0 s' w' k k' p p' n begun answers spares h =
       state_is = h.state_is ∙ ap (λ (r : Ran). r.state) is;
       wild_is = h.wild_is ∙ ap (λ (r : Ran). r.wild) is;
       running = sym (ap (λ (r : Ran). r.state.status) is) ∙ h.ends;
-      written = h.writes ∙ ap (λ (r : Ran). append_known k (lines o r.outputs)) is;
+      lines = subst (λ (r : Ran). PutsLines (output_lines o r.outputs) k k' p p') is h.lines;
       puts = h.puts ∙ ap (λ (r : Ran). puts_after (length r.outputs) p) is;
     }
 
@@ -257,14 +252,14 @@ driven_first o strike w w0 e s0 s' w' k k' p p' before n begun answers spares le
     let is = run_first o strike w w0 s0 m begun answers (λ j below. spares j (omega arith)) in
     record {
       ends = end_status o strike w e m n (span o m s0 w0) is (omega arith) h.ends;
-      writes = end_writes o strike w e m n (span o m s0 w0) k k k' [] (span o m s0 w0).outputs is (omega arith) h.ends refl (written_none k) h.writes;
+      lines = end_lines o strike w e m n (span o m s0 w0) k k k' p p p' [] (span o m s0 w0).outputs is (omega arith) h.ends refl (puts_none k p) h.lines;
       stops = end_stops o strike w e m n (span o m s0 w0) s' p p' is (omega arith) h.ends h.state_is h.puts;
     }
 
 -- a run that is still going after its last step
 pub driven_through : (o : Object) (strike : Option Strike) (w : List Wild) (s' : State) (w' : List Wild) (k k' : Option (List ℕ)) (p p' : Option ℕ) (n m : ℕ) → n ≡ m → Reached o strike w s' w' k k' p p' n → HasDriven o strike w OutOfSteps s' k k' p p' m
 driven_through o strike w s' w' k k' p p' n m is h =
-    subst (λ j. HasDriven o strike w OutOfSteps s' k k' p p' j) is (record { ends = h.running; writes = h.written; stops = record { state_is = h.state_is; puts = h.puts } })
+    subst (λ j. HasDriven o strike w OutOfSteps s' k k' p p' j) is (record { ends = h.running; lines = h.lines; stops = record { state_is = h.state_is; puts = h.puts } })
 
 run_second : (o : Object) (strike : Option Strike) (w : List Wild) (s1 s2 : State) (w1 : List Wild) (k k1 : Option (List ℕ)) (p p1 : Option ℕ) (before m : ℕ) → Reached o strike w s1 w1 k k1 p p1 before → s2 ≡ struck_before strike before s1
     → ((j : ℕ) → before < j → Spares strike j) → 0 < m → run o strike w (before + m) ≡ joined (run o strike w before).outputs (span o m s2 w1)
@@ -281,7 +276,7 @@ driven_second o strike w e s1 s2 s' w1 w' k k1 k' p p1 p' before n r struck spar
     let whole = joined (run o strike w before).outputs (span o m s2 w1) in
     record {
       ends = end_status o strike w e (before + m) n whole is (omega arith) h.ends;
-      writes = end_writes o strike w e (before + m) n whole k k1 k' (run o strike w before).outputs (span o m s2 w1).outputs is (omega arith) h.ends refl r.written h.writes;
+      lines = end_lines o strike w e (before + m) n whole k k1 k' p p1 p' (run o strike w before).outputs (span o m s2 w1).outputs is (omega arith) h.ends refl r.lines h.lines;
       stops = end_stops o strike w e (before + m) n whole s' p p' is (omega arith) h.ends h.state_is (puts_next (run o strike w before).outputs (span o m s2 w1).outputs p p1 p' r.puts h.puts);
     }
 
@@ -293,7 +288,7 @@ reached_second o strike w s1 s2 s' w1 w' k k1 k' p p1 p' before m r struck spare
       state_is = h.state_is ∙ ap (λ (x : Ran). x.state) is;
       wild_is = h.wild_is ∙ ap (λ (x : Ran). x.wild) is;
       running = sym (ap (λ (x : Ran). x.state.status) is) ∙ h.ends;
-      written = written_next o k k1 k' (run o strike w before).outputs (span o m s2 w1).outputs r.written h.writes ∙ ap (λ (x : Ran). append_known k (lines o x.outputs)) is;
+      lines = subst (λ (x : Ran). PutsLines (output_lines o x.outputs) k k' p p') is (lines_next o k k1 k' p p1 p' (run o strike w before).outputs (span o m s2 w1).outputs r.lines h.lines);
       puts = puts_next (run o strike w before).outputs (span o m s2 w1).outputs p p1 p' r.puts h.puts ∙ ap (λ (x : Ran). puts_after (length x.outputs) p) is;
     }
 

@@ -1,13 +1,15 @@
 -- What driving a machine answers and writes.
-use Rattle.std.specs.Prelude.{◌≡◌, ℕ, ◌≤◌, List, length, Option, Some, None}
+use Rattle.std.specs.Prelude.{◌≡◌, ℕ, ◌≤◌, List, length, map, Option, Some, None}
 use Rattle.std.specs.Io.KnownBytes.{append_known}
 use Rattle.ft_edge.specs.Causes.{Rose, AddsPrefix}
-use Rattle.ft_edge.specs.Puts.{puts_after}
+use Rattle.ft_edge.specs.Puts.{puts_after, PutsLines, BreaksOff}
+use Rattle.ft_isa.specs.declared.output.Output.{Output}
 use Rattle.ft_isa.specs.declared.plan.Strike.{Strike}
 use Rattle.ft_isa.specs.declared.plan.Wild.{Wild}
 use Rattle.ft_types.specs.declared.object.Object.{Object}
 use Rattle.ft_types.specs.State.{State}
 use Rattle.ft_types.specs.Run.{state_after, outputs_after}
+use Rattle.ft_types.specs.Texts.{line_at}
 use Rattle.ft_types.specs.declared.status.Status.{Status}
 use Rattle.ft_types.specs.declared.status.Status.TheVariants as status
 use Rattle.ft_machine.specs.declared.run.RunEnd.{RunEnd}
@@ -26,6 +28,17 @@ Writes Done old new text = new ≡ append_known old text
 Writes Detected old new text = new ≡ append_known old text
 Writes OutOfSteps old new text = new ≡ append_known old text
 Writes WriteFault old new text = AddsPrefix old new text
+
+-- the lines of outputs, one for each
+abbrev pub output_lines : Object → List Output → List (List ℕ)
+output_lines o outputs = map (line_at o) outputs
+
+-- all lines were put, by one put each, or a put failed, which was the last
+abbrev pub Puts : RunEnd → List (List ℕ) → Option (List ℕ) → Option (List ℕ) → Option ℕ → Option ℕ → Type 0
+Puts Done lines old new before now = PutsLines lines old new before now
+Puts Detected lines old new before now = PutsLines lines old new before now
+Puts OutOfSteps lines old new before now = PutsLines lines old new before now
+Puts WriteFault lines old new before now = BreaksOff lines old new before now
 
 -- only a count that rose excuses a failed put, and where no put failed the count stays
 abbrev pub IsExcused : RunEnd → ℕ → ℕ → Type 0
@@ -54,10 +67,10 @@ TurnEnds (Some Done) s = s ≡ status.Done
 TurnEnds (Some Detected) s = s ≡ status.Detected
 TurnEnds (Some WriteFault) s = Unit {0}
 
--- what one turn of a run writes
-abbrev pub TurnWrites : Option RunEnd → Option (List ℕ) → Option (List ℕ) → List ℕ → Type 0
-TurnWrites None old new text = new ≡ append_known old text
-TurnWrites (Some e) old new text = Writes e old new text
+-- what one turn of a run puts
+abbrev pub TurnPuts : Option RunEnd → List (List ℕ) → Option (List ℕ) → Option (List ℕ) → Option ℕ → Option ℕ → Type 0
+TurnPuts None lines old new before now = PutsLines lines old new before now
+TurnPuts (Some e) lines old new before now = Puts e lines old new before now
 
 -- a turn that ends at a failed put is excused as the run is
 abbrev pub TurnIsExcused : Option RunEnd → ℕ → ℕ → Type 0

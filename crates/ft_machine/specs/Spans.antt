@@ -9,9 +9,8 @@ use Rattle.ft_types.specs.Step.{step}
 use Rattle.ft_types.specs.Strike.{struck_before}
 use Rattle.ft_isa.specs.declared.plan.Strike.{Strike}
 use Rattle.ft_types.specs.Run.{Ran, extended, run}
-use Rattle.ft_types.specs.Texts.{lines}
 use Rattle.ft_machine.specs.declared.run.RunEnd.{RunEnd}
-use Rattle.ft_machine.specs.Drives.{EndsAs, Writes, HasTaken, Stops, TurnEnds, TurnWrites}
+use Rattle.ft_machine.specs.Drives.{EndsAs, HasTaken, Stops, TurnEnds, output_lines, Puts, TurnPuts}
 
 -- the run of n steps from a state on
 unfoldable pub span : Object → ℕ → State → List Wild → Ran
@@ -31,7 +30,7 @@ pub record HasGone (o : Object) (s : State) (w : List Wild) (end : Option RunEnd
   pub state_is : s' ≡ (span o n s w).state
   pub wild_is : w' ≡ (span o n s w).wild
   pub ends : TurnEnds end (span o n s w).state.status
-  pub writes : TurnWrites end old new (lines o (span o n s w).outputs)
+  pub lines : TurnPuts end (output_lines o (span o n s w).outputs) old new before now
   pub puts : now ≡ puts_after (length (span o n s w).outputs) before
 
 -- a call that takes n steps takes all of them, or fewer where the run ends
@@ -46,5 +45,5 @@ Spares strike j = (s : State) → struck_before strike j s ≡ s
 -- what a drive that ended so promises
 pub record HasDriven (o : Object) (strike : Option Strike) (w : List Wild) (e : RunEnd) (s' : State) (k k' : Option (List ℕ)) (p p' : Option ℕ) (n : ℕ) : Type 0 where
   pub ends : EndsAs e (run o strike w n).state.status
-  pub writes : Writes e k k' (lines o (run o strike w n).outputs)
+  pub lines : Puts e (output_lines o (run o strike w n).outputs) k k' p p'
   pub stops : Stops e (λ i. HasTaken o strike w i s' p p') n

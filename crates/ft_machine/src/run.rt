@@ -13,7 +13,7 @@ ghost use Rattle.ft_types.specs.Run.{outputs_after, status_after};
 ghost use Rattle.ft_types.specs.Texts.{line_at, lines};
 ghost use Rattle.ft_machine.specs.Effects.{doing};
 ghost use Rattle.ft_machine.specs.Spans.{Goes, HasGone, HasDriven, Spares};
-ghost use Rattle.ft_machine.specs.Drives.{EndsAs, Writes, IsExcused, HasTaken, Stops, TurnEnds, TurnWrites, TurnIsExcused};
+ghost use Rattle.ft_machine.specs.Drives.{EndsAs, Writes, Puts, output_lines, IsExcused, HasTaken, Stops, TurnEnds, TurnPuts, TurnIsExcused};
 
 use crate::cells::CELL_BASE;
 use crate::machine::{Machine, Stepped};
@@ -145,7 +145,7 @@ fn run_through<P: Program, K: Sink>(
 }
 
 /// Runs a machine from its start under a plan, for at most `steps` steps, and puts a line for each
-/// output. `WriteFault` comes only where a put failed, and nothing is put after it.
+/// output, each in one put. `WriteFault` comes only where a put failed, and nothing is put after it.
 pub fn drive<P: Program, K: Sink>(
     machine: &mut Machine,
     program: &P,
@@ -158,6 +158,8 @@ pub fn drive<P: Program, K: Sink>(
     ensures ends { EndsAs result (status_after (P.object program.now) plan.entry.strike plan.entry.wild.now steps) }
     ensures writes { Writes result (K.written out.old) (K.written out.new)
         (lines (P.object program.now) (outputs_after (P.object program.now) plan.entry.strike plan.entry.wild.now steps)) }
+    ensures lines { Puts result (output_lines (P.object program.now) (outputs_after (P.object program.now) plan.entry.strike plan.entry.wild.now steps))
+        (K.written out.old) (K.written out.new) (K.puts out.old) (K.puts out.new) }
     ensures stops { Stops result (λ k. HasTaken (P.object program.now) plan.entry.strike plan.entry.wild.now k
         machine.new (K.puts out.old) (K.puts out.new)) steps }
     ensures count { K.faults out.old ≤ K.faults out.new }

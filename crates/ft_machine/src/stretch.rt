@@ -67,10 +67,11 @@ fn go_straight<P: Program>(
     ensures advances { Advances (P.object program.now) (doing bank.old (1 + from) (1 + from) None) wild.old
         (state_where (P.object program.now) result.pc result.last bank.new) wild.new result.taken result.taken result.last }
 {
+    let code = program.code();
     for i in from..past {
         let pc = 1 + i as u64;
         let taken = 2 * (1 + (i - from) as u64);
-        match bank.execute(program.instr(i), wild) {
+        match bank.execute(program.fetch(code, i), wild) {
             Effect::On => {}
             Effect::To(target) => {
                 return Stretch {

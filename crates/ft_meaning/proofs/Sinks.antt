@@ -1,89 +1,56 @@
 -- What a sink has after one more line, and where a put fails.
-use Rattle.std.proofs.Common.{◌≡◌, ℕ, zero, suc, ◌+◌, ◌-◌, ◌<◌, ◌≤◌, max, take, add-one, List, [], ◌∷◌, ◌++◌, length, map, get_or, Option, Some, None, Bor, refl, sym, ap, ◌∙◌, subst, arith, append_assoc}
-use Rattle.std.proofs.lemmas.List.{append-nil}
+use Rattle.std.proofs.Common.{◌≡◌, ℕ, zero, suc, ◌+◌, ◌-◌, ◌<◌, ◌≤◌, max, take, add-one, List, [], ◌∷◌, ◌++◌, length, map, get_or, Option, Bor, refl, sym, ap, ◌∙◌, subst, arith}
+use Rattle.std.specs.List.{concat}
+use Rattle.std.proofs.lemmas.List.{map-append}
+use Rattle.std.proofs.lemmas.List.Concat.{concat_is}
+use Rattle.std.proofs.lemmas.List.Folds.{flat_map-map}
 use Rattle.std.proofs.Math.Seq.{take-suc}
 use Rattle.std.specs.Io.KnownBytes.{append_known}
 use Rattle.ft_isa.specs.Words.{cell_address, line}
 use Rattle.ft_isa.specs.declared.output.Output.{Output}
 use Rattle.ft_edge.specs.Causes.{AddsPrefix}
-use Rattle.ft_edge.specs.Puts.{one_more, puts_after}
-use Rattle.ft_meaning.specs.Lines.{name_of, line_of, lines}
+use Rattle.ft_edge.specs.Puts.{one_more, PutsLines, BreaksOff}
+use Rattle.ft_edge.proofs.PutLines.{puts_none, puts_one, puts_then, breaks_one, breaks_then, breaks_before}
+use Rattle.ft_meaning.specs.Lines.{name_of, line_of, output_lines, lines}
 use Rattle.ft_meaning.specs.Begins.{Begins}
-use Rattle.ft_meaning.specs.Ends.{Breaks}
 use Rattle.ft_meaning.specs.Room.{HasRoom}
 use Rattle.ft_meaning.specs.Runs.{Told, told}
 
--- the lines of outputs before one more
-pub lines_push : (names : List (List ℕ)) (o : List Output) (x : Output) → lines names (o ++ x ∷ []) ≡ lines names o ++ line_of names x
-lines_push names [] x = append-nil (line_of names x)
-lines_push names (y ∷ o) x = ap (λ v. line_of names y ++ v) (lines_push names o x) ∙ sym (append_assoc (line_of names y) (lines names o) (line_of names x))
+-- the text of the lines
+pub lines_text : (names : List (List ℕ)) (o : List Output) → concat (output_lines names o) ≡ lines names o
+lines_text names o = concat_is (output_lines names o) ∙ flat_map-map (λ x. x) (line_of names) o
 
-lines_append : (names : List (List ℕ)) (o p : List Output) → lines names (o ++ p) ≡ lines names o ++ lines names p
-lines_append names [] p = refl
-lines_append names (y ∷ o) p = ap (λ v. line_of names y ++ v) (lines_append names o p) ∙ sym (append_assoc (line_of names y) (lines names o) (lines names p))
+-- a sink that has these lines is one that they were put to
+pub told_puts : (names : List (List ℕ)) (first now : Told) (o : List Output) → now ≡ told names first o → PutsLines (output_lines names o) first.written now.written first.puts now.puts
+told_puts names first now o h = record { written = ap (λ (t : Told). t.written) h; puts = ap (λ (t : Told). t.puts) h }
 
-known_more : (known : Option (List ℕ)) (xs ys : List ℕ) → append_known (append_known known xs) ys ≡ append_known known (xs ++ ys)
-known_more None xs ys = refl
-known_more (Some zs) xs ys = ap Some (append_assoc zs xs ys)
-
-known_none : (known : Option (List ℕ)) → known ≡ append_known known []
-known_none None = refl
-known_none (Some zs) = ap Some (sym (append-nil zs))
-
-length_push : (o : List Output) (x : Output) → length (o ++ x ∷ []) ≡ suc (length o)
-length_push [] x = refl
-length_push (y ∷ o) x = ap suc (length_push o x)
+puts_told : (names : List (List ℕ)) (first now : Told) (o : List Output) → PutsLines (output_lines names o) first.written now.written first.puts now.puts → now ≡ told names first o
+puts_told names first now o h = let a = h.written in let b = h.puts in λ i. record { written = a i; puts = b i }
 
 -- nothing was put yet
 pub told_nothing : (names : List (List ℕ)) (first : Told) → first ≡ told names first []
-unfolding puts_after
-told_nothing names first = λ i. record { written = known_none first.written i; puts = first.puts }
+told_nothing names first = puts_told names first first [] (puts_none first.written first.puts)
 
 -- a line was put
 pub told_push : (names : List (List ℕ)) (first before after : Told) (o : List Output) (x : Output) → before ≡ told names first o → after.written ≡ append_known before.written (line_of names x) → after.puts ≡ one_more before.puts → after ≡ told names first (o ++ x ∷ [])
-unfolding puts_after
 told_push names first before after o x h w p =
-    let written = w ∙ ap (λ t. append_known t.written (line_of names x)) h ∙ known_more first.written (lines names o) (line_of names x) ∙ ap (append_known first.written) (sym (lines_push names o x)) in
-    let puts = p ∙ ap (λ t. one_more t.puts) h ∙ ap (λ n. puts_after n first.puts) (sym (length_push o x)) in
-    λ i. record { written = written i; puts = puts i }
+    puts_told names first after (o ++ x ∷ [])
+    (subst (λ ls. PutsLines ls first.written after.written first.puts after.puts) (sym (map-append (line_of names) o (x ∷ [])))
+    (puts_then (output_lines names o) (line_of names x ∷ []) first.written before.written after.written first.puts before.puts after.puts (told_puts names first before o h)
+    (puts_one (line_of names x) before.written after.written before.puts after.puts w p)))
 
 -- a put failed
-pub breaks_here : (names : List (List ℕ)) (first before after : Told) (o outputs : List Output) (x : Output) → before ≡ told names first o → AddsPrefix before.written after.written (line_of names x) → after.puts ≡ one_more before.puts → outputs ≡ o ++ x ∷ [] → Breaks names outputs first.written after.written first.puts after.puts
-unfolding puts_after
+pub breaks_here : (names : List (List ℕ)) (first before after : Told) (o outputs : List Output) (x : Output) → before ≡ told names first o → AddsPrefix before.written after.written (line_of names x) → after.puts ≡ one_more before.puts → outputs ≡ o ++ x ∷ [] → BreaksOff (output_lines names outputs) first.written after.written first.puts after.puts
 breaks_here names first before after o outputs x h a p e =
-    let n : suc (length o) ≡ length o + 1 = omega arith in
-    record {
-      done = o;
-      failed = x;
-      rest = [];
-      whole = e;
-      added = subst (λ t. AddsPrefix t.written after.written (line_of names x)) h a;
-      puts = p ∙ ap (λ t. one_more t.puts) h ∙ ap (λ m. puts_after m first.puts) n;
-    }
+    subst (λ ls. BreaksOff ls first.written after.written first.puts after.puts) (sym (map-append (line_of names) o (x ∷ [])) ∙ ap (output_lines names) (sym e))
+    (breaks_then (output_lines names o) (line_of names x ∷ []) first.written before.written after.written first.puts before.puts after.puts (told_puts names first before o h)
+    (breaks_one (line_of names x) before.written after.written before.puts after.puts a p))
 
 -- more outputs change nothing of a put that failed
-pub breaks_longer : (names : List (List ℕ)) (old new : Option (List ℕ)) (before now : Option ℕ) (xs ys : List Output) → Breaks names xs old new before now → Begins xs ys → Breaks names ys old new before now
-breaks_longer names old new before now xs ys b more = record {
-  done = b.done;
-  failed = b.failed;
-  rest = b.rest ++ more.0;
-  whole = sym more.1 ∙ ap (λ v. v ++ more.0) b.whole ∙ append_assoc b.done (b.failed ∷ b.rest) more.0;
-  added = b.added;
-  puts = b.puts;
-}
-
--- a put that failed added a prefix of the text
-pub broken_prefix : (names : List (List ℕ)) (old new : Option (List ℕ)) (before now : Option ℕ) (xs : List Output) → Breaks names xs old new before now → AddsPrefix old new (lines names xs)
-broken_prefix names old new before now xs b =
-    let a = b.added in
-    let L = lines names b.done in
-    record {
-      front = L ++ a.front;
-      rest = a.rest ++ lines names b.rest;
-      whole = ap (lines names) b.whole ∙ lines_append names b.done (b.failed ∷ b.rest) ∙ ap (λ v. L ++ (v ++ lines names b.rest)) a.whole
-          ∙ ap (λ v. L ++ v) (append_assoc a.front a.rest (lines names b.rest)) ∙ sym (append_assoc L a.front (a.rest ++ lines names b.rest));
-      added = a.added ∙ known_more old L a.front;
-    }
+pub breaks_longer : (names : List (List ℕ)) (old new : Option (List ℕ)) (before now : Option ℕ) (xs ys : List Output) → BreaksOff (output_lines names xs) old new before now → Begins xs ys → BreaksOff (output_lines names ys) old new before now
+breaks_longer names old new before now xs ys b more =
+    subst (λ ls. BreaksOff ls old new before now) (sym (map-append (line_of names) xs more.0) ∙ ap (output_lines names) more.1)
+    (breaks_before (output_lines names xs) (output_lines names more.0) old new before now b)
 
 -- the name of a cell is the one that the code finds
 pub name_found : (xs : List (Bor (List ℕ))) (k : ℕ) (d : Bor (List ℕ)) → k < length xs → name_of (map (λ n. n.now) xs) k ≡ (get_or xs k d).now

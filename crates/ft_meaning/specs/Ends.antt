@@ -1,13 +1,11 @@
 -- What is answered of a meaning, and what is written of it.
-use Rattle.std.specs.Prelude.{◌≡◌, ℕ, ◌+◌, List, ◌∷◌, ◌++◌, length, Option}
+use Rattle.std.specs.Prelude.{◌≡◌, ℕ, List, Option}
 use Rattle.std.specs.Io.KnownBytes.{append_known}
 use Rattle.ft_edge.specs.Causes.{Rose, AddsPrefix}
-use Rattle.ft_edge.specs.Puts.{puts_after}
-use Rattle.ft_isa.specs.declared.output.Output.{Output}
+use Rattle.ft_edge.specs.Puts.{PutsLines, BreaksOff, PutsNothing}
 use Rattle.ft_meaning.specs.declared.mean_end.MeanEnd.{MeanEnd}
 use Rattle.ft_meaning.specs.declared.mean_end.MeanEnd.TheVariants as ends
 use Rattle.ft_meaning.specs.Meaning.{Outcome, Ended, Cut}
-use Rattle.ft_meaning.specs.Lines.{line_of, lines}
 
 -- a meaning ended or was cut, as the answer says
 abbrev pub EndsAs : MeanEnd → Outcome → Type 0
@@ -18,15 +16,6 @@ EndsAs ends.Cut (Cut s) = Unit {0}
 EndsAs ends.WriteFault r = Unit {0}
 EndsAs ends.NoMemory r = Unit {0}
 
--- a put failed: the lines of the outputs before it were added, and of its own a prefix; nothing was put after it
-pub record Breaks (names : List (List ℕ)) (outputs : List Output) (old new : Option (List ℕ)) (before now : Option ℕ) : Type 0 where
-  pub done : List Output
-  pub failed : Output
-  pub rest : List Output
-  pub whole : outputs ≡ done ++ failed ∷ rest
-  pub added : AddsPrefix (append_known old (lines names done)) new (line_of names failed)
-  pub puts : now ≡ puts_after (length done + 1) before
-
 -- the text was added, or after a failed put a prefix of it, or nothing for want of memory
 abbrev pub Writes : MeanEnd → Option (List ℕ) → Option (List ℕ) → List ℕ → Type 0
 Writes ends.Ended old new text = new ≡ append_known old text
@@ -34,12 +23,12 @@ Writes ends.Cut old new text = new ≡ append_known old text
 Writes ends.WriteFault old new text = AddsPrefix old new text
 Writes ends.NoMemory old new text = new ≡ old
 
--- a put was made for each output, up to one that failed, and none for want of memory
-abbrev pub Puts : MeanEnd → List (List ℕ) → List Output → Option (List ℕ) → Option (List ℕ) → Option ℕ → Option ℕ → Type 0
-Puts ends.Ended names outputs old new before now = now ≡ puts_after (length outputs) before
-Puts ends.Cut names outputs old new before now = now ≡ puts_after (length outputs) before
-Puts ends.WriteFault names outputs old new before now = Breaks names outputs old new before now
-Puts ends.NoMemory names outputs old new before now = now ≡ before
+-- all lines were put, by one put each, or a put failed, which was the last, or nothing was put for want of memory
+abbrev pub Puts : MeanEnd → List (List ℕ) → Option (List ℕ) → Option (List ℕ) → Option ℕ → Option ℕ → Type 0
+Puts ends.Ended lines old new before now = PutsLines lines old new before now
+Puts ends.Cut lines old new before now = PutsLines lines old new before now
+Puts ends.WriteFault lines old new before now = BreaksOff lines old new before now
+Puts ends.NoMemory lines old new before now = PutsNothing old new before now
 
 -- only a count that rose excuses a failed put, and where no put failed the count stays
 abbrev pub IsExcused : MeanEnd → ℕ → ℕ → Type 0

@@ -1,5 +1,5 @@
 -- The lines of a program's outputs.
-use Rattle.std.specs.Prelude.{ℕ, ◌-◌, List, [], slice_get}
+use Rattle.std.specs.Prelude.{ℕ, ◌-◌, List, [], map, slice_get}
 use Rattle.std.specs.List.{flat_map}
 use Rattle.std.specs.Option.{unwrap_or}
 use Rattle.ft_isa.specs.Words.{cell_address, line}
@@ -13,6 +13,10 @@ name_of names k = unwrap_or (slice_get names k) []
 abbrev pub line_of : List (List ℕ) → Output → List ℕ
 line_of names output = line (name_of names (output.addr - cell_address 0)) output.value
 
--- a line for each output
+-- the lines of outputs, one for each
+abbrev pub output_lines : List (List ℕ) → List Output → List (List ℕ)
+output_lines names outputs = map (line_of names) outputs
+
+-- the text of these lines
 abbrev pub lines : List (List ℕ) → List Output → List ℕ
 lines names outputs = flat_map (line_of names) outputs

@@ -1,15 +1,15 @@
 -- What running statements does to the code's words and to the sink.
 use Rattle.std.specs.Prelude.{◌≡◌, ℕ, ◌-◌, ◌≤◌, List, length, Option, Result, Ok, Err}
+use Rattle.std.specs.List.{concat}
 use Rattle.std.specs.Io.KnownBytes.{append_known}
 use Rattle.ft_edge.specs.Causes.{Rose}
-use Rattle.ft_edge.specs.Puts.{puts_after}
+use Rattle.ft_edge.specs.Puts.{puts_after, BreaksOff}
 use Rattle.ft_isa.specs.declared.output.Output.{Output}
 use Rattle.ft_meaning.specs.declared.run.Run.{Run}
 use Rattle.ft_meaning.specs.declared.run.Stop.{Stop}
 use Rattle.ft_meaning.specs.declared.run.Stop.TheVariants as stops
 use Rattle.ft_meaning.specs.Meaning.{State, Outcome, Ended, Cut, outputs}
-use Rattle.ft_meaning.specs.Lines.{lines}
-use Rattle.ft_meaning.specs.Ends.{Breaks}
+use Rattle.ft_meaning.specs.Lines.{output_lines}
 use Rattle.ft_meaning.specs.Room.{HasRoom}
 
 -- the state of the definitions, with these outputs and this work done
@@ -25,9 +25,9 @@ pub record Told : Type 0 where
 abbrev pub sink_of : Option (List ℕ) → Option ℕ → Told
 sink_of written puts = record { written = written; puts = puts }
 
--- what a sink has after the lines of these outputs
+-- what a sink has after the lines of these outputs, of one put each
 abbrev pub told : List (List ℕ) → Told → List Output → Told
-told names first out = record { written = append_known first.written (lines names out); puts = puts_after (length out) first.puts }
+told names first out = record { written = append_known first.written (concat (output_lines names out)); puts = puts_after (length (output_lines names out)) first.puts }
 
 -- the code's words have the shape that they had, and no turn came back
 pub record Keeps (r q : Run) : Type 0 where
@@ -47,7 +47,7 @@ pub record Ready (names : List (List ℕ)) (r : Run) : Type 0 where
 abbrev pub RunsTo : (State → Outcome) → List (List ℕ) → Run → Run → Told → Told → Result (Unit {0}) Stop → Type 0
 RunsTo go names r q before after (Ok u) = (first : Told) (o : List Output) (w : ℕ) → before ≡ told names first o → (p : List Output) × (v : ℕ) × (go (state r o w) ≡ Ended (state q p v)) × (after ≡ told names first p)
 RunsTo go names r q before after (Err stops.Cut) = (first : Told) (o : List Output) (w : ℕ) → before ≡ told names first o → (p : List Output) × (v : ℕ) × (go (state r o w) ≡ Cut (state q p v)) × (after ≡ told names first p)
-RunsTo go names r q before after (Err stops.WriteFault) = (first : Told) (o : List Output) (w : ℕ) → before ≡ told names first o → Breaks names (outputs (go (state r o w))) first.written after.written first.puts after.puts
+RunsTo go names r q before after (Err stops.WriteFault) = (first : Told) (o : List Output) (w : ℕ) → before ≡ told names first o → BreaksOff (output_lines names (outputs (go (state r o w)))) first.written after.written first.puts after.puts
 
 -- only a count that rose excuses a failed put
 abbrev pub Excused : Result (Unit {0}) Stop → ℕ → ℕ → Type 0

@@ -2,7 +2,7 @@
 ghost use Rattle.std.specs.Prelude.{◌≡◌, ◌≤◌, map, replicate, IfOk};
 ghost use Rattle.ft_scope.specs.ProgramOf.{program_of};
 ghost use Rattle.ft_meaning.specs.Meaning.{meaning, outputs};
-ghost use Rattle.ft_meaning.specs.Lines.{lines};
+ghost use Rattle.ft_meaning.specs.Lines.{output_lines, lines};
 ghost use Rattle.ft_meaning.specs.Ends.{EndsAs, Writes, Puts, IsExcused};
 ghost use Rattle.ft_meaning.specs.Runs.{Ready};
 
@@ -33,7 +33,7 @@ fn start(alloc: Global, prog: &Prog<'_>, turns: u64) -> Result<Run, NoMemory>
 }
 
 /// Gives a program's meaning with this many loop turns over the whole run: puts a line for each output,
-/// and tells how the meaning ended. `Cut` comes exactly where a loop's test is not 0 with no turn left;
+/// each in one put, and tells how the meaning ended. `Cut` comes exactly where a loop's test is not 0 with no turn left;
 /// `WriteFault` only where a put failed, after which nothing is put; `NoMemory` before the first put.
 ///
 /// It takes time in proportion to the work, and calls itself no deeper than statements and operators
@@ -41,7 +41,7 @@ fn start(alloc: Global, prog: &Prog<'_>, turns: u64) -> Result<Run, NoMemory>
 pub fn mean<K: Sink>(alloc: Global, prog: &Prog<'_>, turns: u64, out: &mut K) -> MeanEnd
     ensures ends { EndsAs result (meaning (program_of prog.now) turns) }
     ensures writes { Writes result (K.written out.old) (K.written out.new) (lines (program_of prog.now).names (outputs (meaning (program_of prog.now) turns))) }
-    ensures puts { Puts result (program_of prog.now).names (outputs (meaning (program_of prog.now) turns)) (K.written out.old) (K.written out.new) (K.puts out.old) (K.puts out.new) }
+    ensures lines { Puts result (output_lines (program_of prog.now).names (outputs (meaning (program_of prog.now) turns))) (K.written out.old) (K.written out.new) (K.puts out.old) (K.puts out.new) }
     ensures count { K.faults out.old ≤ K.faults out.new }
     ensures cause { IsExcused result (K.faults out.old) (K.faults out.new) }
 {

@@ -1,8 +1,8 @@
 use Rattle.std.proofs.Common.{◌≡◌, ℕ, List, [], ◌∷◌, refl, sym, ◌∙◌, subst, arith}
 use Rattle.std.proofs.lemmas.Bool.{true≢false}
 use Rattle.std.proofs.lemmas.Option.{slice_get-get_or}
-use Rattle.ft_text.specs.Puts.{PutsLines, BreaksOff}
-use Rattle.ft_text.proofs.PutLines.{puts_none}
+use Rattle.ft_edge.specs.Puts.{PutsLines, BreaksOff}
+use Rattle.ft_edge.proofs.PutLines.{puts_none}
 use Rattle.ft_debug.proofs.Listed.{entries_more, entries_break, entries_all, broke}
 use Rattle.ft_debug.proofs.answers.put_queue.Goals as goal
 

@@ -1,6 +1,6 @@
 use Rattle.std.proofs.Common.{◌≡◌, ◌⊎◌, ⊎_elim, [], sym, subst, refl, arith, List, ℕ}
-use Rattle.ft_text.specs.Puts.{PutsLines}
-use Rattle.ft_text.proofs.PutLines.{puts_none}
+use Rattle.ft_edge.specs.Puts.{PutsLines}
+use Rattle.ft_edge.proofs.PutLines.{puts_none}
 use Rattle.ft_types.specs.declared.object.Object.{Object}
 use Rattle.ft_machine.specs.declared.machine.Stepped.{Stepped}
 use Rattle.ft_machine.specs.declared.machine.Stepped.TheVariants.{Commit, Quiet, Done, Detected}

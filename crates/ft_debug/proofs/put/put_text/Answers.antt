@@ -4,7 +4,7 @@ use Rattle.std.specs.Io.KnownBytes.{append_known}
 use Rattle.ft_edge.specs.Causes.{AddsPrefix}
 use Rattle.ft_edge.specs.Puts.{one_more}
 use Rattle.ft_edge.specs.declared.failed.Failed.{Failed}
-use Rattle.ft_text.proofs.PutLines.{puts_one, breaks_one}
+use Rattle.ft_edge.proofs.PutLines.{puts_one, breaks_one}
 use Rattle.ft_debug.specs.Inside.{Puts}
 use Rattle.ft_debug.proofs.put.put_text.Goals as goal
 

@@ -1,13 +1,10 @@
-use Rattle.std.proofs.Common.{◌≡◌, ◌-◌, length, None, refl, ap, sym, subst, ◌∙◌, arith}
-use Rattle.std.proofs.lemmas.List.{append-nil}
-use Rattle.std.specs.Io.KnownBytes.{append_known}
-use Rattle.ft_edge.specs.Causes.{AddsPrefix}
+use Rattle.std.proofs.Common.{◌≡◌, ◌-◌, length, None, refl, sym, subst, ◌∙◌, arith}
+use Rattle.ft_edge.proofs.PutLines.{after_none, after_one, puts_none, puts_one, breaks_one}
 use Rattle.ft_types.specs.Texts.{line_at}
 use Rattle.ft_machine.specs.declared.machine.Stepped.TheVariants.{Quiet, Commit, Done, Detected}
 use Rattle.ft_machine.specs.declared.run.RunEnd.TheVariants as ending
 use Rattle.ft_machine.specs.Spans.{HasGone}
 use Rattle.ft_machine.specs.Advances.{IsEnough, Advances}
-use Rattle.ft_machine.proofs.Driven.{written_none, puts_after-zero, puts_after-one}
 use Rattle.ft_machine.proofs.Spanned.{gone_cells, gone_none, cell_bounds}
 use Rattle.ft_machine.proofs.Advancing.{gone_on, gone_to_end}
 use Rattle.ft_machine.proofs.run.take_all.Goals as goal
@@ -33,7 +30,7 @@ loop-left-preserved-in-Quiet g c =
           (g.K.Sink.written c.args.out.now) (g.K.Sink.written c.loop-left.out) (g.K.Sink.written c.loop-left.out) (g.K.Sink.puts c.args.out.now) (g.K.Sink.puts c.loop-left.out) (g.K.Sink.puts c.loop-left.out)
           c.args.number c.loop-left.left c.advance-advance.result.taken Quiet c.loop-left.invariant.few c.loop-left.invariant.gone
           (subst (λ x. Advances o c.loop-left.machine c.loop-left.wild c.advance-advance.new.self c.advance-advance.new.wild c.loop-left.left c.advance-advance.result.taken x) c.in-Quiet.is c.advance-advance.ensures.advances)
-          refl (written_none (g.K.Sink.written c.loop-left.out)) (sym (puts_after-zero (g.K.Sink.puts c.loop-left.out)));
+          refl (puts_none (g.K.Sink.written c.loop-left.out) (g.K.Sink.puts c.loop-left.out)) (after_none (g.K.Sink.puts c.loop-left.out));
       faults = c.loop-left.invariant.faults;
     }
 
@@ -60,8 +57,8 @@ loop-left-preserved g c =
           (g.K.Sink.written c.args.out.now) (g.K.Sink.written c.loop-left.out) (g.K.Sink.written c.put_line.new.out) (g.K.Sink.puts c.args.out.now) (g.K.Sink.puts c.loop-left.out) (g.K.Sink.puts c.put_line.new.out)
           c.args.number c.loop-left.left c.advance-advance.result.taken (Commit c.in-Commit.output) c.loop-left.invariant.few c.loop-left.invariant.gone
           (subst (λ x. Advances o c.loop-left.machine c.loop-left.wild c.advance-advance.new.self c.advance-advance.new.wild c.loop-left.left c.advance-advance.result.taken x) c.in-Commit.is c.advance-advance.ensures.advances)
-          refl (c.in-Ok.ensures.ok ∙ ap (append_known (g.K.Sink.written c.loop-left.out)) (sym (append-nil (line_at o c.in-Commit.output))))
-          (c.in-Ok.ensures.puts ∙ sym (puts_after-one (g.K.Sink.puts c.loop-left.out)));
+          refl (puts_one (line_at o c.in-Commit.output) (g.K.Sink.written c.loop-left.out) (g.K.Sink.written c.put_line.new.out) (g.K.Sink.puts c.loop-left.out) (g.K.Sink.puts c.put_line.new.out) c.in-Ok.ensures.ok c.in-Ok.ensures.puts)
+          (c.in-Ok.ensures.puts ∙ after_one (g.K.Sink.puts c.loop-left.out));
       faults = c.in-Ok.ensures.same_count ∙ c.loop-left.invariant.faults;
     }
 
@@ -73,8 +70,8 @@ returns-in-Err-clause-goes g c =
     c.args.number c.loop-left.left c.advance-advance.result.taken (Commit c.in-Commit.output) c.loop-left.invariant.few c.loop-left.invariant.gone
     (subst (λ x. Advances o c.loop-left.machine c.loop-left.wild c.advance-advance.new.self c.advance-advance.new.wild c.loop-left.left c.advance-advance.result.taken x) c.in-Commit.is c.advance-advance.ensures.advances)
     ending.WriteFault (subst (λ x. IsEnough x c.advance-advance.result.taken c.loop-left.left) c.in-Commit.is c.advance-advance.ensures.advances.enough).0 tt
-    (subst (AddsPrefix (g.K.Sink.written c.loop-left.out) (g.K.Sink.written c.put_line.new.out)) (sym (append-nil (line_at o c.in-Commit.output))) c.in-Err.ensures.err)
-    (c.in-Err.ensures.puts ∙ sym (puts_after-one (g.K.Sink.puts c.loop-left.out)))
+    (breaks_one (line_at o c.in-Commit.output) (g.K.Sink.written c.loop-left.out) (g.K.Sink.written c.put_line.new.out) (g.K.Sink.puts c.loop-left.out) (g.K.Sink.puts c.put_line.new.out) c.in-Err.ensures.err c.in-Err.ensures.puts)
+    (c.in-Err.ensures.puts ∙ after_one (g.K.Sink.puts c.loop-left.out))
 
 pub returns-in-Done-clause-goes : goal.returns-in-Done-clause-goes
 returns-in-Done-clause-goes g c =
@@ -84,7 +81,7 @@ returns-in-Done-clause-goes g c =
     c.args.number c.loop-left.left c.advance-advance.result.taken Done c.loop-left.invariant.few c.loop-left.invariant.gone
     (subst (λ x. Advances o c.loop-left.machine c.loop-left.wild c.advance-advance.new.self c.advance-advance.new.wild c.loop-left.left c.advance-advance.result.taken x) c.in-Done.is c.advance-advance.ensures.advances)
     ending.Done (subst (λ x. IsEnough x c.advance-advance.result.taken c.loop-left.left) c.in-Done.is c.advance-advance.ensures.advances.enough).0 refl
-    (written_none (g.K.Sink.written c.loop-left.out)) (sym (puts_after-zero (g.K.Sink.puts c.loop-left.out)))
+    (puts_none (g.K.Sink.written c.loop-left.out) (g.K.Sink.puts c.loop-left.out)) (after_none (g.K.Sink.puts c.loop-left.out))
 
 pub returns-in-Detected-clause-goes : goal.returns-in-Detected-clause-goes
 returns-in-Detected-clause-goes g c =
@@ -94,4 +91,4 @@ returns-in-Detected-clause-goes g c =
     c.args.number c.loop-left.left c.advance-advance.result.taken Detected c.loop-left.invariant.few c.loop-left.invariant.gone
     (subst (λ x. Advances o c.loop-left.machine c.loop-left.wild c.advance-advance.new.self c.advance-advance.new.wild c.loop-left.left c.advance-advance.result.taken x) c.in-Detected.is c.advance-advance.ensures.advances)
     ending.Detected (subst (λ x. IsEnough x c.advance-advance.result.taken c.loop-left.left) c.in-Detected.is c.advance-advance.ensures.advances.enough).0 refl
-    (written_none (g.K.Sink.written c.loop-left.out)) (sym (puts_after-zero (g.K.Sink.puts c.loop-left.out)))
+    (puts_none (g.K.Sink.written c.loop-left.out) (g.K.Sink.puts c.loop-left.out)) (after_none (g.K.Sink.puts c.loop-left.out))

@@ -21,8 +21,8 @@ loop-i-init g c =
 pub loop-i-preserved : goal.loop-i-preserved
 loop-i-preserved g c =
     let o = g.P.Program.object c.args.program.now in
-    let at = there_is o c.loop-i.i c.instr.result c.instr.ensures in
-    let two = advances_two o c.loop-i.bank c.execute.new.self (1 + c.loop-i.i) c.instr.result effects.On c.loop-i.wild c.execute.new.wild at c.in-On.ensures in
+    let at = there_is o c.loop-i.i c.fetch.result c.fetch.ensures in
+    let two = advances_two o c.loop-i.bank c.execute.new.self (1 + c.loop-i.i) c.fetch.result effects.On c.loop-i.wild c.execute.new.wild at c.in-On.ensures in
     record {
       from = omega (arith, c.loop-i.invariant.from);
       advances = advances_straight o c.args.bank.now c.loop-i.bank c.args.from c.loop-i.i c.args.wild.now c.loop-i.wild c.execute.new.wild
@@ -33,35 +33,35 @@ loop-i-preserved g c =
 pub returns-in-To-clause-advances : goal.returns-in-To-clause-advances
 returns-in-To-clause-advances g c =
     let o = g.P.Program.object c.args.program.now in
-    let at = there_is o c.loop-i.i c.instr.result c.instr.ensures in
+    let at = there_is o c.loop-i.i c.fetch.result c.fetch.ensures in
     let pc = 1 + c.loop-i.i in
-    let two = advances_two o c.loop-i.bank c.execute.new.self pc c.instr.result (effects.To c.in-To.target) c.loop-i.wild c.execute.new.wild at c.in-To.ensures in
+    let two = advances_two o c.loop-i.bank c.execute.new.self pc c.fetch.result (effects.To c.in-To.target) c.loop-i.wild c.execute.new.wild at c.in-To.ensures in
     advances_straight o c.args.bank.now c.loop-i.bank c.args.from c.loop-i.i c.args.wild.now c.loop-i.wild c.execute.new.wild (2 * (1 + (c.loop-i.i - c.args.from))) Quiet _ (omega arith) c.loop-i.invariant.advances
     two
 
 pub returns-in-Commit-clause-advances : goal.returns-in-Commit-clause-advances
 returns-in-Commit-clause-advances g c =
     let o = g.P.Program.object c.args.program.now in
-    let at = there_is o c.loop-i.i c.instr.result c.instr.ensures in
+    let at = there_is o c.loop-i.i c.fetch.result c.fetch.ensures in
     let pc = 1 + c.loop-i.i in
-    let two = advances_two o c.loop-i.bank c.execute.new.self pc c.instr.result (effects.Commit c.in-Commit.output) c.loop-i.wild c.execute.new.wild at c.in-Commit.ensures in
+    let two = advances_two o c.loop-i.bank c.execute.new.self pc c.fetch.result (effects.Commit c.in-Commit.output) c.loop-i.wild c.execute.new.wild at c.in-Commit.ensures in
     advances_straight o c.args.bank.now c.loop-i.bank c.args.from c.loop-i.i c.args.wild.now c.loop-i.wild c.execute.new.wild (2 * (1 + (c.loop-i.i - c.args.from))) (Commit c.in-Commit.output) _ (omega arith) c.loop-i.invariant.advances
     (subst (λ (q : ℕ). Advances o (doing c.loop-i.bank pc pc None) c.loop-i.wild (doing c.execute.new.self q q None) c.execute.new.wild 2 2 (Commit c.in-Commit.output)) (next_is c.loop-i.i (omega (arith, c.loop-i-test.true, c.ranges.past.fits))) two)
 
 pub returns-in-Done-clause-advances : goal.returns-in-Done-clause-advances
 returns-in-Done-clause-advances g c =
     let o = g.P.Program.object c.args.program.now in
-    let at = there_is o c.loop-i.i c.instr.result c.instr.ensures in
+    let at = there_is o c.loop-i.i c.fetch.result c.fetch.ensures in
     let pc = 1 + c.loop-i.i in
-    let two = advances_two o c.loop-i.bank c.execute.new.self pc c.instr.result effects.Done c.loop-i.wild c.execute.new.wild at c.in-Done.ensures in
+    let two = advances_two o c.loop-i.bank c.execute.new.self pc c.fetch.result effects.Done c.loop-i.wild c.execute.new.wild at c.in-Done.ensures in
     advances_straight o c.args.bank.now c.loop-i.bank c.args.from c.loop-i.i c.args.wild.now c.loop-i.wild c.execute.new.wild (2 * (1 + (c.loop-i.i - c.args.from))) Done _ (omega arith) c.loop-i.invariant.advances
     (subst (λ (f : Option Instr). Advances o (doing c.loop-i.bank pc pc None) c.loop-i.wild (record (doing c.execute.new.self pc pc f) { status = status.Done }) c.execute.new.wild 2 2 Done) (sym at) two)
 
 pub returns-in-Detected-clause-advances : goal.returns-in-Detected-clause-advances
 returns-in-Detected-clause-advances g c =
     let o = g.P.Program.object c.args.program.now in
-    let at = there_is o c.loop-i.i c.instr.result c.instr.ensures in
+    let at = there_is o c.loop-i.i c.fetch.result c.fetch.ensures in
     let pc = 1 + c.loop-i.i in
-    let two = advances_two o c.loop-i.bank c.execute.new.self pc c.instr.result effects.Detected c.loop-i.wild c.execute.new.wild at c.in-Detected.ensures in
+    let two = advances_two o c.loop-i.bank c.execute.new.self pc c.fetch.result effects.Detected c.loop-i.wild c.execute.new.wild at c.in-Detected.ensures in
     advances_straight o c.args.bank.now c.loop-i.bank c.args.from c.loop-i.i c.args.wild.now c.loop-i.wild c.execute.new.wild (2 * (1 + (c.loop-i.i - c.args.from))) Detected _ (omega arith) c.loop-i.invariant.advances
     (subst (λ (f : Option Instr). Advances o (doing c.loop-i.bank pc pc None) c.loop-i.wild (record (doing c.execute.new.self pc pc f) { status = status.Detected }) c.execute.new.wild 2 2 Detected) (sym at) two)

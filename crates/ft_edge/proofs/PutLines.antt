@@ -5,27 +5,26 @@ use Rattle.std.proofs.lemmas.List.{length-append}
 use Rattle.std.proofs.lemmas.List.Folds.{concat-append}
 use Rattle.std.specs.Io.KnownBytes.{append_known}
 use Rattle.ft_edge.specs.Causes.{AddsPrefix}
-use Rattle.ft_edge.specs.Puts.{one_more, puts_after}
-use Rattle.ft_text.specs.Puts.{PutsLines, BreaksOff}
+use Rattle.ft_edge.specs.Puts.{one_more, puts_after, PutsLines, BreaksOff}
 
-known_more : (known : Option (List ℕ)) (xs ys : List ℕ) → append_known (append_known known xs) ys ≡ append_known known (xs ++ ys)
+pub known_more : (known : Option (List ℕ)) (xs ys : List ℕ) → append_known (append_known known xs) ys ≡ append_known known (xs ++ ys)
 known_more None xs ys = refl
 known_more (Some zs) xs ys = ap Some (append_assoc zs xs ys)
 
-known_none : (known : Option (List ℕ)) → known ≡ append_known known []
+pub known_none : (known : Option (List ℕ)) → known ≡ append_known known []
 known_none None = refl
 known_none (Some zs) = ap Some (sym (append-nil zs))
 
-after_more : (n m : ℕ) (puts : Option ℕ) → puts_after n (puts_after m puts) ≡ puts_after (m + n) puts
+pub after_more : (n m : ℕ) (puts : Option ℕ) → puts_after n (puts_after m puts) ≡ puts_after (m + n) puts
 unfolding puts_after
 after_more zero m puts = let same : m ≡ m + 0 = omega arith in ap (λ k. puts_after k puts) same
 after_more (suc n) m puts = let more : suc (m + n) ≡ m + suc n = omega arith in ap one_more (after_more n m puts) ∙ ap (λ k. puts_after k puts) more
 
-after_none : (puts : Option ℕ) → puts ≡ puts_after 0 puts
+pub after_none : (puts : Option ℕ) → puts ≡ puts_after 0 puts
 unfolding puts_after
 after_none puts = refl
 
-after_one : (puts : Option ℕ) → one_more puts ≡ puts_after 1 puts
+pub after_one : (puts : Option ℕ) → one_more puts ≡ puts_after 1 puts
 unfolding puts_after
 after_one puts = refl
 
