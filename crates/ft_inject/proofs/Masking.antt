@@ -1,9 +1,10 @@
 -- One strike is masked or detected, over whole runs.
-use Rattle.std.proofs.Common.{◌≡◌, ◌≢◌, ⊎_elim, ℕ, zero, suc, ◌<◌, ◌≤◌, Bool, false, if◌then◌else◌, List, [], ◌++◌, ◌==◌, Option, Some, None, refl, sym, ap, ◌∙◌, subst, arith, append_assoc, append-nil, eq-eqb, ne_eqb}
+use Rattle.std.proofs.Common.{◌≡◌, ◌≢◌, ◌⊎◌, inl, inr, ⊎_elim, ℕ, zero, suc, ◌<◌, ◌≤◌, Bool, false, if◌then◌else◌, List, [], ◌++◌, ◌==◌, Option, Some, None, refl, sym, ap, ◌∙◌, subst, arith, append_assoc, append-nil, eq-eqb, ne_eqb}
 use Rattle.std.specs.Option.{option_to_list}
 use Rattle.std.proofs.lemmas.Bool.{cases_eq, cases_lt}
 use Rattle.ft_isa.specs.declared.colour.Colour.{Colour}
 use Rattle.ft_isa.specs.declared.output.Output.{Output}
+use Rattle.ft_isa.specs.declared.plan.Site.{Site}
 use Rattle.ft_isa.specs.declared.plan.Strike.{Strike}
 use Rattle.ft_isa.specs.declared.plan.Wild.{Wild}
 use Rattle.ft_types.specs.declared.object.Object.{Object}
@@ -14,11 +15,13 @@ use Rattle.ft_types.specs.Agrees.{IsPrefix, Agrees, equal, stopped}
 use Rattle.ft_types.specs.Spellable.{IsSpellable}
 use Rattle.ft_types.specs.State.{State}
 use Rattle.ft_types.specs.Step.{Stepping, step, step_at}
-use Rattle.ft_types.specs.Strike.{struck_state}
+use Rattle.ft_types.specs.Strike.{struck_state, struck_before}
 use Rattle.ft_types.specs.Run.{Ran, extended, run, state_after, outputs_after, status_after}
+use Rattle.ft_machine.specs.declared.machine.Stepped.TheVariants as stepped
+use Rattle.ft_machine.specs.Answers.{told, told_output, told_status}
 use Rattle.ft_inject.specs.TypedState.{Place, Fits, IsPlace}
 use Rattle.ft_inject.specs.Soundness.{EndsOrFits, ended, running}
-use Rattle.ft_inject.specs.Alike.{AreAlike, colour_of_site, Follows, keeps_alike, is_detected, IsAlikeOrDetected, is_alike, has_stopped, StaysAlike}
+use Rattle.ft_inject.specs.Alike.{AreAlike, colour_of_site, Follows, keeps_alike, is_detected, IsAlikeOrDetected, is_alike, has_stopped, IsAlikeAfter, StaysAlike, IsAlikeLater}
 use Rattle.ft_inject.proofs.Alike.{alike_step, strike_alike}
 use Rattle.ft_inject.proofs.Places.{keeps, wants_fetched}
 use Rattle.ft_inject.proofs.Whole.{along}
@@ -45,6 +48,36 @@ stopped_follows c o s t w v d h =
 follows_along : (c : Colour) (o : Object) (p : Place) (s t : State) (w v : List Wild) → IsSpellable o → IsAccepted o → EndsOrFits o p s → AreAlike c s t → Follows c (step o s w) (step o t v)
 follows_along c o p s t w v spelled acc (ended d) h = stopped_follows c o s t w v d h
 follows_along c o p s t w v spelled acc (running go at fits) h = step_follows c o p s t w v spelled acc at go fits h
+
+-- a state that was detected stays so, and its step answers so
+detected_stays : (o : Object) (x : Status) (t : State) (v : List Wild) → x ≡ Detected → t.status ≡ Detected → (step_at o x t v).state.status ≡ Detected
+detected_stays o Running t v e d = cc
+detected_stays o Done t v e d = cc
+detected_stays o Detected t v e d = d
+
+detected_told : (o : Object) (x : Status) (t : State) (v : List Wild) → x ≡ Detected → t.status ≡ Detected → told (step_at o x t v) ≡ stepped.Detected
+detected_told o Running t v e d = cc
+detected_told o Done t v e d = cc
+detected_told o Detected t v e d = ap told_status d
+
+follows_alike : (c : Colour) (x y : Stepping) → Follows c x y → IsAlikeOrDetected c x.state y.state
+follows_alike c x y (keeps_alike h e) = is_alike h
+follows_alike c x y (is_detected d e) = has_stopped d
+
+follows_told : (c : Colour) (x y : Stepping) → Follows c x y → (told y ≡ told x) ⊎ (told y ≡ stepped.Detected)
+follows_told c x y (keeps_alike h e) = inl (ap (λ s. told_output y.output s) (sym h.status) ∙ ap (λ z. told_output z x.state.status) (sym e))
+follows_told c x y (is_detected d e) = inr (ap (λ z. told_output z y.state.status) e ∙ ap told_status d)
+
+-- after a step from a state of a run without a fault, and one from a state that is alike or detected, the states are so too
+pub alike_next : (c : Colour) (o : Object) (p : Place) (s t : State) (w v : List Wild) → IsSpellable o → IsAccepted o → EndsOrFits o p s → IsAlikeOrDetected c s t → IsAlikeOrDetected c (step o s w).state (step o t v).state
+alike_next c o p s t w v spelled acc fits (is_alike h) = follows_alike c _ _ (follows_along c o p s t w v spelled acc fits h)
+alike_next c o p s t w v spelled acc fits (has_stopped d) = has_stopped (detected_stays o t.status t v d d)
+
+-- and the second answers as the first, or that it is detected
+pub told_next : (c : Colour) (o : Object) (p : Place) (s t : State) (w v : List Wild) → IsSpellable o → IsAccepted o → EndsOrFits o p s → IsAlikeOrDetected c s t
+    → (told (step o t v) ≡ told (step o s w)) ⊎ (told (step o t v) ≡ stepped.Detected)
+told_next c o p s t w v spelled acc fits (is_alike h) = follows_told c _ _ (follows_along c o p s t w v spelled acc fits h)
+told_next c o p s t w v spelled acc fits (has_stopped d) = inr (detected_told o t.status t v d d)
 
 -- WHOLE RUNS
 
@@ -110,9 +143,33 @@ alike_tied : (c : Colour) (r x : Ran) → AreTied c r x → IsAlikeOrDetected c 
 alike_tied c r x (together h e) = is_alike h
 alike_tied c r x (over h e) = has_stopped h
 
--- from its step on a strike leaves the run alike, or detected
+-- after each step since the strike the run is alike, or detected
+pub alike_later : (o : Object) (x : Strike) (w : List Wild) (n : ℕ) → IsSpellable o → IsAccepted o → IsAlikeLater o x w n
+alike_later o x w n spelled acc lt = alike_tied _ _ _ (followed o x w spelled acc n lt)
+
+-- right after the strike the state is alike
+pub alike_at_once : (o : Object) (site : Site) (v k : ℕ) (w : List Wild) (s : State) → s ≡ struck_state (state_after o None w k) site v
+    → IsAlikeAfter o (record { step = k; site = site; value = v }) w k s
+alike_at_once o site v k w s e = is_alike (subst (λ (u : State). AreAlike (colour_of_site (state_after o None w k) site) (state_after o None w k) u) (sym e) (strike_alike (state_after o None w k) site v))
+
+-- the same strike at a step
+abbrev at_step : Strike → ℕ → Strike
+at_step x k = record { step = k; site = x.site; value = x.value }
+
+-- from the strike on the run is alike, or detected
 pub stays_alike : (o : Object) (x : Strike) (w : List Wild) (n : ℕ) → IsSpellable o → IsAccepted o → StaysAlike o x w n
-stays_alike o x w n spelled acc lt = alike_tied _ _ _ (followed o x w spelled acc n lt)
+stays_alike o x w n spelled acc le =
+    let there = state_after o (Some x) w n in
+    ⊎_elim
+    (λ (e : x.step ≡ n).
+    subst (λ (k : ℕ). IsAlikeAfter o (at_step x k) w n (struck_before (Some x) n there)) (sym e)
+    (alike_at_once o x.site x.value n w (struck_before (Some x) n there)
+    (ap (λ (b : Bool). if b then struck_state there x.site x.value else there) (eq-eqb x.step n e)
+    ∙ ap (λ (r : Ran). struck_state r.state x.site x.value) (sym (before o x w n (omega arith))))))
+    (λ (ne : x.step ≡ n → ⊥).
+    subst (λ (b : Bool). IsAlikeAfter o x w n (if b then struck_state there x.site x.value else there)) (sym (ne_eqb x.step n ne))
+    (alike_later o x w n spelled acc (omega arith)))
+    (cases_eq x.step n)
 
 agrees_tied : (c : Colour) (r x : Ran) → AreTied c r x → Agrees x.outputs x.state.status r.outputs r.state.status
 agrees_tied c r x (together h e) = equal (sym e) (sym h.status)

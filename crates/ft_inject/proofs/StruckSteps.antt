@@ -1,16 +1,23 @@
 -- A run that is struck once: its beginning, and a step of it.
-use Rattle.std.proofs.Common.{◌≡◌, ℕ, ◌+◌, ◌<◌, if◌then◌else◌, List, None, Some, refl, sym, ap, ◌∙◌, subst, arith, eq-eqb, ne_eqb}
+use Rattle.std.proofs.Common.{◌≡◌, ◌⊎◌, ℕ, ◌+◌, ◌<◌, if◌then◌else◌, List, None, Some, refl, sym, ap, ◌∙◌, subst, arith, eq-eqb, ne_eqb}
+use Rattle.ft_isa.specs.declared.colour.Colour.{Colour}
 use Rattle.ft_isa.specs.declared.plan.Site.{Site}
 use Rattle.ft_isa.specs.declared.plan.Strike.{Strike}
 use Rattle.ft_isa.specs.declared.plan.Wild.{Wild}
 use Rattle.ft_types.specs.State.{State}
 use Rattle.ft_types.specs.Step.{step}
 use Rattle.ft_types.specs.Strike.{struck_state}
-use Rattle.ft_types.specs.Run.{Ran, run-add_one, state_after}
-use Rattle.ft_inject.specs.Alike.{IsAlikeOrDetected, colour_of_site}
+use Rattle.ft_types.specs.Run.{Ran, run-add_one, state_after, wild_after}
+use Rattle.ft_machine.specs.declared.machine.Stepped.TheVariants.{Detected}
+use Rattle.ft_machine.specs.Answers.{told}
+use Rattle.ft_inject.specs.Alike.{IsAlikeOrDetected, IsAlikeAfter, colour_of_site}
 use Rattle.ft_inject.specs.Runs.{CleanRun, IsClean, StruckRun, struck_now, IsStruckRun}
-use Rattle.ft_inject.proofs.Whole.{accepted_fits}
-use Rattle.ft_inject.proofs.Masking.{before, stays_alike}
+use Rattle.ft_inject.proofs.Whole.{along, accepted_fits}
+use Rattle.ft_inject.proofs.Masking.{before, alike_at_once, alike_next, told_next}
+
+-- the colour of the site that was struck
+abbrev struck_colour : StruckRun → Colour
+struck_colour r = colour_of_site (state_after r.object None r.wild r.strike.step) r.strike.site
 
 -- after a step since the strike, the state in which the next step is taken is that after the steps taken
 pub struck_later : (r : StruckRun) → r.strike.step < r.taken → struck_now r ≡ state_after r.object (Some r.strike) r.wild r.taken
@@ -34,6 +41,7 @@ struck_begins r s t site v w h e =
           ∙ ap (λ u. struck_state u site v) (h.state w ∙ ap (λ (y : Ran). y.state) same)
           ∙ sym (ap (λ b. if b then struck_state there site v else there) (eq-eqb r.taken r.taken refl));
       left_is = sym (accepted_fits r.object w r.taken h.spellable h.accepted).wild ∙ ap (λ (y : Ran). y.wild) same;
+      alike = alike_at_once r.object site v r.taken w t (e ∙ ap (λ u. struck_state u site v) (h.state w));
     }
 
 -- the run after one more step
@@ -56,11 +64,16 @@ struck_next r s t left left' h es el =
           ∙ ap (λ u. (step r.object u left).wild) h.state
           ∙ ap (λ l. (step r.object (struck_now r) l).wild) h.left_is
           ∙ sym (ap (λ (y : Ran). y.wild) next);
+      alike =
+          subst (λ (u : State). IsAlikeAfter r.object r.strike r.wild (r.taken + 1) u) (sym es)
+          (subst (λ (u : State). IsAlikeOrDetected (struck_colour r) u (step r.object s left).state) (sym (ap (λ (y : Ran). y.state) (run-add_one r.object None r.wild r.taken)))
+          (alike_next (struck_colour r) r.object _ (state_after r.object None r.wild r.taken) s (wild_after r.object None r.wild r.taken) left h.spellable h.accepted
+          (along r.object r.wild r.taken h.spellable h.accepted).after h.alike));
     }
 
--- the struck run is alike to the run without the fault, or detected
-pub struck_alike : (r : StruckRun) (s : State) (left : List Wild) → IsStruckRun r s left → r.strike.step < r.taken
-    → IsAlikeOrDetected (colour_of_site (state_after r.object None r.wild r.strike.step) r.strike.site) (state_after r.object None r.wild r.taken) s
-struck_alike r s left h lt =
-    subst (λ (u : State). IsAlikeOrDetected (colour_of_site (state_after r.object None r.wild r.strike.step) r.strike.site) (state_after r.object None r.wild r.taken) u)
-    (sym (h.state ∙ struck_later r lt)) (stays_alike r.object r.strike r.wild r.taken h.spellable h.accepted lt)
+-- a step answers as that of the run without the fault, or that the run is detected
+pub struck_told : (r : StruckRun) (s : State) (left : List Wild) → IsStruckRun r s left
+    → (told (step r.object s left) ≡ told (step r.object (state_after r.object None r.wild r.taken) r.wild)) ⊎ (told (step r.object s left) ≡ Detected)
+struck_told r s left h =
+    told_next (struck_colour r) r.object _ (state_after r.object None r.wild r.taken) s r.wild left h.spellable h.accepted
+    (along r.object r.wild r.taken h.spellable h.accepted).after h.alike

@@ -9,7 +9,7 @@ use Rattle.ft_types.specs.State.{State}
 use Rattle.ft_types.specs.Step.{step, step_at}
 use Rattle.ft_types.specs.Run.{run, state_after, wild_after}
 use Rattle.ft_inject.specs.TypedState.{Place, next_place, place}
-use Rattle.ft_inject.specs.Soundness.{EndsOrFits, ended, running, FitsAfter}
+use Rattle.ft_inject.specs.Soundness.{EndsOrFits, ended, running, IsNeverDetected, FitsAfter}
 use Rattle.ft_inject.proofs.Places.{keeps}
 use Rattle.ft_inject.proofs.Start.{start_is_place, start_fits}
 
@@ -50,3 +50,7 @@ fits_by o w n spelled acc (running go at fits) e = record {
 
 pub accepted_fits : (o : Object) (w : List Wild) (n : ℕ) → IsSpellable o → IsAccepted o → FitsAfter o w n
 accepted_fits o w n spelled acc = let h = along o w n spelled acc in fits_by o w n spelled acc h.after h.wild
+
+-- it is never detected
+pub never_detected : (o : Object) (w : List Wild) → IsSpellable o → IsAccepted o → IsNeverDetected o w
+never_detected o w spelled acc n = (accepted_fits o w n spelled acc).undetected

@@ -1,5 +1,5 @@
 -- Alike states: what one fault may leave different in a run, until it is detected.
-use Rattle.std.specs.Prelude.{◌≡◌, ◌≢◌, ℕ, ◌<◌, List, Some, None, length}
+use Rattle.std.specs.Prelude.{◌≡◌, ◌≢◌, ℕ, ◌<◌, ◌≤◌, List, Some, None, length}
 use Rattle.ft_isa.specs.declared.colour.Colour.{Colour}
 use Rattle.ft_isa.specs.declared.colour.Colour.TheVariants.{Green, Blue}
 use Rattle.ft_isa.specs.declared.colour.Coloured.{Coloured}
@@ -11,6 +11,7 @@ use Rattle.ft_types.specs.declared.object.Object.{Object}
 use Rattle.ft_types.specs.declared.status.Status.TheVariants.{Detected}
 use Rattle.ft_types.specs.State.{State, Registers, held, colour}
 use Rattle.ft_types.specs.Step.{Stepping}
+use Rattle.ft_types.specs.Strike.{struck_before}
 use Rattle.ft_types.specs.Run.{state_after}
 
 -- two registers have equal colours, and equal words unless that colour is c
@@ -55,6 +56,15 @@ pub data IsAlikeOrDetected (c : Colour) (s t : State) : Type 0 where
   is_alike : AreAlike c s t → IsAlikeOrDetected c s t
   has_stopped : t.status ≡ Detected → IsAlikeOrDetected c s t
 
--- from its step on a strike leaves the run alike for the colour of the struck site, or detected
+-- a state after n steps of a run that was struck is alike, for the colour of the struck site, to that of the run without
+-- the strike after as many steps, or it is detected
+abbrev pub IsAlikeAfter : Object → Strike → List Wild → ℕ → State → Type 0
+IsAlikeAfter o x w n s = IsAlikeOrDetected (colour_of_site (state_after o None w x.step) x.site) (state_after o None w n) s
+
+-- from the strike on the states in which the next steps are taken are so, the first of them right after the strike
 abbrev pub StaysAlike : Object → Strike → List Wild → ℕ → Type 0
-StaysAlike o x w n = x.step < n → IsAlikeOrDetected (colour_of_site (state_after o None w x.step) x.site) (state_after o None w n) (state_after o (Some x) w n)
+StaysAlike o x w n = x.step ≤ n → IsAlikeAfter o x w n (struck_before (Some x) n (state_after o (Some x) w n))
+
+-- after each step since the strike the run is so
+abbrev pub IsAlikeLater : Object → Strike → List Wild → ℕ → Type 0
+IsAlikeLater o x w n = x.step < n → IsAlikeAfter o x w n (state_after o (Some x) w n)

@@ -8,6 +8,7 @@ use Rattle.ft_types.specs.Spellable.{IsSpellable}
 use Rattle.ft_types.specs.State.{State}
 use Rattle.ft_types.specs.Strike.{struck_before}
 use Rattle.ft_types.specs.Run.{state_after, wild_after}
+use Rattle.ft_inject.specs.Alike.{IsAlikeAfter}
 
 -- a run without a fault: the object, and how many steps were taken
 pub record CleanRun : Type 0 where
@@ -33,10 +34,12 @@ pub record StruckRun : Type 0 where
 abbrev pub struck_now : StruckRun → State
 struck_now r = struck_before (Some r.strike) r.taken (state_after r.object (Some r.strike) r.wild r.taken)
 
--- the machine of a run that was struck, and the answers that are left
+-- the machine of a run that was struck, and the answers that are left; the machine is alike to that of the run without the
+-- strike after as many steps, or it is detected
 pub record IsStruckRun (r : StruckRun) (s : State) (left : List Wild) : Type 0 where
   pub spellable : IsSpellable r.object
   pub accepted : IsAccepted r.object
   pub struck : r.strike.step ≤ r.taken
   pub state : s ≡ struck_now r
   pub left_is : left ≡ wild_after r.object (Some r.strike) r.wild r.taken
+  pub alike : IsAlikeAfter r.object r.strike r.wild r.taken s

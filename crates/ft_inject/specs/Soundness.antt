@@ -32,6 +32,10 @@ pub record Keeps (o : Object) (p : Place) (s : State) (w : List Wild) : Type 0 w
   pub wild : (step o s w).wild ≡ w
   pub after : EndsOrFits o (next_place o s.fetched s p) (step o s w).state
 
+-- the run without a fault is detected after no number of steps
+abbrev pub IsNeverDetected : Object → List Wild → Type 0
+IsNeverDetected o w = (n : ℕ) → status_after o None w n ≢ Detected
+
 -- after n steps without a fault: while the run is running it fits its place, a place of the object, and its next step is
 -- untroubled; all answers to wild loads are left; and it is not detected
 pub record FitsAfter (o : Object) (w : List Wild) (n : ℕ) : Type 0 where

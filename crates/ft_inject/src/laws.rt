@@ -14,7 +14,7 @@ ghost use Rattle.ft_types.specs.Spellable.{IsSpellable};
 ghost use Rattle.ft_types.specs.State.{State};
 ghost use Rattle.ft_types.specs.Step.{step};
 ghost use Rattle.ft_types.specs.Strike.{struck_state};
-ghost use Rattle.ft_inject.specs.Alike.{AreAlike, Follows, StaysAlike, colour_of_site};
+ghost use Rattle.ft_inject.specs.Alike.{AreAlike, Follows, IsAlikeLater, StaysAlike, colour_of_site};
 ghost use Rattle.ft_inject.specs.Soundness.{FitsAfter, Keeps};
 ghost use Rattle.ft_inject.specs.TypedState.{Fits, IsPlace, Place};
 
@@ -44,10 +44,11 @@ pub fn steps_keep_states_alike()
     ensures { (c : Colour) (o : Object) (p : Place) (s t : State) (w v : List Wild) → IsSpellable o → IsAccepted o → IsPlace o p → s.status ≡ Running → Fits o p s → AreAlike c s t → Follows c (step o s w) (step o t v) }
 {}
 
-/// From its step on a strike leaves the run of an accepted object alike to the run without it, after as
-/// many steps and for the colour of the struck site, or detected.
+/// A strike leaves the run of an accepted object alike to the run without it, after as many steps and
+/// for the colour of the struck site, or detected: right after the strike, and after each later step.
 pub fn struck_runs_stay_alike()
-    ensures { (o : Object) (strike : Strike) (w : List Wild) (n : ℕ) → IsSpellable o → IsAccepted o → StaysAlike o strike w n }
+    ensures from_strike { (o : Object) (strike : Strike) (w : List Wild) (n : ℕ) → IsSpellable o → IsAccepted o → StaysAlike o strike w n }
+    ensures later { (o : Object) (strike : Strike) (w : List Wild) (n : ℕ) → IsSpellable o → IsAccepted o → IsAlikeLater o strike w n }
 {}
 
 /// One fault is masked or detected: after each number of steps the run of an accepted object under a

@@ -1,10 +1,10 @@
 //! Whole runs of accepted programs under a plan.
-ghost use Rattle.std.specs.Prelude.{◌≡◌, ◌≤◌, None, length};
+ghost use Rattle.std.specs.Prelude.{◌≡◌, ◌≢◌, ◌≤◌, None};
 ghost use Rattle.ft_types.specs.Agrees.{Agrees};
 ghost use Rattle.ft_types.specs.Run.{outputs_after, status_after};
 ghost use Rattle.ft_types.specs.Texts.{lines};
-ghost use Rattle.ft_edge.specs.Puts.{puts_after};
-ghost use Rattle.ft_machine.specs.Drives.{EndsAs, Writes, IsExcused, Stops};
+ghost use Rattle.ft_machine.specs.Drives.{EndsAs, Writes, Puts, output_lines, IsExcused};
+ghost use Rattle.ft_inject.specs.Soundness.{IsNeverDetected};
 
 use crate::clean::Clean;
 use ft_edge::Sink;
@@ -13,7 +13,8 @@ use ft_machine::{RunEnd, drive};
 use ft_types::Program;
 
 /// Runs an accepted program from its start under a plan, for at most `steps` steps, and puts a line for
-/// each output. `WriteFault` comes only where a put failed.
+/// each output, each in one put. `WriteFault` comes only where a put failed, and nothing is put after it;
+/// `Detected` only where the plan has a strike.
 pub fn run<'a, P: Program, K: Sink>(
     start: Clean<'a, P>,
     plan: Plan,
@@ -24,9 +25,8 @@ pub fn run<'a, P: Program, K: Sink>(
     ensures ends { EndsAs result (status_after start.entry.object plan.entry.strike plan.entry.wild.now steps) }
     ensures writes { Writes result (K.written out.old) (K.written out.new)
         (lines start.entry.object (outputs_after start.entry.object plan.entry.strike plan.entry.wild.now steps)) }
-    // One put was made for each output, up to the end, or up to a put that failed, which is the last one made.
-    ensures puts { Stops result (λ k. K.puts out.new ≡ puts_after
-        (length (outputs_after start.entry.object plan.entry.strike plan.entry.wild.now k)) (K.puts out.old)) steps }
+    ensures lines { Puts result (output_lines start.entry.object (outputs_after start.entry.object plan.entry.strike plan.entry.wild.now steps))
+        (K.written out.old) (K.written out.new) (K.puts out.old) (K.puts out.new) }
     ensures count { K.faults out.old ≤ K.faults out.new }
     ensures cause { IsExcused result (K.faults out.old) (K.faults out.new) }
 
@@ -36,6 +36,10 @@ pub fn run<'a, P: Program, K: Sink>(
         (status_after start.entry.object plan.entry.strike plan.entry.wild.now steps)
         (outputs_after start.entry.object None plan.entry.wild.now steps)
         (status_after start.entry.object None plan.entry.wild.now steps) }
+
+    // The run without a strike is never detected; so where the plan has none, neither is this run.
+    ensures sound { IsNeverDetected start.entry.object plan.entry.wild.now }
+    ensures undetected { plan.entry.strike ≡ None → result ≢ RunEnd.Detected }
 {
     let Clean {
         program,

@@ -1,9 +1,9 @@
 //! Runs that were struck once.
-ghost use Rattle.std.specs.Prelude.{◌≡◌, ◌+◌, ◌<◌, ◌^◌, None, Some};
+ghost use Rattle.std.specs.Prelude.{◌≡◌, ◌⊎◌, ◌+◌, ◌<◌, ◌^◌, None, Some};
 ghost use Rattle.ft_types.specs.Run.{state_after, wild_after};
 ghost use Rattle.ft_types.specs.Step.{step};
 ghost use Rattle.ft_machine.specs.Answers.{told};
-ghost use Rattle.ft_inject.specs.Alike.{IsAlikeOrDetected, colour_of_site};
+ghost use Rattle.ft_inject.specs.Alike.{IsAlikeAfter};
 ghost use Rattle.ft_inject.specs.Runs.{struck_now};
 
 use ft_isa::{Strike, Wild};
@@ -11,7 +11,8 @@ use ft_machine::{Machine, Stepped, WildLeft};
 use ft_types::Program;
 use std::marker::Model;
 
-/// The run of an accepted program that was struck once. It has no call that strikes again. Contracts
+/// The run of an accepted program that was struck once. It has no call that strikes again. It keeps that
+/// its machine is alike to that of the run without the strike after as many steps, or detected. Contracts
 /// see it as the program's object, the strike, the answers to wild loads and the number of steps that
 /// were taken.
 #[derive(Drop)]
@@ -35,11 +36,14 @@ impl<'a, 'w, P: Program> Model for Struck<'a, 'w, P> {
 }
 
 impl<'a, 'w, P: Program> Struck<'a, 'w, P> {
-    /// Takes one step. A run that has stopped stays as it is.
+    /// Takes one step. A run that has stopped stays as it is. The answer is that of the run without the
+    /// strike after as many steps, or `Detected`.
     pub fn step(&mut self) -> Stepped
         requires { self.old.taken < 2 ^ 63 }
         ensures taken { self.new ≡ record self.old { taken = self.old.taken + 1 } }
         ensures answer { result ≡ told (step self.old.object (struck_now self.old) (wild_after self.old.object (Some self.old.strike) self.old.wild self.old.taken)) }
+        ensures masked { (result ≡ told (step self.old.object (state_after self.old.object None self.old.wild self.old.taken) self.old.wild))
+            ⊎ (result ≡ Stepped.Detected) }
     {
         let stepped = self.machine.step(self.program, &mut self.left);
         self.taken += 1;
@@ -51,9 +55,7 @@ impl<'a, 'w, P: Program> Struck<'a, 'w, P> {
     pub fn machine(&self) -> &Machine
         ensures now { result.now ≡ struck_now self.now }
         ensures after { self.now.strike.step < self.now.taken → result.now ≡ state_after self.now.object (Some self.now.strike) self.now.wild self.now.taken }
-        ensures alike { self.now.strike.step < self.now.taken →
-            IsAlikeOrDetected (colour_of_site (state_after self.now.object None self.now.wild self.now.strike.step) self.now.strike.site)
-            (state_after self.now.object None self.now.wild self.now.taken) result.now }
+        ensures alike { IsAlikeAfter self.now.object self.now.strike self.now.wild self.now.taken result.now }
     {
         &self.machine
     }

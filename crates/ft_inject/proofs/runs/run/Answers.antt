@@ -1,12 +1,15 @@
-use Rattle.std.proofs.Common.{◌≡◌, ℕ, [], None, length, ap, ◌∙◌, subst}
+use Rattle.std.proofs.Common.{◌≡◌, ◌≢◌, [], Option, None, ap, ◌∙◌, subst}
 use Rattle.ft_types.specs.Accepted.{IsAccepted}
 use Rattle.ft_types.specs.Spellable.{IsSpellable}
-use Rattle.ft_edge.specs.Puts.{puts_after}
-use Rattle.ft_types.specs.Run.{Ran, run-zero, state_after, outputs_after}
-use Rattle.ft_machine.specs.Drives.{Stops}
+use Rattle.ft_types.specs.Run.{Ran, run-zero, state_after, outputs_after, status_after}
+use Rattle.ft_types.specs.declared.status.Status.{Status}
+use Rattle.ft_types.specs.declared.status.Status.TheVariants as status
+use Rattle.ft_isa.specs.declared.plan.Strike.{Strike}
+use Rattle.ft_machine.specs.Drives.{EndsAs, Puts, output_lines}
 use Rattle.ft_machine.specs.declared.run.RunEnd.{RunEnd}
 use Rattle.ft_machine.specs.declared.run.RunEnd.TheVariants.{Done, Detected, OutOfSteps, WriteFault}
 use Rattle.ft_inject.specs.Runs.{CleanRun}
+use Rattle.ft_inject.proofs.Whole.{never_detected}
 use Rattle.ft_inject.proofs.Masking.{tolerant}
 use Rattle.ft_inject.proofs.runs.run.Goals as goal
 
@@ -22,15 +25,27 @@ returns-clause-agrees g c =
     (subst (λ (x : CleanRun). IsSpellable x.object) c.start.view_is c.start.invariant.spellable)
     (subst (λ (x : CleanRun). IsAccepted x.object) c.start.view_is c.start.invariant.accepted)
 
--- what holds where a run stops, of all that holds there
-stops_with : (end : RunEnd) (All Some : ℕ → Type 0) (n : ℕ) → ((k : ℕ) → All k → Some k) → Stops end All n → Stops end Some n
-stops_with Done All Some n f h = f n h
-stops_with Detected All Some n f h = f n h
-stops_with OutOfSteps All Some n f h = f n h
-stops_with WriteFault All Some n f h = (h.0, (h.1.0, f h.0 h.1.1))
+pub returns-clause-sound : goal.returns-clause-sound
+returns-clause-sound g c =
+    never_detected c.args.start.object c.args.plan.wild.now
+    (subst (λ (x : CleanRun). IsSpellable x.object) c.start.view_is c.start.invariant.spellable)
+    (subst (λ (x : CleanRun). IsAccepted x.object) c.start.view_is c.start.invariant.accepted)
 
-pub returns-clause-puts : goal.returns-clause-puts
-returns-clause-puts g c =
-    subst (λ (x : CleanRun). Stops c.drive.result (λ k. g.K.Sink.puts c.drive.new.out ≡ puts_after (length (outputs_after x.object c.args.plan.strike c.args.plan.wild.now k)) (g.K.Sink.puts c.args.out.now)) c.args.steps)
-    c.start.view_is
-    (stops_with c.drive.result _ _ c.args.steps (λ k h. h.puts) c.drive.ensures.stops)
+-- a run that did not end detected by its status does not answer so
+undetected_end : (end : RunEnd) (s : Status) → EndsAs end s → s ≢ status.Detected → end ≢ Detected
+undetected_end Done s ends never e = cc
+undetected_end Detected s ends never e = never ends
+undetected_end OutOfSteps s ends never e = cc
+undetected_end WriteFault s ends never e = cc
+
+pub returns-clause-undetected : goal.returns-clause-undetected
+returns-clause-undetected g c = λ none.
+    let o = g.P.Program.object c.start.inside.program.now in
+    undetected_end c.drive.result (status_after o None c.args.plan.wild.now c.args.steps)
+    (subst (λ (x : Option Strike). EndsAs c.drive.result (status_after o x c.args.plan.wild.now c.args.steps)) none c.drive.ensures.ends)
+    (never_detected o c.args.plan.wild.now c.start.invariant.spellable c.start.invariant.accepted c.args.steps)
+
+pub returns-clause-lines : goal.returns-clause-lines
+returns-clause-lines g c =
+    subst (λ (x : CleanRun). Puts c.drive.result (output_lines x.object (outputs_after x.object c.args.plan.strike c.args.plan.wild.now c.args.steps)) (g.K.Sink.written c.args.out.now) (g.K.Sink.written c.drive.new.out) (g.K.Sink.puts c.args.out.now) (g.K.Sink.puts c.drive.new.out))
+    c.start.view_is c.drive.ensures.lines
