@@ -1,5 +1,5 @@
 -- The object of a flow: the instructions of its blocks, with the nodes, code types and substitutions that let the rows apply.
-use Rattle.std.specs.Prelude.{◌≡◌, ℕ, zero, suc, ◌+◌, List, [], ◌∷◌, ◌++◌, map, length, take, slice_index, slice_set}
+use Rattle.std.specs.Prelude.{◌≡◌, ℕ, zero, suc, ◌+◌, ◌≤◌, List, [], ◌∷◌, ◌++◌, map, length, take, slice_index, slice_set}
 use Rattle.std.specs.List.{range_with_len, zip}
 use Rattle.ft_isa.specs.Words.{cell_address}
 use Rattle.ft_isa.specs.declared.colour.Colour.TheVariants.{Green, Blue}
@@ -16,10 +16,13 @@ use Rattle.ft_types.specs.declared.object.Block.{Block}
 use Rattle.ft_types.specs.declared.object.CodeType.{CodeType}
 use Rattle.ft_types.specs.declared.object.RegType.{RegType}
 use Rattle.ft_types.specs.TypedWord.{int}
-use Rattle.ft_scope.specs.Resolved.{Program}
+use Rattle.ft_scope.specs.Resolved.{Program, program_need, program_weight}
 use Rattle.ft_lower.specs.declared.step3.Step3.{Step3}
 use Rattle.ft_lower.specs.declared.step3.Step3.TheVariants.{Put, Copy, Op, Load, Store, Exit, Go, Stop}
 use Rattle.ft_lower.specs.Flow.{Blocks}
+use Rattle.ft_lower.specs.Lowers.{Lowers}
+use Rattle.ft_lower.specs.Size.{PairsBelow, blocks_size}
+use Rattle.ft_lower.specs.Well.{IsWell}
 use Rattle.ft_dup.specs.Images.{green, blue, starts, doubled}
 
 -- what is noted along the steps: the nodes, substitution rows and substitutions so far, the node of each pair's integer,
@@ -161,6 +164,13 @@ emitted names inits vars bs = record {
   entry = 0;
 }
 
--- the object is that of some blocks, over the program's cells and variables
-abbrev pub IsEmitted : Program → Object → Type 0
-IsEmitted p o = (bs : Blocks) × (o ≡ emitted p.names p.inits p.vars bs)
+-- the object is that of a flow of the program, over the program's cells and variables: the flow's blocks are well formed,
+-- their run commits what the program means and ends when it ends, and they become at most as many instructions as the
+-- program weighs and name pairs below its need
+pub record IsEmitted (p : Program) (o : Object) : Type 0 where
+  pub flow : Blocks
+  pub well : IsWell p.vars (length p.inits) flow
+  pub runs : Lowers p flow
+  pub light : blocks_size flow ≤ program_weight p
+  pub pairs : PairsBelow (program_need p) flow
+  pub object : o ≡ emitted p.names p.inits p.vars flow

@@ -1,17 +1,23 @@
 -- The laws of compiled objects.
-use Rattle.std.specs.Prelude.{◌≡◌, ℕ, List, length, map, All}
+use Rattle.std.specs.Prelude.{◌≡◌, ℕ, ◌+◌, ◌*◌, ◌≤◌, List, [], length, map, None, All}
+use Rattle.ft_isa.specs.declared.output.Output.{Output}
+use Rattle.ft_types.specs.declared.status.Status.TheVariants.{Done}
 use Rattle.ft_types.specs.declared.object.Object.{Object}
 use Rattle.ft_types.specs.Accepted.{IsAccepted}
 use Rattle.ft_types.specs.Objects.{name_of}
+use Rattle.ft_types.specs.Run.{outputs_after, status_after}
 use Rattle.ft_types.specs.Spellable.{IsSpellable}
+use Rattle.ft_types.specs.Texts.{lines as object_lines}
 use Rattle.ft_scope.specs.Outcome.{IsProgramOf}
 use Rattle.ft_scope.specs.Resolved.{Program}
+use Rattle.ft_meaning.specs.Lines.{lines}
+use Rattle.ft_meaning.specs.Meaning.{State, Ended, meaning}
 use Rattle.ft_lower.specs.Flow.{Blocks}
 use Rattle.ft_lower.specs.Lowers.{Lowers}
 use Rattle.ft_lower.specs.Size.{blocks_size}
 use Rattle.ft_lower.specs.Well.{IsWell}
 use Rattle.ft_dup.specs.Doubles.{words_of, Carries, RunsAs}
-use Rattle.ft_compile.specs.StandsFor.{IsIntCell, RunsAsMeant}
+use Rattle.ft_compile.specs.StandsFor.{IsIntCell, RunsAsMeant, StandsFor}
 use Rattle.ft_compile.specs.Cells.{AreCells}
 use Rattle.ft_compile.specs.Emitted.{emitted}
 
@@ -37,3 +43,15 @@ EmittedObjectsAreAccepted = (names : List (List ℕ)) (inits : List ℕ) (vars :
 -- the cells of a text's program have lawful names that differ
 abbrev pub ProgramsHaveCells : Type 0
 ProgramsHaveCells = (text : List ℕ) (p : Program) → IsProgramOf text p → AreCells p.names p.inits
+
+-- where an object stands for a program, outputs have the same lines by the object's cells as by the program's names
+abbrev pub LinesAreByTheProgramsNames : Type 0
+LinesAreByTheProgramsNames = (p : Program) (o : Object) → StandsFor p o → (xs : List Output) → object_lines o xs ≡ lines p.names xs
+
+-- where its run is done after n steps, its lines are those of the meaning with n turns, which has ended
+abbrev pub DoneRunsWriteTheMeaning : Type 0
+DoneRunsWriteTheMeaning = (p : Program) (o : Object) → StandsFor p o → (n : ℕ) → status_after o None [] n ≡ Done → (s : State) × (meaning p n ≡ Ended s) × (object_lines o (outputs_after o None [] n) ≡ lines p.names s.out)
+
+-- where the meaning has ended, the run is done with its lines after 16 times the work and 320 steps more
+abbrev pub EndedMeaningsAreWritten : Type 0
+EndedMeaningsAreWritten = (p : Program) (o : Object) → StandsFor p o → (n t : ℕ) (s : State) → meaning p t ≡ Ended s → 16 * s.work + 320 ≤ n → (status_after o None [] n ≡ Done) × (object_lines o (outputs_after o None [] n) ≡ lines p.names s.out)

@@ -11,7 +11,6 @@ use Rattle.ft_types.specs.TypedWord.{int}
 use Rattle.ft_scope.specs.Resolved.{Program, program_weight}
 use Rattle.ft_meaning.specs.Meaning.{State, Ended, Cut, outputs, meaning}
 use Rattle.ft_meaning.specs.Begins.{Begins}
-use Rattle.ft_dup.specs.Doubles.{words_of}
 
 -- the object's run, without a strike and without answers to wild loads, is what the program means
 pub record RunsAsMeant (p : Program) (o : Object) : Type 0 where
@@ -26,6 +25,10 @@ pub record RunsAsMeant (p : Program) (o : Object) : Type 0 where
   -- where the meaning is cut, the run then has its outputs
   pub cuts : (n t : ℕ) (s : State) → meaning p t ≡ Cut s → 16 * s.work + 320 ≤ n → Begins s.out (outputs_after o None [] n)
 
+-- the initial word of a cell
+abbrev pub initial_word : Cell → ℕ
+initial_word c = c.init
+
 -- a cell holds any word
 abbrev pub IsIntCell : Cell → Type 0
 IsIntCell c = c.basic ≡ int
@@ -35,7 +38,7 @@ IsIntCell c = c.basic ≡ int
 -- what the program means
 pub record StandsFor (p : Program) (o : Object) : Type 0 where
   pub names : map name_of o.cells ≡ p.names
-  pub inits : words_of o ≡ p.inits
+  pub inits : map initial_word o.cells ≡ p.inits
   pub ints : All IsIntCell o.cells
   pub spellable : IsSpellable o
   pub accepted : IsAccepted o

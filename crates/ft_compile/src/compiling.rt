@@ -32,9 +32,10 @@ fn compile_program(alloc: Global, prog: &Prog<'_>) -> Result<Object, NoMemory>
 /// Compiles a source: the object stands for the source's program. It has the program's cells, of type
 /// `int`, with their names and initial words; it is spellable and accepted, and has at most as many
 /// instructions as the program weighs. Without a fault its run is never detected, its outputs begin those
-/// of the meaning, and it ends with them where the meaning ends. It has the shape of compiled objects: code
-/// type 0 is the entry's, and code type 1, with a row for each variable in both colours, that of all other
-/// blocks.
+/// of the meaning, and it ends with them where the meaning ends. It is the object of a well formed flow of
+/// this program: one whose run commits what the program means and ends when it ends, with no more
+/// instructions than the program weighs and no pair at or above its need. Code type 0 is the entry's, and
+/// code type 1, with a row for each variable in both colours, that of all other blocks.
 ///
 /// A text that is no program is refused by its first refusal, as `parse` and `resolve` say. Want of
 /// memory may come in the place of any answer.

@@ -1,5 +1,5 @@
 //! Laws of the definitions, each the contract of a function that does nothing.
-ghost use Rattle.ft_compile.specs.Laws.{CarriedBlocksRunAsMeant, EmittedObjectsAreAccepted, ProgramsHaveCells};
+ghost use Rattle.ft_compile.specs.Laws.{CarriedBlocksRunAsMeant, DoneRunsWriteTheMeaning, EmittedObjectsAreAccepted, EndedMeaningsAreWritten, LinesAreByTheProgramsNames, ProgramsHaveCells};
 
 /// An object that carries the blocks to which a program was lowered, with the program's initial words,
 /// runs as the program means.
@@ -16,4 +16,14 @@ pub fn emitted_objects_are_accepted()
 /// The cells of a text's program have names of 1 to 32 bytes that differ, and there are at most 1,024.
 pub fn programs_have_cells()
     ensures { ProgramsHaveCells }
+{}
+
+/// Where an object stands for a program, outputs have the same lines by the names of the object's cells, as
+/// they are written for a run, as by the program's names, as they are written for a meaning. So the run and
+/// the meaning write the same where both end: a run that is done after n steps has the lines of the meaning
+/// with n turns, and one of at least 16 times the work and 320 steps is done, with the lines of the meaning.
+pub fn runs_and_meanings_write_the_same_lines()
+    ensures lines { LinesAreByTheProgramsNames }
+    ensures done { DoneRunsWriteTheMeaning }
+    ensures ended { EndedMeaningsAreWritten }
 {}

@@ -1,5 +1,6 @@
-use Rattle.std.proofs.Common.{ap, ◌∙◌}
+use Rattle.std.proofs.Common.{ap, ◌∙◌, subst}
 use Rattle.ft_lower.specs.Flow.{blocks_of}
+use Rattle.ft_lower.specs.Well.{IsWell}
 use Rattle.ft_scope.specs.ProgramOf.{program_of}
 use Rattle.ft_dup.proofs.Places.{shape_of_well}
 use Rattle.ft_compile.specs.Emitted.{emitted}
@@ -19,4 +20,12 @@ pub returns-clause-emitted : goal.returns-clause-emitted
 returns-clause-emitted c =
     let p = program_of c.args.prog.now in
     let f = c.in_ok-flow.flow in
-    (blocks_of f, c.in_ok-object.ensures ∙ ap (λ vars. emitted p.names p.inits vars (blocks_of f)) c.in_ok-flow.ensures.vars)
+    let h = c.in_ok-flow.ensures in
+    record {
+      flow = blocks_of f;
+      well = subst (λ n. IsWell p.vars n (blocks_of f)) h.cells (subst (λ vars. IsWell vars f.cells (blocks_of f)) h.vars h.well);
+      runs = h.runs;
+      light = h.light;
+      pairs = h.pairs;
+      object = c.in_ok-object.ensures ∙ ap (λ vars. emitted p.names p.inits vars (blocks_of f)) h.vars;
+    }
