@@ -7,9 +7,8 @@ use Rattle.std.proofs.lemmas.List.{take_more, take_all, length-map, get_or-map}
 use Rattle.std.proofs.lemmas.Slice.Zip.{length-zip, get_or-zip}
 use Rattle.std.specs.Io.KnownBytes.{append_known}
 use Rattle.ft_edge.specs.Causes.{AddsPrefix}
-use Rattle.ft_edge.specs.Puts.{one_more}
-use Rattle.ft_text.specs.Puts.{PutsLines, BreaksOff}
-use Rattle.ft_text.proofs.PutLines.{puts_one, puts_then, breaks_one, breaks_then, breaks_before}
+use Rattle.ft_edge.specs.Puts.{one_more, PutsLines, BreaksOff}
+use Rattle.ft_edge.proofs.PutLines.{puts_one, puts_then, breaks_one, breaks_then, breaks_before}
 use Rattle.ft_isa.specs.declared.plan.Strike.{Strike}
 use Rattle.ft_campaign.specs.declared.verdict.Verdict.{Verdict}
 use Rattle.ft_campaign.specs.Texts.{verdict_line, verdict_lines}

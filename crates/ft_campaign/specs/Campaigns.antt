@@ -1,7 +1,7 @@
 -- What a campaign answers and writes.
 use Rattle.std.specs.Prelude.{◌≡◌, ℕ, ◌*◌, ◌<◌, List, length, Option}
 use Rattle.ft_edge.specs.Causes.{Rose}
-use Rattle.ft_text.specs.Puts.{PutsLines, BreaksOff, PutsNothing}
+use Rattle.ft_edge.specs.Puts.{PutsLines, BreaksOff, PutsNothing}
 use Rattle.ft_isa.specs.declared.plan.Strike.{Strike}
 use Rattle.ft_isa.specs.declared.plan.Wild.{Wild}
 use Rattle.ft_types.specs.declared.object.Object.{Object}

@@ -4,6 +4,7 @@ ghost use Rattle.ft_isa.specs.declared.plan.Strike.{Strike as Fault};
 ghost use Rattle.ft_campaign.specs.Snapshots.{IsCost};
 ghost use Rattle.ft_types.specs.Spellable.{IsSpellable};
 ghost use Rattle.ft_campaign.specs.Campaigns.{EndsAs, IsExcused, IsUncorrupted};
+ghost use Rattle.ft_inject.specs.Soundness.{IsNeverDetected};
 
 use crate::campaign_end::CampaignEnd;
 use crate::judge::find_verdicts;
@@ -59,7 +60,8 @@ pub fn survey<P: Program, K: Sink, L: Ledger>(
     }
 }
 
-/// As `survey`, on an accepted program: no verdict is `Corrupt`.
+/// As `survey`, on an accepted program: no verdict is `Corrupt`, and the run without a fault is never
+/// detected.
 pub fn campaign<'a, P: Program, K: Sink, L: Ledger>(
     alloc: Global,
     checked: &Checked<'a, P>,
@@ -73,6 +75,7 @@ pub fn campaign<'a, P: Program, K: Sink, L: Ledger>(
     requires n { n ≤ 1000000 }
     ensures ends { EndsAs result (P.object checked.now) faults.now wild.now n (K.written out.old) (K.written out.new) (K.puts out.old) (K.puts out.new) }
     ensures uncorrupted { IsUncorrupted result }
+    ensures sound { IsNeverDetected (P.object checked.now) wild.now }
     ensures too_much { 1000000000 < length faults.now * n → result ≡ CampaignEnd.TooMuch (length faults.now * n) }
     ensures count { K.faults out.old ≤ K.faults out.new }
     ensures cause { IsExcused result (K.faults out.old) (K.faults out.new) }

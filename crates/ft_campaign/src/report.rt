@@ -2,7 +2,7 @@
 ghost use Rattle.std.specs.Prelude.{◌≡◌, ◌≤◌, length, OnOk, OnErr};
 ghost use Rattle.ft_edge.specs.Causes.{Rose};
 ghost use Rattle.ft_campaign.specs.Texts.{verdict_lines, campaign_lines, totals_of};
-ghost use Rattle.ft_text.specs.Puts.{PutsLines, BreaksOff};
+ghost use Rattle.ft_edge.specs.Puts.{PutsLines, BreaksOff};
 
 use crate::lines::{end_line, verdict_line};
 use crate::totals::Totals;

@@ -41,9 +41,13 @@ impl<'a> Nodes for Counting<'a> {
 }
 
 impl<'a> Program for Counting<'a> {
-    ghost use Rattle.std.specs.Prelude.{refl};
+    ghost use Rattle.std.specs.Prelude.{refl, ⊤};
 
     ghost object = { λ c. c.object.now };
+
+    type Code = ();
+
+    ghost is_code = { λ c code. ⊤ };
 
     ghost nodes_are = { λ c. refl };
 
@@ -58,6 +62,12 @@ impl<'a> Program for Counting<'a> {
     fn instr(&self, i: u32) -> Instr {
         self.fetches.set(self.fetches.get().wrapping_add(1));
         self.object.instr(i)
+    }
+
+    fn code(&self) {}
+
+    fn fetch(&self, _: (), i: u32) -> Instr {
+        self.instr(i)
     }
 
     fn block(&self, b: u32) -> Block {

@@ -2,7 +2,7 @@
 use Rattle.std.specs.Prelude.{◌≡◌, ℕ, zero, suc, ◌*◌, List, [], ◌∷◌, ◌++◌, length, codes, decimal, count_by, Option, None}
 use Rattle.std.specs.Option.{option_map, option_to_list}
 use Rattle.ft_edge.specs.Causes.{Rose}
-use Rattle.ft_text.specs.Puts.{PutsLines, BreaksOff, PutsNothing}
+use Rattle.ft_edge.specs.Puts.{PutsLines, BreaksOff, PutsNothing}
 use Rattle.ft_isa.specs.Registers.{reg_of}
 use Rattle.ft_isa.specs.declared.output.Output.{Output}
 use Rattle.ft_isa.specs.declared.plan.Site.TheVariants.{R}

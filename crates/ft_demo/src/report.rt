@@ -3,7 +3,7 @@ ghost use Rattle.std.specs.Prelude.{◌≡◌, ◌≤◌, ◌∷◌, [], OnOk, O
 ghost use Rattle.ft_edge.specs.Causes.{Rose};
 ghost use Rattle.ft_campaign.specs.Texts.{end_line as campaign_line};
 ghost use Rattle.ft_demo.specs.Demonstrations.{outputs_line};
-ghost use Rattle.ft_text.specs.Puts.{PutsLines, BreaksOff};
+ghost use Rattle.ft_edge.specs.Puts.{PutsLines, BreaksOff};
 
 use crate::tally::Tally;
 use ft_campaign::{Totals, end_line};

@@ -1,6 +1,6 @@
 use Rattle.std.proofs.Common.{◌≡◌, take}
 use Rattle.ft_campaign.specs.Texts.{verdict_lines}
-use Rattle.ft_text.specs.Puts.{PutsLines}
+use Rattle.ft_edge.specs.Puts.{PutsLines}
 use Rattle.ft_campaign.proofs.report.put_verdicts.Given as goal
 
 abbrev pub invariant-loop-i : goal.invariant-loop-i
