@@ -2,8 +2,7 @@
 use Rattle.std.proofs.Common.{◌≡◌, false, nat_le, ℕ, zero, suc, ◌<◌, List, [], ◌∷◌, length, Option, Some, None, Ok, Err, inl, inr, refl, sym, ap, ◌∙◌, subst, arith}
 use Rattle.std.specs.Prelude.{IfSome}
 use Rattle.std.proofs.lemmas.Bool.{lt-leb}
-use Rattle.std.specs.Io.KnownBytes.{append_known}
-use Rattle.ft_edge.specs.Causes.{AddsPrefix}
+use Rattle.ft_edge.specs.Puts.{PutsLines, BreaksOff as LinesBreakOff}
 use Rattle.ft_edge.specs.Loads.{Files, IsLonger}
 use Rattle.ft_isa.specs.declared.plan.Wild.{Wild}
 use Rattle.ft_types.specs.declared.object.Object as objects
@@ -11,9 +10,11 @@ use Rattle.ft_types.specs.declared.status.Status.{Status}
 use Rattle.ft_types.specs.Run.{run, status_after, outputs_after}
 use Rattle.ft_types.specs.Spellable.{IsSpellable}
 use Rattle.ft_types.proofs.Acceptance.{accepted_is_unrefused}
+use Rattle.ft_inject.specs.Soundness.{IsNeverDetected}
+use Rattle.ft_inject.proofs.Whole.{never_detected}
 use Rattle.ft_inject.proofs.Masking.{tolerant}
 use Rattle.ft_isa.specs.declared.plan.Strike.{Strike}
-use Rattle.ft_types.specs.Texts.{lines}
+use Rattle.ft_machine.specs.Drives.{output_lines}
 use Rattle.ft_format.specs.Broken.{broken, object_of}
 use Rattle.ft_format.specs.declared.object_error.ObjectError.TheVariants.{Length}
 use Rattle.ft_command.specs.Options.{Word}
@@ -26,74 +27,82 @@ use Rattle.ft_types.specs.Accepted.{Refusal, refusal}
 use Rattle.ft_checker.specs.declared.error.CheckError.{CheckError}
 use Rattle.ft_checker.specs.declared.error.CheckError.TheVariants as checks
 use Rattle.ft_checker.specs.Judges.{IsRefusalOf}
-use Rattle.ft_tool.specs.Texts.{check_line}
-use Rattle.ft_tool.specs.Replies.{Answer, ran, status_of_run}
+use Rattle.ft_tool.specs.Replies.{Answer, one_piece, ran, status_of_run}
 use Rattle.ft_tool.specs.Answers.{tried, judged, checked, Withstands, RunsUnless, RunsObject, TriesObject, OverFile, Concludes, BreaksOff}
 use Rattle.ft_tool.specs.Files.{LoadsObject, IsRefusedBy, IsNotAccepted}
 use Rattle.ft_tool.specs.Endings.{Ends}
 
 -- an ending says the same of an answer that is known less well
-pub Ends-map : (e : Ending) (P Q : Answer → Type 0) (old new : Option (List ℕ)) (before now : ℕ) (L M : Type 0) → ((a : Answer) → P a → Q a) → (L → M) → Ends e P old new before now L → Ends e Q old new before now M
-Ends-map Done P Q old new before now L M f g h = record { answer = h.answer; is = f h.answer h.is; written = h.written; status_is = h.status_is }
-Ends-map Detected P Q old new before now L M f g h = record { answer = h.answer; is = f h.answer h.is; written = h.written; status_is = h.status_is }
-Ends-map Usage P Q old new before now L M f g h = record { answer = h.answer; is = f h.answer h.is; written = h.written; status_is = h.status_is }
-Ends-map LoadFault P Q old new before now L M f g h = (h.0, g h.1)
-Ends-map WriteFault P Q old new before now L M f g h = (h.0, record { answer = h.1.answer; is = f h.1.answer h.1.is; written = h.1.written })
-Ends-map NoMemory P Q old new before now L M f g h = h
-Ends-map Source P Q old new before now L M f g h = record { answer = h.answer; is = f h.answer h.is; written = h.written; status_is = h.status_is }
-Ends-map Object P Q old new before now L M f g h = record { answer = h.answer; is = f h.answer h.is; written = h.written; status_is = h.status_is }
-Ends-map NotAccepted P Q old new before now L M f g h = record { answer = h.answer; is = f h.answer h.is; written = h.written; status_is = h.status_is }
-Ends-map OutOfSteps P Q old new before now L M f g h = record { answer = h.answer; is = f h.answer h.is; written = h.written; status_is = h.status_is }
-Ends-map Corrupt P Q old new before now L M f g h = record { answer = h.answer; is = f h.answer h.is; written = h.written; status_is = h.status_is }
-Ends-map FaultList P Q old new before now L M f g h = record { answer = h.answer; is = f h.answer h.is; written = h.written; status_is = h.status_is }
+pub Ends-map : (e : Ending) (P Q : Answer → Type 0) (old new : Option (List ℕ)) (puts puts' : Option ℕ) (before now : ℕ) (L M : Type 0) → ((a : Answer) → P a → Q a) → (L → M) → Ends e P old new puts puts' before now L → Ends e Q old new puts puts' before now M
+Ends-map Done P Q old new puts puts' before now L M f g h = record { answer = h.answer; is = f h.answer h.is; put = h.put; status_is = h.status_is }
+Ends-map Detected P Q old new puts puts' before now L M f g h = record { answer = h.answer; is = f h.answer h.is; put = h.put; status_is = h.status_is }
+Ends-map Usage P Q old new puts puts' before now L M f g h = record { answer = h.answer; is = f h.answer h.is; put = h.put; status_is = h.status_is }
+Ends-map LoadFault P Q old new puts puts' before now L M f g h = (h.0, g h.1)
+Ends-map WriteFault P Q old new puts puts' before now L M f g h = (h.0, record { answer = h.1.answer; is = f h.1.answer h.1.is; broken = h.1.broken })
+Ends-map NoMemory P Q old new puts puts' before now L M f g h = h
+Ends-map Source P Q old new puts puts' before now L M f g h = record { answer = h.answer; is = f h.answer h.is; put = h.put; status_is = h.status_is }
+Ends-map Object P Q old new puts puts' before now L M f g h = record { answer = h.answer; is = f h.answer h.is; put = h.put; status_is = h.status_is }
+Ends-map NotAccepted P Q old new puts puts' before now L M f g h = record { answer = h.answer; is = f h.answer h.is; put = h.put; status_is = h.status_is }
+Ends-map OutOfSteps P Q old new puts puts' before now L M f g h = record { answer = h.answer; is = f h.answer h.is; put = h.put; status_is = h.status_is }
+Ends-map Corrupt P Q old new puts puts' before now L M f g h = record { answer = h.answer; is = f h.answer h.is; put = h.put; status_is = h.status_is }
+Ends-map FaultList P Q old new puts puts' before now L M f g h = record { answer = h.answer; is = f h.answer h.is; put = h.put; status_is = h.status_is }
 
--- a run whose lines were written
-pub concludes : (r : Run) (o : objects.Object) (w : List Wild) (v : Status) (old new : Option (List ℕ)) → w ≡ r.wild → status_after o r.strike w r.steps ≡ v
-    → new ≡ append_known old (lines o (outputs_after o r.strike w r.steps)) → Concludes (TriesObject r o) (status_of_run v) old new
-concludes r o w v old new is status written = record {
+-- a run whose lines were put
+pub concludes : (r : Run) (o : objects.Object) (w : List Wild) (v : Status) (old new : Option (List ℕ)) (before now : Option ℕ) → w ≡ r.wild → status_after o r.strike w r.steps ≡ v
+    → PutsLines (output_lines o (outputs_after o r.strike w r.steps)) old new before now → Concludes (TriesObject r o) (status_of_run v) old new before now
+concludes r o w v old new before now is status put = record {
   answer = ran o (run o r.strike r.wild r.steps);
   is = refl;
-  written = subst (λ ws. new ≡ append_known old (lines o (outputs_after o r.strike ws r.steps))) is written;
+  put = subst (λ ws. PutsLines (output_lines o (outputs_after o r.strike ws r.steps)) old new before now) is put;
   status_is = ap status_of_run (sym (subst (λ ws. status_after o r.strike ws r.steps ≡ v) is status));
 }
 
--- a run of whose lines a front was written
-pub breaks_off : (r : Run) (o : objects.Object) (w : List Wild) (old new : Option (List ℕ)) → w ≡ r.wild
-    → AddsPrefix old new (lines o (outputs_after o r.strike w r.steps)) → BreaksOff (TriesObject r o) old new
-breaks_off r o w old new is written = record {
+-- a run of whose lines a put failed
+pub breaks_off : (r : Run) (o : objects.Object) (w : List Wild) (old new : Option (List ℕ)) (before now : Option ℕ) → w ≡ r.wild
+    → LinesBreakOff (output_lines o (outputs_after o r.strike w r.steps)) old new before now → BreaksOff (TriesObject r o) old new before now
+breaks_off r o w old new before now is broken = record {
   answer = ran o (run o r.strike r.wild r.steps);
   is = refl;
-  written = subst (λ ws. AddsPrefix old new (lines o (outputs_after o r.strike ws r.steps))) is written;
+  broken = subst (λ ws. LinesBreakOff (output_lines o (outputs_after o r.strike ws r.steps)) old new before now) is broken;
 }
 
--- the line of a refusal, whole or a front of it
-pub refusal_concludes : (Is : Answer → Type 0) (r : Refusal) (old new : Option (List ℕ)) (line : List ℕ) → Is (judged (Some r)) → line ≡ check_line r → new ≡ append_known old line → Concludes Is 8 old new
-refusal_concludes Is r old new line is e written = record { answer = judged (Some r); is = is; written = written ∙ ap (append_known old) e; status_is = refl }
+-- an answer of one piece, which was put, or whose put failed
+pub piece_concludes : (Is : Answer → Type 0) (line piece : List ℕ) (status : ℕ) (old new : Option (List ℕ)) (before now : Option ℕ) → Is (one_piece line status) → piece ≡ line → PutsLines (piece ∷ []) old new before now
+    → Concludes Is status old new before now
+piece_concludes Is line piece status old new before now is e put = record { answer = one_piece line status; is = is; put = subst (λ p. PutsLines (p ∷ []) old new before now) e put; status_is = refl }
 
-pub refusal_breaks_off : (Is : Answer → Type 0) (r : Refusal) (old new : Option (List ℕ)) (line : List ℕ) → Is (judged (Some r)) → line ≡ check_line r → AddsPrefix old new line → BreaksOff Is old new
-refusal_breaks_off Is r old new line is e written = record { answer = judged (Some r); is = is; written = subst (AddsPrefix old new) e written }
+pub piece_breaks_off : (Is : Answer → Type 0) (line piece : List ℕ) (status : ℕ) (old new : Option (List ℕ)) (before now : Option ℕ) → Is (one_piece line status) → piece ≡ line → LinesBreakOff (piece ∷ []) old new before now
+    → BreaksOff Is old new before now
+piece_breaks_off Is line piece status old new before now is e broken = record { answer = one_piece line status; is = is; broken = subst (λ p. LinesBreakOff (p ∷ []) old new before now) e broken }
+
+-- the run of an object that is accepted is never detected without a fault
+pub undetected : (o : objects.Object) (w : List Wild) → IsSpellable o → refusal o ≡ None → IsNeverDetected o w
+undetected o w spellable h = never_detected o w spellable ((accepted_is_unrefused o).1 h)
 
 -- an object that is accepted withstands each plan
 withstands : (o : objects.Object) (strike : Option Strike) (w : List Wild) → IsSpellable o → refusal o ≡ None → Withstands o strike w
-withstands o strike w spellable h = λ n. tolerant o strike w n spellable ((accepted_is_unrefused o).1 h)
+withstands o strike w spellable h = record {
+  agrees = λ n. tolerant o strike w n spellable ((accepted_is_unrefused o).1 h);
+  undetected = undetected o w spellable h;
+}
 
 -- an object that is accepted is run
 pub run_accepted : (r : Run) (o : objects.Object) → IsSpellable o → refusal o ≡ None → (a : Answer) → a ≡ tried r o → RunsObject r o a
 run_accepted r o spellable h a is = subst (λ x. RunsUnless x r o a) (sym h) (is, withstands o r.strike r.wild spellable h)
 
--- a run of an accepted object whose lines were written
-pub run_concludes : (r : Run) (o x : objects.Object) (w : List Wild) (v : Status) (old new : Option (List ℕ)) → IsSpellable o → refusal o ≡ None → x ≡ o → w ≡ r.wild
-    → status_after x r.strike w r.steps ≡ v → new ≡ append_known old (lines x (outputs_after x r.strike w r.steps)) → Concludes (RunsObject r o) (status_of_run v) old new
-run_concludes r o x w v old new spelled unrefused same is status written =
-    let h = concludes r o w v old new is (subst (λ y. status_after y r.strike w r.steps ≡ v) same status) (subst (λ y. new ≡ append_known old (lines y (outputs_after y r.strike w r.steps))) same written) in
-    record { answer = h.answer; is = run_accepted r o spelled unrefused h.answer h.is; written = h.written; status_is = h.status_is }
+-- a run of an accepted object whose lines were put
+pub run_concludes : (r : Run) (o x : objects.Object) (w : List Wild) (v : Status) (old new : Option (List ℕ)) (before now : Option ℕ) → IsSpellable o → refusal o ≡ None → x ≡ o → w ≡ r.wild
+    → status_after x r.strike w r.steps ≡ v → PutsLines (output_lines x (outputs_after x r.strike w r.steps)) old new before now → Concludes (RunsObject r o) (status_of_run v) old new before now
+run_concludes r o x w v old new before now spelled unrefused same is status put =
+    let h = concludes r o w v old new before now is (subst (λ y. status_after y r.strike w r.steps ≡ v) same status) (subst (λ y. PutsLines (output_lines y (outputs_after y r.strike w r.steps)) old new before now) same put) in
+    record { answer = h.answer; is = run_accepted r o spelled unrefused h.answer h.is; put = h.put; status_is = h.status_is }
 
--- a run of an accepted object of whose lines a front was written
-pub run_breaks_off : (r : Run) (o x : objects.Object) (w : List Wild) (old new : Option (List ℕ)) → IsSpellable o → refusal o ≡ None → x ≡ o → w ≡ r.wild
-    → AddsPrefix old new (lines x (outputs_after x r.strike w r.steps)) → BreaksOff (RunsObject r o) old new
-run_breaks_off r o x w old new spelled unrefused same is written =
-    let h = breaks_off r o w old new is (subst (λ y. AddsPrefix old new (lines y (outputs_after y r.strike w r.steps))) same written) in
-    record { answer = h.answer; is = run_accepted r o spelled unrefused h.answer h.is; written = h.written }
+-- a run of an accepted object of whose lines a put failed
+pub run_breaks_off : (r : Run) (o x : objects.Object) (w : List Wild) (old new : Option (List ℕ)) (before now : Option ℕ) → IsSpellable o → refusal o ≡ None → x ≡ o → w ≡ r.wild
+    → LinesBreakOff (output_lines x (outputs_after x r.strike w r.steps)) old new before now → BreaksOff (RunsObject r o) old new before now
+run_breaks_off r o x w old new before now spelled unrefused same is broken =
+    let h = breaks_off r o w old new before now is (subst (λ y. LinesBreakOff (output_lines y (outputs_after y r.strike w r.steps)) old new before now) same broken) in
+    record { answer = h.answer; is = run_accepted r o spelled unrefused h.answer h.is; broken = h.broken }
 
 -- the answer of a check that is refused
 pub checked_refused : (e : CheckError) (o : objects.Object) → IsRefusalOf (refusal o) e → (a : Answer) → IsNotAccepted e a → a ≡ checked o

@@ -1,8 +1,8 @@
 -- What is answered of the text of a source.
 use Rattle.std.proofs.Common.{◌≡◌, ◌≢◌, ℕ, List, Option, Some, None, Ok, Err, inl, inr, refl, ap, subst}
 use Rattle.std.specs.Prelude.{IfSome}
-use Rattle.std.specs.Io.KnownBytes.{append_known}
-use Rattle.ft_edge.specs.Causes.{Rose, AddsPrefix}
+use Rattle.ft_edge.specs.Causes.{Rose}
+use Rattle.ft_edge.specs.Puts.{PutsLines, BreaksOff as LinesBreakOff}
 use Rattle.ft_edge.specs.Loads.{Files, IsLonger}
 use Rattle.ft_syntax.specs.Syntax.{SyntaxTree}
 use Rattle.ft_syntax.specs.Refusal.{IsSource}
@@ -12,7 +12,7 @@ use Rattle.ft_scope.specs.Resolved.{Program, resolved}
 use Rattle.ft_scope.specs.Outcome.{IsProgramOf}
 use Rattle.ft_meaning.specs.declared.mean_end.MeanEnd.TheVariants as ends
 use Rattle.ft_meaning.specs.Meaning.{Outcome, Ended, Cut, meaning, outputs}
-use Rattle.ft_meaning.specs.Lines.{lines}
+use Rattle.ft_meaning.specs.Lines.{output_lines}
 use Rattle.ft_meaning.specs.Ends.{EndsAs}
 use Rattle.ft_command.specs.Options.{Word}
 use Rattle.ft_tool.specs.Replies.{Answer}
@@ -28,25 +28,25 @@ pub tree_refused : (turns : ℕ) (text : List ℕ) (t : SyntaxTree) (e : SourceE
     → (a : Answer) → IsSourceRefused e a → OverText (MeansProgram turns) text a
 tree_refused turns text t e source err a is = inr (e, (inr (t, source, err is.named), is))
 
--- the lines of a meaning that ended were written
+-- the lines of a meaning that ended were put
 pub meaning_ended : (turns : ℕ) (text : List ℕ) (p : Program) → IsProgramOf text p → (r : Outcome) → r ≡ meaning p turns → EndsAs ends.Ended r
-    → (old new : Option (List ℕ)) → new ≡ append_known old (lines p.names (outputs r)) → Concludes (OverText (MeansProgram turns) text) 0 old new
-meaning_ended turns text p is (Ended s) e ended old new written =
-    record { answer = meant p (Ended s); is = inl (p, (is, ap (meant p) e)); written = written; status_is = refl }
-meaning_ended turns text p is (Cut s) e ended old new written = absurd ended
+    → (old new : Option (List ℕ)) (before now : Option ℕ) → PutsLines (output_lines p.names (outputs r)) old new before now → Concludes (OverText (MeansProgram turns) text) 0 old new before now
+meaning_ended turns text p is (Ended s) e ended old new before now put =
+    record { answer = meant p (Ended s); is = inl (p, (is, ap (meant p) e)); put = put; status_is = refl }
+meaning_ended turns text p is (Cut s) e ended old new before now put = absurd ended
 
--- the lines of a meaning that was cut were written
+-- the lines of a meaning that was cut were put
 pub meaning_cut : (turns : ℕ) (text : List ℕ) (p : Program) → IsProgramOf text p → (r : Outcome) → r ≡ meaning p turns → EndsAs ends.Cut r
-    → (old new : Option (List ℕ)) → new ≡ append_known old (lines p.names (outputs r)) → Concludes (OverText (MeansProgram turns) text) 9 old new
-meaning_cut turns text p is (Ended s) e ended old new written = absurd ended
-meaning_cut turns text p is (Cut s) e ended old new written =
-    record { answer = meant p (Cut s); is = inl (p, (is, ap (meant p) e)); written = written; status_is = refl }
+    → (old new : Option (List ℕ)) (before now : Option ℕ) → PutsLines (output_lines p.names (outputs r)) old new before now → Concludes (OverText (MeansProgram turns) text) 9 old new before now
+meaning_cut turns text p is (Ended s) e ended old new before now put = absurd ended
+meaning_cut turns text p is (Cut s) e ended old new before now put =
+    record { answer = meant p (Cut s); is = inl (p, (is, ap (meant p) e)); put = put; status_is = refl }
 
--- a front of a meaning's lines was written
+-- a put of a meaning's lines failed
 pub meaning_broken : (turns : ℕ) (text : List ℕ) (p : Program) → IsProgramOf text p → (r : Outcome) → r ≡ meaning p turns
-    → (old new : Option (List ℕ)) → AddsPrefix old new (lines p.names (outputs r)) → BreaksOff (OverText (MeansProgram turns) text) old new
-meaning_broken turns text p is (Ended s) e old new written = record { answer = meant p (Ended s); is = inl (p, (is, ap (meant p) e)); written = written }
-meaning_broken turns text p is (Cut s) e old new written = record { answer = meant p (Cut s); is = inl (p, (is, ap (meant p) e)); written = written }
+    → (old new : Option (List ℕ)) (before now : Option ℕ) → LinesBreakOff (output_lines p.names (outputs r)) old new before now → BreaksOff (OverText (MeansProgram turns) text) old new before now
+meaning_broken turns text p is (Ended s) e old new before now broken = record { answer = meant p (Ended s); is = inl (p, (is, ap (meant p) e)); broken = broken }
+meaning_broken turns text p is (Cut s) e old new before now broken = record { answer = meant p (Cut s); is = inl (p, (is, ap (meant p) e)); broken = broken }
 
 -- a source beyond the limit is longer; where the shelf does not tell it, its text may be any such
 pub too_long_source : {V : Type 0} (bytes_of : V → List ℕ) (files : Option Files) (name : Word) → IfSome files (λ fs. IsLonger fs name 1048576) → LoadsSource bytes_of files name (Err source_faults.TooLong)

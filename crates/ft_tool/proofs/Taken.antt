@@ -1,8 +1,8 @@
 -- What was taken of a script, and what a session over it concludes.
 use Rattle.std.proofs.Common.{◌≡◌, ℕ, ◌<◌, ◌≤◌, List, ◌++◌, length, Option, Some, None, Ok, Err, refl, ap, subst, arith, length-append}
-use Rattle.std.specs.List.{concat}
-use Rattle.std.specs.Io.KnownBytes.{Consumes, append_known}
-use Rattle.ft_edge.specs.Causes.{Rose, AddsPrefix}
+use Rattle.std.specs.Io.KnownBytes.{Consumes}
+use Rattle.ft_edge.specs.Causes.{Rose}
+use Rattle.ft_edge.specs.Puts.{PutsLines, BreaksOff as LinesBreakOff}
 use Rattle.ft_isa.specs.declared.plan.Wild.{Wild}
 use Rattle.ft_types.specs.declared.object.Object.{Object}
 use Rattle.ft_debug.specs.Ends.{Finishes, Stops}
@@ -22,21 +22,21 @@ longer_script (Some text) (Some rest) taken h long = let e : length text ≡ len
 
 -- a session whose lines were put
 pub session_concludes : (d : Debugging) (o : Object) (w : List Wild) (text : List ℕ) (old new : Option (List ℕ)) (before now : Option ℕ) → length text ≤ 1048576 → w ≡ d.wild
-    → Finishes o w text old new before now → Concludes (DebugsText d o text) 0 old new
+    → Finishes o w text old new before now → Concludes (DebugsText d o text) 0 old new before now
 session_concludes d o w text old new before now short is h = record {
-  answer = record { text = concat (session_lines o d.wild h.commands); status = 0 };
+  answer = record { pieces = session_lines o d.wild h.commands; status = 0 };
   is = debugged short h.commands h.given refl;
-  written = subst (λ ws. new ≡ append_known old (concat (session_lines o ws h.commands))) is h.lines.written;
+  put = subst (λ ws. PutsLines (session_lines o ws h.commands) old new before now) is h.lines;
   status_is = refl;
 }
 
--- a session of whose lines a front was put
+-- a session of whose lines a put failed
 pub session_breaks_off : (d : Debugging) (o : Object) (w : List Wild) (text : List ℕ) (old new : Option (List ℕ)) (before now : Option ℕ) → length text ≤ 1048576 → w ≡ d.wild
-    → Stops o w text old new before now → BreaksOff (DebugsText d o text) old new
+    → Stops o w text old new before now → BreaksOff (DebugsText d o text) old new before now
 session_breaks_off d o w text old new before now short is h = record {
-  answer = record { text = concat (session_lines o d.wild h.commands); status = 0 };
+  answer = record { pieces = session_lines o d.wild h.commands; status = 0 };
   is = debugged short h.commands h.given refl;
-  written = subst (λ ws. AddsPrefix old new (concat (session_lines o ws h.commands))) is h.lines.text;
+  broken = subst (λ ws. LinesBreakOff (session_lines o ws h.commands) old new before now) is h.lines;
 }
 
 -- the answer over the text of a script is one over the script

@@ -1,7 +1,6 @@
 -- What the parts of a campaign conclude.
 use Rattle.std.proofs.Common.{◌≡◌, ℕ, suc, ◌*◌, ◌<◌, ◌≤◌, List, length, Option, Some, None, Ok, Err, inl, refl, sym, ap, ◌∙◌, subst, arith, if◌then◌else◌, eq-eqb, ne_eqb}
 use Rattle.std.specs.Prelude.{IfSome, count_by}
-use Rattle.std.specs.List.{concat}
 use Rattle.std.proofs.Math.Nat.{lt_of_not-le}
 use Rattle.ft_edge.specs.Causes.{Rose}
 use Rattle.ft_edge.specs.Loads.{Files, IsLonger}
@@ -30,21 +29,21 @@ at_most n m h = omega (arith, lt_of_not-le {n = suc n} {m = m} h)
 -- a campaign that came to its end
 pub tried_concludes : (Promised : List Verdict → Type 0) (c : Campaign) (o : Object) (faults : List Strike) (totals : Totals) (status : ℕ) (old new : Option (List ℕ)) (before now : Option ℕ)
     → Finishes totals o faults c.wild c.steps old new before now → length faults * c.steps ≤ 1000000000 → ((vs : List Verdict) → AreVerdicts o faults c.wild c.steps vs → Promised vs)
-    → ((vs : List Verdict) → totals ≡ totals_of vs → status ≡ status_of vs) → Concludes (OverFaults Promised c o faults) status old new
+    → ((vs : List Verdict) → totals ≡ totals_of vs → status ≡ status_of vs) → Concludes (OverFaults Promised c o faults) status old new before now
 tried_concludes Promised c o faults totals status old new before now h few keeps is = record {
-  answer = record { text = concat (campaign_lines faults h.found); status = status_of h.found };
+  answer = record { pieces = campaign_lines faults h.found; status = status_of h.found };
   is = tried few h.found h.verdicts (keeps h.found h.verdicts) refl;
-  written = h.lines.written;
+  put = h.lines;
   status_is = is h.found h.totals_are;
 }
 
 -- a campaign of whose lines a front was written
 pub tried_breaks_off : (Promised : List Verdict → Type 0) (c : Campaign) (o : Object) (faults : List Strike) (old new : Option (List ℕ)) (before now : Option ℕ)
-    → Stops o faults c.wild c.steps old new before now → length faults * c.steps ≤ 1000000000 → ((vs : List Verdict) → AreVerdicts o faults c.wild c.steps vs → Promised vs) → BreaksOff (OverFaults Promised c o faults) old new
+    → Stops o faults c.wild c.steps old new before now → length faults * c.steps ≤ 1000000000 → ((vs : List Verdict) → AreVerdicts o faults c.wild c.steps vs → Promised vs) → BreaksOff (OverFaults Promised c o faults) old new before now
 tried_breaks_off Promised c o faults old new before now h few keeps = record {
-  answer = record { text = concat (campaign_lines faults h.found); status = status_of h.found };
+  answer = record { pieces = campaign_lines faults h.found; status = status_of h.found };
   is = tried few h.found h.verdicts (keeps h.found h.verdicts) refl;
-  written = h.lines.text;
+  broken = h.lines;
 }
 
 -- the status of a survey by its totals

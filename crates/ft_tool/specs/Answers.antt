@@ -1,8 +1,8 @@
 -- What each command writes, and the status that it ends with: a row for each command.
 use Rattle.std.specs.Prelude.{◌≡◌, ◌⊎◌, ℕ, List, [], ◌∷◌, Option, Some, None, Bool, ◌==◌, codes}
 use Rattle.std.specs.List.{list_any}
-use Rattle.std.specs.Io.KnownBytes.{append_known}
-use Rattle.ft_edge.specs.Causes.{Rose, AddsPrefix}
+use Rattle.ft_edge.specs.Causes.{Rose}
+use Rattle.ft_edge.specs.Puts.{PutsLines, BreaksOff as LinesBreakOff}
 use Rattle.ft_edge.specs.Loads.{Files}
 use Rattle.ft_isa.specs.declared.plan.Strike.{Strike}
 use Rattle.ft_isa.specs.declared.plan.Wild.{Wild}
@@ -15,9 +15,10 @@ use Rattle.ft_format.specs.Format.{Spells}
 use Rattle.ft_format.specs.Broken.{broken}
 use Rattle.ft_command.specs.Options.{Word}
 use Rattle.ft_command.specs.Commands.{Run, Campaign, Debugging, Request, Usage, Checks, Runs, Tries, Strikes, Surveys, Compiles, Executes, Means, Debugs, Demonstrates, Asks}
+use Rattle.ft_inject.specs.Soundness.{IsNeverDetected}
 use Rattle.ft_campaign.specs.declared.verdict.Verdict.{Verdict}
 use Rattle.ft_tool.specs.Texts.{object_line, accepted_line, check_line}
-use Rattle.ft_tool.specs.Replies.{Answer, ran, IsFile}
+use Rattle.ft_tool.specs.Replies.{Answer, one_piece, ran, IsFile}
 use Rattle.ft_scope.specs.Resolved.{Program}
 use Rattle.ft_tool.specs.Sources.{OverText, CompilesProgram, ExecutesProgram, MeansProgram}
 use Rattle.ft_tool.specs.Lists.{AnyVerdicts, NoneCorrupt, OverList}
@@ -26,11 +27,11 @@ use Rattle.ft_tool.specs.Demonstrations.{ShowsSample}
 
 -- words that are no command
 abbrev pub usage : Answer
-usage = record { text = codes "usage\n"; status = 2 }
+usage = one_piece (codes "usage\n") 2
 
 -- bytes that spell no object, by the first rule that they break
 abbrev pub refused : ObjectError → Answer
-refused e = record { text = object_line e; status = 7 }
+refused e = one_piece (object_line e) 7
 
 -- the run of an object for so many steps under a plan
 abbrev pub tried : Run → Object → Answer
@@ -38,16 +39,18 @@ tried r o = ran o (run o r.strike r.wild r.steps)
 
 -- the check of an object, by why it is refused, if it is
 abbrev pub judged : Option Refusal → Answer
-judged None = record { text = accepted_line; status = 0 }
-judged (Some r) = record { text = check_line r; status = 8 }
+judged None = one_piece accepted_line 0
+judged (Some r) = one_piece (check_line r) 8
 
 abbrev pub checked : Object → Answer
 checked o = judged (refusal o)
 
 -- the run under a plan stands what the plan does to it: after each number of steps it has the outputs and the status of
--- the run without the strike, or it is detected and its outputs begin those
-abbrev pub Withstands : Object → Option Strike → List Wild → Type 0
-Withstands o strike w = (n : ℕ) → Agrees (outputs_after o strike w n) (status_after o strike w n) (outputs_after o None w n) (status_after o None w n)
+-- the run without the strike, or it is detected and its outputs begin those; and the run without the strike is detected
+-- after no number of steps
+pub record Withstands (o : Object) (strike : Option Strike) (w : List Wild) : Type 0 where
+  pub agrees : (n : ℕ) → Agrees (outputs_after o strike w n) (status_after o strike w n) (outputs_after o None w n) (status_after o None w n)
+  pub undetected : IsNeverDetected o w
 
 -- the run of an object that is accepted, which withstands its plan, or why the object is refused
 abbrev pub RunsUnless : Option Refusal → Run → Object → Answer → Type 0
@@ -82,10 +85,14 @@ OverListFile Promised c files o a = (list : List ℕ) × (IsFile files c.faults 
 abbrev pub SurveysObject : Campaign → Option Files → Object → Answer → Type 0
 SurveysObject c files o a = OverListFile AnyVerdicts c files o a
 
--- the answer of a campaign over an object, which is refused before the list is loaded where it is not accepted, and of
--- which no verdict is corrupt where it is accepted
+-- the answer of a campaign over an object that is accepted: no verdict is corrupt, and the run without a fault is detected
+-- after no number of steps
+abbrev pub StrikesAccepted : Campaign → Option Files → Object → Answer → Type 0
+StrikesAccepted c files o a = OverListFile NoneCorrupt c files o a × IsNeverDetected o c.wild
+
+-- the answer of a campaign over an object, which is refused before the list is loaded where it is not accepted
 abbrev pub StrikesUnless : Option Refusal → Campaign → Option Files → Object → Answer → Type 0
-StrikesUnless None c files o a = OverListFile NoneCorrupt c files o a
+StrikesUnless None c files o a = StrikesAccepted c files o a
 StrikesUnless (Some r) c files o a = a ≡ judged (Some r)
 
 abbrev pub StrikesObject : Campaign → Option Files → Object → Answer → Type 0
@@ -115,18 +122,18 @@ pub record IsAnswer (words : List Word) (files : Option Files) (script : Option 
   pub asks : Asks words request
   pub answers : Answers request files script a
 
--- the whole text was written, and this is the status
-pub record Concludes (Is : Answer → Type 0) (status : ℕ) (old new : Option (List ℕ)) : Type 0 where
+-- all pieces of an answer were put, by one put each, and this is its status
+pub record Concludes (Is : Answer → Type 0) (status : ℕ) (old new : Option (List ℕ)) (before now : Option ℕ) : Type 0 where
   pub answer : Answer
   pub is : Is answer
-  pub written : new ≡ append_known old answer.text
+  pub put : PutsLines answer.pieces old new before now
   pub status_is : status ≡ answer.status
 
--- a prefix of the text was written
-pub record BreaksOff (Is : Answer → Type 0) (old new : Option (List ℕ)) : Type 0 where
+-- the put of a piece of an answer failed, and it was the last put
+pub record BreaksOff (Is : Answer → Type 0) (old new : Option (List ℕ)) (before now : Option ℕ) : Type 0 where
   pub answer : Answer
   pub is : Is answer
-  pub written : AddsPrefix old new answer.text
+  pub broken : LinesBreakOff answer.pieces old new before now
 
 -- the file of a name spells an object
 abbrev pub SpellsFile : Option Files → Word → Type 0

@@ -1,6 +1,5 @@
 -- What a demonstration answers.
 use Rattle.std.specs.Prelude.{◌≡◌, ℕ, List}
-use Rattle.std.specs.List.{concat}
 use Rattle.ft_campaign.specs.declared.verdict.Verdict.{Verdict}
 use Rattle.ft_sample.specs.Sample.{sample_object}
 use Rattle.ft_demo.specs.Demonstrations.{AreDemoVerdicts, demo_lines}
@@ -13,4 +12,4 @@ pub record ShowsSample (turns : ℕ) (a : Answer) : Type 0 where
   pub found : List Verdict
   pub verdicts : AreDemoVerdicts (sample_object turns) found
   pub none_corrupt : NoneCorrupt found
-  pub answer : a ≡ record { text = concat (demo_lines (sample_object turns) found); status = 0 }
+  pub answer : a ≡ record { pieces = demo_lines (sample_object turns) found; status = 0 }

@@ -5,5 +5,6 @@ pub mod Sources
 pub mod Scripts
 pub mod Demonstrations
 pub mod Answers
+pub mod Calls
 pub mod Files
 pub mod Endings

@@ -1,6 +1,5 @@
 -- What a campaign answers over an object and a fault list.
 use Rattle.std.specs.Prelude.{◌≡◌, ℕ, ◌*◌, ◌<◌, ◌≤◌, ◌==◌, if◌then◌else◌, List, length, count_by}
-use Rattle.std.specs.List.{concat}
 use Rattle.ft_isa.specs.declared.plan.Strike.{Strike}
 use Rattle.ft_types.specs.declared.object.Object.{Object}
 use Rattle.ft_campaign.specs.declared.fault_list.ListError.{ListError}
@@ -11,7 +10,7 @@ use Rattle.ft_campaign.specs.Verdicts.{AreVerdicts}
 use Rattle.ft_campaign.specs.Texts.{is_corrupt, campaign_lines}
 use Rattle.ft_command.specs.Commands.{Campaign}
 use Rattle.ft_tool.specs.Texts.{list_line}
-use Rattle.ft_tool.specs.Replies.{Answer}
+use Rattle.ft_tool.specs.Replies.{Answer, one_piece}
 
 -- the status by the verdicts: 10 where some verdict is corrupt
 abbrev pub status_of : List Verdict → ℕ
@@ -26,8 +25,8 @@ NoneCorrupt vs = count_by is_corrupt vs ≡ 0
 
 -- the answer to a text that is no fault list
 abbrev pub IsListAnswer : ListError → Answer → Type 0
-IsListAnswer (lists.Line number) a = a ≡ record { text = list_line 1 number; status = 11 }
-IsListAnswer lists.TooMany a = a ≡ record { text = list_line 2 65536; status = 11 }
+IsListAnswer (lists.Line number) a = a ≡ one_piece (list_line 1 number) 11
+IsListAnswer lists.TooMany a = a ≡ one_piece (list_line 2 65536) 11
 IsListAnswer lists.NoMemory a = ⊥
 
 -- the text is no fault list
@@ -39,9 +38,9 @@ pub record IsRefusedList (list : List ℕ) (a : Answer) : Type 0 where
 -- the answer of a campaign over these faults: where their number times the number of steps is above 1,000,000,000, a
 -- refusal, and else the lines of the faults' verdicts, which are as promised
 pub data OverFaults (Promised : List Verdict → Type 0) (c : Campaign) (o : Object) (faults : List Strike) (a : Answer) : Type 0 where
-  too_much : 1000000000 < length faults * c.steps → a ≡ record { text = list_line 3 (length faults * c.steps); status = 11 } → OverFaults Promised c o faults a
+  too_much : 1000000000 < length faults * c.steps → a ≡ one_piece (list_line 3 (length faults * c.steps)) 11 → OverFaults Promised c o faults a
   tried : length faults * c.steps ≤ 1000000000 → (verdicts : List Verdict) → AreVerdicts o faults c.wild c.steps verdicts → Promised verdicts
-      → a ≡ record { text = concat (campaign_lines faults verdicts); status = status_of verdicts } → OverFaults Promised c o faults a
+      → a ≡ record { pieces = campaign_lines faults verdicts; status = status_of verdicts } → OverFaults Promised c o faults a
 
 -- the answer of a campaign over the text of a list
 pub data OverList (Promised : List Verdict → Type 0) (c : Campaign) (o : Object) (list : List ℕ) (a : Answer) : Type 0 where

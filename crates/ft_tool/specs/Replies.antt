@@ -1,18 +1,22 @@
 -- What a command replies, and the bytes of files.
-use Rattle.std.specs.Prelude.{◌≡◌, ℕ, List, Option, Some, None}
+use Rattle.std.specs.Prelude.{◌≡◌, ℕ, List, [], ◌∷◌, Option, Some, None}
 use Rattle.std.specs.FinMap.{get}
 use Rattle.ft_edge.specs.Loads.{Files}
 use Rattle.ft_types.specs.declared.object.Object.{Object}
 use Rattle.ft_types.specs.declared.status.Status.{Status}
 use Rattle.ft_types.specs.declared.status.Status.TheVariants as machine
 use Rattle.ft_types.specs.Run.{Ran}
-use Rattle.ft_types.specs.Texts.{lines}
+use Rattle.ft_machine.specs.Drives.{output_lines}
 use Rattle.ft_command.specs.Options.{Word}
 
--- a text and a status
+-- the pieces of a text, each of which is one put, and a status
 pub record Answer : Type 0 where
-  pub text : List ℕ
+  pub pieces : List (List ℕ)
   pub status : ℕ
+
+-- a text that is one piece, a line or an object
+abbrev pub one_piece : List ℕ → ℕ → Answer
+one_piece piece status = record { pieces = piece ∷ []; status = status }
 
 -- the status of a run by how the machine stands after its steps
 abbrev pub status_of_run : Status → ℕ
@@ -22,7 +26,7 @@ status_of_run machine.Running = 9
 
 -- a line for each output of a run
 abbrev pub ran : Object → Ran → Answer
-ran o r = record { text = lines o r.outputs; status = status_of_run r.state.status }
+ran o r = record { pieces = output_lines o r.outputs; status = status_of_run r.state.status }
 
 -- the bytes of the file of a name, where the shelf tells its files; else they may be any
 abbrev pub IsFile : Option Files → Word → List ℕ → Type 0

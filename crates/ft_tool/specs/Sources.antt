@@ -9,19 +9,19 @@ use Rattle.ft_syntax.specs.declared.source_error.SourceError.TheVariants.{NoMemo
 use Rattle.ft_scope.specs.Resolved.{Program}
 use Rattle.ft_scope.specs.Outcome.{IsProgramOf, IsRefusalOf}
 use Rattle.ft_meaning.specs.Meaning.{Outcome, Ended, Cut, meaning}
-use Rattle.ft_meaning.specs.Lines.{lines}
+use Rattle.ft_meaning.specs.Lines.{output_lines}
 use Rattle.ft_tool.specs.Texts.{source_line}
-use Rattle.ft_tool.specs.Replies.{Answer, ran}
+use Rattle.ft_tool.specs.Replies.{Answer, one_piece, ran}
 
 -- the answer of a source that is refused
 pub record IsSourceRefused (e : SourceError) (a : Answer) : Type 0 where
   pub named : e ≢ NoMemory
-  pub answer : a ≡ record { text = source_line e; status = 6 }
+  pub answer : a ≡ one_piece (source_line e) 6
 
 -- a line for each output of a meaning, which ended or was cut
 abbrev pub meant : Program → Outcome → Answer
-meant p (Ended s) = record { text = lines p.names s.out; status = 0 }
-meant p (Cut s) = record { text = lines p.names s.out; status = 9 }
+meant p (Ended s) = record { pieces = output_lines p.names s.out; status = 0 }
+meant p (Cut s) = record { pieces = output_lines p.names s.out; status = 9 }
 
 -- the answer over the text of a source: over the program that it is, or its refusal
 abbrev pub OverText : (Program → Answer → Type 0) → List ℕ → Answer → Type 0
@@ -29,12 +29,13 @@ OverText Over text a =
     ((p : Program) × (IsProgramOf text p × Over p a))
     ⊎ ((e : SourceError) × (IsRefusalOf text e × IsSourceRefused e a))
 
--- the answer of a compilation: the bytes of an object that stands for the program
+-- the answer of a compilation: the bytes of an object that stands for the program, in one piece
 pub record CompilesProgram (p : Program) (a : Answer) : Type 0 where
   pub object : Object
   pub stands : StandsFor p object
-  pub spelled : Spells a.text object
-  pub status : a.status ≡ 0
+  pub bytes : List ℕ
+  pub spelled : Spells bytes object
+  pub answer : a ≡ one_piece bytes 0
 
 -- the answer of an execution: the run of an object that stands for the program, for so many steps without a strike
 pub record ExecutesProgram (steps : ℕ) (p : Program) (a : Answer) : Type 0 where

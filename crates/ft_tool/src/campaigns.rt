@@ -1,13 +1,14 @@
 //! What commands do with an object and a fault list.
-ghost use Rattle.std.specs.Prelude.{◌≡◌, ◌≢◌, ◌≤◌, ◌<◌, ◌*◌, length, Some, None};
+ghost use Rattle.std.specs.Prelude.{◌≡◌, ◌≢◌, ◌≤◌, ◌<◌, ◌*◌, ◌⊎◌, [], ◌∷◌, length, Some, None};
 ghost use Rattle.ft_edge.specs.Causes.{Rose};
 ghost use Rattle.ft_command.specs.Asked.{campaign_view};
 ghost use Rattle.ft_types.specs.Accepted.{refusal};
 ghost use Rattle.ft_types.specs.Spellable.{IsSpellable};
 ghost use Rattle.ft_campaign.specs.Campaigns.{EndsAs as CampaignEnds, IsExcused, IsUncorrupted};
-ghost use Rattle.ft_tool.specs.Answers.{OverListFile, SurveysObject, StrikesObject};
+ghost use Rattle.ft_tool.specs.Answers.{SurveysObject, StrikesAccepted, StrikesObject};
+ghost use Rattle.ft_tool.specs.Calls.{HasMade};
 ghost use Rattle.ft_tool.specs.Lists.{AnyVerdicts, NoneCorrupt, OverFaults};
-ghost use Rattle.ft_tool.specs.Endings.{Ends, Puts};
+ghost use Rattle.ft_tool.specs.Endings.{Ends};
 
 use crate::checking::check;
 use crate::ending::{Ending, put_list_line, refuse_check, refuse_list};
@@ -97,8 +98,7 @@ fn survey_faults<P: Program, K: Sink>(
     requires faults { length faults.now ≤ 65536 }
     requires steps { asked.now.steps ≤ 1000000 }
     ensures ends { Ends result (OverFaults AnyVerdicts (campaign_view asked.now) (P.object program.now) faults.now)
-        (K.written out.old) (K.written out.new) (K.faults out.old) (K.faults out.new) ⊥ }
-    ensures puts { Puts result (K.puts out.old) (K.puts out.new) }
+        (K.written out.old) (K.written out.new) (K.puts out.old) (K.puts out.new) (K.faults out.old) (K.faults out.new) ⊥ }
     ensures faults { result ≢ Ending.WriteFault → K.faults out.new ≡ K.faults out.old }
 {
     match survey_counted::<P, K, Brand>(alloc, program, faults, asked, out, Blank::new(1)) {
@@ -128,8 +128,7 @@ fn campaign_faults<P: Program, K: Sink>(
     requires faults { length faults.now ≤ 65536 }
     requires steps { asked.now.steps ≤ 1000000 }
     ensures ends { Ends result (OverFaults NoneCorrupt (campaign_view asked.now) (P.object checked.now) faults.now)
-        (K.written out.old) (K.written out.new) (K.faults out.old) (K.faults out.new) ⊥ }
-    ensures puts { Puts result (K.puts out.old) (K.puts out.new) }
+        (K.written out.old) (K.written out.new) (K.puts out.old) (K.puts out.new) (K.faults out.old) (K.faults out.new) ⊥ }
     ensures faults { result ≢ Ending.WriteFault → K.faults out.new ≡ K.faults out.old }
 {
     match campaign_counted::<P, K, Brand>(alloc, checked, faults, asked, out, Blank::new(1)) {
@@ -151,11 +150,11 @@ pub(crate) fn survey_object<P: Program, F: Shelf, K: Sink>(
     requires spellable { IsSpellable (P.object program.now) }
     requires steps { asked.now.steps ≤ 1000000 }
     ensures ends { Ends result (SurveysObject (campaign_view asked.now) (F.files shelf.old) (P.object program.now))
-        (K.written out.old) (K.written out.new) (K.faults out.old) (K.faults out.new)
+        (K.written out.old) (K.written out.new) (K.puts out.old) (K.puts out.new) (K.faults out.old) (K.faults out.new)
         (Rose (F.faults shelf.old) (F.faults shelf.new) × (F.failed_name shelf.new ≡ Some asked.now.faults.now)) }
-    ensures puts { Puts result (K.puts out.old) (K.puts out.new) }
     ensures faults { result ≢ Ending.WriteFault → K.faults out.new ≡ K.faults out.old }
     ensures load_faults { result ≢ Ending.LoadFault → (F.faults shelf.new ≡ F.faults shelf.old) × (F.failed_name shelf.new ≡ F.failed_name shelf.old) }
+    ensures made { HasMade (4194304 ∷ []) (F.loads shelf.old) (F.loads shelf.new) (F.asked shelf.old) (F.asked shelf.new) }
 {
     match load_list(alloc, asked.faults, shelf) {
         Ok(faults) => survey_faults(alloc, program, faults.as_slice(), asked, out),
@@ -174,12 +173,12 @@ fn strike_checked<P: Program, F: Shelf, K: Sink>(
     requires spellable { IsSpellable (P.object checked.now) }
     requires accepted { refusal (P.object checked.now) ≡ None }
     requires steps { asked.now.steps ≤ 1000000 }
-    ensures ends { Ends result (OverListFile NoneCorrupt (campaign_view asked.now) (F.files shelf.old) (P.object checked.now))
-        (K.written out.old) (K.written out.new) (K.faults out.old) (K.faults out.new)
+    ensures ends { Ends result (StrikesAccepted (campaign_view asked.now) (F.files shelf.old) (P.object checked.now))
+        (K.written out.old) (K.written out.new) (K.puts out.old) (K.puts out.new) (K.faults out.old) (K.faults out.new)
         (Rose (F.faults shelf.old) (F.faults shelf.new) × (F.failed_name shelf.new ≡ Some asked.now.faults.now)) }
-    ensures puts { Puts result (K.puts out.old) (K.puts out.new) }
     ensures faults { result ≢ Ending.WriteFault → K.faults out.new ≡ K.faults out.old }
     ensures load_faults { result ≢ Ending.LoadFault → (F.faults shelf.new ≡ F.faults shelf.old) × (F.failed_name shelf.new ≡ F.failed_name shelf.old) }
+    ensures made { HasMade (4194304 ∷ []) (F.loads shelf.old) (F.loads shelf.new) (F.asked shelf.old) (F.asked shelf.new) }
 {
     match load_list(alloc, asked.faults, shelf) {
         Ok(faults) => campaign_faults(alloc, checked, faults.as_slice(), asked, out),
@@ -198,11 +197,12 @@ pub(crate) fn strike_object<P: Program, F: Shelf, K: Sink>(
     requires spellable { IsSpellable (P.object program.now) }
     requires steps { asked.now.steps ≤ 1000000 }
     ensures ends { Ends result (StrikesObject (campaign_view asked.now) (F.files shelf.old) (P.object program.now))
-        (K.written out.old) (K.written out.new) (K.faults out.old) (K.faults out.new)
+        (K.written out.old) (K.written out.new) (K.puts out.old) (K.puts out.new) (K.faults out.old) (K.faults out.new)
         (Rose (F.faults shelf.old) (F.faults shelf.new) × (F.failed_name shelf.new ≡ Some asked.now.faults.now) × (refusal (P.object program.now) ≡ None)) }
-    ensures puts { Puts result (K.puts out.old) (K.puts out.new) }
     ensures faults { result ≢ Ending.WriteFault → K.faults out.new ≡ K.faults out.old }
     ensures load_faults { result ≢ Ending.LoadFault → (F.faults shelf.new ≡ F.faults shelf.old) × (F.failed_name shelf.new ≡ F.failed_name shelf.old) }
+    ensures made { HasMade [] (F.loads shelf.old) (F.loads shelf.new) (F.asked shelf.old) (F.asked shelf.new)
+        ⊎ HasMade (4194304 ∷ []) (F.loads shelf.old) (F.loads shelf.new) (F.asked shelf.old) (F.asked shelf.new) }
 {
     match check(alloc, program) {
         Ok(checked) => strike_checked(alloc, &checked, asked, shelf, out),

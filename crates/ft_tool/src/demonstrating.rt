@@ -1,7 +1,7 @@
 //! What `demo` does.
 ghost use Rattle.std.specs.Prelude.{◌≡◌, ◌≢◌, ◌≤◌};
 ghost use Rattle.ft_tool.specs.Demonstrations.{ShowsSample};
-ghost use Rattle.ft_tool.specs.Endings.{Ends, Puts};
+ghost use Rattle.ft_tool.specs.Endings.{Ends};
 
 use crate::ending::Ending;
 use ft_demo::{DemoEnd, demo};
@@ -13,8 +13,7 @@ pub(crate) fn demonstrate<K: Sink>(alloc: Global, turns: u32, out: &mut K) -> En
     requires some { 1 ≤ turns }
     requires few { turns ≤ 10921 }
     ensures ends { Ends result (ShowsSample turns)
-        (K.written out.old) (K.written out.new) (K.faults out.old) (K.faults out.new) ⊥ }
-    ensures puts { Puts result (K.puts out.old) (K.puts out.new) }
+        (K.written out.old) (K.written out.new) (K.puts out.old) (K.puts out.new) (K.faults out.old) (K.faults out.new) ⊥ }
     ensures faults { result ≢ Ending.WriteFault → K.faults out.new ≡ K.faults out.old }
 {
     match demo(alloc, turns, out) {

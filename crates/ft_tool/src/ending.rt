@@ -1,18 +1,20 @@
 //! How commands end.
-ghost use Rattle.std.specs.Prelude.{◌≡◌, ◌≢◌};
-ghost use Rattle.ft_edge.specs.Puts.{one_more};
+ghost use Rattle.std.specs.Prelude.{◌≡◌, ◌≢◌, [], ◌∷◌, OnOk, OnErr};
+ghost use Rattle.ft_edge.specs.Causes.{Rose};
+ghost use Rattle.ft_edge.specs.Puts.{PutsLines, BreaksOff};
 ghost use Rattle.ft_tool.specs.Answers.{usage};
+ghost use Rattle.ft_tool.specs.Replies.{one_piece};
 ghost use Rattle.ft_tool.specs.Files.{IsRefusedBy, IsNotAccepted, IsListRefusedBy, IsTooLongBy};
 ghost use Rattle.ft_tool.specs.Texts.{list_line};
 ghost use Rattle.ft_tool.specs.Sources.{IsSourceRefused};
 ghost use Rattle.ft_tool.specs.Scripts.{IsScriptRefusedBy};
-ghost use Rattle.ft_tool.specs.Endings.{Ends, Puts};
+ghost use Rattle.ft_tool.specs.Endings.{Ends};
 
 use crate::load::{ListFault, ObjectFault, SourceFault};
 use crate::refused::{cell_line, entry_line, list_line, object_line, place_line, source_line};
 use crate::script::ScriptFault;
 use ft_checker::CheckError;
-use ft_edge::Sink;
+use ft_edge::{Failed, Sink};
 use ft_syntax::SourceError;
 
 /// How a command ended.
@@ -44,14 +46,26 @@ pub(crate) enum Ending {
     FaultList,
 }
 
+/// Puts a piece of the answer's text, in one put.
+#[tactic(auto, using(ft_edge::proofs::PutLines::breaks_one))]
+pub(crate) fn put_piece<K: Sink>(piece: &[u8], out: &mut K) -> Result<(), Failed>
+    ensures ok { OnOk result (PutsLines (piece.now ∷ []) (K.written out.old) (K.written out.new) (K.puts out.old) (K.puts out.new)) }
+    ensures err { OnErr result (BreaksOff (piece.now ∷ []) (K.written out.old) (K.written out.new) (K.puts out.old) (K.puts out.new)) }
+    ensures same_count { OnOk result (K.faults out.new ≡ K.faults out.old) }
+    ensures cause { OnErr result (Rose (K.faults out.old) (K.faults out.new)) }
+{
+    match out.put(piece) {
+        Ok(()) => Ok(()),
+        Err(failed) => Err(failed),
+    }
+}
+
 /// Puts the line of words that are no command.
 pub(crate) fn put_usage<K: Sink>(out: &mut K) -> Ending
-    ensures ends { Ends result (λ a. a ≡ usage) (K.written out.old) (K.written out.new) (K.faults out.old) (K.faults out.new) ⊥ }
-    ensures puts { Puts result (K.puts out.old) (K.puts out.new) }
-    ensures one_put { K.puts out.new ≡ one_more (K.puts out.old) }
+    ensures ends { Ends result (λ a. a ≡ usage) (K.written out.old) (K.written out.new) (K.puts out.old) (K.puts out.new) (K.faults out.old) (K.faults out.new) ⊥ }
     ensures faults { result ≢ Ending.WriteFault → K.faults out.new ≡ K.faults out.old }
 {
-    match out.put(b"usage\n") {
+    match put_piece(b"usage\n", out) {
         Ok(()) => Ending::Usage,
         Err(_) => Ending::WriteFault,
     }
@@ -59,13 +73,12 @@ pub(crate) fn put_usage<K: Sink>(out: &mut K) -> Ending
 
 /// Ends a command that has no object, with the line of the refusal where its bytes are refused.
 pub(crate) fn refuse_object<K: Sink>(fault: ObjectFault, out: &mut K) -> Ending
-    ensures ends { Ends result (IsRefusedBy fault) (K.written out.old) (K.written out.new) (K.faults out.old) (K.faults out.new) (fault ≡ ObjectFault.Failed) }
-    ensures puts { Puts result (K.puts out.old) (K.puts out.new) }
+    ensures ends { Ends result (IsRefusedBy fault) (K.written out.old) (K.written out.new) (K.puts out.old) (K.puts out.new) (K.faults out.old) (K.faults out.new) (fault ≡ ObjectFault.Failed) }
     ensures faults { result ≢ Ending.WriteFault → K.faults out.new ≡ K.faults out.old }
     ensures failed { result ≢ Ending.LoadFault → fault ≢ ObjectFault.Failed }
 {
     match fault {
-        ObjectFault::Refused(error) => match out.put(object_line(error).as_bytes()) {
+        ObjectFault::Refused(error) => match put_piece(object_line(error).as_bytes(), out) {
             Ok(()) => Ending::Object,
             Err(_) => Ending::WriteFault,
         },
@@ -76,8 +89,7 @@ pub(crate) fn refuse_object<K: Sink>(fault: ObjectFault, out: &mut K) -> Ending
 
 /// Ends a command whose object is not accepted, with the line of the refusal.
 pub(crate) fn refuse_check<K: Sink>(error: CheckError, out: &mut K) -> Ending
-    ensures ends { Ends result (IsNotAccepted error) (K.written out.old) (K.written out.new) (K.faults out.old) (K.faults out.new) ⊥ }
-    ensures puts { Puts result (K.puts out.old) (K.puts out.new) }
+    ensures ends { Ends result (IsNotAccepted error) (K.written out.old) (K.written out.new) (K.puts out.old) (K.puts out.new) (K.faults out.old) (K.faults out.new) ⊥ }
     ensures faults { result ≢ Ending.WriteFault → K.faults out.new ≡ K.faults out.old }
 {
     let line = match error {
@@ -86,7 +98,7 @@ pub(crate) fn refuse_check<K: Sink>(error: CheckError, out: &mut K) -> Ending
         CheckError::Refused { block, index, why } => place_line(block, index, why),
         CheckError::NoMemory => return Ending::NoMemory,
     };
-    match out.put(line.as_bytes()) {
+    match put_piece(line.as_bytes(), out) {
         Ok(()) => Ending::NotAccepted,
         Err(_) => Ending::WriteFault,
     }
@@ -94,11 +106,10 @@ pub(crate) fn refuse_check<K: Sink>(error: CheckError, out: &mut K) -> Ending
 
 /// Puts the line of a list or of a campaign that is refused.
 pub(crate) fn put_list_line<K: Sink>(number: u64, told: u64, out: &mut K) -> Ending
-    ensures ends { Ends result (λ a. a ≡ record { text = list_line number told; status = 11 }) (K.written out.old) (K.written out.new) (K.faults out.old) (K.faults out.new) ⊥ }
-    ensures puts { Puts result (K.puts out.old) (K.puts out.new) }
+    ensures ends { Ends result (λ a. a ≡ one_piece (list_line number told) 11) (K.written out.old) (K.written out.new) (K.puts out.old) (K.puts out.new) (K.faults out.old) (K.faults out.new) ⊥ }
     ensures faults { result ≢ Ending.WriteFault → K.faults out.new ≡ K.faults out.old }
 {
-    match out.put(list_line(number, told).as_bytes()) {
+    match put_piece(list_line(number, told).as_bytes(), out) {
         Ok(()) => Ending::FaultList,
         Err(_) => Ending::WriteFault,
     }
@@ -106,8 +117,7 @@ pub(crate) fn put_list_line<K: Sink>(number: u64, told: u64, out: &mut K) -> End
 
 /// Ends a command that has no fault list, with the line of the refusal where its text is refused.
 pub(crate) fn refuse_list<K: Sink>(fault: ListFault, out: &mut K) -> Ending
-    ensures ends { Ends result (IsListRefusedBy fault) (K.written out.old) (K.written out.new) (K.faults out.old) (K.faults out.new) (fault ≡ ListFault.Failed) }
-    ensures puts { Puts result (K.puts out.old) (K.puts out.new) }
+    ensures ends { Ends result (IsListRefusedBy fault) (K.written out.old) (K.written out.new) (K.puts out.old) (K.puts out.new) (K.faults out.old) (K.faults out.new) (fault ≡ ListFault.Failed) }
     ensures faults { result ≢ Ending.WriteFault → K.faults out.new ≡ K.faults out.old }
     ensures failed { result ≢ Ending.LoadFault → fault ≢ ListFault.Failed }
 {
@@ -121,8 +131,7 @@ pub(crate) fn refuse_list<K: Sink>(fault: ListFault, out: &mut K) -> Ending
 
 /// Ends a command that has no script, with the line of the refusal where it is too long.
 pub(crate) fn refuse_script<K: Sink>(fault: ScriptFault, out: &mut K) -> Ending
-    ensures ends { Ends result (IsScriptRefusedBy fault) (K.written out.old) (K.written out.new) (K.faults out.old) (K.faults out.new) (fault ≡ ScriptFault.Failed) }
-    ensures puts { Puts result (K.puts out.old) (K.puts out.new) }
+    ensures ends { Ends result (IsScriptRefusedBy fault) (K.written out.old) (K.written out.new) (K.puts out.old) (K.puts out.new) (K.faults out.old) (K.faults out.new) (fault ≡ ScriptFault.Failed) }
     ensures faults { result ≢ Ending.WriteFault → K.faults out.new ≡ K.faults out.old }
     ensures failed { result ≢ Ending.LoadFault → fault ≢ ScriptFault.Failed }
 {
@@ -135,14 +144,13 @@ pub(crate) fn refuse_script<K: Sink>(fault: ScriptFault, out: &mut K) -> Ending
 
 /// Ends a command whose source is refused, with the line of the refusal.
 pub(crate) fn refuse_source<K: Sink>(error: SourceError, out: &mut K) -> Ending
-    ensures ends { Ends result (IsSourceRefused error) (K.written out.old) (K.written out.new) (K.faults out.old) (K.faults out.new) ⊥ }
-    ensures puts { Puts result (K.puts out.old) (K.puts out.new) }
+    ensures ends { Ends result (IsSourceRefused error) (K.written out.old) (K.written out.new) (K.puts out.old) (K.puts out.new) (K.faults out.old) (K.faults out.new) ⊥ }
     ensures faults { result ≢ Ending.WriteFault → K.faults out.new ≡ K.faults out.old }
 {
     if let SourceError::NoMemory = error {
         return Ending::NoMemory;
     }
-    match out.put(source_line(error).as_bytes()) {
+    match put_piece(source_line(error).as_bytes(), out) {
         Ok(()) => Ending::Source,
         Err(_) => Ending::WriteFault,
     }
@@ -150,8 +158,7 @@ pub(crate) fn refuse_source<K: Sink>(error: SourceError, out: &mut K) -> Ending
 
 /// Ends a command that has no source, with the line of the refusal where it is too long.
 pub(crate) fn refuse_long_source<K: Sink>(fault: SourceFault, out: &mut K) -> Ending
-    ensures ends { Ends result (IsTooLongBy fault) (K.written out.old) (K.written out.new) (K.faults out.old) (K.faults out.new) (fault ≡ SourceFault.Failed) }
-    ensures puts { Puts result (K.puts out.old) (K.puts out.new) }
+    ensures ends { Ends result (IsTooLongBy fault) (K.written out.old) (K.written out.new) (K.puts out.old) (K.puts out.new) (K.faults out.old) (K.faults out.new) (fault ≡ SourceFault.Failed) }
     ensures faults { result ≢ Ending.WriteFault → K.faults out.new ≡ K.faults out.old }
     ensures failed { result ≢ Ending.LoadFault → fault ≢ SourceFault.Failed }
 {

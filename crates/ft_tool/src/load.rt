@@ -1,5 +1,6 @@
 //! What a command's files hold.
-ghost use Rattle.std.specs.Prelude.{◌≡◌, []};
+ghost use Rattle.std.specs.Prelude.{◌≡◌, [], ◌∷◌};
+ghost use Rattle.ft_tool.specs.Calls.{HasMade};
 ghost use Rattle.ft_tool.specs.Files.{LoadsObject, LoadCause, LoadsList, ListCause, LoadsSource, SourceCause};
 
 use ft_campaign::{ListError, read_faults};
@@ -43,6 +44,7 @@ pub(crate) fn load_object<'a, F: Shelf>(
     ensures loads { LoadsObject (F.files shelf.old) name.now result }
     ensures files { F.files shelf.new ≡ F.files shelf.old }
     ensures cause { LoadCause (F.faults shelf.old) (F.faults shelf.new) (F.failed_name shelf.old) (F.failed_name shelf.new) name.now result }
+    ensures made { HasMade (67108864 ∷ []) (F.loads shelf.old) (F.loads shelf.new) (F.asked shelf.old) (F.asked shelf.new) }
 {
     match shelf.load(name, OBJECT_LIMIT, bytes) {
         Ok(Load::Whole) => match View::over(bytes.as_slice()) {
@@ -81,6 +83,7 @@ pub(crate) fn load_list<F: Shelf>(
     ensures loads { LoadsList (λ v. v.items) (F.files shelf.old) name.now result }
     ensures cause { ListCause (F.faults shelf.old) (F.faults shelf.new) (F.failed_name shelf.old) (F.failed_name shelf.new) name.now result }
     ensures files { F.files shelf.new ≡ F.files shelf.old }
+    ensures made { HasMade (4194304 ∷ []) (F.loads shelf.old) (F.loads shelf.new) (F.asked shelf.old) (F.asked shelf.new) }
 {
     let mut bytes = Vec::new(alloc);
     match shelf.load(name, LIST_LIMIT, &mut bytes) {
@@ -118,6 +121,7 @@ pub(crate) fn load_source<F: Shelf>(
 ) -> Result<Vec<u8>, SourceFault>
     ensures loads { LoadsSource (λ v. v.items) (F.files shelf.old) name.now result }
     ensures cause { SourceCause (F.faults shelf.old) (F.faults shelf.new) (F.failed_name shelf.old) (F.failed_name shelf.new) name.now result }
+    ensures made { HasMade (1048576 ∷ []) (F.loads shelf.old) (F.loads shelf.new) (F.asked shelf.old) (F.asked shelf.new) }
 {
     let mut bytes = Vec::new(alloc);
     match shelf.load(name, SOURCE_LIMIT, &mut bytes) {

@@ -3,10 +3,10 @@ ghost use Rattle.std.specs.Prelude.{◌≡◌, ◌≢◌};
 ghost use Rattle.ft_command.specs.Asked.{run_view};
 ghost use Rattle.ft_types.specs.Spellable.{IsSpellable};
 ghost use Rattle.ft_tool.specs.Answers.{ChecksObject, RunsObject, TriesObject};
-ghost use Rattle.ft_tool.specs.Endings.{Ends, Puts};
+ghost use Rattle.ft_tool.specs.Endings.{Ends};
 
 use crate::checking::check;
-use crate::ending::{Ending, refuse_check};
+use crate::ending::{Ending, put_piece, refuse_check};
 use ft_command::Run;
 use ft_edge::Sink;
 use ft_inject::Clean;
@@ -19,12 +19,11 @@ use std::alloc::Global;
 pub(crate) fn check_object<P: Program, K: Sink>(alloc: Global, program: &P, out: &mut K) -> Ending
     requires { IsSpellable (P.object program.now) }
     ensures ends { Ends result (ChecksObject (P.object program.now))
-        (K.written out.old) (K.written out.new) (K.faults out.old) (K.faults out.new) ⊥ }
-    ensures puts { Puts result (K.puts out.old) (K.puts out.new) }
+        (K.written out.old) (K.written out.new) (K.puts out.old) (K.puts out.new) (K.faults out.old) (K.faults out.new) ⊥ }
     ensures faults { result ≢ Ending.WriteFault → K.faults out.new ≡ K.faults out.old }
 {
     match check(alloc, program) {
-        Ok(_) => match out.put(b"accepted\n") {
+        Ok(_) => match put_piece(b"accepted\n", out) {
             Ok(()) => Ending::Done,
             Err(_) => Ending::WriteFault,
         },
@@ -41,8 +40,7 @@ pub(crate) fn run_object<P: Program, K: Sink>(
 ) -> Ending
     requires { IsSpellable (P.object program.now) }
     ensures ends { Ends result (RunsObject (run_view run.now) (P.object program.now))
-        (K.written out.old) (K.written out.new) (K.faults out.old) (K.faults out.new) ⊥ }
-    ensures puts { Puts result (K.puts out.old) (K.puts out.new) }
+        (K.written out.old) (K.written out.new) (K.puts out.old) (K.puts out.new) (K.faults out.old) (K.faults out.new) ⊥ }
     ensures faults { result ≢ Ending.WriteFault → K.faults out.new ≡ K.faults out.old }
 {
     let checked = match check(alloc, program) {
@@ -73,8 +71,7 @@ pub(crate) fn try_object<P: Program, K: Sink>(
 ) -> Ending
     requires { IsSpellable (P.object program.now) }
     ensures ends { Ends result (TriesObject (run_view run.now) (P.object program.now))
-        (K.written out.old) (K.written out.new) (K.faults out.old) (K.faults out.new) ⊥ }
-    ensures puts { Puts result (K.puts out.old) (K.puts out.new) }
+        (K.written out.old) (K.written out.new) (K.puts out.old) (K.puts out.new) (K.faults out.old) (K.faults out.new) ⊥ }
     ensures faults { result ≢ Ending.WriteFault → K.faults out.new ≡ K.faults out.old }
 {
     let mut machine = match Machine::new(alloc, program) {

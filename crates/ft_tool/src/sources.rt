@@ -1,20 +1,19 @@
 //! What commands do with the text of a source.
-ghost use Rattle.std.specs.Prelude.{◌≡◌, ◌≢◌, [], None};
-ghost use Rattle.ft_edge.specs.Puts.{one_more};
+ghost use Rattle.std.specs.Prelude.{◌≡◌, ◌≢◌, [], ◌∷◌, None};
 ghost use Rattle.ft_types.specs.Run.{run};
-ghost use Rattle.ft_types.specs.Accepted.{refusal};
+ghost use Rattle.ft_types.specs.Accepted.{IsAccepted};
 ghost use Rattle.ft_types.specs.Spellable.{IsSpellable};
 ghost use Rattle.ft_command.specs.Commands.{Compiles, Executes, Means};
 ghost use Rattle.ft_command.specs.Asked.{execution_view, meaning_view};
 ghost use Rattle.ft_tool.specs.Answers.{OverSource, FailsIn};
-ghost use Rattle.ft_tool.specs.Endings.{Ends, Puts};
+ghost use Rattle.ft_tool.specs.Calls.{HasMade};
+ghost use Rattle.ft_tool.specs.Endings.{Ends};
 ghost use Rattle.ft_tool.specs.Replies.{ran};
 ghost use Rattle.ft_tool.specs.Sources.{OverText, CompilesProgram, ExecutesProgram, MeansProgram};
 
-use crate::checking::check;
-use crate::ending::{Ending, refuse_long_source, refuse_source};
+use crate::ending::{Ending, put_piece, refuse_long_source, refuse_source};
 use crate::load::load_source;
-use ft_checker::CheckError;
+use ft_checker::Checked;
 use ft_command::{Execution, Meaning};
 use ft_compile::compile;
 use ft_edge::{Shelf, Sink};
@@ -31,10 +30,8 @@ use std::alloc::Global;
 /// Compiles a source and puts its object.
 fn compile_text<K: Sink>(alloc: Global, text: &[u8], out: &mut K) -> Ending
     ensures ends { Ends result (OverText CompilesProgram text.now)
-        (K.written out.old) (K.written out.new) (K.faults out.old) (K.faults out.new) ⊥ }
-    ensures puts { Puts result (K.puts out.old) (K.puts out.new) }
+        (K.written out.old) (K.written out.new) (K.puts out.old) (K.puts out.new) (K.faults out.old) (K.faults out.new) ⊥ }
     ensures faults { result ≢ Ending.WriteFault → K.faults out.new ≡ K.faults out.old }
-    ensures one_put { result ≡ Ending.Done → K.puts out.new ≡ one_more (K.puts out.old) }
 {
     let object = match compile(alloc, text) {
         Ok(object) => object,
@@ -43,7 +40,7 @@ fn compile_text<K: Sink>(alloc: Global, text: &[u8], out: &mut K) -> Ending
     let Ok(bytes) = encode(alloc, &object) else {
         return Ending::NoMemory;
     };
-    match out.put(bytes.as_slice()) {
+    match put_piece(bytes.as_slice(), out) {
         Ok(()) => Ending::Done,
         Err(_) => Ending::WriteFault,
     }
@@ -52,17 +49,12 @@ fn compile_text<K: Sink>(alloc: Global, text: &[u8], out: &mut K) -> Ending
 /// Runs an object that is accepted, without a strike and without answers to wild loads.
 fn run_accepted<K: Sink>(alloc: Global, object: &Object, steps: u64, out: &mut K) -> Ending
     requires spellable { IsSpellable object.now }
-    requires accepted { refusal object.now ≡ None }
+    requires accepted { IsAccepted object.now }
     ensures ends { Ends result (λ a. a ≡ ran object.now (run object.now None [] steps))
-        (K.written out.old) (K.written out.new) (K.faults out.old) (K.faults out.new) ⊥ }
-    ensures puts { Puts result (K.puts out.old) (K.puts out.new) }
+        (K.written out.old) (K.written out.new) (K.puts out.old) (K.puts out.new) (K.faults out.old) (K.faults out.new) ⊥ }
     ensures faults { result ≢ Ending.WriteFault → K.faults out.new ≡ K.faults out.old }
 {
-    let checked = match check(alloc, object) {
-        Ok(checked) => checked,
-        Err(CheckError::NoMemory) => return Ending::NoMemory,
-        Err(_) => unreachable!(),
-    };
+    let checked = Checked::of_accepted(object);
     let Ok(clean) = Clean::start(alloc, &checked) else {
         return Ending::NoMemory;
     };
@@ -81,8 +73,7 @@ fn run_accepted<K: Sink>(alloc: Global, object: &Object, steps: u64, out: &mut K
 /// Compiles a source and runs its object.
 fn execute_text<K: Sink>(alloc: Global, text: &[u8], steps: u64, out: &mut K) -> Ending
     ensures ends { Ends result (OverText (ExecutesProgram steps) text.now)
-        (K.written out.old) (K.written out.new) (K.faults out.old) (K.faults out.new) ⊥ }
-    ensures puts { Puts result (K.puts out.old) (K.puts out.new) }
+        (K.written out.old) (K.written out.new) (K.puts out.old) (K.puts out.new) (K.faults out.old) (K.faults out.new) ⊥ }
     ensures faults { result ≢ Ending.WriteFault → K.faults out.new ≡ K.faults out.old }
 {
     match compile(alloc, text) {
@@ -94,8 +85,7 @@ fn execute_text<K: Sink>(alloc: Global, text: &[u8], steps: u64, out: &mut K) ->
 /// Gives the meaning of a source.
 fn mean_text<K: Sink>(alloc: Global, text: &[u8], turns: u64, out: &mut K) -> Ending
     ensures ends { Ends result (OverText (MeansProgram turns) text.now)
-        (K.written out.old) (K.written out.new) (K.faults out.old) (K.faults out.new) ⊥ }
-    ensures puts { Puts result (K.puts out.old) (K.puts out.new) }
+        (K.written out.old) (K.written out.new) (K.puts out.old) (K.puts out.new) (K.faults out.old) (K.faults out.new) ⊥ }
     ensures faults { result ≢ Ending.WriteFault → K.faults out.new ≡ K.faults out.old }
 {
     let tree = match parse(alloc, text) {
@@ -122,12 +112,11 @@ pub(crate) fn compile_file<F: Shelf, K: Sink>(
     out: &mut K,
 ) -> Ending
     ensures ends { Ends result (OverSource CompilesProgram name.now (F.files shelf.old))
-        (K.written out.old) (K.written out.new) (K.faults out.old) (K.faults out.new)
+        (K.written out.old) (K.written out.new) (K.puts out.old) (K.puts out.new) (K.faults out.old) (K.faults out.new)
         (FailsIn (Compiles name.now) (F.files shelf.old) (F.faults shelf.old) (F.faults shelf.new) (F.failed_name shelf.new)) }
-    ensures puts { Puts result (K.puts out.old) (K.puts out.new) }
     ensures faults { result ≢ Ending.WriteFault → K.faults out.new ≡ K.faults out.old }
     ensures load_faults { result ≢ Ending.LoadFault → (F.faults shelf.new ≡ F.faults shelf.old) × (F.failed_name shelf.new ≡ F.failed_name shelf.old) }
-    ensures one_put { result ≡ Ending.Done → K.puts out.new ≡ one_more (K.puts out.old) }
+    ensures made { HasMade (1048576 ∷ []) (F.loads shelf.old) (F.loads shelf.new) (F.asked shelf.old) (F.asked shelf.new) }
 {
     match load_source(alloc, name, shelf) {
         Ok(text) => compile_text(alloc, text.as_slice(), out),
@@ -143,11 +132,11 @@ pub(crate) fn execute_file<F: Shelf, K: Sink>(
     out: &mut K,
 ) -> Ending
     ensures ends { Ends result (OverSource (ExecutesProgram asked.now.steps) asked.now.source.now (F.files shelf.old))
-        (K.written out.old) (K.written out.new) (K.faults out.old) (K.faults out.new)
+        (K.written out.old) (K.written out.new) (K.puts out.old) (K.puts out.new) (K.faults out.old) (K.faults out.new)
         (FailsIn (Executes (execution_view asked.now)) (F.files shelf.old) (F.faults shelf.old) (F.faults shelf.new) (F.failed_name shelf.new)) }
-    ensures puts { Puts result (K.puts out.old) (K.puts out.new) }
     ensures faults { result ≢ Ending.WriteFault → K.faults out.new ≡ K.faults out.old }
     ensures load_faults { result ≢ Ending.LoadFault → (F.faults shelf.new ≡ F.faults shelf.old) × (F.failed_name shelf.new ≡ F.failed_name shelf.old) }
+    ensures made { HasMade (1048576 ∷ []) (F.loads shelf.old) (F.loads shelf.new) (F.asked shelf.old) (F.asked shelf.new) }
 {
     match load_source(alloc, asked.source, shelf) {
         Ok(text) => execute_text(alloc, text.as_slice(), asked.steps, out),
@@ -163,11 +152,11 @@ pub(crate) fn mean_file<F: Shelf, K: Sink>(
     out: &mut K,
 ) -> Ending
     ensures ends { Ends result (OverSource (MeansProgram asked.now.turns) asked.now.source.now (F.files shelf.old))
-        (K.written out.old) (K.written out.new) (K.faults out.old) (K.faults out.new)
+        (K.written out.old) (K.written out.new) (K.puts out.old) (K.puts out.new) (K.faults out.old) (K.faults out.new)
         (FailsIn (Means (meaning_view asked.now)) (F.files shelf.old) (F.faults shelf.old) (F.faults shelf.new) (F.failed_name shelf.new)) }
-    ensures puts { Puts result (K.puts out.old) (K.puts out.new) }
     ensures faults { result ≢ Ending.WriteFault → K.faults out.new ≡ K.faults out.old }
     ensures load_faults { result ≢ Ending.LoadFault → (F.faults shelf.new ≡ F.faults shelf.old) × (F.failed_name shelf.new ≡ F.failed_name shelf.old) }
+    ensures made { HasMade (1048576 ∷ []) (F.loads shelf.old) (F.loads shelf.new) (F.asked shelf.old) (F.asked shelf.new) }
 {
     match load_source(alloc, asked.source, shelf) {
         Ok(text) => mean_text(alloc, text.as_slice(), asked.turns, out),

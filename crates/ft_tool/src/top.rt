@@ -1,11 +1,12 @@
 //! The top call.
-ghost use Rattle.std.specs.Prelude.{◌≡◌, ◌≢◌, ◌≤◌, ◌⊎◌, map, string_bytes, IsTrue};
+ghost use Rattle.std.specs.Prelude.{◌≡◌, ◌≢◌, ◌≤◌, ◌⊎◌, [], ◌∷◌, map, string_bytes, IsTrue};
 ghost use Rattle.ft_edge.specs.Causes.{Rose};
-ghost use Rattle.ft_edge.specs.Puts.{one_more};
-ghost use Rattle.ft_command.specs.Commands.{Debugging as Session, Asks, Usage, Checks, Runs, Tries, Strikes, Surveys, Debugs};
+ghost use Rattle.ft_edge.specs.Puts.{PutsNothing};
+ghost use Rattle.ft_tool.specs.Calls.{HasMade, MakesTwo, Loads, TakesFrom};
+ghost use Rattle.ft_command.specs.Commands.{Asks, Usage, Checks, Runs, Tries, Strikes, Surveys};
 ghost use Rattle.ft_command.specs.Asked.{run_view, campaign_view};
 ghost use Rattle.ft_tool.specs.Answers.{ChecksObject, RunsObject, TriesObject, StrikesObject, SurveysObject, OverFile, IsAnswer, Concludes, BreaksOff, FailsIn, FailedToLoad, FailedToTake, is_status};
-ghost use Rattle.ft_tool.specs.Endings.{Ends, Puts};
+ghost use Rattle.ft_tool.specs.Endings.{Ends};
 
 use crate::campaigns::{strike_object, survey_object};
 use crate::debugging::debug_file;
@@ -21,11 +22,11 @@ use std::alloc::Global;
 /// Loads an object and checks it.
 fn check_file<F: Shelf, K: Sink>(alloc: Global, name: &str, shelf: &mut F, out: &mut K) -> Ending
     ensures ends { Ends result (OverFile ChecksObject name.now (F.files shelf.old))
-        (K.written out.old) (K.written out.new) (K.faults out.old) (K.faults out.new)
+        (K.written out.old) (K.written out.new) (K.puts out.old) (K.puts out.new) (K.faults out.old) (K.faults out.new)
         (FailsIn (Checks name.now) (F.files shelf.old) (F.faults shelf.old) (F.faults shelf.new) (F.failed_name shelf.new)) }
-    ensures puts { Puts result (K.puts out.old) (K.puts out.new) }
     ensures faults { result ≢ Ending.WriteFault → K.faults out.new ≡ K.faults out.old }
     ensures load_faults { result ≢ Ending.LoadFault → (F.faults shelf.new ≡ F.faults shelf.old) × (F.failed_name shelf.new ≡ F.failed_name shelf.old) }
+    ensures made { HasMade (67108864 ∷ []) (F.loads shelf.old) (F.loads shelf.new) (F.asked shelf.old) (F.asked shelf.new) }
 {
     let mut bytes = Vec::new(alloc);
     match load_object(name, shelf, &mut bytes) {
@@ -37,11 +38,11 @@ fn check_file<F: Shelf, K: Sink>(alloc: Global, name: &str, shelf: &mut F, out: 
 /// Loads an object and runs it, if it is accepted.
 fn run_file<F: Shelf, K: Sink>(alloc: Global, run: &Run, shelf: &mut F, out: &mut K) -> Ending
     ensures ends { Ends result (OverFile (RunsObject (run_view run.now)) run.now.object.now (F.files shelf.old))
-        (K.written out.old) (K.written out.new) (K.faults out.old) (K.faults out.new)
+        (K.written out.old) (K.written out.new) (K.puts out.old) (K.puts out.new) (K.faults out.old) (K.faults out.new)
         (FailsIn (Runs (run_view run.now)) (F.files shelf.old) (F.faults shelf.old) (F.faults shelf.new) (F.failed_name shelf.new)) }
-    ensures puts { Puts result (K.puts out.old) (K.puts out.new) }
     ensures faults { result ≢ Ending.WriteFault → K.faults out.new ≡ K.faults out.old }
     ensures load_faults { result ≢ Ending.LoadFault → (F.faults shelf.new ≡ F.faults shelf.old) × (F.failed_name shelf.new ≡ F.failed_name shelf.old) }
+    ensures made { HasMade (67108864 ∷ []) (F.loads shelf.old) (F.loads shelf.new) (F.asked shelf.old) (F.asked shelf.new) }
 {
     let mut bytes = Vec::new(alloc);
     match load_object(run.object, shelf, &mut bytes) {
@@ -53,11 +54,11 @@ fn run_file<F: Shelf, K: Sink>(alloc: Global, run: &Run, shelf: &mut F, out: &mu
 /// Loads an object and runs it without checking it.
 fn try_file<F: Shelf, K: Sink>(alloc: Global, run: &Run, shelf: &mut F, out: &mut K) -> Ending
     ensures ends { Ends result (OverFile (TriesObject (run_view run.now)) run.now.object.now (F.files shelf.old))
-        (K.written out.old) (K.written out.new) (K.faults out.old) (K.faults out.new)
+        (K.written out.old) (K.written out.new) (K.puts out.old) (K.puts out.new) (K.faults out.old) (K.faults out.new)
         (FailsIn (Tries (run_view run.now)) (F.files shelf.old) (F.faults shelf.old) (F.faults shelf.new) (F.failed_name shelf.new)) }
-    ensures puts { Puts result (K.puts out.old) (K.puts out.new) }
     ensures faults { result ≢ Ending.WriteFault → K.faults out.new ≡ K.faults out.old }
     ensures load_faults { result ≢ Ending.LoadFault → (F.faults shelf.new ≡ F.faults shelf.old) × (F.failed_name shelf.new ≡ F.failed_name shelf.old) }
+    ensures made { HasMade (67108864 ∷ []) (F.loads shelf.old) (F.loads shelf.new) (F.asked shelf.old) (F.asked shelf.new) }
 {
     let mut bytes = Vec::new(alloc);
     match load_object(run.object, shelf, &mut bytes) {
@@ -75,11 +76,11 @@ fn strike_file<F: Shelf, K: Sink>(
 ) -> Ending
     requires { asked.now.steps ≤ 1000000 }
     ensures ends { Ends result (OverFile (StrikesObject (campaign_view asked.now) (F.files shelf.old)) asked.now.object.now (F.files shelf.old))
-        (K.written out.old) (K.written out.new) (K.faults out.old) (K.faults out.new)
+        (K.written out.old) (K.written out.new) (K.puts out.old) (K.puts out.new) (K.faults out.old) (K.faults out.new)
         (FailsIn (Strikes (campaign_view asked.now)) (F.files shelf.old) (F.faults shelf.old) (F.faults shelf.new) (F.failed_name shelf.new)) }
-    ensures puts { Puts result (K.puts out.old) (K.puts out.new) }
     ensures faults { result ≢ Ending.WriteFault → K.faults out.new ≡ K.faults out.old }
     ensures load_faults { result ≢ Ending.LoadFault → (F.faults shelf.new ≡ F.faults shelf.old) × (F.failed_name shelf.new ≡ F.failed_name shelf.old) }
+    ensures made { MakesTwo 67108864 4194304 (F.loads shelf.old) (F.loads shelf.new) (F.asked shelf.old) (F.asked shelf.new) }
 {
     let mut bytes = Vec::new(alloc);
     match load_object(asked.object, shelf, &mut bytes) {
@@ -97,11 +98,11 @@ fn survey_file<F: Shelf, K: Sink>(
 ) -> Ending
     requires { asked.now.steps ≤ 1000000 }
     ensures ends { Ends result (OverFile (SurveysObject (campaign_view asked.now) (F.files shelf.old)) asked.now.object.now (F.files shelf.old))
-        (K.written out.old) (K.written out.new) (K.faults out.old) (K.faults out.new)
+        (K.written out.old) (K.written out.new) (K.puts out.old) (K.puts out.new) (K.faults out.old) (K.faults out.new)
         (FailsIn (Surveys (campaign_view asked.now)) (F.files shelf.old) (F.faults shelf.old) (F.faults shelf.new) (F.failed_name shelf.new)) }
-    ensures puts { Puts result (K.puts out.old) (K.puts out.new) }
     ensures faults { result ≢ Ending.WriteFault → K.faults out.new ≡ K.faults out.old }
     ensures load_faults { result ≢ Ending.LoadFault → (F.faults shelf.new ≡ F.faults shelf.old) × (F.failed_name shelf.new ≡ F.failed_name shelf.old) }
+    ensures made { MakesTwo 67108864 4194304 (F.loads shelf.old) (F.loads shelf.new) (F.asked shelf.old) (F.asked shelf.new) }
 {
     let mut bytes = Vec::new(alloc);
     match load_object(asked.object, shelf, &mut bytes) {
@@ -119,14 +120,15 @@ fn carry_out<F: Shelf, I: Source, K: Sink>(
     out: &mut K,
 ) -> Ending
     ensures ends { Ends result (IsAnswer (map string_bytes words.now) (F.files shelf.old) (I.left script.old))
-        (K.written out.old) (K.written out.new) (K.faults out.old) (K.faults out.new)
+        (K.written out.old) (K.written out.new) (K.puts out.old) (K.puts out.new) (K.faults out.old) (K.faults out.new)
         (FailedToLoad (map string_bytes words.now) (F.files shelf.old) (F.faults shelf.old) (F.faults shelf.new) (F.failed_name shelf.new)
         ⊎ FailedToTake (map string_bytes words.now) (F.files shelf.old) (I.faults script.old) (I.faults script.new)) }
     ensures usage { result ≡ Ending.Usage → Asks (map string_bytes words.now) Usage }
-    ensures puts { Puts result (K.puts out.old) (K.puts out.new) }
     ensures faults { result ≢ Ending.WriteFault → K.faults out.new ≡ K.faults out.old }
     ensures load_faults { result ≢ Ending.LoadFault → (F.faults shelf.new ≡ F.faults shelf.old) × (F.failed_name shelf.new ≡ F.failed_name shelf.old) }
-    ensures script { ((debugging : Session) × Asks (map string_bytes words.now) (Debugs debugging)) ⊎ (script.new ≡ script.old) }
+    ensures script { TakesFrom (map string_bytes words.now) (F.files shelf.old) (I.left script.old) (I.left script.new) ⊎ (script.new ≡ script.old) }
+    ensures loads { Loads (map string_bytes words.now) (F.loads shelf.old) (F.loads shelf.new) (F.asked shelf.old) (F.asked shelf.new)
+        ⊎ ((result ≡ Ending.NoMemory) × HasMade [] (F.loads shelf.old) (F.loads shelf.new) (F.asked shelf.old) (F.asked shelf.new)) }
     ensures script_faults { result ≢ Ending.LoadFault → I.faults script.new ≡ I.faults script.old }
 {
     match command_of(alloc, words) {
@@ -156,41 +158,38 @@ pub fn tool<F: Shelf, I: Source, K: Sink>(
 ) -> u8
     ensures status { IsTrue (is_status result) }
 
-    // Text and status are the answer of the command that the words ask for. So a source is compiled exactly where its
-    // text has a program: to an object that is accepted and whose run commits what the program means and ends when it
-    // ends. And the run of an accepted object has under its plan after each number of steps exactly what the run
-    // without the strike has, or it is detected and has a prefix of that.
+    // Each piece of the answer of the command that the words ask for was put by one put, and the status is its status. So
+    // a source is compiled exactly when its text has a program: to an object that is accepted and whose run commits what
+    // the program means and ends when it ends. And the run of an accepted object has under its plan after each number of
+    // steps exactly what the run without the strike has, or it is detected and has a prefix of that.
     ensures headline { result ≢ 3 → result ≢ 4 → result ≢ 5 →
-        Concludes (IsAnswer (map string_bytes words.now) (F.files shelf.old) (I.left script.old)) result (K.written out.old) (K.written out.new) }
+        Concludes (IsAnswer (map string_bytes words.now) (F.files shelf.old) (I.left script.old)) result (K.written out.old) (K.written out.new) (K.puts out.old) (K.puts out.new) }
     ensures usage { result ≡ 2 → Asks (map string_bytes words.now) Usage }
 
-    // A load of the command's own file failed, or a take of its script, and nothing was written.
+    // A load of the command's own file failed, or a take of its script, and nothing was put.
     ensures load_fault { result ≡ 3 →
         FailedToLoad (map string_bytes words.now) (F.files shelf.old) (F.faults shelf.old) (F.faults shelf.new) (F.failed_name shelf.new)
         ⊎ FailedToTake (map string_bytes words.now) (F.files shelf.old) (I.faults script.old) (I.faults script.new) }
-    ensures load_fault_writes_nothing { result ≡ 3 → K.written out.new ≡ K.written out.old }
+    ensures load_fault_puts_nothing { result ≡ 3 → PutsNothing (K.written out.old) (K.written out.new) (K.puts out.old) (K.puts out.new) }
 
-    // A put failed, and a prefix of the answer's text was written.
+    // A put failed, and it was the last: the pieces before it were put, and a prefix of its own.
     ensures write_fault { result ≡ 4 → Rose (K.faults out.old) (K.faults out.new) }
-    ensures write_fault_writes_prefix { result ≡ 4 →
-        BreaksOff (IsAnswer (map string_bytes words.now) (F.files shelf.old) (I.left script.old)) (K.written out.old) (K.written out.new) }
+    ensures write_fault_breaks_off { result ≡ 4 →
+        BreaksOff (IsAnswer (map string_bytes words.now) (F.files shelf.old) (I.left script.old)) (K.written out.old) (K.written out.new) (K.puts out.old) (K.puts out.new) }
 
-    // There was no memory left, and nothing was written.
-    ensures no_memory_writes_nothing { result ≡ 5 → K.written out.new ≡ K.written out.old }
+    // There was no memory left, and nothing was put.
+    ensures no_memory_puts_nothing { result ≡ 5 → PutsNothing (K.written out.old) (K.written out.new) (K.puts out.old) (K.puts out.new) }
 
-    // The count of failed puts stays where the answer is another. A line of its own is one put.
+    // The count of failed puts stays where the answer is another.
     ensures write_faults { result ≢ 4 → K.faults out.new ≡ K.faults out.old }
-    ensures usage_is_one_put { result ≡ 2 → K.puts out.new ≡ one_more (K.puts out.old) }
-    ensures refused_source_is_one_put { result ≡ 6 → K.puts out.new ≡ one_more (K.puts out.old) }
-    ensures refusal_is_one_put { result ≡ 7 → K.puts out.new ≡ one_more (K.puts out.old) }
-    ensures refused_check_is_one_put { result ≡ 8 → K.puts out.new ≡ one_more (K.puts out.old) }
-    ensures refused_list_is_one_put { result ≡ 11 → K.puts out.new ≡ one_more (K.puts out.old) }
-    ensures load_fault_puts_nothing { result ≡ 3 → K.puts out.new ≡ K.puts out.old }
-    ensures no_memory_puts_nothing { result ≡ 5 → K.puts out.new ≡ K.puts out.old }
 
-    // The counts of failed loads and takes stay where the answer is another, and the script but in a session.
+    // The counts of failed loads and takes stay where the answer is another. The script is taken only in a session over
+    // an object, and at most 1,048,577 bytes of it. Each file is loaded once, in the order of the request and up to its
+    // limit; none is, where memory runs out before the words are read.
     ensures load_faults { result ≢ 3 → (F.faults shelf.new ≡ F.faults shelf.old) × (F.failed_name shelf.new ≡ F.failed_name shelf.old) }
-    ensures script { ((debugging : Session) × Asks (map string_bytes words.now) (Debugs debugging)) ⊎ (script.new ≡ script.old) }
+    ensures script { TakesFrom (map string_bytes words.now) (F.files shelf.old) (I.left script.old) (I.left script.new) ⊎ (script.new ≡ script.old) }
+    ensures loads { Loads (map string_bytes words.now) (F.loads shelf.old) (F.loads shelf.new) (F.asked shelf.old) (F.asked shelf.new)
+        ⊎ ((result ≡ 5) × HasMade [] (F.loads shelf.old) (F.loads shelf.new) (F.asked shelf.old) (F.asked shelf.new)) }
     ensures script_faults { result ≢ 3 → I.faults script.new ≡ I.faults script.old }
 {
     match carry_out(alloc, words, shelf, script, out) {

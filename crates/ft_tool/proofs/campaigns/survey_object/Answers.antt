@@ -14,7 +14,7 @@ pub returns-in-Ok-clause-ends : goal.returns-in-Ok-clause-ends
 returns-in-Ok-clause-ends g c =
     let asked = campaign_view c.args.asked.now in
     let files = g.F.Shelf.files c.args.shelf.now in
-    Ends-map c.survey_faults.result (OverFaults AnyVerdicts asked (g.P.Program.object c.args.program.now) c.as_slice.result.now) (OverListFile AnyVerdicts asked files (g.P.Program.object c.args.program.now)) _ _ _ _ ⊥
+    Ends-map c.survey_faults.result (OverFaults AnyVerdicts asked (g.P.Program.object c.args.program.now) c.as_slice.result.now) (OverListFile AnyVerdicts asked files (g.P.Program.object c.args.program.now)) _ _ _ _ _ _ ⊥
     (Rose (g.F.Shelf.faults c.args.shelf.now) (g.F.Shelf.faults c.load_list.new.shelf) × (g.F.Shelf.failed_name c.load_list.new.shelf ≡ Some c.args.asked.now.faults.now))
     (λ a is. over_listed {V = Vec Strike Global} (λ v. v.items) AnyVerdicts asked files (g.P.Program.object c.args.program.now) c.in-Ok.faults c.in-Ok.ensures.loads a (subst (λ faults. OverFaults AnyVerdicts asked (g.P.Program.object c.args.program.now) faults a) c.as_slice.ensures.value is))
     (λ x. absurd x) c.survey_faults.ensures.ends
@@ -23,7 +23,7 @@ pub returns-in-Err-clause-ends : goal.returns-in-Err-clause-ends
 returns-in-Err-clause-ends g c =
     let asked = campaign_view c.args.asked.now in
     let files = g.F.Shelf.files c.args.shelf.now in
-    Ends-map c.refuse_list.result (IsListRefusedBy c.in-Err.fault) (OverListFile AnyVerdicts asked files (g.P.Program.object c.args.program.now)) _ _ _ _ (c.in-Err.fault ≡ Failed)
+    Ends-map c.refuse_list.result (IsListRefusedBy c.in-Err.fault) (OverListFile AnyVerdicts asked files (g.P.Program.object c.args.program.now)) _ _ _ _ _ _ (c.in-Err.fault ≡ Failed)
     (Rose (g.F.Shelf.faults c.args.shelf.now) (g.F.Shelf.faults c.load_list.new.shelf) × (g.F.Shelf.failed_name c.load_list.new.shelf ≡ Some c.args.asked.now.faults.now))
     (λ a is. over_refused_list {V = Vec Strike Global} (λ v. v.items) AnyVerdicts asked files (g.P.Program.object c.args.program.now) c.in-Err.fault c.in-Err.ensures.loads a is)
     (λ e. list_failed (Vec Strike Global) _ _ _ _ _ c.in-Err.fault c.in-Err.ensures.cause e) c.refuse_list.ensures.ends

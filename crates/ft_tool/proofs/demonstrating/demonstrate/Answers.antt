@@ -1,5 +1,4 @@
 use Rattle.std.proofs.Common.{refl}
-use Rattle.std.specs.List.{concat}
 use Rattle.ft_sample.specs.Sample.{sample_object}
 use Rattle.ft_demo.specs.Demonstrations.{demo_lines}
 use Rattle.ft_tool.proofs.demonstrating.demonstrate.Goals as goal
@@ -8,9 +7,9 @@ pub returns-in-Finished-clause-ends : goal.returns-in-Finished-clause-ends
 returns-in-Finished-clause-ends g c =
     let h = c.in-Finished.ensures.ends in
     record {
-      answer = record { text = concat (demo_lines (sample_object c.args.turns) h.found); status = 0 };
+      answer = record { pieces = demo_lines (sample_object c.args.turns) h.found; status = 0 };
       is = record { found = h.found; verdicts = h.verdicts; none_corrupt = h.uncorrupted; answer = refl };
-      written = h.lines.written;
+      put = h.lines;
       status_is = refl;
     }
 
@@ -19,8 +18,8 @@ returns-in-WriteFault-clause-ends g c =
     let h = c.in-WriteFault.ensures.ends in (
       c.in-WriteFault.ensures.cause,
       record {
-        answer = record { text = concat (demo_lines (sample_object c.args.turns) h.found); status = 0 };
+        answer = record { pieces = demo_lines (sample_object c.args.turns) h.found; status = 0 };
         is = record { found = h.found; verdicts = h.verdicts; none_corrupt = h.uncorrupted; answer = refl };
-        written = h.lines.text;
+        broken = h.lines;
       },
     )

@@ -4,7 +4,8 @@ use Rattle.ft_rules.specs.Answers.{premise_of}
 use Rattle.ft_tool.specs.Files.{IsNotAccepted}
 use Rattle.ft_tool.specs.Answers.{judged}
 use Rattle.std.proofs.Common.{Some}
-use Rattle.ft_tool.proofs.Answered.{refusal_concludes, refusal_breaks_off}
+use Rattle.ft_tool.specs.Texts.{check_line}
+use Rattle.ft_tool.proofs.Answered.{piece_concludes, piece_breaks_off}
 use Rattle.ft_tool.proofs.ending.refuse_check.Goals.{in-EntryType, in-CellType, in-Refused}
 use Rattle.ft_tool.proofs.ending.refuse_check.Goals as goal
 
@@ -12,15 +13,15 @@ pub returns-in-Ok-clause-ends : goal.returns-in-Ok-clause-ends
 returns-in-Ok-clause-ends g c =
     elim c.match-error.branch [
       | in-EntryType w ↦
-          refusal_concludes (IsNotAccepted c.args.error) EntryType _ _ c.as_bytes.result.now
+          piece_concludes (IsNotAccepted c.args.error) (check_line EntryType) c.as_bytes.result.now 8 _ _ _ _
           (subst (λ e. IsNotAccepted e (judged (Some EntryType))) (sym w.in-EntryType.is) refl)
           (c.as_bytes.ensures ∙ w.line-is ∙ w.entry_line-line.ensures) c.in-Ok.ensures.ok
       | in-CellType w ↦
-          refusal_concludes (IsNotAccepted c.args.error) (CellType w.in-CellType.cell) _ _ c.as_bytes.result.now
+          piece_concludes (IsNotAccepted c.args.error) (check_line (CellType w.in-CellType.cell)) c.as_bytes.result.now 8 _ _ _ _
           (subst (λ e. IsNotAccepted e (judged (Some (CellType w.in-CellType.cell)))) (sym w.in-CellType.is) refl)
           (c.as_bytes.ensures ∙ w.line-is ∙ w.cell_line-line.ensures) c.in-Ok.ensures.ok
       | in-Refused w ↦
-          refusal_concludes (IsNotAccepted c.args.error) (Refused w.in-Refused.block w.in-Refused.index (premise_of w.in-Refused.why)) _ _ c.as_bytes.result.now
+          piece_concludes (IsNotAccepted c.args.error) (check_line (Refused w.in-Refused.block w.in-Refused.index (premise_of w.in-Refused.why))) c.as_bytes.result.now 8 _ _ _ _
           (subst (λ e. IsNotAccepted e (judged (Some (Refused w.in-Refused.block w.in-Refused.index (premise_of w.in-Refused.why))))) (sym w.in-Refused.is) refl)
           (c.as_bytes.ensures ∙ w.line-is ∙ w.place_line-line.ensures) c.in-Ok.ensures.ok
     ]
@@ -30,15 +31,15 @@ returns-in-Err-clause-ends g c = (
   c.in-Err.ensures.cause,
   elim c.match-error.branch [
     | in-EntryType w ↦
-        refusal_breaks_off (IsNotAccepted c.args.error) EntryType _ _ c.as_bytes.result.now
+        piece_breaks_off (IsNotAccepted c.args.error) (check_line EntryType) c.as_bytes.result.now 8 _ _ _ _
         (subst (λ e. IsNotAccepted e (judged (Some EntryType))) (sym w.in-EntryType.is) refl)
         (c.as_bytes.ensures ∙ w.line-is ∙ w.entry_line-line.ensures) c.in-Err.ensures.err
     | in-CellType w ↦
-        refusal_breaks_off (IsNotAccepted c.args.error) (CellType w.in-CellType.cell) _ _ c.as_bytes.result.now
+        piece_breaks_off (IsNotAccepted c.args.error) (check_line (CellType w.in-CellType.cell)) c.as_bytes.result.now 8 _ _ _ _
         (subst (λ e. IsNotAccepted e (judged (Some (CellType w.in-CellType.cell)))) (sym w.in-CellType.is) refl)
         (c.as_bytes.ensures ∙ w.line-is ∙ w.cell_line-line.ensures) c.in-Err.ensures.err
     | in-Refused w ↦
-        refusal_breaks_off (IsNotAccepted c.args.error) (Refused w.in-Refused.block w.in-Refused.index (premise_of w.in-Refused.why)) _ _ c.as_bytes.result.now
+        piece_breaks_off (IsNotAccepted c.args.error) (check_line (Refused w.in-Refused.block w.in-Refused.index (premise_of w.in-Refused.why))) c.as_bytes.result.now 8 _ _ _ _
         (subst (λ e. IsNotAccepted e (judged (Some (Refused w.in-Refused.block w.in-Refused.index (premise_of w.in-Refused.why))))) (sym w.in-Refused.is) refl)
         (c.as_bytes.ensures ∙ w.line-is ∙ w.place_line-line.ensures) c.in-Err.ensures.err
   ],

@@ -4,13 +4,13 @@ use Rattle.ft_tool.proofs.Answered.{concludes, breaks_off}
 use Rattle.ft_tool.proofs.objects.try_object.Goals as goal
 
 pub returns-in-Done-clause-ends : goal.returns-in-Done-clause-ends
-returns-in-Done-clause-ends g c = concludes (run_view c.args.run.now) (g.P.Program.object c.args.program.now) c.as_slice.result.now status.Done (g.K.Sink.written c.args.out.now) (g.K.Sink.written c.drive.new.out) c.as_slice.ensures.value c.in-Done.ensures.ends c.in-Done.ensures.writes
+returns-in-Done-clause-ends g c = concludes (run_view c.args.run.now) (g.P.Program.object c.args.program.now) c.as_slice.result.now status.Done (g.K.Sink.written c.args.out.now) (g.K.Sink.written c.drive.new.out) (g.K.Sink.puts c.args.out.now) (g.K.Sink.puts c.drive.new.out) c.as_slice.ensures.value c.in-Done.ensures.ends c.in-Done.ensures.lines
 
 pub returns-in-Detected-clause-ends : goal.returns-in-Detected-clause-ends
-returns-in-Detected-clause-ends g c = concludes (run_view c.args.run.now) (g.P.Program.object c.args.program.now) c.as_slice.result.now status.Detected (g.K.Sink.written c.args.out.now) (g.K.Sink.written c.drive.new.out) c.as_slice.ensures.value c.in-Detected.ensures.ends c.in-Detected.ensures.writes
+returns-in-Detected-clause-ends g c = concludes (run_view c.args.run.now) (g.P.Program.object c.args.program.now) c.as_slice.result.now status.Detected (g.K.Sink.written c.args.out.now) (g.K.Sink.written c.drive.new.out) (g.K.Sink.puts c.args.out.now) (g.K.Sink.puts c.drive.new.out) c.as_slice.ensures.value c.in-Detected.ensures.ends c.in-Detected.ensures.lines
 
 pub returns-in-OutOfSteps-clause-ends : goal.returns-in-OutOfSteps-clause-ends
-returns-in-OutOfSteps-clause-ends g c = concludes (run_view c.args.run.now) (g.P.Program.object c.args.program.now) c.as_slice.result.now status.Running (g.K.Sink.written c.args.out.now) (g.K.Sink.written c.drive.new.out) c.as_slice.ensures.value c.in-OutOfSteps.ensures.ends c.in-OutOfSteps.ensures.writes
+returns-in-OutOfSteps-clause-ends g c = concludes (run_view c.args.run.now) (g.P.Program.object c.args.program.now) c.as_slice.result.now status.Running (g.K.Sink.written c.args.out.now) (g.K.Sink.written c.drive.new.out) (g.K.Sink.puts c.args.out.now) (g.K.Sink.puts c.drive.new.out) c.as_slice.ensures.value c.in-OutOfSteps.ensures.ends c.in-OutOfSteps.ensures.lines
 
 pub returns-clause-ends : goal.returns-clause-ends
-returns-clause-ends g c = (c.in-WriteFault.ensures.cause, breaks_off (run_view c.args.run.now) (g.P.Program.object c.args.program.now) c.as_slice.result.now (g.K.Sink.written c.args.out.now) (g.K.Sink.written c.drive.new.out) c.as_slice.ensures.value c.in-WriteFault.ensures.writes)
+returns-clause-ends g c = (c.in-WriteFault.ensures.cause, breaks_off (run_view c.args.run.now) (g.P.Program.object c.args.program.now) c.as_slice.result.now (g.K.Sink.written c.args.out.now) (g.K.Sink.written c.drive.new.out) (g.K.Sink.puts c.args.out.now) (g.K.Sink.puts c.drive.new.out) c.as_slice.ensures.value c.in-WriteFault.ensures.lines)

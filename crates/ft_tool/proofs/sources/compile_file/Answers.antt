@@ -11,7 +11,7 @@ use Rattle.ft_tool.proofs.sources.compile_file.Goals as goal
 pub returns-in-Ok-clause-ends : goal.returns-in-Ok-clause-ends
 returns-in-Ok-clause-ends g c =
     let files = g.F.Shelf.files c.args.shelf.now in
-    Ends-map c.compile_text.result (OverText CompilesProgram c.as_slice.result.now) (OverSource CompilesProgram c.args.name.now files) _ _ _ _ ⊥
+    Ends-map c.compile_text.result (OverText CompilesProgram c.as_slice.result.now) (OverSource CompilesProgram c.args.name.now files) _ _ _ _ _ _ ⊥
     (FailsIn (Compiles c.args.name.now) files (g.F.Shelf.faults c.args.shelf.now) (g.F.Shelf.faults c.load_source.new.shelf) (g.F.Shelf.failed_name c.load_source.new.shelf))
     (λ a is. over_source {V = Vec ℕ Global} (λ v. v.items) CompilesProgram files c.args.name.now c.in-Ok.text c.in-Ok.ensures.loads a (subst (λ text. OverText CompilesProgram text a) c.as_slice.ensures.value is))
     (λ x. absurd x) c.compile_text.ensures.ends
@@ -19,7 +19,7 @@ returns-in-Ok-clause-ends g c =
 pub returns-in-Err-clause-ends : goal.returns-in-Err-clause-ends
 returns-in-Err-clause-ends g c =
     let files = g.F.Shelf.files c.args.shelf.now in
-    Ends-map c.refuse_long_source.result (IsTooLongBy c.in-Err.fault) (OverSource CompilesProgram c.args.name.now files) _ _ _ _ (c.in-Err.fault ≡ Failed)
+    Ends-map c.refuse_long_source.result (IsTooLongBy c.in-Err.fault) (OverSource CompilesProgram c.args.name.now files) _ _ _ _ _ _ (c.in-Err.fault ≡ Failed)
     (FailsIn (Compiles c.args.name.now) files (g.F.Shelf.faults c.args.shelf.now) (g.F.Shelf.faults c.load_source.new.shelf) (g.F.Shelf.failed_name c.load_source.new.shelf))
     (λ a is. over_long_source {V = Vec ℕ Global} (λ v. v.items) CompilesProgram files c.args.name.now c.in-Err.fault c.in-Err.ensures.loads a is)
     (λ e. let h = source_failed (Vec ℕ Global) _ _ _ _ c.args.name.now c.in-Err.fault c.in-Err.ensures.cause e in record { rose = h.0; file = c.args.name.now; comes = refl; name = h.1 }) c.refuse_long_source.ensures.ends
