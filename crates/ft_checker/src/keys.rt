@@ -12,8 +12,8 @@ const FIRST_KEY: u64 = 0x7461_6c66_745f_6b31;
 
 const SECOND_KEY: u64 = 0x7461_6c66_745f_6b32;
 
-/// Two numbers that depend on each word that was noted. Each word is mixed with a number and multiplied
-/// by its factor, and the two halves of the product are joined.
+/// Two numbers, each of which depends on all words that its lane noted. Each word is mixed with the
+/// number and multiplied by the lane's factor, and the two halves of the product are joined.
 #[derive(Drop)]
 struct Lanes {
     first: u64,
@@ -32,44 +32,34 @@ fn folded_multiply(a: u64, b: u64) -> u64 {
 }
 
 impl Lanes {
-    /// Notes a word.
-    fn note(&mut self, word: u64) {
-        self.first = folded_multiply(self.first ^ word, FIRST_FACTOR);
-        self.second = folded_multiply(self.second ^ word, SECOND_FACTOR);
+    /// Notes a word in each lane.
+    fn note(&mut self, first: u64, second: u64) {
+        self.first = folded_multiply(self.first ^ first, FIRST_FACTOR);
+        self.second = folded_multiply(self.second ^ second, SECOND_FACTOR);
+    }
+
+    /// Notes a record: four bytes, a number and a word.
+    fn note_record(&mut self, bytes: [u8; 4], number: u32, word: u64) {
+        self.note(joined(u32::from_le_bytes(bytes), number), word);
     }
 }
 
-/// Notes the head of a record: four bytes and a number.
-fn note_head(lanes: &mut Lanes, bytes: [u8; 4], number: u32) {
-    note_pair(lanes, u32::from_le_bytes(bytes), number);
-}
-
-/// Notes two numbers.
-fn note_pair(lanes: &mut Lanes, first: u32, second: u32) {
-    lanes.note((first as u64) << 32 | second as u64);
+/// Two numbers as one word.
+fn joined(first: u32, second: u32) -> u64 {
+    (first as u64) << 32 | second as u64
 }
 
 /// Notes a node.
 fn note_node(lanes: &mut Lanes, node: Node) {
     let scope = node.scope;
     match node.shape {
-        Shape::Word(w) => {
-            note_head(lanes, [0, scope, 0, 0], 0);
-            lanes.note(w);
-        }
-        Shape::Var(i) => note_head(lanes, [1, scope, i, 0], 0),
-        Shape::Op { op, a, b } => {
-            note_head(lanes, [2, scope, op as u8, 0], 0);
-            note_pair(lanes, a, b);
-        }
-        Shape::Sel { memory, at } => {
-            note_head(lanes, [3, scope, 0, 0], 0);
-            note_pair(lanes, memory, at);
-        }
-        Shape::Memory => note_head(lanes, [4, scope, 0, 0], 0),
+        Shape::Word(w) => lanes.note_record([0, scope, 0, 0], 0, w),
+        Shape::Var(i) => lanes.note_record([1, scope, i, 0], 0, 0),
+        Shape::Op { op, a, b } => lanes.note_record([2, scope, op as u8, 0], 0, joined(a, b)),
+        Shape::Sel { memory, at } => lanes.note_record([3, scope, 0, 0], 0, joined(memory, at)),
+        Shape::Memory => lanes.note_record([4, scope, 0, 0], 0, 0),
         Shape::Upd { memory, at, value } => {
-            note_head(lanes, [5, scope, 0, 0], memory);
-            note_pair(lanes, at, value);
+            lanes.note_record([5, scope, 0, 0], memory, joined(at, value))
         }
     }
 }
@@ -82,9 +72,9 @@ fn base_number(base: Base) -> u32 {
     }
 }
 
-/// Notes where a substitution's rows lie. The node for its memory stands in the instruction's head.
-fn note_rows(lanes: &mut Lanes, subst: Subst) {
-    note_pair(lanes, subst.first, subst.past);
+/// Where a substitution's rows lie, as one word. The node for its memory is noted beside it.
+fn rows_of(subst: Subst) -> u64 {
+    joined(subst.first, subst.past)
 }
 
 /// Notes an instruction.
@@ -92,43 +82,39 @@ fn note_instr(lanes: &mut Lanes, instr: Instr) {
     match instr {
         Instr::OpReg { op, rd, rs, rt } => {
             let last = rt.number() as u32;
-            note_head(lanes, [0, op as u8, rd.number(), rs.number()], last);
+            lanes.note_record([0, op as u8, rd.number(), rs.number()], last, 0);
         }
         Instr::OpWord { op, rd, rs, value } => {
             let colour = value.colour as u32;
-            note_head(lanes, [1, op as u8, rd.number(), rs.number()], colour);
-            lanes.note(value.word);
+            lanes.note_record([1, op as u8, rd.number(), rs.number()], colour, value.word);
         }
         Instr::Mov { rd, value, basic } => {
             let bytes = [2, rd.number(), value.colour as u8, basic.refs];
-            note_head(lanes, bytes, base_number(basic.base));
-            lanes.note(value.word);
+            lanes.note_record(bytes, base_number(basic.base), value.word);
         }
         Instr::Ld { colour, rd, rs } => {
-            note_head(lanes, [3, colour as u8, rd.number(), rs.number()], 0)
+            lanes.note_record([3, colour as u8, rd.number(), rs.number()], 0, 0)
         }
         Instr::St { colour, rd, rs } => {
-            note_head(lanes, [4, colour as u8, rd.number(), rs.number()], 0)
+            lanes.note_record([4, colour as u8, rd.number(), rs.number()], 0, 0)
         }
-        Instr::JmpG { rd } => note_head(lanes, [5, rd.number(), 0, 0], 0),
+        Instr::JmpG { rd } => lanes.note_record([5, rd.number(), 0, 0], 0, 0),
         Instr::JmpB { rd, subst } => {
-            note_head(lanes, [6, rd.number(), 0, 0], subst.memory);
-            note_rows(lanes, subst);
+            lanes.note_record([6, rd.number(), 0, 0], subst.memory, rows_of(subst))
         }
-        Instr::BzG { rz, rd } => note_head(lanes, [7, rz.number(), rd.number(), 0], 0),
+        Instr::BzG { rz, rd } => lanes.note_record([7, rz.number(), rd.number(), 0], 0, 0),
         Instr::BzB { rz, rd, subst } => {
-            note_head(lanes, [8, rz.number(), rd.number(), 0], subst.memory);
-            note_rows(lanes, subst);
+            let bytes = [8, rz.number(), rd.number(), 0];
+            lanes.note_record(bytes, subst.memory, rows_of(subst));
         }
-        Instr::Halt => note_head(lanes, [9, 0, 0, 0], 0),
+        Instr::Halt => lanes.note_record([9, 0, 0, 0], 0, 0),
     }
 }
 
 /// Notes a register row.
 fn note_row(lanes: &mut Lanes, row: RegType) {
     let bytes = [row.reg.number(), row.colour as u8, row.basic.refs, 0];
-    note_head(lanes, bytes, row.expr);
-    note_pair(lanes, base_number(row.basic.base), 0);
+    lanes.note_record(bytes, row.expr, base_number(row.basic.base) as u64);
 }
 
 /// Notes code type `t` with its rows.
@@ -137,14 +123,14 @@ fn note_type<P: Program>(lanes: &mut Lanes, program: &P, t: u32)
     requires there { t < length (P.object program.now).types }
 {
     let head = program.code_type(t);
-    note_head(lanes, [head.ints, 0, 0, 0], head.memory);
-    note_pair(lanes, head.regs, head.queue);
+    let rows = joined(head.regs, head.queue);
+    lanes.note_record([head.ints, 0, 0, 0], head.memory, rows);
     for j in 0..head.regs {
         note_row(lanes, program.reg_row(t, j));
     }
     for j in 0..head.queue {
         let (address, value) = program.queue_row(t, j);
-        note_pair(lanes, address, value);
+        lanes.note(address as u64, value as u64);
     }
 }
 
@@ -157,7 +143,7 @@ fn note_nodes<P: Program>(lanes: &mut Lanes, program: &P)
     }
 }
 
-/// Notes the substitution rows.
+/// Notes the substitution rows, two at a time.
 fn note_substs<P: Program>(lanes: &mut Lanes, program: &P)
     requires { IsSpellable (P.object program.now) }
 {
@@ -166,11 +152,11 @@ fn note_substs<P: Program>(lanes: &mut Lanes, program: &P)
     for n in 0..rows {
         let row = program.subst_row(n);
         if n % 2 == 1 {
-            note_pair(lanes, waiting, row);
+            lanes.note(waiting as u64, row as u64);
         }
         waiting = row;
     }
-    note_pair(lanes, waiting, rows);
+    lanes.note(waiting as u64, rows as u64);
 }
 
 /// Two keys that depend on the nodes, the code types, the instructions and the substitution rows. So
@@ -183,7 +169,7 @@ pub fn keys_of<P: Program>(program: &P) -> (u64, u64)
         first: FIRST_KEY,
         second: SECOND_KEY,
     };
-    note_pair(&mut lanes, counts.types, counts.instrs);
+    lanes.note(counts.types as u64, counts.instrs as u64);
     note_nodes(&mut lanes, program);
     for t in 0..counts.types {
         note_type(&mut lanes, program, t);
