@@ -5,14 +5,14 @@ use Rattle.std.proofs.lemmas.Bool.{and_parts, and_from, leb-true, le-leb, ne_eqb
 use Rattle.std.proofs.lemmas.Fmt.{decimal_digit, decimal_step}
 use Rattle.std.proofs.lemmas.List.{append-nil}
 use Rattle.ft_isa.specs.Registers.{reg_of}
-use Rattle.ft_isa.specs.PlanText.{IsSite, site_text}
-use Rattle.ft_isa.specs.Reading.{state_after, with_digit, with_register_digit, queue_place, next_site}
+use Rattle.ft_isa.specs.PlanText.{IsSite, site_text, IsSiteText, IsViable}
+use Rattle.ft_isa.specs.Reading.{state_after, with_digit, with_register_digit, queue_place, next_site, whole_site}
 use Rattle.ft_isa.specs.declared.reg.Reg.{Reg}
 use Rattle.ft_isa.specs.declared.plan.Site.{Site}
 use Rattle.ft_isa.specs.declared.plan.Site.TheVariants.{R, D, PcG, PcB, QAddr, QVal}
-use Rattle.ft_isa.specs.declared.strike_text.SiteRead.{SiteRead}
-use Rattle.ft_isa.specs.declared.strike_text.SiteRead.TheVariants as sites
-use Rattle.ft_isa.proofs.Readers.{state_after-byte}
+use Rattle.ft_isa.specs.declared.site_text.SiteRead.{SiteRead}
+use Rattle.ft_isa.specs.declared.site_text.SiteRead.TheVariants as sites
+use Rattle.ft_isa.proofs.Readers.{state_after-byte, IsReader}
 use Rattle.ft_isa.proofs.Registers.{reg_of-number, number-reg_of}
 use Rattle.ft_isa.proofs.Branches.{if_some, of_map, of_letter}
 use Rattle.ft_isa.proofs.NumberRead.{number_told, IsNumberRead, more_digits, first_digit, last_digit}
@@ -157,3 +157,32 @@ site_goes_on sites.R g =
     let zeroth : Reg = record { number = 0; in_range = omega arith } in
     (R zeroth, (decimal 0, (tt, refl)))
 site_goes_on (sites.Whole site) g = (site, ([], (g, append-nil (site_text site))))
+
+-- a site that was read whole
+pub is_whole : (s : SiteRead) (site : Site) → whole_site s ≡ Some site → s ≡ sites.Whole site
+is_whole (sites.Whole whole) site e = cc
+is_whole sites.Empty site e = absurd cc
+is_whole sites.P site e = absurd cc
+is_whole sites.Pc site e = absurd cc
+is_whole sites.Q site e = absurd cc
+is_whole sites.Qa site e = absurd cc
+is_whole sites.Qv site e = absurd cc
+is_whole sites.R site e = absurd cc
+
+-- a site that was read whole is told by its text
+site_ends : (s : SiteRead) (site : Site) → IsSiteRead s → whole_site s ≡ Some site → IsSiteText (site_told s) site
+site_ends s site g e =
+    let whole : s ≡ sites.Whole site = is_whole s site e in
+    (subst IsSiteRead whole g, ap site_told whole)
+
+-- what was read of a site begins a site's text
+site_viable : (s : SiteRead) → IsSiteRead s → IsViable IsSiteText (site_told s)
+site_viable s g = (let on = site_goes_on s g in (on.0, (on.1.0, on.1.1)))
+
+-- the text of a site is read as that site
+site_complete : (text : List ℕ) (site : Site) → IsSiteText text site → option_and_then whole_site (state_after next_site sites.Empty text) ≡ Some site
+site_complete text site h = ap (λ t. option_and_then whole_site (state_after next_site sites.Empty t)) h.1 ∙ ap (option_and_then whole_site) (reads_site site h.0)
+
+-- sites are read byte by byte
+pub site_reader : IsReader next_site whole_site sites.Empty site_told IsSiteRead IsSiteText
+site_reader = record { begins = refl; good = tt; step = λ s t b g e. site_step s t b g e; ends = site_ends; goes_on = site_viable; complete = site_complete }

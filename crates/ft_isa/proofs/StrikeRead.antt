@@ -9,14 +9,14 @@ use Rattle.ft_isa.specs.Reading.{state_after, with_digit, next_site, whole_site,
 use Rattle.ft_isa.specs.declared.plan.Site.{Site}
 use Rattle.ft_isa.specs.declared.plan.Site.TheVariants.{D}
 use Rattle.ft_isa.specs.declared.plan.Strike.{Strike}
-use Rattle.ft_isa.specs.declared.strike_text.SiteRead.{SiteRead}
-use Rattle.ft_isa.specs.declared.strike_text.SiteRead.TheVariants as sites
+use Rattle.ft_isa.specs.declared.site_text.SiteRead.{SiteRead}
+use Rattle.ft_isa.specs.declared.site_text.SiteRead.TheVariants as sites
 use Rattle.ft_isa.specs.declared.strike_text.StrikeRead.{StrikeRead}
 use Rattle.ft_isa.specs.declared.strike_text.StrikeRead.TheVariants.{AtStep, AtSite, AtValue}
 use Rattle.ft_isa.proofs.Readers.{state_after-both, state_after-inside, IsReader}
 use Rattle.ft_isa.proofs.Branches.{of_branch, of_map}
 use Rattle.ft_isa.proofs.NumberRead.{number_told, IsNumberRead, next_number, taken_digit, more_digits, reads_decimal}
-use Rattle.ft_isa.proofs.SiteRead.{site_told, IsSiteRead, site_step, site_byte, reads_site, site_goes_on}
+use Rattle.ft_isa.proofs.SiteRead.{site_told, IsSiteRead, is_whole, site_step, site_byte, reads_site, site_goes_on}
 
 -- what was read of a strike
 abbrev pub strike_told : StrikeRead → List ℕ
@@ -33,17 +33,6 @@ IsStrikeRead (AtValue step site value) = IsWord step × IsSite site × IsNumberR
 -- a state tells one byte more than these bytes
 abbrev GoesOn : List ℕ → ℕ → StrikeRead → Type 0
 GoesOn told b after = (strike_told after ≡ told ++ b ∷ []) × IsStrikeRead after
-
--- a site that was read whole
-is_whole : (s : SiteRead) (site : Site) → whole_site s ≡ Some site → s ≡ sites.Whole site
-is_whole (sites.Whole whole) site e = cc
-is_whole sites.Empty site e = absurd cc
-is_whole sites.P site e = absurd cc
-is_whole sites.Pc site e = absurd cc
-is_whole sites.Q site e = absurd cc
-is_whole sites.Qa site e = absurd cc
-is_whole sites.Qv site e = absurd cc
-is_whole sites.R site e = absurd cc
 
 -- a digit is no colon
 digit_byte : (number : Option ℕ) (b n : ℕ) → with_digit number b ≡ Some n → eqb b 58 ≡ false

@@ -1,5 +1,6 @@
 pub mod Words
 pub mod Registers
+pub mod BasicTypes
 pub mod Pending
 pub mod PlanText
 pub mod Reading

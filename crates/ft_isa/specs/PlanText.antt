@@ -29,6 +29,10 @@ site_text PcB = codes "pcb"
 site_text (QAddr place) = codes "qa" ++ decimal place
 site_text (QVal place) = codes "qv" ++ decimal place
 
+-- the text is that of the site
+abbrev pub IsSiteText : List ℕ → Site → Type 0
+IsSiteText text site = IsSite site × (text ≡ site_text site)
+
 -- a strike has a text where its numbers are words and its site's place is one of the queue
 abbrev pub IsStrike : Strike → Type 0
 IsStrike strike = IsWord strike.step × IsSite strike.site × IsWord strike.value

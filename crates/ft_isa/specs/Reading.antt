@@ -6,8 +6,8 @@ use Rattle.ft_isa.specs.declared.plan.Site.TheVariants.{R, D, PcG, PcB, QAddr, Q
 use Rattle.ft_isa.specs.declared.plan.Strike.{Strike}
 use Rattle.ft_isa.specs.declared.plan.Wild.{Wild}
 use Rattle.ft_isa.specs.declared.plan.Wild.TheVariants as wilds
-use Rattle.ft_isa.specs.declared.strike_text.SiteRead.{SiteRead}
-use Rattle.ft_isa.specs.declared.strike_text.SiteRead.TheVariants as sites
+use Rattle.ft_isa.specs.declared.site_text.SiteRead.{SiteRead}
+use Rattle.ft_isa.specs.declared.site_text.SiteRead.TheVariants as sites
 use Rattle.ft_isa.specs.declared.strike_text.StrikeRead.{StrikeRead}
 use Rattle.ft_isa.specs.declared.strike_text.StrikeRead.TheVariants.{AtStep, AtSite, AtValue}
 use Rattle.ft_isa.specs.declared.wild_text.AnswerRead.{AnswerRead}

@@ -15,3 +15,15 @@ pub struct Basic {
     pub refs: u8,
     pub base: Base,
 }
+
+/// The basic type of all words.
+pub const INT: Basic = Basic {
+    refs: 0,
+    base: Base::Int,
+};
+
+/// The basic type of the addresses of cells of type `INT`.
+pub const REF_INT: Basic = Basic {
+    refs: 1,
+    base: Base::Int,
+};

@@ -1,8 +1,8 @@
 //! The words, instructions and plans of the machine.
 //!
 //! The crate promises that operations are arithmetic modulo 2^64, that a register's number is below
-//! 64, that an output's line is its cell's name and its value in decimal digits, and that the text
-//! of a strike or of wild answers is read exactly. Its definitions: `specs/Words.antt`,
+//! 64, that an output's line is its cell's name and its value in decimal digits, and that the texts
+//! of sites, strikes and wild answers are read exactly. Its definitions: `specs/Words.antt`,
 //! `specs/Registers.antt`, `specs/PlanText.antt`.
 #![tactic(auto)]
 
@@ -15,18 +15,20 @@ mod op;
 mod output;
 mod plan;
 mod reg;
+mod site_text;
 mod strike_text;
 mod wild_text;
 
-pub use basic::{Base, Basic};
+pub use basic::{Base, Basic, INT, REF_INT};
 pub use colour::{Colour, Coloured};
 pub use instr::{Instr, Subst};
 pub use memory::NoMemory;
 pub use number_text::read_number;
 pub use op::{Op, apply};
-pub use output::{LINE_ROOM, Output, write_line};
+pub use output::{FIRST_CELL, LINE_ROOM, Output, write_line};
 pub use plan::{Plan, Site, Strike, Wild};
 pub use reg::Reg;
+pub use site_text::read_site;
 pub use strike_text::{Form, read_strike};
 pub use wild_text::{WildError, read_wild};
 

@@ -11,6 +11,9 @@ pub struct Output {
     pub value: u64,
 }
 
+/// The address of the first cell; the others follow one by one.
+pub const FIRST_CELL: u64 = 1_048_576;
+
 /// The most bytes that an output's line takes: a name of at most 32 bytes, a space, 20 digits and a
 /// line feed.
 pub const LINE_ROOM: usize = 54;

@@ -1,11 +1,11 @@
 //! The text of a strike.
 ghost use Rattle.std.specs.Prelude.{◌≡◌, IfOk, IfErr, Ok};
-ghost use Rattle.ft_isa.specs.Reading.{with_register_digit, next_site, whole_site, next_strike, whole_strike};
+ghost use Rattle.ft_isa.specs.Reading.{next_strike, whole_strike};
 ghost use Rattle.ft_isa.specs.PlanText.{IsStrikeText, IsRefusedAt};
 
 use crate::number_text::with_digit;
 use crate::plan::{Site, Strike};
-use crate::reg::Reg;
+use crate::site_text::SiteRead;
 use thiserror::Error;
 
 /// The text is no text of a strike.
@@ -14,19 +14,6 @@ use thiserror::Error;
 pub struct Form {
     /// The length of the longest prefix of the text that begins the text of some strike.
     pub at: usize,
-}
-
-/// What was read of a site: its first letters, or all of it. A register's number may still go on.
-#[derive(Clone, Copy)]
-enum SiteRead {
-    Empty,
-    P,
-    Pc,
-    Q,
-    Qa,
-    Qv,
-    R,
-    Whole(Site),
 }
 
 /// What was read of a strike, by the part that was begun last.
@@ -42,49 +29,6 @@ enum StrikeRead {
         site: Site,
         value: Option<u64>,
     },
-}
-
-/// A register's number and one more digit; `None` where no register's number begins so.
-fn with_register_digit(number: Option<u8>, byte: u8) -> Option<SiteRead>
-    ensures { result ≡ with_register_digit number byte }
-{
-    let number = with_digit(number.map(u64::from), byte)?;
-    let reg = Reg::new(u8::try_from(number).ok()?)?;
-    Some(SiteRead::Whole(Site::R(reg)))
-}
-
-impl SiteRead {
-    /// What one more byte makes of the site; `None` where no site's text begins so.
-    fn next(self, byte: u8) -> Option<SiteRead>
-        ensures { result ≡ next_site self byte }
-    {
-        match (self, byte) {
-            (SiteRead::Empty, b'd') => Some(SiteRead::Whole(Site::D)),
-            (SiteRead::Empty, b'p') => Some(SiteRead::P),
-            (SiteRead::Empty, b'q') => Some(SiteRead::Q),
-            (SiteRead::Empty, b'r') => Some(SiteRead::R),
-            (SiteRead::P, b'c') => Some(SiteRead::Pc),
-            (SiteRead::Pc, b'g') => Some(SiteRead::Whole(Site::PcG)),
-            (SiteRead::Pc, b'b') => Some(SiteRead::Whole(Site::PcB)),
-            (SiteRead::Q, b'a') => Some(SiteRead::Qa),
-            (SiteRead::Q, b'v') => Some(SiteRead::Qv),
-            (SiteRead::Qa, b'0'..=b'7') => Some(SiteRead::Whole(Site::QAddr(byte - b'0'))),
-            (SiteRead::Qv, b'0'..=b'7') => Some(SiteRead::Whole(Site::QVal(byte - b'0'))),
-            (SiteRead::R, _) => with_register_digit(None, byte),
-            (SiteRead::Whole(Site::R(reg)), _) => with_register_digit(Some(reg.number()), byte),
-            _ => None,
-        }
-    }
-
-    /// The site, where its text was read whole.
-    fn whole(self) -> Option<Site>
-        ensures { result ≡ whole_site self }
-    {
-        match self {
-            SiteRead::Whole(site) => Some(site),
-            _ => None,
-        }
-    }
 }
 
 impl StrikeRead {

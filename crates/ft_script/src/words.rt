@@ -1,14 +1,10 @@
-//! The words of a line: numbers, registers and sites.
-ghost use Rattle.std.specs.Prelude.{◌≡◌, ◌≢◌, ◌<◌, ℕ, List, ◌++◌, All, length, codes, decimal, position, ◌==◌, Decides, IfSome, IfNone, MatchOption};
-ghost use Rattle.ft_isa.specs.Words.{IsWord};
-ghost use Rattle.ft_isa.specs.PlanText.{IsSite, site_text};
-ghost use Rattle.ft_script.specs.Commands.{IsCount, IsLineWord, site_of, register_text};
-ghost use Rattle.ft_isa.specs.declared.reg.Reg as reg;
-ghost use Rattle.ft_isa.specs.declared.plan.Site as site;
+//! The words of a line: numbers and registers.
+ghost use Rattle.std.specs.Prelude.{◌≡◌, ◌≢◌, ℕ, List, ◌++◌, All, length, codes, decimal, position, ◌==◌, Decides, IfSome, IfNone, MatchOption};
+ghost use Rattle.ft_script.specs.Commands.{IsCount, IsLineWord, register_text};
 ghost use Rattle.ft_script.specs.declared.register.Register as register;
 
 use crate::register::Register;
-use ft_isa::{Reg, Site, read_number};
+use ft_isa::{Site, read_number, read_site};
 
 /// The most steps of one command.
 const STEP_LIMIT: u64 = 1_000_000;
@@ -67,85 +63,19 @@ pub fn read_count(text: &[u8]) -> Option<u64>
     Some(count)
 }
 
-/// A general register by its number.
-fn read_reg(number: &[u8]) -> Option<Reg>
-    ensures some { IfSome result (λ r. number.now ≡ decimal r.number) }
-    ensures none { IfNone result ((r : reg.Reg) → number.now ≢ decimal r.number) }
-{
-    let Some(number) = read_number(number) else {
-        return None;
-    };
-    let Ok(number) = u8::try_from(number) else {
-        return None;
-    };
-    Reg::new(number)
-}
-
 /// A register: `r0` to `r63`, `d`, `pcg` or `pcb`.
 pub fn read_register(text: &[u8]) -> Option<Register>
     ensures some { IfSome result (λ r. text.now ≡ register_text r) }
     ensures none { IfNone result ((r : register.Register) → text.now ≢ register_text r) }
 {
-    if is_same(text, b"d") {
-        return Some(Register::D);
-    }
-    if is_same(text, b"pcg") {
-        return Some(Register::PcG);
-    }
-    if is_same(text, b"pcb") {
-        return Some(Register::PcB);
-    }
-    let Some(number) = after(text, b"r") else {
+    let Some(site) = read_site(text) else {
         return None;
     };
-    let Some(reg) = read_reg(number) else {
-        return None;
-    };
-    Some(Register::R(reg))
-}
-
-/// The site of a register.
-fn site_of(register: Register) -> Site
-    ensures { result ≡ site_of register }
-{
-    match register {
-        Register::R(reg) => Site::R(reg),
-        Register::D => Site::D,
-        Register::PcG => Site::PcG,
-        Register::PcB => Site::PcB,
+    match site {
+        Site::R(reg) => Some(Register::R(reg)),
+        Site::D => Some(Register::D),
+        Site::PcG => Some(Register::PcG),
+        Site::PcB => Some(Register::PcB),
+        Site::QAddr(_) | Site::QVal(_) => None,
     }
-}
-
-/// A place of the queue, 0 to 7, after a piece.
-fn read_place(text: &[u8], piece: &[u8]) -> Option<u8>
-    ensures some { IfSome result (λ n. (n < 8) × (text.now ≡ piece.now ++ decimal n)) }
-    ensures none { IfNone result ((n : ℕ) → n < 8 → text.now ≢ piece.now ++ decimal n) }
-{
-    let Some(number) = after(text, piece) else {
-        return None;
-    };
-    let Some(place) = read_number(number) else {
-        return None;
-    };
-    if place >= 8 {
-        return None;
-    }
-    Some(place as u8)
-}
-
-/// A site: a register, `qa0` to `qa7` or `qv0` to `qv7`.
-pub fn read_site(text: &[u8]) -> Option<Site>
-    ensures some { IfSome result (λ s. IsSite s × (text.now ≡ site_text s)) }
-    ensures none { IfNone result ((s : site.Site) → IsSite s → text.now ≢ site_text s) }
-{
-    if let Some(register) = read_register(text) {
-        return Some(site_of(register));
-    }
-    if let Some(place) = read_place(text, b"qa") {
-        return Some(Site::QAddr(place));
-    }
-    if let Some(place) = read_place(text, b"qv") {
-        return Some(Site::QVal(place));
-    }
-    None
 }

@@ -11,7 +11,7 @@ returns-in_default-split_word-clause-none c = λ s value h word e.
 pub returns-in_default-read_site-clause-none : goal.returns-in_default-read_site-clause-none
 returns-in_default-read_site-clause-none c = λ s value h word e.
     let parts = c.in-Some-split_word.ensures.only (site_text s) (decimal value) (site_no_space s h) (append_cancel_left (codes "zap ") c.in-Some.words.now (site_text s ++ codes " " ++ decimal value) (sym c.in-Some.ensures ∙ e)) in
-    c.in_default-read_site.ensures.none s h parts.0
+    let found = c.in_default-read_site.ensures.exact s (h, parts.0) in absurd cc
 
 pub returns-in_default-read_number-clause-none : goal.returns-in_default-read_number-clause-none
 returns-in_default-read_number-clause-none c = λ s value h word e.
