@@ -1,5 +1,2 @@
 pub mod Maps
-pub mod TypedWords
-pub mod Acceptance
 pub mod Counted
-pub mod TypingRows

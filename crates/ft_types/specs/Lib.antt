@@ -1,16 +1,3 @@
 pub mod Objects
 pub mod Spellable
-pub mod State
-pub mod Step
-pub mod StepTable
-pub mod Strike
-pub mod Run
-pub mod Agrees
 pub mod Texts
-pub mod TypedWord
-pub mod Premise
-pub mod Context
-pub mod TypingRow
-pub mod TypingTable
-pub mod Accepted
-pub mod Examples

@@ -1,0 +1,20 @@
+//! Laws of the machine's step, for all objects, states and answers to wild loads. Each function does
+//! nothing: its clause is the law.
+ghost use Rattle.std.specs.Prelude.{◌≡◌, List};
+ghost use Rattle.ft_isa.specs.declared.plan.Wild.{Wild};
+ghost use Rattle.ft_types.specs.declared.object.Object.{Object};
+ghost use Rattle.ft_semantics.specs.declared.status.Status.TheVariants.{Running};
+ghost use Rattle.ft_semantics.specs.State.{State};
+ghost use Rattle.ft_semantics.specs.Step.{step, quiet};
+ghost use Rattle.ft_semantics.specs.StepTable.{IsTheTable, IsStopped};
+
+/// The step of a running machine is the table of steps: whatever the object, the state and the
+/// answers left to wild loads, exactly one row of the table applies, and the step is that row's.
+pub fn steps_are_the_table()
+    ensures { (o : Object) (s : State) (w : List Wild) → s.status ≡ Running → IsTheTable o s w }
+{}
+
+/// A machine that is Done or Detected stays as it is, takes no answer and has no output.
+pub fn stopped_machines_stay()
+    ensures { (o : Object) (s : State) (w : List Wild) → IsStopped s → step o s w ≡ quiet s w }
+{}

@@ -1,5 +1,0 @@
-use Rattle.ft_types.proofs.Acceptance.{accepted_is_unrefused}
-use Rattle.ft_types.proofs.laws.acceptance_is_no_refusal.Goals as goal
-
-pub returns : goal.returns
-returns c = accepted_is_unrefused

@@ -1,5 +1,0 @@
-use Rattle.ft_types.proofs.TypedWords.{has_type_decides, is_seen_as_decides}
-use Rattle.ft_types.proofs.laws.types_are_tested.Goals as goal
-
-pub returns : goal.returns
-returns c = record { words = has_type_decides; seen = is_seen_as_decides }

@@ -1,0 +1,3 @@
+pub mod TypedWords
+pub mod Acceptance
+pub mod TypingRows

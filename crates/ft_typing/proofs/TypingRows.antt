@@ -1,0 +1,113 @@
+-- The typing rows are the table: each word of a row is a test of the table, and what comes after it.
+use Rattle.std.proofs.Common.{◌≡◌, ℕ, zero, suc, Bool, true, false, ◌&&◌, not, List, [], ◌∷◌, Option, Some, None, is_some, refl, ap, ◌∙◌, if◌then◌else◌}
+use Rattle.std.specs.Option.{unwrap_or}
+use Rattle.ft_isa.specs.declared.basic.Base.{Base}
+use Rattle.ft_isa.specs.declared.basic.Base.TheVariants.{Int, Code}
+use Rattle.ft_isa.specs.declared.basic.Basic.{Basic}
+use Rattle.ft_isa.specs.declared.colour.Colour.TheVariants.{Green, Blue}
+use Rattle.ft_isa.specs.declared.instr.Instr.{Instr}
+use Rattle.ft_isa.specs.declared.instr.Instr.TheVariants.{OpReg, OpWord, Mov, Ld, St, JmpG, JmpB, BzG, BzB, Halt}
+use Rattle.ft_static.specs.Form.{Polynomial, nought}
+use Rattle.ft_types.specs.declared.object.Object.{Object}
+use Rattle.ft_isa.specs.BasicTypes.{int}
+use Rattle.ft_typing.specs.declared.why.Why.TheVariants as premise
+use Rattle.ft_typing.specs.Premise.{Premise}
+use Rattle.ft_typing.specs.Context.{Typed, StateOfD, d_zero, d_code, d_conditional, FormPair, Context}
+use Rattle.ft_typing.specs.TypingRow.{Outcome, need, for_typed, for_ref_over, for_code_over, for_zero, for_target, for_conditional, for_oldest, is_empty, leads, row}
+use Rattle.ft_typing.specs.TypingTable.{Test, premise_of, refers, referred, leads_to_code, code_led_to, is_zero, is_code, is_conditional, code_of_d, form_of_d, test_of_d, oldest, others, holds, tests, effect, first_failing, refused_or, IsTheRow}
+
+-- what is known of a register, where nothing is
+abbrev unknown : Typed
+unknown = record { colour = Green; basic = int; form = nought }
+
+-- a list of tests as a chain: where the first one holds, what the others give
+judged : Object → Context → List Test → Outcome → Outcome
+judged o c [] e = e
+judged o c (t ∷ ts) e = need (premise_of t) (holds o c t) (judged o c ts e)
+
+-- a premise that is tested, before what others give
+need_or : (p : Premise) (b : Bool) (x e : Outcome) (f : Option Premise) → x ≡ refused_or f e → need p b x ≡ refused_or (if b then f else Some p) e
+unfolding need
+need_or p true x e f h = h
+need_or p false x e f h = refl
+
+-- the chain gives the premise of the first test that fails
+judged_is : (o : Object) (c : Context) (ts : List Test) (e : Outcome) → judged o c ts e ≡ refused_or (first_failing o c ts) e
+unfolding judged
+judged_is o c [] e = refl
+judged_is o c (t ∷ ts) e = need_or (premise_of t) (holds o c t) (judged o c ts e) e (first_failing o c ts) (judged_is o c ts e)
+
+-- a test, and what comes after it
+need_next : (p : Premise) (b : Bool) {x y : Outcome} → x ≡ y → need p b x ≡ need p b y
+need_next p b e = ap (need p b) e
+
+-- two tests of one premise
+need_both : (p : Premise) (a b : Bool) {x y : Outcome} → x ≡ y → need p (a && b) x ≡ need p a (need p b y)
+unfolding need
+need_both p true b e = ap (need p b) e
+need_both p false b e = refl
+
+-- Untyped
+typed_next : (x : Option Typed) (f : Typed → Outcome) {y : Outcome} → f (unwrap_or x unknown) ≡ y → for_typed x f ≡ need premise.Untyped (is_some x) y
+unfolding need for_typed
+typed_next None f e = refl
+typed_next (Some t) f e = e
+
+-- NotRef
+ref_next : (n : ℕ) (base : Base) (f : Basic → Outcome) {y : Outcome} → f (referred n base) ≡ y → for_ref_over n base f ≡ need premise.NotRef (refers n) y
+unfolding need for_ref_over
+ref_next zero base f e = refl
+ref_next (suc k) base f e = e
+
+-- NotCode
+code_next : (n : ℕ) (base : Base) (f : ℕ → Outcome) {y : Outcome} → f (code_led_to n base) ≡ y → for_code_over n base f ≡ need premise.NotCode (leads_to_code n base) y
+unfolding need for_code_over
+code_next zero Int f e = refl
+code_next zero (Code t) f e = e
+code_next (suc k) base f e = refl
+
+-- StateOfD, where Zero is wanted
+zero_next : (d : StateOfD) {x y : Outcome} → x ≡ y → for_zero d x ≡ need premise.StateOfD (is_zero d) y
+unfolding need for_zero
+zero_next d_zero e = e
+zero_next (d_code t f) e = refl
+zero_next (d_conditional z t f) e = refl
+
+-- StateOfD, where Code is wanted
+target_next : (d : StateOfD) (f : ℕ → Polynomial → Outcome) {y : Outcome} → f (code_of_d d) (form_of_d d) ≡ y → for_target d f ≡ need premise.StateOfD (is_code d) y
+unfolding need for_target
+target_next d_zero f e = refl
+target_next (d_code t p) f e = e
+target_next (d_conditional z t p) f e = refl
+
+-- StateOfD, where Conditional is wanted
+conditional_next : (d : StateOfD) (f : Polynomial → ℕ → Polynomial → Outcome) {y : Outcome} → f (test_of_d d) (code_of_d d) (form_of_d d) ≡ y → for_conditional d f ≡ need premise.StateOfD (is_conditional d) y
+unfolding need for_conditional
+conditional_next d_zero f e = refl
+conditional_next (d_code t p) f e = refl
+conditional_next (d_conditional z t p) f e = e
+
+-- QueueEmpty
+oldest_next : (q : List FormPair) (f : FormPair → List FormPair → Outcome) {y : Outcome} → f (oldest q) (others q) ≡ y → for_oldest q f ≡ need premise.QueueEmpty (not (is_empty q)) y
+unfolding need for_oldest is_empty
+oldest_next [] f e = refl
+oldest_next (p ∷ r) f e = e
+
+-- the row is the chain of its tests
+row_is_judged : (o : Object) (c : Context) (i : Instr) → row o c i ≡ judged o c (tests i) (effect c i)
+unfolding leads judged
+row_is_judged o c (OpReg op rd rs rt) = typed_next _ _ (typed_next _ _ refl)
+row_is_judged o c (OpWord op rd rs value) = typed_next _ _ refl
+row_is_judged o c (Mov rd value basic) = refl
+row_is_judged o c (Ld colour rd rs) = typed_next _ _ (need_next _ _ (ref_next _ _ _ refl))
+row_is_judged o c (St Green rd rs) = typed_next _ _ (typed_next _ _ (need_both _ _ _ (ref_next _ _ _ refl)))
+row_is_judged o c (St Blue rd rs) = typed_next _ _ (typed_next _ _ (need_both _ _ _ (ref_next _ _ _ (need_next _ _ (oldest_next _ _ refl)))))
+row_is_judged o c (JmpG rd) = typed_next _ _ (need_next _ _ (code_next _ _ _ (zero_next _ refl)))
+row_is_judged o c (JmpB rd u) = typed_next _ _ (need_next _ _ (code_next _ _ _ (target_next _ _ refl)))
+row_is_judged o c (BzG rz rd) = typed_next _ _ (typed_next _ _ (need_both _ _ _ (code_next _ _ _ (zero_next _ refl))))
+row_is_judged o c (BzB rz rd u) = typed_next _ _ (typed_next _ _ (need_both _ _ _ (code_next _ _ _ (conditional_next _ _ refl))))
+row_is_judged o c Halt = zero_next _ refl
+
+-- the row gives the premise of the first of its tests that fails, and else its effect
+pub row_is : (o : Object) (c : Context) (i : Instr) → IsTheRow o c i
+row_is o c i = row_is_judged o c i ∙ judged_is o c (tests i) (effect c i)

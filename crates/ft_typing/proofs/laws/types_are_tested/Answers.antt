@@ -1,0 +1,5 @@
+use Rattle.ft_typing.proofs.TypedWords.{has_type_decides, is_seen_as_decides}
+use Rattle.ft_typing.proofs.laws.types_are_tested.Goals as goal
+
+pub returns : goal.returns
+returns c = record { words = has_type_decides; seen = is_seen_as_decides }

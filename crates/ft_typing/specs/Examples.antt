@@ -1,0 +1,157 @@
+-- Short words for the objects of examples.
+use Rattle.std.specs.Prelude.{ℕ, List, [], ◌∷◌, slice_set, codes}
+use Rattle.std.proofs.Common.{lit<}
+use Rattle.ft_isa.specs.declared.colour.Colour.TheVariants.{Green, Blue}
+use Rattle.ft_isa.specs.declared.colour.Coloured.{Coloured}
+use Rattle.ft_isa.specs.declared.instr.Instr.{Instr}
+use Rattle.ft_isa.specs.declared.instr.Instr.TheVariants.{OpReg, OpWord, Mov, Ld, St, JmpG, JmpB, BzG, BzB, Halt}
+use Rattle.ft_isa.specs.declared.instr.Subst.{Subst}
+use Rattle.ft_isa.specs.declared.op.Op.TheVariants.{Add, Mul}
+use Rattle.ft_isa.specs.declared.reg.Reg.{Reg}
+use Rattle.ft_static.specs.declared.node.Node.{Node}
+use Rattle.ft_static.specs.declared.node.Shape.TheVariants as shape
+use Rattle.ft_types.specs.declared.object.Object.{Object}
+use Rattle.ft_types.specs.declared.object.Cell.{Cell}
+use Rattle.ft_types.specs.declared.object.CodeType.{CodeType}
+use Rattle.ft_isa.specs.BasicTypes.{int, code, ref}
+
+-- registers, r0 on of the green computation and r32 on of the blue one
+abbrev pub r0 : Reg
+r0 = record { number = 0; in_range = lit< tt }
+
+abbrev pub r1 : Reg
+r1 = record { number = 1; in_range = lit< tt }
+
+abbrev pub r2 : Reg
+r2 = record { number = 2; in_range = lit< tt }
+
+abbrev pub r3 : Reg
+r3 = record { number = 3; in_range = lit< tt }
+
+abbrev pub r9 : Reg
+r9 = record { number = 9; in_range = lit< tt }
+
+abbrev pub r32 : Reg
+r32 = record { number = 32; in_range = lit< tt }
+
+abbrev pub r33 : Reg
+r33 = record { number = 33; in_range = lit< tt }
+
+abbrev pub r34 : Reg
+r34 = record { number = 34; in_range = lit< tt }
+
+abbrev pub r35 : Reg
+r35 = record { number = 35; in_range = lit< tt }
+
+-- a green and a blue word
+abbrev pub green : ℕ → Coloured
+green w = record { colour = Green; word = w }
+
+abbrev pub blue : ℕ → Coloured
+blue w = record { colour = Blue; word = w }
+
+-- the address of the cell `out`, and of one after it
+abbrev pub out : ℕ
+out = 1048576
+
+abbrev pub two : ℕ
+two = 1048577
+
+-- a cell of type `int`
+abbrev pub int_cell : List ℕ → ℕ → Cell
+int_cell name init = record { name = name; basic = int; init = init }
+
+-- a code type that knows nothing but the memory variable, and one of an integer variable that r0 and r32 hold
+abbrev pub nothing_known : CodeType
+nothing_known = record { ints = 0; regs = []; queue = []; memory = 0 }
+
+abbrev pub variable_held : CodeType
+variable_held = record { ints = 1; regs = record { reg = r0; colour = Green; basic = int; expr = 1 } ∷ record { reg = r32; colour = Blue; basic = int; expr = 1 } ∷ []; queue = []; memory = 0 }
+
+-- the memory variable, an integer variable and the word 5
+abbrev pub three_nodes : List Node
+three_nodes = record { scope = 0; shape = shape.Memory } ∷ record { scope = 1; shape = shape.Var 0 } ∷ record { scope = 0; shape = shape.Word 5 } ∷ []
+
+-- these instructions as one block over the cell `out` with this initial word
+abbrev pub one_block : ℕ → List Instr → Object
+one_block init instrs = record {
+  cells = int_cell (codes "out") init ∷ [];
+  nodes = record { scope = 0; shape = shape.Memory } ∷ [];
+  types = nothing_known ∷ [];
+  blocks = record { start = 0; code_type = 0 } ∷ [];
+  instrs = instrs;
+  substs = [];
+  entry = 0;
+}
+
+-- these instructions as two blocks, of which the second begins here and has the variable's code type; the node 5 is put
+-- for the variable
+abbrev pub two_blocks : ℕ → List Instr → Object
+two_blocks second instrs = record {
+  cells = int_cell (codes "out") 0 ∷ [];
+  nodes = three_nodes;
+  types = nothing_known ∷ variable_held ∷ [];
+  blocks = record { start = 0; code_type = 0 } ∷ record { start = second; code_type = 1 } ∷ [];
+  instrs = instrs;
+  substs = 2 ∷ [];
+  entry = 0;
+}
+
+-- the substitution of the one row
+abbrev pub five : Subst
+five = record { first = 0; past = 1; memory = 0 }
+
+-- the list with another instruction at a place
+abbrev pub with_instr : ℕ → Instr → List Instr → List Instr
+with_instr k i is = slice_set is k i
+
+-- five is stored in `out`
+abbrev pub stores_five : List Instr
+stores_five =
+    Mov r0 (green out) (ref int) ∷ Mov r1 (green 5) int ∷ Mov r32 (blue out) (ref int) ∷ Mov r33 (blue 5) int
+    ∷ St Green r0 r1 ∷ St Blue r32 r33 ∷ Halt ∷ []
+
+-- five and six are stored; green reads six while both are pending, blue when both are committed; six is stored again
+abbrev pub reads_pending : List Instr
+reads_pending =
+    Mov r0 (green out) (ref int) ∷ Mov r1 (green 5) int ∷ Mov r2 (green 6) int
+    ∷ Mov r32 (blue out) (ref int) ∷ Mov r33 (blue 5) int ∷ Mov r34 (blue 6) int
+    ∷ St Green r0 r1 ∷ St Green r0 r2 ∷ Ld Green r3 r0 ∷ St Blue r32 r33 ∷ St Blue r32 r34 ∷ Ld Blue r35 r32
+    ∷ St Green r0 r3 ∷ St Blue r32 r35 ∷ Halt ∷ []
+
+-- `out` is doubled: by green as a product, by blue as a sum
+abbrev pub doubles : List Instr
+doubles =
+    Mov r0 (green out) (ref int) ∷ Ld Green r1 r0 ∷ OpWord Mul r2 r1 (green 2)
+    ∷ Mov r32 (blue out) (ref int) ∷ Ld Blue r33 r32 ∷ OpReg Add r34 r33 r33
+    ∷ St Green r0 r2 ∷ St Blue r32 r34 ∷ Halt ∷ []
+
+-- nine green stores
+abbrev pub stores_nine_times : List Instr
+stores_nine_times =
+    Mov r0 (green out) (ref int) ∷ Mov r1 (green 5) int
+    ∷ St Green r0 r1 ∷ St Green r0 r1 ∷ St Green r0 r1 ∷ St Green r0 r1 ∷ St Green r0 r1 ∷ St Green r0 r1
+    ∷ St Green r0 r1 ∷ St Green r0 r1 ∷ St Green r0 r1 ∷ Halt ∷ []
+
+-- the variable is stored in `out`
+abbrev pub stores_variable : List Instr
+stores_variable = Mov r2 (green out) (ref int) ∷ Mov r34 (blue out) (ref int) ∷ St Green r2 r0 ∷ St Blue r34 r32 ∷ Halt ∷ []
+
+-- five is handed to a block that stores it
+abbrev pub jumps : List Instr
+jumps =
+    Mov r0 (green 5) int ∷ Mov r32 (blue 5) int ∷ Mov r1 (green 7) (code 1) ∷ Mov r33 (blue 7) (code 1)
+    ∷ JmpG r1 ∷ JmpB r33 five ∷ stores_variable
+
+-- five is not zero, so the block isn't taken
+abbrev pub branches : List Instr
+branches =
+    Mov r0 (green 5) int ∷ Mov r32 (blue 5) int ∷ Mov r1 (green 8) (code 1) ∷ Mov r33 (blue 8) (code 1)
+    ∷ BzG r0 r1 ∷ BzB r32 r33 five ∷ Halt ∷ stores_variable
+
+-- five is stored before it is handed over, so the memory isn't the memory variable
+abbrev pub stores_and_jumps : List Instr
+stores_and_jumps =
+    Mov r0 (green 5) int ∷ Mov r32 (blue 5) int ∷ Mov r1 (green 11) (code 1) ∷ Mov r33 (blue 11) (code 1)
+    ∷ Mov r2 (green out) (ref int) ∷ Mov r34 (blue out) (ref int) ∷ St Green r2 r0 ∷ St Blue r34 r32
+    ∷ JmpG r1 ∷ JmpB r33 five ∷ stores_variable

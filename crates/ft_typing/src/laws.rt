@@ -1,0 +1,27 @@
+//! Laws of typing, for all objects and contexts. Each function does nothing: its clause is the law.
+ghost use Rattle.std.specs.Prelude.{◌≡◌, ◌↔◌, ℕ, None, Decides};
+ghost use Rattle.ft_isa.specs.declared.basic.Basic.{Basic};
+ghost use Rattle.ft_isa.specs.declared.instr.Instr.{Instr};
+ghost use Rattle.ft_types.specs.declared.object.Object.{Object};
+ghost use Rattle.ft_typing.specs.Context.{Context};
+ghost use Rattle.ft_typing.specs.TypingTable.{IsTheRow};
+ghost use Rattle.ft_typing.specs.TypedWord.{HasType, IsSeenAs, has_type, is_seen_as};
+ghost use Rattle.ft_typing.specs.Accepted.{IsAccepted, refusal};
+
+/// The typing rows are the table of typing rows: whatever the object and the context, the row of an
+/// instruction gives the premise of the first of its tests that fails, and where none fails its effect.
+pub fn rows_are_the_table()
+    ensures { (o : Object) (c : Context) (i : Instr) → IsTheRow o c i }
+{}
+
+/// The tests that the typing rows make of words and of basic types decide whether a word has a type
+/// and whether a type is seen as another.
+pub fn types_are_tested()
+    ensures words { (o : Object) (w : ℕ) (b : Basic) → Decides (has_type o w b) (HasType o w b) }
+    ensures seen { (a b : Basic) → Decides (is_seen_as a b) (IsSeenAs a b) }
+{}
+
+/// An object is accepted exactly when it has no refusal.
+pub fn acceptance_is_no_refusal()
+    ensures { (o : Object) → IsAccepted o ↔ refusal o ≡ None }
+{}

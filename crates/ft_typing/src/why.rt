@@ -1,0 +1,65 @@
+//! The premises of the typing rules.
+use thiserror::Error;
+
+/// The first failing premise of a typing rule. They are numbered from 1 in this order
+/// (`specs/Premise.antt`).
+#[derive(Clone, Copy, Debug, PartialEq, Eq, Error)]
+pub enum Why {
+    /// A register that the rule reads has no type.
+    #[error("a register that is read has no type")]
+    Untyped,
+    /// A register that the rule reads, or the word of an operation, has another colour than it wants.
+    #[error("a register or a word has another colour")]
+    Colour,
+    /// The stored value's type is not seen as the cell's type, or the word of a `mov` does not have the
+    /// claimed type.
+    #[error("a word has another basic type")]
+    BasicType,
+    /// The address register's basic type is no `ref`.
+    #[error("the address is not a ref")]
+    NotRef,
+    /// The target register's basic type is no `code`.
+    #[error("the target is not code")]
+    NotCode,
+    /// d is not in the state that the rule wants.
+    #[error("d is in another state")]
+    StateOfD,
+    /// The static queue has 8 pairs.
+    #[error("eight stores are pending")]
+    QueueFull,
+    /// The static queue is empty.
+    #[error("no store is pending")]
+    QueueEmpty,
+    /// The address is not the same as the oldest pair's address.
+    #[error("the addresses of a store differ")]
+    Addresses,
+    /// The value is not the same as the oldest pair's value.
+    #[error("the values of a store differ")]
+    Values,
+    /// The tested value is not the same as d's test.
+    #[error("the tested values of a branch differ")]
+    Conditions,
+    /// The code type differs from d's, or the target is not the same as d's form.
+    #[error("the targets of a transfer differ")]
+    Targets,
+    /// For some register of the target's code type, the register here has no type, another colour, a basic
+    /// type that is not seen as the target's, or a form that is not the same as the target's expression
+    /// under the substitution.
+    #[error("a register is not as the target wants it")]
+    RegisterUnlike,
+    /// The static queue differs in length from the target's, or a pair is not the same under the
+    /// substitution; at `halt`, the static queue is not empty.
+    #[error("the pending stores are not as the target wants them")]
+    QueueUnlike,
+    /// The memory form is not the same as the target's memory under the substitution.
+    #[error("the memory is not as the target wants it")]
+    MemoryUnlike,
+    /// The substitution's number of rows is not the target's number of integer variables, or a row or its
+    /// memory has a scope above this block's number of integer variables.
+    #[error("the substitution does not fit the target or this block")]
+    Annotation,
+    /// A blue jump or `halt` is not the last instruction of its block, or the last instruction is another
+    /// one.
+    #[error("the block does not end here")]
+    BlockEnd,
+}
