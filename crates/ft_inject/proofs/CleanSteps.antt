@@ -2,16 +2,16 @@
 use Rattle.std.proofs.Common.{◌≡◌, ◌≢◌, ◌+◌, List, Option, Some, None, refl, sym, ap, ◌∙◌}
 use Rattle.ft_isa.specs.declared.plan.Wild.{Wild}
 use Rattle.ft_isa.specs.declared.output.Output.{Output}
-use Rattle.ft_types.specs.declared.status.Status.{Status}
-use Rattle.ft_types.specs.declared.status.Status.TheVariants as status
-use Rattle.ft_types.specs.State.{State}
-use Rattle.ft_types.specs.Step.{Stepping, step}
-use Rattle.ft_types.specs.Run.{Ran, run-add_one, state_after, wild_after}
+use Rattle.ft_semantics.specs.declared.status.Status.{Status}
+use Rattle.ft_semantics.specs.declared.status.Status.TheVariants as status
+use Rattle.ft_semantics.specs.State.{State}
+use Rattle.ft_semantics.specs.Step.{Stepping, step}
+use Rattle.ft_semantics.specs.Run.{Ran, run-add_one, state_after, wild_after}
 use Rattle.ft_machine.specs.declared.machine.Stepped.TheVariants.{Detected}
 use Rattle.ft_machine.specs.Answers.{told, told_output}
 use Rattle.ft_inject.specs.Runs.{CleanRun, IsClean}
-use Rattle.ft_inject.proofs.Whole.{accepted_fits}
-use Rattle.ft_inject.proofs.AnyAnswers.{AreSame, step_same}
+use Rattle.ft_tolerance.proofs.Whole.{accepted_fits}
+use Rattle.ft_tolerance.proofs.AnyAnswers.{AreSame, step_same}
 
 -- the step is the same whatever answers are left
 pub clean_same : (r : CleanRun) (s : State) (w u v : List Wild) → IsClean r s → AreSame (step r.object s u) (step r.object (state_after r.object None w r.taken) v)

@@ -1,19 +1,47 @@
 -- A run that is struck once: its beginning, and a step of it.
-use Rattle.std.proofs.Common.{◌≡◌, ◌⊎◌, ℕ, ◌+◌, ◌<◌, if◌then◌else◌, List, None, Some, refl, sym, ap, ◌∙◌, subst, arith, eq-eqb, ne_eqb}
+use Rattle.std.proofs.Common.{◌≡◌, ◌⊎◌, inl, inr, ℕ, ◌+◌, ◌<◌, if◌then◌else◌, true, List, None, Some, refl, sym, ap, ◌∙◌, subst, arith, eq-eqb, ne_eqb}
 use Rattle.ft_isa.specs.declared.colour.Colour.{Colour}
 use Rattle.ft_isa.specs.declared.plan.Site.{Site}
 use Rattle.ft_isa.specs.declared.plan.Strike.{Strike}
 use Rattle.ft_isa.specs.declared.plan.Wild.{Wild}
-use Rattle.ft_types.specs.State.{State}
-use Rattle.ft_types.specs.Step.{step}
-use Rattle.ft_types.specs.Strike.{struck_state}
-use Rattle.ft_types.specs.Run.{Ran, run-add_one, state_after, wild_after}
-use Rattle.ft_machine.specs.declared.machine.Stepped.TheVariants.{Detected}
-use Rattle.ft_machine.specs.Answers.{told}
-use Rattle.ft_inject.specs.Alike.{IsAlikeOrDetected, IsAlikeAfter, colour_of_site}
+use Rattle.ft_types.specs.declared.object.Object.{Object}
+use Rattle.ft_types.specs.Spellable.{IsSpellable}
+use Rattle.ft_typing.specs.Accepted.{IsAccepted}
+use Rattle.ft_semantics.specs.declared.status.Status.{Status}
+use Rattle.ft_semantics.specs.declared.status.Status.TheVariants.{Running, Done, Detected}
+use Rattle.ft_semantics.specs.State.{State}
+use Rattle.ft_semantics.specs.Step.{Stepping, step, step_at}
+use Rattle.ft_semantics.specs.Strike.{is_there, struck_state}
+use Rattle.ft_semantics.specs.Run.{Ran, run-add_one, state_after, wild_after}
+use Rattle.ft_machine.specs.declared.machine.Stepped.TheVariants as stepped
+use Rattle.ft_machine.specs.Answers.{told, told_output, told_status}
+use Rattle.ft_tolerance.specs.TypedState.{Place}
+use Rattle.ft_tolerance.specs.Soundness.{EndsOrFits}
+use Rattle.ft_tolerance.specs.Alike.{Follows, keeps_alike, is_detected, IsAlikeOrDetected, is_alike, has_stopped, IsAlikeAfter, colour_of_site}
 use Rattle.ft_inject.specs.Runs.{CleanRun, IsClean, StruckRun, struck_now, IsStruckRun}
-use Rattle.ft_inject.proofs.Whole.{along, accepted_fits}
-use Rattle.ft_inject.proofs.Masking.{before, alike_at_once, alike_next, told_next}
+use Rattle.ft_tolerance.proofs.Whole.{along, accepted_fits}
+use Rattle.ft_tolerance.proofs.Masking.{before, alike_at_once, alike_next, follows_along}
+
+-- WHAT A STEP TELLS
+
+-- a state that was detected answers so
+detected_told : (o : Object) (x : Status) (t : State) (v : List Wild) → x ≡ Detected → t.status ≡ Detected → told (step_at o x t v) ≡ stepped.Detected
+detected_told o Running t v e d = cc
+detected_told o Done t v e d = cc
+detected_told o Detected t v e d = ap told_status d
+
+-- a step that follows another tells the same, or that it is detected
+follows_told : (c : Colour) (x y : Stepping) → Follows c x y → (told y ≡ told x) ⊎ (told y ≡ stepped.Detected)
+follows_told c x y (keeps_alike h e) = inl (ap (λ s. told_output y.output s) (sym h.status) ∙ ap (λ z. told_output z x.state.status) (sym e))
+follows_told c x y (is_detected d e) = inr (ap (λ z. told_output z y.state.status) e ∙ ap told_status d)
+
+-- a step from a state that is alike or detected tells what the other tells, or that it is detected
+told_next : (c : Colour) (o : Object) (p : Place) (s t : State) (w v : List Wild) → IsSpellable o → IsAccepted o → EndsOrFits o p s → IsAlikeOrDetected c s t
+    → (told (step o t v) ≡ told (step o s w)) ⊎ (told (step o t v) ≡ stepped.Detected)
+told_next c o p s t w v spelled acc fits (is_alike h) = follows_told c _ _ (follows_along c o p s t w v spelled acc fits h)
+told_next c o p s t w v spelled acc fits (has_stopped d) = inr (detected_told o t.status t v d d)
+
+-- BEGINNING AND STEPS
 
 -- the colour of the site that was struck
 abbrev struck_colour : StruckRun → Colour
@@ -26,9 +54,9 @@ struck_later r lt =
     ap (λ b. if b then struck_state s r.strike.site r.strike.value else s) (ne_eqb r.strike.step r.taken (λ e. omega (arith, e)))
 
 -- the strike of a run without a fault
-pub struck_begins : (r : CleanRun) (s t : State) (site : Site) (v : ℕ) (w : List Wild) → IsClean r s → t ≡ struck_state s site v
+pub struck_begins : (r : CleanRun) (s t : State) (site : Site) (v : ℕ) (w : List Wild) → IsClean r s → is_there s site ≡ true → t ≡ struck_state s site v
     → IsStruckRun (record { object = r.object; strike = record { step = r.taken; site = site; value = v }; wild = w; taken = r.taken }) t w
-struck_begins r s t site v w h e =
+struck_begins r s t site v w h found e =
     let x : Strike = record { step = r.taken; site = site; value = v } in
     let there = state_after r.object (Some x) w r.taken in
     let same = before r.object x w r.taken (omega arith) in
@@ -36,6 +64,7 @@ struck_begins r s t site v w h e =
       spellable = h.spellable;
       accepted = h.accepted;
       struck = omega arith;
+      there = sym (ap (λ u. is_there u site) (h.state w)) ∙ found;
       state =
           e
           ∙ ap (λ u. struck_state u site v) (h.state w ∙ ap (λ (y : Ran). y.state) same)
@@ -53,6 +82,7 @@ struck_next r s t left left' h es el =
       spellable = h.spellable;
       accepted = h.accepted;
       struck = omega (arith, le);
+      there = h.there;
       state =
           es
           ∙ ap (λ u. (step r.object u left).state) h.state
@@ -73,7 +103,7 @@ struck_next r s t left left' h es el =
 
 -- a step answers as that of the run without the fault, or that the run is detected
 pub struck_told : (r : StruckRun) (s : State) (left : List Wild) → IsStruckRun r s left
-    → (told (step r.object s left) ≡ told (step r.object (state_after r.object None r.wild r.taken) r.wild)) ⊎ (told (step r.object s left) ≡ Detected)
+    → (told (step r.object s left) ≡ told (step r.object (state_after r.object None r.wild r.taken) r.wild)) ⊎ (told (step r.object s left) ≡ stepped.Detected)
 struck_told r s left h =
     told_next (struck_colour r) r.object _ (state_after r.object None r.wild r.taken) s r.wild left h.spellable h.accepted
     (along r.object r.wild r.taken h.spellable h.accepted).after h.alike

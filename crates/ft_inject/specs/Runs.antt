@@ -1,14 +1,14 @@
 -- Runs of accepted programs, as their types keep them.
-use Rattle.std.specs.Prelude.{◌≡◌, ℕ, ◌≤◌, List, None, Some}
+use Rattle.std.specs.Prelude.{◌≡◌, ℕ, ◌≤◌, true, List, None, Some}
 use Rattle.ft_isa.specs.declared.plan.Strike.{Strike}
 use Rattle.ft_isa.specs.declared.plan.Wild.{Wild}
 use Rattle.ft_types.specs.declared.object.Object.{Object}
-use Rattle.ft_types.specs.Accepted.{IsAccepted}
+use Rattle.ft_typing.specs.Accepted.{IsAccepted}
 use Rattle.ft_types.specs.Spellable.{IsSpellable}
-use Rattle.ft_types.specs.State.{State}
-use Rattle.ft_types.specs.Strike.{struck_before}
-use Rattle.ft_types.specs.Run.{state_after, wild_after}
-use Rattle.ft_inject.specs.Alike.{IsAlikeAfter}
+use Rattle.ft_semantics.specs.State.{State}
+use Rattle.ft_semantics.specs.Strike.{is_there, struck_before}
+use Rattle.ft_semantics.specs.Run.{state_after, wild_after}
+use Rattle.ft_tolerance.specs.Alike.{IsAlikeAfter}
 
 -- a run without a fault: the object, and how many steps were taken
 pub record CleanRun : Type 0 where
@@ -34,12 +34,13 @@ pub record StruckRun : Type 0 where
 abbrev pub struck_now : StruckRun → State
 struck_now r = struck_before (Some r.strike) r.taken (state_after r.object (Some r.strike) r.wild r.taken)
 
--- the machine of a run that was struck, and the answers that are left; the machine is alike to that of the run without the
--- strike after as many steps, or it is detected
+-- the machine of a run that was struck, at a site that was there, and the answers that are left; the machine is alike to
+-- that of the run without the strike after as many steps, or it is detected
 pub record IsStruckRun (r : StruckRun) (s : State) (left : List Wild) : Type 0 where
   pub spellable : IsSpellable r.object
   pub accepted : IsAccepted r.object
   pub struck : r.strike.step ≤ r.taken
+  pub there : is_there (state_after r.object None r.wild r.strike.step) r.strike.site ≡ true
   pub state : s ≡ struck_now r
   pub left_is : left ≡ wild_after r.object (Some r.strike) r.wild r.taken
   pub alike : IsAlikeAfter r.object r.strike r.wild r.taken s

@@ -1,9 +1,9 @@
 //! Runs without a fault.
 ghost use Rattle.std.specs.Prelude.{◌≡◌, ◌≢◌, ◌+◌, ◌<◌, ◌^◌, true, false, List, None, IfOk};
 ghost use Rattle.ft_isa.specs.declared.plan.Wild.{Wild as Answer};
-ghost use Rattle.ft_types.specs.Run.{state_after};
-ghost use Rattle.ft_types.specs.Step.{step};
-ghost use Rattle.ft_types.specs.Strike.{is_there};
+ghost use Rattle.ft_semantics.specs.Run.{state_after};
+ghost use Rattle.ft_semantics.specs.Step.{step};
+ghost use Rattle.ft_semantics.specs.Strike.{is_there};
 ghost use Rattle.ft_machine.specs.Answers.{told};
 
 use crate::hit::Hit;

@@ -1,10 +1,9 @@
 //! Whole runs of accepted programs under a plan.
 ghost use Rattle.std.specs.Prelude.{◌≡◌, ◌≢◌, ◌≤◌, None};
-ghost use Rattle.ft_types.specs.Agrees.{Agrees};
-ghost use Rattle.ft_types.specs.Run.{outputs_after, status_after};
-ghost use Rattle.ft_types.specs.Texts.{lines};
-ghost use Rattle.ft_machine.specs.Drives.{EndsAs, Writes, Puts, output_lines, IsExcused};
-ghost use Rattle.ft_inject.specs.Soundness.{IsNeverDetected};
+ghost use Rattle.ft_semantics.specs.Agrees.{Agrees};
+ghost use Rattle.ft_semantics.specs.Run.{outputs_after, status_after};
+ghost use Rattle.ft_machine.specs.Drives.{EndsAs, Puts, output_lines, IsExcused};
+ghost use Rattle.ft_tolerance.specs.Soundness.{IsNeverDetected};
 
 use crate::clean::Clean;
 use ft_edge::Sink;
@@ -23,12 +22,10 @@ pub fn run<'a, P: Program, K: Sink>(
 ) -> RunEnd
     requires { start.taken ≡ 0 }
     ensures ends { EndsAs result (status_after start.entry.object plan.entry.strike plan.entry.wild.now steps) }
-    ensures writes { Writes result (K.written out.old) (K.written out.new)
-        (lines start.entry.object (outputs_after start.entry.object plan.entry.strike plan.entry.wild.now steps)) }
     ensures lines { Puts result (output_lines start.entry.object (outputs_after start.entry.object plan.entry.strike plan.entry.wild.now steps))
-        (K.written out.old) (K.written out.new) (K.puts out.old) (K.puts out.new) }
-    ensures count { K.faults out.old ≤ K.faults out.new }
-    ensures cause { IsExcused result (K.faults out.old) (K.faults out.new) }
+        (K.written out.old) (K.written out.new) (K.pieces out.old) (K.pieces out.new) }
+    ensures count { K.failures out.old ≤ K.failures out.new }
+    ensures cause { IsExcused result (K.failures out.old) (K.failures out.new) }
 
     // One fault is masked or detected: outputs and status agree with those of the run without it.
     ensures agrees { Agrees

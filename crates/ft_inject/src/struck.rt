@@ -1,9 +1,10 @@
 //! Runs that were struck once.
-ghost use Rattle.std.specs.Prelude.{◌≡◌, ◌⊎◌, ◌+◌, ◌<◌, ◌^◌, None, Some};
-ghost use Rattle.ft_types.specs.Run.{state_after, wild_after};
-ghost use Rattle.ft_types.specs.Step.{step};
+ghost use Rattle.std.specs.Prelude.{◌≡◌, ◌⊎◌, ◌+◌, ◌<◌, ◌^◌, true, None, Some};
+ghost use Rattle.ft_semantics.specs.Run.{state_after, wild_after};
+ghost use Rattle.ft_semantics.specs.Step.{step};
+ghost use Rattle.ft_semantics.specs.Strike.{is_there};
 ghost use Rattle.ft_machine.specs.Answers.{told};
-ghost use Rattle.ft_inject.specs.Alike.{IsAlikeAfter};
+ghost use Rattle.ft_tolerance.specs.Alike.{IsAlikeAfter};
 ghost use Rattle.ft_inject.specs.Runs.{struck_now};
 
 use ft_isa::{Strike, Wild};
@@ -51,9 +52,10 @@ impl<'a, 'w, P: Program> Struck<'a, 'w, P> {
     }
 
     /// The machine: after the strike and before the next step where none was taken since, and else
-    /// after the steps that were taken.
+    /// after the steps that were taken. The site that was struck was there.
     pub fn machine(&self) -> &Machine
         ensures now { result.now ≡ struck_now self.now }
+        ensures there { is_there (state_after self.now.object None self.now.wild self.now.strike.step) self.now.strike.site ≡ true }
         ensures after { self.now.strike.step < self.now.taken → result.now ≡ state_after self.now.object (Some self.now.strike) self.now.wild self.now.taken }
         ensures alike { IsAlikeAfter self.now.object self.now.strike self.now.wild self.now.taken result.now }
     {

@@ -1,5 +1,5 @@
 use Rattle.std.proofs.Common.{None, sym, ap, ◌∙◌}
-use Rattle.ft_types.specs.Run.{Ran, run-zero}
+use Rattle.ft_semantics.specs.Run.{Ran, run-zero}
 use Rattle.ft_inject.proofs.clean.Clean.start.Goals as goal
 
 pub invariant_of-result : goal.invariant_of-result

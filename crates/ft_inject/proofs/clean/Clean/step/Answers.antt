@@ -1,6 +1,6 @@
 use Rattle.std.proofs.Common.{None, sym, ap, ◌∙◌}
-use Rattle.ft_types.specs.Run.{state_after}
-use Rattle.ft_types.specs.Step.{step}
+use Rattle.ft_semantics.specs.Run.{state_after}
+use Rattle.ft_semantics.specs.Step.{step}
 use Rattle.ft_machine.specs.Answers.{told}
 use Rattle.ft_inject.specs.Runs.{CleanRun}
 use Rattle.ft_inject.proofs.CleanSteps.{clean_same, clean_next, told_same, clean_undetected}

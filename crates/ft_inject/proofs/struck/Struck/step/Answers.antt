@@ -1,6 +1,6 @@
 use Rattle.std.proofs.Common.{◌≡◌, ◌⊎◌, None, sym, subst}
-use Rattle.ft_types.specs.Run.{state_after}
-use Rattle.ft_types.specs.Step.{step}
+use Rattle.ft_semantics.specs.Run.{state_after}
+use Rattle.ft_semantics.specs.Step.{step}
 use Rattle.ft_machine.specs.declared.machine.Stepped.{Stepped}
 use Rattle.ft_machine.specs.declared.machine.Stepped.TheVariants.{Detected}
 use Rattle.ft_machine.specs.Answers.{told}

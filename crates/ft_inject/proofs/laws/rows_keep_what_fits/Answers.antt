@@ -1,5 +1,0 @@
-use Rattle.ft_inject.proofs.Places.{keeps}
-use Rattle.ft_inject.proofs.laws.rows_keep_what_fits.Goals as goal
-
-pub returns : goal.returns
-returns c o p s w spelled acc at go fits = keeps o p s w spelled acc at go fits

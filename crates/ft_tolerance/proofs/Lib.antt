@@ -1,0 +1,12 @@
+pub mod Lists
+pub mod Claims
+pub mod Forms
+pub mod Rows
+pub mod Transfers
+pub mod Wants
+pub mod Places
+pub mod Start
+pub mod Whole
+pub mod Alike
+pub mod Masking
+pub mod AnyAnswers

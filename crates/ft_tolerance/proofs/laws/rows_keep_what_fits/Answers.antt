@@ -1,0 +1,5 @@
+use Rattle.ft_tolerance.proofs.Places.{keeps}
+use Rattle.ft_tolerance.proofs.laws.rows_keep_what_fits.Goals as goal
+
+pub returns : goal.returns
+returns c o p s w spelled acc at go fits = keeps o p s w spelled acc at go fits

@@ -1,0 +1,3 @@
+pub mod TypedState
+pub mod Soundness
+pub mod Alike
