@@ -1,27 +1,32 @@
--- Calls numbered from 0, those that are to fail, and the count of faults.
-use Rattle.std.specs.Prelude.{ℕ, refl, ◌+◌, ◌-◌, ◌^◌, ◌==◌, min, Bool, List, [], ◌∷◌, ◌++◌}
+-- Calls numbered from 0, those that are to fail, and the count of failures.
+use Rattle.std.specs.Prelude.{ℕ, refl, ◌+◌, ◌-◌, ◌^◌, ◌==◌, min, Bool, List, [], ◌∷◌, ◌++◌, Option}
 use Rattle.std.specs.List.{list_any}
+use Rattle.std.specs.Option.{option_map}
 use Rattle.std.specs.Coded.{Coded, code_by, coded×, coded_list, coded_ℕ}
 
 -- the numbers of the calls that are to fail, the number of the next call, and how many calls failed
 pub record Calls : Type 0 where
   pub failing : List ℕ
   pub next : ℕ
-  pub faults : ℕ
+  pub failures : ℕ
 
 -- calls are stored as their three parts
 abbrev pub calls_code : Coded Calls
 calls_code =
-    code_by (List ℕ × (ℕ × ℕ)) (coded× (coded_list coded_ℕ) (coded× coded_ℕ coded_ℕ)) (λ c. (c.failing, (c.next, c.faults)))
-    (λ p. record { failing = p.0; next = p.1.0; faults = p.1.1 }) (λ _. refl)
+    code_by (List ℕ × (ℕ × ℕ)) (coded× (coded_list coded_ℕ) (coded× coded_ℕ coded_ℕ)) (λ c. (c.failing, (c.next, c.failures)))
+    (λ p. record { failing = p.0; next = p.1.0; failures = p.1.1 }) (λ _. refl)
 
 -- no call, and none that is to fail
 abbrev pub no_calls : Calls
-no_calls = record { failing = []; next = 0; faults = 0 }
+no_calls = record { failing = []; next = 0; failures = 0 }
 
 -- one more, or 2^64 - 1 where the count stands there
 abbrev pub next_count : ℕ → ℕ
 next_count n = min (n + 1) (2 ^ 64 - 1)
+
+-- one more, where the count is told
+abbrev pub one_more : Option ℕ → Option ℕ
+one_more count = option_map next_count count
 
 -- whether the number of the next call is one that is to fail
 abbrev pub is_to_fail : Calls → Bool
@@ -35,10 +40,10 @@ with_failing calls number = record calls { failing = calls.failing ++ number ∷
 abbrev pub after_call : Calls → Calls
 after_call calls = record calls { next = next_count calls.next }
 
--- after one more fault was counted
-abbrev pub after_fault : Calls → Calls
-after_fault calls = record calls { faults = next_count calls.faults }
+-- after one more failure was counted
+abbrev pub after_failure : Calls → Calls
+after_failure calls = record calls { failures = next_count calls.failures }
 
 -- after a call that failed
 abbrev pub after_failed_call : Calls → Calls
-after_failed_call calls = after_fault (after_call calls)
+after_failed_call calls = after_failure (after_call calls)

@@ -1,4 +1,4 @@
--- What a failed call shows in the count of faults, and what it adds to known bytes.
+-- What a failed call shows in the count of failures, and what it adds to known bytes.
 use Rattle.std.specs.Prelude.{◌≡◌, ℕ, ◌-◌, ◌^◌, ◌<◌, ◌⊎◌, List, ◌++◌, Option}
 use Rattle.std.specs.Io.KnownBytes.{append_known}
 

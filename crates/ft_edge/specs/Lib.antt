@@ -1,9 +1,10 @@
 pub mod Causes
+pub mod Told
 pub mod Puts
 pub mod Loads
 pub mod Streams
 pub mod Gathered
-pub mod FolderFaults
+pub mod FolderFailures
 pub mod Calls
 pub mod MemoryShelf
 pub mod MemorySource

@@ -1,6 +1,5 @@
 -- What a load of a file gives, and what its failure shows.
-use Rattle.std.specs.Prelude.{◌≡◌, ℕ, ◌+◌, ◌-◌, ◌^◌, ◌≤◌, ◌<◌, min, List, [], length, Option, Some, Result, Ok, Err, IfSome}
-use Rattle.std.specs.Option.{option_map}
+use Rattle.std.specs.Prelude.{◌≡◌, ℕ, ◌≤◌, ◌<◌, List, [], length, Option, Some, Result, Ok, Err, IfSome}
 use Rattle.std.specs.Ordering.{nat_cmp}
 use Rattle.std.specs.Cmp.Lexicographic.{slice_cmp}
 use Rattle.std.specs.FinMap.{FinMap, get}
@@ -19,10 +18,6 @@ pub record IsLonger (files : Files) (name : List ℕ) (limit : ℕ) : Type 0 whe
   pub bytes : List ℕ
   pub found : get files name ≡ Some bytes
   pub longer : limit < length bytes
-
--- the sum of the limits with one more, where it is known; it stands still at 2^64 - 1
-abbrev pub asked_more : ℕ → Option ℕ → Option ℕ
-asked_more limit asked = option_map (λ sum. min (sum + limit) (2 ^ 64 - 1)) asked
 
 -- what the vector holds afterwards: the whole file, which is within the limit, or nothing
 abbrev pub Loads : Option Files → List ℕ → ℕ → List ℕ → Result Load LoadFault → Type 0

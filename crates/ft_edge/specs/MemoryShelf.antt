@@ -1,32 +1,31 @@
 -- What a shelf in memory holds, and what its loads answer and leave.
-use Rattle.std.specs.Prelude.{ℕ, refl, ◌+◌, ◌-◌, ◌^◌, min, nat_lt, List, length, Option, Some, None, Result, Ok, Err, if◌then◌else◌}
+use Rattle.std.specs.Prelude.{ℕ, refl, nat_lt, List, length, Option, Some, None, Result, Ok, Err, if◌then◌else◌}
 use Rattle.std.specs.FinMap.{empty, get, insert, code}
 use Rattle.std.specs.Coded.{Coded, code_by, coded×, coded_list, coded_ℕ, coded_option}
 use Rattle.ft_edge.specs.declared.shelf.Load.{Load}
 use Rattle.ft_edge.specs.declared.shelf.Load.TheVariants.{Whole, TooLong}
 use Rattle.ft_edge.specs.declared.shelf.LoadFault.{LoadFault}
 use Rattle.ft_edge.specs.declared.shelf.LoadFault.TheVariants.{Failed, NoMemory}
-use Rattle.ft_edge.specs.Calls.{Calls, calls_code, no_calls, is_to_fail, with_failing, after_call, after_fault}
+use Rattle.ft_edge.specs.Calls.{Calls, calls_code, no_calls, is_to_fail, with_failing, after_call, after_failure}
 use Rattle.ft_edge.specs.Loads.{Files}
 
--- the files, the loads, the sum of their limits, and the name of the last load that failed
+-- the files, the loads, and the name of the last load that failed
 pub record MemoryShelf : Type 0 where
   pub files : Files
   pub calls : Calls
-  pub asked : ℕ
   pub failed_name : Option (List ℕ)
 
--- a shelf is stored as its four parts
+-- a shelf is stored as its three parts
 abbrev pub shelf_code : Coded MemoryShelf
 shelf_code =
-    code_by (Files × (Calls × (ℕ × Option (List ℕ))))
-    (coded× (code (coded_list coded_ℕ) (coded_list coded_ℕ)) (coded× calls_code (coded× coded_ℕ (coded_option (coded_list coded_ℕ)))))
-    (λ s. (s.files, (s.calls, (s.asked, s.failed_name))))
-    (λ p. record { files = p.0; calls = p.1.0; asked = p.1.1.0; failed_name = p.1.1.1 }) (λ _. refl)
+    code_by (Files × (Calls × Option (List ℕ)))
+    (coded× (code (coded_list coded_ℕ) (coded_list coded_ℕ)) (coded× calls_code (coded_option (coded_list coded_ℕ))))
+    (λ s. (s.files, (s.calls, s.failed_name)))
+    (λ p. record { files = p.0; calls = p.1.0; failed_name = p.1.1 }) (λ _. refl)
 
 -- no file, and nothing loaded
 abbrev pub empty_shelf : MemoryShelf
-empty_shelf = record { files = empty; calls = no_calls; asked = 0; failed_name = None }
+empty_shelf = record { files = empty; calls = no_calls; failed_name = None }
 
 -- the file stands under its name, in place of an earlier one
 abbrev pub with_file : MemoryShelf → List ℕ → List ℕ → MemoryShelf
@@ -36,7 +35,7 @@ with_file shelf name bytes = record shelf { files = insert shelf.files name byte
 abbrev pub with_failing_load : MemoryShelf → ℕ → MemoryShelf
 with_failing_load shelf number = record shelf { calls = with_failing shelf.calls number }
 
--- what a load answers that is not to fail: a name that is not held is a fault
+-- what a load answers that is not to fail: a name that is not held is a failure
 abbrev pub answer_to : Option (List ℕ) → ℕ → Result Load LoadFault
 answer_to None limit = Err Failed
 answer_to (Some bytes) limit = if nat_lt limit (length bytes) then Ok TooLong else Ok Whole
@@ -45,16 +44,16 @@ answer_to (Some bytes) limit = if nat_lt limit (length bytes) then Ok TooLong el
 abbrev pub load_answer : MemoryShelf → List ℕ → ℕ → Result Load LoadFault
 load_answer shelf name limit = if is_to_fail shelf.calls then Err Failed else answer_to (get shelf.files name) limit
 
--- the shelf after a fault at this name was counted
-abbrev pub after_fault_at : MemoryShelf → List ℕ → MemoryShelf
-after_fault_at shelf name = record shelf { calls = after_fault shelf.calls; failed_name = Some name }
+-- the shelf after a failure at this name was counted
+abbrev pub after_failure_at : MemoryShelf → List ℕ → MemoryShelf
+after_failure_at shelf name = record shelf { calls = after_failure shelf.calls; failed_name = Some name }
 
--- the shelf after one more load with this limit
-abbrev pub after_load_call : MemoryShelf → ℕ → MemoryShelf
-after_load_call shelf limit = record shelf { calls = after_call shelf.calls; asked = min (shelf.asked + limit) (2 ^ 64 - 1) }
+-- the shelf after one more load
+abbrev pub after_load_call : MemoryShelf → MemoryShelf
+after_load_call shelf = record shelf { calls = after_call shelf.calls }
 
--- the shelf after a load of this name and limit with this answer
-abbrev pub after_load : MemoryShelf → List ℕ → ℕ → Result Load LoadFault → MemoryShelf
-after_load shelf name limit (Ok load) = after_load_call shelf limit
-after_load shelf name limit (Err NoMemory) = after_load_call shelf limit
-after_load shelf name limit (Err Failed) = after_fault_at (after_load_call shelf limit) name
+-- the shelf after a load of this name with this answer
+abbrev pub after_load : MemoryShelf → List ℕ → Result Load LoadFault → MemoryShelf
+after_load shelf name (Ok load) = after_load_call shelf
+after_load shelf name (Err NoMemory) = after_load_call shelf
+after_load shelf name (Err Failed) = after_failure_at (after_load_call shelf) name

@@ -8,4 +8,4 @@ use Rattle.ft_edge.specs.Stored.{entry_of}
 
 -- of two files with one name the first counts
 abbrev pub shelf_of : Inside → MemoryShelf
-shelf_of s = record { files = from_entries (map entry_of s.files.items); calls = s.calls; asked = s.asked; failed_name = known_text s.failed }
+shelf_of s = record { files = from_entries (map entry_of s.files.items); calls = s.calls; failed_name = known_text s.failed }

@@ -11,7 +11,7 @@ use std::marker::Model;
 pub(crate) struct Counter {
     failing: Vec<u64>,
     next: u64,
-    faults: u64,
+    failures: u64,
 }
 
 impl Model for Counter {
@@ -19,11 +19,11 @@ impl Model for Counter {
 
     ghost Value = { Calls };
 
-    ghost view = { λ s. record { failing = s.failing.items; next = s.next; faults = s.faults } };
+    ghost view = { λ s. record { failing = s.failing.items; next = s.next; failures = s.failures } };
 }
 
 impl Counter {
-    ghost use Rattle.ft_edge.specs.Calls.{no_calls, is_to_fail, with_failing, after_call, after_fault};
+    ghost use Rattle.ft_edge.specs.Calls.{no_calls, is_to_fail, with_failing, after_call, after_failure};
 
     /// No call, and none that is to fail.
     pub(crate) fn new(alloc: Global) -> Counter
@@ -32,7 +32,7 @@ impl Counter {
         Counter {
             failing: Vec::new(alloc),
             next: 0,
-            faults: 0,
+            failures: 0,
         }
     }
 
@@ -56,10 +56,10 @@ impl Counter {
     }
 
     /// Counts that the call failed.
-    pub(crate) fn count_fault(&mut self)
-        ensures after { self.new ≡ after_fault self.old }
-        ensures count { self.old.faults ≤ self.new.faults }
+    pub(crate) fn count_failure(&mut self)
+        ensures after { self.new ≡ after_failure self.old }
+        ensures count { self.old.failures ≤ self.new.failures }
     {
-        self.faults = self.faults.saturating_add(1);
+        self.failures = self.failures.saturating_add(1);
     }
 }

@@ -1,7 +1,7 @@
 //! A failed take or put.
 use thiserror::Error;
 
-/// A take or a put failed, and the count of faults rose.
+/// A take or a put failed, and the count of failures rose.
 #[derive(Clone, Copy, Debug, PartialEq, Eq, Error)]
 #[error("reading or writing failed")]
 pub struct Failed;

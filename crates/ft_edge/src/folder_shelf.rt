@@ -1,41 +1,95 @@
 //! Files of the system, by path.
-ghost use Rattle.std.specs.Prelude.{◌≡◌, ◌≤◌, ◌<◌, ◌+◌, [], length, None, Ok, IfSome};
+ghost use Rattle.std.specs.Prelude.{◌≡◌, ◌≤◌, ◌<◌, ◌+◌, [], length, take, drop, None, Ok, IfOk, IfSome, OnOk, OnErr};
+ghost use Rattle.std.specs.Io.KnownBytes.{Consumes, Keeps, IsAtEnd};
 ghost use Rattle.ft_edge.specs.Loads.{LoadsStream};
 ghost use Rattle.ft_edge.specs.Streams.{ConsumesAtMost};
 
-use crate::system::read_once;
+use crate::system::read_past;
 use crate::{Load, LoadFault, Shelf};
 use std::alloc::Global;
-use std::fs::File;
+use std::fs::{File, OpenFile};
 use std::io::Read;
 use std::marker::Model;
 use std::rt::Files;
 
-/// How many bytes are read at once at most.
-const PIECE: usize = 65_536;
+/// How much room is made at least for a read.
+const LEAST: usize = 65_536;
 
 /// Files of the system, by path. It does not tell them. A file that is missing or cannot be read is a
-/// fault, and the count of faults stands still at 2^64 - 1.
+/// failure, and the count of failures stands still at 2^64 - 1.
 #[derive(Drop)]
 pub struct FolderShelf<R: Files> {
     rt: R,
     alloc: Global,
-    faults: u64,
+    failures: u64,
     failed: Option<String>,
 }
 
 impl<R: Files> Model for FolderShelf<R> {
-    ghost use Rattle.ft_edge.specs.FolderFaults.{FolderFaults};
+    ghost use Rattle.ft_edge.specs.FolderFailures.{FolderFailures};
     ghost use Rattle.ft_edge.specs.Known.{known_text};
 
-    ghost Value = { FolderFaults };
+    ghost Value = { FolderFailures };
 
-    ghost view = { λ s. record { count = s.faults; failed_name = known_text s.failed } };
+    ghost view = { λ s. record { count = s.failures; failed_name = known_text s.failed } };
 }
 
-/// Reads a file to its end, or to one byte past the limit. What was read stays in the vector, also
-/// where the file is too long or a read failed.
-fn fill<F: Read>(file: &mut F, limit: usize, into: &mut Vec<u8>) -> Result<Load, LoadFault>
+/// Makes the vector longer than what is filled of it, for so many bytes where they are known and else
+/// as long again, and up to one byte past the limit.
+fn make_room(into: &mut Vec<u8>, filled: usize, limit: usize, size: usize) -> Result<(), LoadFault>
+    requires few { filled ≤ limit }
+    requires part { filled ≤ length into.old.items }
+    requires short { length into.old.items ≤ limit + 1 }
+    ensures front { take filled into.new.items ≡ take filled into.old.items }
+    ensures room { OnOk result (filled < length into.new.items) }
+    ensures part { filled ≤ length into.new.items }
+    ensures within { length into.new.items ≤ limit + 1 }
+{
+    if filled < into.len() {
+        return Ok(());
+    }
+    let more = size.max(filled).max(LEAST);
+    let last = (limit - filled).min(more) + filled;
+    match last.checked_add(1) {
+        Some(end) => into.resize(end, 0).map_err(|_| LoadFault::NoMemory),
+        None => Err(LoadFault::NoMemory),
+    }
+}
+
+/// Reads once, into the room of the vector past what is filled of it.
+fn read_more<F: Read>(
+    file: &mut F,
+    filled: usize,
+    limit: usize,
+    size: usize,
+    into: &mut Vec<u8>,
+) -> Result<usize, LoadFault>
+    requires few { filled ≤ limit }
+    requires part { filled ≤ length into.old.items }
+    requires short { length into.old.items ≤ limit + 1 }
+    ensures front { take filled into.new.items ≡ take filled into.old.items }
+    ensures fits { IfOk result (λ count. filled + count ≤ length into.new.items) }
+    ensures within { length into.new.items ≤ limit + 1 }
+    ensures bytes { IfOk result (λ count. Consumes (F.remaining file.old) (F.remaining file.new) (take count (drop filled into.new.items))) }
+    ensures end { IfOk result (λ count. count ≡ 0 → IsAtEnd (F.remaining file.new)) }
+    ensures err { OnErr result (Keeps (F.remaining file.old) (F.remaining file.new)) }
+{
+    make_room(into, filled, limit, size)?;
+    match read_past(file, into.as_mut_slice(), filled) {
+        Ok(count) => Ok(count),
+        Err(_) => Err(LoadFault::Failed),
+    }
+}
+
+/// Reads a file to its end, or to one byte past the limit, in the room of the vector. The size is how
+/// many bytes the file is said to have. Where the file is too long or a read failed, the vector holds
+/// what was read and what is left of the room.
+fn fill<F: Read>(
+    file: &mut F,
+    limit: usize,
+    size: usize,
+    into: &mut Vec<u8>,
+) -> Result<Load, LoadFault>
     requires { into.old.items ≡ [] }
     ensures within { result ≡ Ok Load.Whole → length into.new.items ≤ limit }
     ensures whole { result ≡ Ok Load.Whole →
@@ -44,30 +98,38 @@ fn fill<F: Read>(file: &mut F, limit: usize, into: &mut Vec<u8>) -> Result<Load,
         IfSome (F.remaining file.old) (λ bytes. limit < length bytes) }
     ensures read { ConsumesAtMost (F.remaining file.old) (F.remaining file.new) (limit + 1) }
 {
-    let mut piece = [0u8; PIECE];
-    while into.len() <= limit {
-        let room = (limit - into.len()).min(PIECE - 1) + 1;
-        let count = match read_once(file, &mut piece[..room]) {
-            Ok(count) => count,
-            Err(_) => return Err(LoadFault::Failed),
-        };
+    let mut filled = 0;
+    while filled <= limit {
+        let count = read_more(file, filled, limit, size, into)?;
         if count == 0 {
+            into.truncate(filled);
             return Ok(Load::Whole);
         }
-        if into.extend_from_slice(&piece[..count]).is_err() {
-            return Err(LoadFault::NoMemory);
-        }
+        filled += count;
     }
     Ok(Load::TooLong)
 }
 
+/// How many bytes an open file is said to have, or 0 where it does not say.
+fn size_of_file<F: OpenFile>(file: &F) -> usize {
+    match file.metadata() {
+        Ok(metadata) => usize::try_from(metadata.len()).unwrap_or(0),
+        Err(_) => 0,
+    }
+}
+
 /// Loads a file that is open.
-fn load_from<F: Read>(file: &mut F, limit: usize, into: &mut Vec<u8>) -> Result<Load, LoadFault>
+fn load_from<F: Read>(
+    file: &mut F,
+    limit: usize,
+    size: usize,
+    into: &mut Vec<u8>,
+) -> Result<Load, LoadFault>
     requires { into.old.items ≡ [] }
     ensures loads { LoadsStream (F.remaining file.old) limit into.new.items result }
     ensures read { ConsumesAtMost (F.remaining file.old) (F.remaining file.new) (limit + 1) }
 {
-    match fill(file, limit, into) {
+    match fill(file, limit, size, into) {
         Ok(Load::Whole) => Ok(Load::Whole),
         answer => {
             into.clear();
@@ -77,16 +139,16 @@ fn load_from<F: Read>(file: &mut F, limit: usize, into: &mut Vec<u8>) -> Result<
 }
 
 impl<R: Files> FolderShelf<R> {
-    ghost use Rattle.ft_edge.specs.FolderFaults.{no_faults};
+    ghost use Rattle.ft_edge.specs.FolderFailures.{no_failures};
 
     /// A shelf over the files that the runtime reaches, which keeps the allocator.
     pub fn new(rt: R, alloc: Global) -> FolderShelf<R>
-        ensures { result ≡ no_faults }
+        ensures { result ≡ no_failures }
     {
         FolderShelf {
             rt,
             alloc,
-            faults: 0,
+            failures: 0,
             failed: None,
         }
     }
@@ -95,11 +157,9 @@ impl<R: Files> FolderShelf<R> {
 impl<R: Files> Shelf for FolderShelf<R> {
     ghost files = { λ _. None };
 
-    ghost faults = { λ faults. faults.count };
+    ghost failures = { λ failures. failures.count };
 
-    ghost failed_name = { λ faults. faults.failed_name };
-
-    ghost loads = { λ _. None };
+    ghost failed_name = { λ failures. failures.failed_name };
 
     ghost asked = { λ _. None };
 
@@ -110,11 +170,14 @@ impl<R: Files> Shelf for FolderShelf<R> {
             Err(_) => return Err(LoadFault::NoMemory),
         };
         let answer = match File::open(&self.rt, name) {
-            Ok(mut file) => load_from(&mut file, limit, into),
+            Ok(mut file) => {
+                let size = size_of_file(&file);
+                load_from(&mut file, limit, size, into)
+            }
             Err(_) => Err(LoadFault::Failed),
         };
         if let Err(LoadFault::Failed) = answer {
-            self.faults = self.faults.saturating_add(1);
+            self.failures = self.failures.saturating_add(1);
             self.failed = Some(copy);
         }
         answer

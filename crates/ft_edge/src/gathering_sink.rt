@@ -19,7 +19,7 @@ const ROOM: usize = 65_536;
 #[derive(Drop)]
 pub struct GatheringSink<W: Write + Drop> {
     out: BufWriter<W>,
-    faults: u64,
+    failures: u64,
 }
 
 impl<W: Write + Drop> GatheringSink<W> {
@@ -28,10 +28,10 @@ impl<W: Write + Drop> GatheringSink<W> {
     /// A sink over this writer. The room is reserved here, so that no put takes memory.
     pub fn new(alloc: Global, writer: W) -> Result<GatheringSink<W>, NoMemory>
         ensures empty { IfOk result (λ sink. Keeps (W.contents writer) (written_to W.contents sink)) }
-        ensures count { IfOk result (λ sink. sink.faults ≡ 0) }
+        ensures count { IfOk result (λ sink. sink.failures ≡ 0) }
     {
         match BufWriter::with_capacity(alloc, ROOM, writer) {
-            Ok(out) => Ok(GatheringSink { out, faults: 0 }),
+            Ok(out) => Ok(GatheringSink { out, failures: 0 }),
             Err(_) => Err(NoMemory),
         }
     }
@@ -40,7 +40,7 @@ impl<W: Write + Drop> GatheringSink<W> {
     pub fn finish(self) -> Result<W, Failed>
         ensures { IfOk result (λ writer. Keeps (written_to W.contents self) (W.contents writer)) }
     {
-        let GatheringSink { out, faults: _ } = self;
+        let GatheringSink { out, failures: _ } = self;
         match out.into_inner() {
             Ok(writer) => Ok(writer),
             Err(error) => {
@@ -54,7 +54,7 @@ impl<W: Write + Drop> GatheringSink<W> {
     pub fn discard(self) -> W
         ensures { (sink_writer self) ≡ result }
     {
-        let GatheringSink { out, faults: _ } = self;
+        let GatheringSink { out, failures: _ } = self;
         let (writer, _) = out.into_parts();
         writer
     }
@@ -65,17 +65,17 @@ impl<W: Write + Drop> Sink for GatheringSink<W> {
 
     ghost written = { λ _. None };
 
-    ghost faults = { λ sink. sink.faults };
+    ghost failures = { λ sink. sink.failures };
 
-    ghost puts = { λ _. None };
+    ghost pieces = { λ _. None };
 
     fn put(&mut self, bytes: &[u8]) -> Result<(), Failed>
         ensures gathers { OnOk result (Appends (written_to W.contents self.old) (written_to W.contents self.new) bytes.now) }
         ensures front { OnErr result (AppendsFront (written_to W.contents self.old) (written_to W.contents self.new) bytes.now) }
-        ensures count { self.old.faults ≤ self.new.faults }
-        ensures same_count { OnOk result (self.new.faults ≡ self.old.faults) }
-        ensures counted { OnErr result (self.new.faults ≡ next_count self.old.faults) }
+        ensures count { self.old.failures ≤ self.new.failures }
+        ensures same_count { OnOk result (self.new.failures ≡ self.old.failures) }
+        ensures counted { OnErr result (self.new.failures ≡ next_count self.old.failures) }
     {
-        put_to(&mut self.out, bytes, &mut self.faults)
+        put_to(&mut self.out, bytes, &mut self.failures)
     }
 }

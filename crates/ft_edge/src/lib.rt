@@ -1,4 +1,4 @@
-//! The outside: files on a shelf, a script to take and an output to put, each with a count of faults.
+//! The outside: files on a shelf, a script to take and an output to put, each with a count of failures.
 //!
 //! The crate promises what a call does to the content where it is told, that a call fails only where
 //! the count rose, and what each implementation in memory answers exactly. Its definitions:

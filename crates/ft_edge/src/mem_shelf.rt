@@ -1,5 +1,5 @@
 //! Files in memory, with loads that are to fail.
-ghost use Rattle.std.specs.Prelude.{◌≡◌, ◌≢◌, ◌≤◌, [], map, string_bytes, Err, Some, OnOk, OnErr};
+ghost use Rattle.std.specs.Prelude.{◌≡◌, ◌≢◌, ◌≤◌, [], map, string_bytes, Err, None, Some, OnOk, OnErr};
 ghost use Rattle.std.specs.Option.{option_map};
 ghost use Rattle.std.specs.Ordering.{nat_cmp};
 ghost use Rattle.std.specs.Cmp.Lexicographic.{slice_cmp};
@@ -20,14 +20,14 @@ struct Stored {
     bytes: Vec<u8>,
 }
 
-/// Files in memory, with loads that are to fail. It tells its files.
+/// Files in memory, with loads that are to fail. It tells its files, and not its loads: to keep the name
+/// of each load, also where there is no memory, it would need memory.
 #[derive(Drop)]
 pub struct MemShelf {
     alloc: Global,
     // The newest first: a file hides the earlier ones of its name.
     files: VecDeque<Stored>,
     calls: Counter,
-    asked: u64,
     failed: Option<String>,
 }
 
@@ -44,7 +44,7 @@ impl Model for MemShelf {
 }
 
 impl MemShelf {
-    ghost use Rattle.ft_edge.specs.MemoryShelf.{empty_shelf, with_file, with_failing_load, after_fault_at};
+    ghost use Rattle.ft_edge.specs.MemoryShelf.{empty_shelf, with_file, with_failing_load, after_failure_at};
 
     /// A shelf with no file, which keeps the allocator.
     pub fn new(alloc: Global) -> MemShelf
@@ -54,7 +54,6 @@ impl MemShelf {
             alloc,
             files: VecDeque::new(alloc),
             calls: Counter::new(alloc),
-            asked: 0,
             failed: None,
         }
     }
@@ -83,12 +82,12 @@ impl MemShelf {
     }
 
     /// Counts a load of this name that failed.
-    fn fault(&mut self, name: String) -> LoadFault
-        ensures fault { result ≡ LoadFault.Failed }
-        ensures after { self.new ≡ after_fault_at self.old (string_bytes name) }
-        ensures count { self.old.calls.faults ≤ self.new.calls.faults }
+    fn failure(&mut self, name: String) -> LoadFault
+        ensures failure { result ≡ LoadFault.Failed }
+        ensures after { self.new ≡ after_failure_at self.old (string_bytes name) }
+        ensures count { self.old.calls.failures ≤ self.new.calls.failures }
     {
-        self.calls.count_fault();
+        self.calls.count_failure();
         self.failed = Some(name);
         LoadFault::Failed
     }
@@ -113,31 +112,28 @@ impl Shelf for MemShelf {
 
     ghost files = { λ shelf. Some shelf.files };
 
-    ghost faults = { λ shelf. shelf.calls.faults };
+    ghost failures = { λ shelf. shelf.calls.failures };
 
     ghost failed_name = { λ shelf. shelf.failed_name };
 
-    ghost loads = { λ shelf. Some shelf.calls.next };
+    ghost asked = { λ _. None };
 
-    ghost asked = { λ shelf. Some shelf.asked };
-
-    /// Loads the file of a name. A name that the shelf does not hold is a fault. A load that finds no
-    /// memory is a call like any other, and counts no fault.
+    /// Loads the file of a name. A name that the shelf does not hold is a failure. A load that finds no
+    /// memory is a call like any other, and counts no failure.
     fn load(&mut self, name: &str, limit: usize, into: &mut Vec<u8>) -> Result<Load, LoadFault>
         requires { into.old.items ≡ [] }
         ensures loads { Loads (Some self.old.files) name.now limit into.new.items result }
         ensures answer { result ≢ Err LoadFault.NoMemory → result ≡ load_answer self.old name.now limit }
-        ensures after { self.new ≡ after_load self.old name.now limit result }
-        ensures count { self.old.calls.faults ≤ self.new.calls.faults }
+        ensures after { self.new ≡ after_load self.old name.now result }
+        ensures count { self.old.calls.failures ≤ self.new.calls.failures }
     {
         let is_to_fail = self.calls.begin();
-        self.asked = self.asked.saturating_add(limit as u64);
         let copy = match String::from_str(self.alloc, name) {
             Ok(copy) => copy,
             Err(_) => return Err(LoadFault::NoMemory),
         };
         if is_to_fail {
-            return Err(self.fault(copy));
+            return Err(self.failure(copy));
         }
         match find_bytes(&self.files, name) {
             Some(bytes) if bytes.len() > limit => Ok(Load::TooLong),
@@ -145,7 +141,7 @@ impl Shelf for MemShelf {
                 Ok(()) => Ok(Load::Whole),
                 Err(_) => Err(LoadFault::NoMemory),
             },
-            None => Err(self.fault(copy)),
+            None => Err(self.failure(copy)),
         }
     }
 }

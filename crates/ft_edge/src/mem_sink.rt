@@ -1,5 +1,5 @@
 //! Bytes written to memory, with puts that are to fail.
-ghost use Rattle.std.specs.Prelude.{◌≡◌, ◌≤◌, Some, is_err, IfOk, OnOk, OnErr};
+ghost use Rattle.std.specs.Prelude.{◌≡◌, ◌≤◌, None, Some, is_err, IfOk, OnOk, OnErr};
 
 use crate::counter::Counter;
 use crate::{Failed, Sink};
@@ -7,7 +7,8 @@ use ft_isa::NoMemory;
 use std::alloc::Global;
 use std::marker::Model;
 
-/// Bytes written to memory, with puts that are to fail. It tells its bytes.
+/// Bytes written to memory, with puts that are to fail. It tells its bytes, and not its pieces: to keep
+/// each piece, also where its put fails, a put would have to take memory.
 #[derive(Drop)]
 pub struct MemSink {
     written: Vec<u8>,
@@ -63,19 +64,19 @@ impl Sink for MemSink {
 
     ghost written = { λ sink. Some sink.written };
 
-    ghost faults = { λ sink. sink.calls.faults };
+    ghost failures = { λ sink. sink.calls.failures };
 
-    ghost puts = { λ sink. Some sink.calls.next };
+    ghost pieces = { λ _. None };
 
     /// Adds the piece, where there is room for all of it.
     fn put(&mut self, bytes: &[u8]) -> Result<(), Failed>
-        ensures count { self.old.calls.faults ≤ self.new.calls.faults }
+        ensures count { self.old.calls.failures ≤ self.new.calls.failures }
         ensures answer { is_err result ≡ put_fails self.old bytes.now }
         ensures after { self.new ≡ after_put self.old bytes.now result }
     {
         let is_to_fail = self.calls.begin();
         if is_to_fail || self.room - self.written.len() < bytes.len() {
-            self.calls.count_fault();
+            self.calls.count_failure();
             return Err(Failed);
         }
         match self.written.extend_from_slice(bytes) {

@@ -57,14 +57,14 @@ impl Source for MemSource {
 
     ghost left = { λ source. Some source.left };
 
-    ghost faults = { λ source. source.calls.faults };
+    ghost failures = { λ source. source.calls.failures };
 
     ghost takes = { λ source. Some source.calls.next };
 
     /// Takes as many bytes as there are left, or as many as the buffer holds.
     fn take(&mut self, buf: &mut [u8]) -> Result<usize, Failed>
         requires { 0 < length buf.old }
-        ensures count { self.old.calls.faults ≤ self.new.calls.faults }
+        ensures count { self.old.calls.failures ≤ self.new.calls.failures }
         ensures answer { is_err result ≡ is_to_fail self.old.calls }
         ensures many { IfOk result (λ count. count ≡ min (length self.old.left) (length buf.new)) }
         ensures bytes { IfOk result (λ count. take count buf.new ≡ take count self.old.left) }
@@ -72,7 +72,7 @@ impl Source for MemSource {
         ensures left { OnErr result (buf.new ≡ buf.old) }
     {
         if self.calls.begin() {
-            self.calls.count_fault();
+            self.calls.count_failure();
             return Err(Failed);
         }
         let left = &self.bytes[self.taken..];

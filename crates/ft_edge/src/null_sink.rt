@@ -3,7 +3,7 @@ ghost use Rattle.std.specs.Prelude.{◌≡◌, None, Ok};
 
 use crate::{Failed, Sink};
 
-/// A sink that drops what it takes and never fails. It tells no content, and its count of faults is 0.
+/// A sink that drops what it takes and never fails. It tells no content, and its count of failures is 0.
 #[derive(Drop)]
 pub struct NullSink;
 
@@ -17,9 +17,9 @@ impl NullSink {
 impl Sink for NullSink {
     ghost written = { λ _. None };
 
-    ghost faults = { λ _. 0 };
+    ghost failures = { λ _. 0 };
 
-    ghost puts = { λ _. None };
+    ghost pieces = { λ _. None };
 
     fn put(&mut self, _bytes: &[u8]) -> Result<(), Failed>
         ensures { result ≡ Ok tt }

@@ -3,7 +3,7 @@ ghost use Rattle.std.specs.Prelude.{◌≡◌, ◌<◌, ◌≤◌, ℕ, List, Op
 ghost use Rattle.std.specs.Io.{ReadsAtMost};
 ghost use Rattle.std.specs.Io.KnownBytes.{ReadConsumes};
 ghost use Rattle.ft_edge.specs.Causes.{Rose};
-ghost use Rattle.ft_edge.specs.Puts.{one_more};
+ghost use Rattle.ft_edge.specs.Calls.{one_more};
 
 use crate::Failed;
 
@@ -13,7 +13,7 @@ pub trait Source {
     ghost left: { Self → Option (List ℕ) };
 
     // How many takes failed; a source may stop counting at 2^64 - 1.
-    ghost faults: { Self → ℕ };
+    ghost failures: { Self → ℕ };
 
     // How many takes were made, where the source tells it; the count stands still at 2^64 - 1.
     ghost takes: { Self → Option ℕ };
@@ -26,7 +26,7 @@ pub trait Source {
         ensures bound { ReadsAtMost result buf.new }
         ensures bytes { ReadConsumes (left self.old) (left self.new) result buf.new }
         ensures told { is_some (left self.new) ≡ is_some (left self.old) }
-        ensures count { faults self.old ≤ faults self.new }
-        ensures same_count { OnOk result (faults self.new ≡ faults self.old) }
-        ensures cause { OnErr result (Rose (faults self.old) (faults self.new)) };
+        ensures count { failures self.old ≤ failures self.new }
+        ensures same_count { OnOk result (failures self.new ≡ failures self.old) }
+        ensures cause { OnErr result (Rose (failures self.old) (failures self.new)) };
 }

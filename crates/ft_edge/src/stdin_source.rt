@@ -9,11 +9,11 @@ use crate::{Failed, Source};
 use std::io::Read;
 use std::marker::Model;
 
-/// Standard input. It does not tell its bytes, and its count of faults stands still at 2^64 - 1.
+/// Standard input. It does not tell its bytes, and its count of failures stands still at 2^64 - 1.
 #[derive(Drop)]
 pub struct StdinSource<R: Input> {
     rt: R,
-    faults: u64,
+    failures: u64,
 }
 
 impl<R: Input> Model for StdinSource<R> {
@@ -21,21 +21,21 @@ impl<R: Input> Model for StdinSource<R> {
 
     ghost Value = { ℕ };
 
-    ghost view = { λ s. s.faults };
+    ghost view = { λ s. s.failures };
 }
 
 /// Reads once, and counts a read that failed.
-fn take_from<F: Read>(file: &mut F, buf: &mut [u8], faults: &mut u64) -> Result<usize, Failed>
+fn take_from<F: Read>(file: &mut F, buf: &mut [u8], failures: &mut u64) -> Result<usize, Failed>
     ensures bound { ReadsAtMost result buf.new }
     ensures bytes { ReadConsumes (F.remaining file.old) (F.remaining file.new) result buf.new }
-    ensures count { faults.old ≤ faults.new }
-    ensures same_count { OnOk result (faults.new ≡ faults.old) }
-    ensures counted { OnErr result (faults.new ≡ next_count faults.old) }
+    ensures count { failures.old ≤ failures.new }
+    ensures same_count { OnOk result (failures.new ≡ failures.old) }
+    ensures counted { OnErr result (failures.new ≡ next_count failures.old) }
 {
     match read_once(file, buf) {
         Ok(count) => Ok(count),
         Err(_) => {
-            *faults = faults.saturating_add(1);
+            *failures = failures.saturating_add(1);
             Err(Failed)
         }
     }
@@ -46,18 +46,18 @@ impl<R: Input> StdinSource<R> {
     pub fn new(rt: R) -> StdinSource<R>
         ensures { result ≡ 0 }
     {
-        StdinSource { rt, faults: 0 }
+        StdinSource { rt, failures: 0 }
     }
 }
 
 impl<R: Input> Source for StdinSource<R> {
     ghost left = { λ _. None };
 
-    ghost faults = { λ faults. faults };
+    ghost failures = { λ failures. failures };
 
     ghost takes = { λ _. None };
 
     fn take(&mut self, buf: &mut [u8]) -> Result<usize, Failed> {
-        take_from(&mut self.rt.reader(), buf, &mut self.faults)
+        take_from(&mut self.rt.reader(), buf, &mut self.failures)
     }
 }

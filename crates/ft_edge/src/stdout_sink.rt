@@ -6,11 +6,11 @@ use crate::{Failed, Sink};
 use std::io;
 use std::marker::Model;
 
-/// Standard output. It does not tell its bytes, and its count of faults stands still at 2^64 - 1.
+/// Standard output. It does not tell its bytes, and its count of failures stands still at 2^64 - 1.
 #[derive(Drop)]
 pub struct StdoutSink<R: Print> {
     rt: R,
-    faults: u64,
+    failures: u64,
 }
 
 impl<R: Print> Model for StdoutSink<R> {
@@ -18,7 +18,7 @@ impl<R: Print> Model for StdoutSink<R> {
 
     ghost Value = { ℕ };
 
-    ghost view = { λ s. s.faults };
+    ghost view = { λ s. s.failures };
 }
 
 impl<R: Print> StdoutSink<R> {
@@ -26,18 +26,18 @@ impl<R: Print> StdoutSink<R> {
     pub fn new(rt: R) -> StdoutSink<R>
         ensures { result ≡ 0 }
     {
-        StdoutSink { rt, faults: 0 }
+        StdoutSink { rt, failures: 0 }
     }
 }
 
 impl<R: Print> Sink for StdoutSink<R> {
     ghost written = { λ _. None };
 
-    ghost faults = { λ faults. faults };
+    ghost failures = { λ failures. failures };
 
-    ghost puts = { λ _. None };
+    ghost pieces = { λ _. None };
 
     fn put(&mut self, bytes: &[u8]) -> Result<(), Failed> {
-        put_to(&mut io::writer(&self.rt), bytes, &mut self.faults)
+        put_to(&mut io::writer(&self.rt), bytes, &mut self.failures)
     }
 }

@@ -6,7 +6,7 @@ ghost use Rattle.std.specs.Io.KnownBytes.{ReadConsumes};
 use crate::{Failed, Source};
 use std::marker::Model;
 
-/// A source of known bytes that never fails. It tells its bytes, and its count of faults is 0.
+/// A source of known bytes that never fails. It tells its bytes, and its count of failures is 0.
 #[derive(Drop)]
 pub struct SureSource<'a> {
     left: &'a [u8],
@@ -32,7 +32,7 @@ impl<'a> SureSource<'a> {
 impl<'a> Source for SureSource<'a> {
     ghost left = { λ bytes. Some bytes };
 
-    ghost faults = { λ _. 0 };
+    ghost failures = { λ _. 0 };
 
     ghost takes = { λ _. None };
 

@@ -1,4 +1,5 @@
 //! Single reads and writes, begun again where a signal interrupted them.
+ghost use Rattle.std.specs.Prelude.{◌≡◌, ◌<◌, length, take, drop};
 ghost use Rattle.std.specs.Io.{ReadsAtMost, WritesAtMost};
 ghost use Rattle.std.specs.Io.KnownBytes.{ReadConsumes, WriteAppends};
 
@@ -18,6 +19,17 @@ pub(crate) fn read_once<F: Read>(file: &mut F, buf: &mut [u8]) -> Result<usize, 
         }
     }
     Err(Failed)
+}
+
+/// Reads once, into what a buffer holds past its first bytes.
+pub(crate) fn read_past<F: Read>(file: &mut F, buf: &mut [u8], past: usize) -> Result<usize, Failed>
+    requires { past < length buf.old }
+    ensures front { take past buf.new ≡ take past buf.old }
+    ensures len { length buf.new ≡ length buf.old }
+    ensures bound { ReadsAtMost result (drop past buf.new) }
+    ensures bytes { ReadConsumes (F.remaining file.old) (F.remaining file.new) result (drop past buf.new) }
+{
+    read_once(file, &mut buf[past..])
 }
 
 /// Writes once, a prefix of the bytes.

@@ -25,17 +25,17 @@ fn write_whole<W: Write>(out: &mut W, bytes: &[u8]) -> Result<(), Failed>
 }
 
 /// Writes the whole piece, and counts where that failed.
-pub(crate) fn put_to<W: Write>(out: &mut W, bytes: &[u8], faults: &mut u64) -> Result<(), Failed>
+pub(crate) fn put_to<W: Write>(out: &mut W, bytes: &[u8], failures: &mut u64) -> Result<(), Failed>
     ensures ok { OnOk result (Appends (W.contents out.old) (W.contents out.new) bytes.now) }
     ensures err { OnErr result (AppendsFront (W.contents out.old) (W.contents out.new) bytes.now) }
-    ensures count { faults.old ≤ faults.new }
-    ensures same_count { OnOk result (faults.new ≡ faults.old) }
-    ensures counted { OnErr result (faults.new ≡ next_count faults.old) }
+    ensures count { failures.old ≤ failures.new }
+    ensures same_count { OnOk result (failures.new ≡ failures.old) }
+    ensures counted { OnErr result (failures.new ≡ next_count failures.old) }
 {
     match write_whole(out, bytes) {
         Ok(()) => Ok(()),
         Err(_) => {
-            *faults = faults.saturating_add(1);
+            *failures = failures.saturating_add(1);
             Err(Failed)
         }
     }

@@ -1,10 +1,16 @@
-use Rattle.std.proofs.Common.{ℕ, take, ◌++◌, arith, length-append, length-take}
+use Rattle.std.proofs.Common.{◌++◌, take, drop, ap, sym, subst, ◌∙◌}
+use Rattle.std.proofs.Math.Seq.{take-add}
+use Rattle.std.specs.Io.KnownBytes.{Consumes}
 use Rattle.std.proofs.KnownBytes.{Consumes-trans}
 use Rattle.ft_edge.proofs.folder_shelf.fill.Goals as goal
 
-pub returns-then-is_err-clause-read : goal.returns-then-is_err-clause-read
-returns-then-is_err-clause-read g c = (
-  c.loop-piece.into.items ++ take c.in-Ok.count c.read_once.new.buf,
-  Consumes-trans _ _ _ _ _ c.loop-piece.invariant.read c.in-Ok.ensures.bytes.0,
-  omega (arith, length-append {A = ℕ}, length-take {A = ℕ}, c.in-Ok.ensures.bound.0, c.in-Ok.ensures.bound.1),
-)
+pub loop-filled-preserved : goal.loop-filled-preserved
+loop-filled-preserved g c =
+    let read = c.in_ok-count.ensures in
+    let more = take c.in_ok-count.count (drop c.loop-filled.filled c.read_more.new.into.items) in
+    let front = take-add c.loop-filled.filled c.in_ok-count.count c.read_more.new.into.items ∙ ap (λ l. l ++ more) read.front in
+    record {
+      read = subst (Consumes _ _) (sym front) (Consumes-trans _ _ _ _ _ c.loop-filled.invariant.read read.bytes);
+      filled = read.fits;
+      within = read.within;
+    }

@@ -67,6 +67,7 @@ fn folder_shelf_over_devices(rt: HostRuntime) -> Result<(), Fail> {
     let rows = [
         ("/dev/null", 0, Ok(Load::Whole)),
         ("/dev/zero", 10000, Ok(Load::TooLong)),
+        ("/dev/zero", 300_000, Ok(Load::TooLong)),
         ("/dev", 10, Err(LoadFault::Failed)),
         ("/dev/null/missing", 10, Err(LoadFault::Failed)),
     ];

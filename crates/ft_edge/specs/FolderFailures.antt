@@ -2,10 +2,10 @@
 use Rattle.std.specs.Prelude.{ℕ, List, Option, None}
 
 -- how many there were, and the name of the last
-pub record FolderFaults : Type 0 where
+pub record FolderFailures : Type 0 where
   pub count : ℕ
   pub failed_name : Option (List ℕ)
 
 -- none failed
-abbrev pub no_faults : FolderFaults
-no_faults = record { count = 0; failed_name = None }
+abbrev pub no_failures : FolderFailures
+no_failures = record { count = 0; failed_name = None }

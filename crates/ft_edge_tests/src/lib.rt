@@ -6,3 +6,5 @@
 
 #[cfg(test)]
 mod outside;
+#[cfg(test)]
+mod told;

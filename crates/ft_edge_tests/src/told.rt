@@ -1,0 +1,109 @@
+//! A sink and a shelf that tell all they were asked, and end the process where there is no memory for it.
+//!
+//! They show that what the traits say of pieces and loads is met by code that runs.
+ghost use Rattle.std.specs.Prelude.{Some, map};
+
+use ft_edge::{Failed, Load, LoadFault, MemShelf, MemSink, Shelf, Sink};
+use std::alloc::Global;
+use std::process::Abort;
+use std::test::Fail;
+
+/// A sink that hands each piece on, and keeps it.
+#[derive(Drop)]
+struct KeepingSink<R: Abort + Drop, K: Sink + Drop> {
+    rt: R,
+    alloc: Global,
+    inner: K,
+    pieces: Vec<Vec<u8>>,
+}
+
+impl<R: Abort + Drop, K: Sink + Drop> Sink for KeepingSink<R, K> {
+    ghost written = { λ sink. K.written sink.inner };
+
+    ghost failures = { λ sink. K.failures sink.inner };
+
+    ghost pieces = { λ sink. Some (map (λ piece. piece.items) sink.pieces.items) };
+
+    fn put(&mut self, bytes: &[u8]) -> Result<(), Failed> {
+        let piece = Vec::from_slice(self.alloc, bytes).expect(&self.rt, "memory for a piece");
+        if self.pieces.push(piece).is_err() {
+            self.rt.abort();
+        }
+        self.inner.put(bytes)
+    }
+}
+
+/// A load that a shelf was asked for.
+#[derive(Drop)]
+struct Asked {
+    name: Vec<u8>,
+    limit: usize,
+}
+
+/// A shelf that hands each load on, and keeps its name and its limit.
+#[derive(Drop)]
+struct KeepingShelf<R: Abort + Drop, F: Shelf + Drop> {
+    rt: R,
+    alloc: Global,
+    inner: F,
+    asked: Vec<Asked>,
+}
+
+impl<R: Abort + Drop, F: Shelf + Drop> Shelf for KeepingShelf<R, F> {
+    ghost files = { λ shelf. F.files shelf.inner };
+
+    ghost failures = { λ shelf. F.failures shelf.inner };
+
+    ghost failed_name = { λ shelf. F.failed_name shelf.inner };
+
+    ghost asked = { λ shelf. Some (map (λ load. (load.name.items, load.limit)) shelf.asked.items) };
+
+    fn load(&mut self, name: &str, limit: usize, into: &mut Vec<u8>) -> Result<Load, LoadFault> {
+        let copy = Vec::from_slice(self.alloc, name.as_bytes()).expect(
+            &self.rt,
+            "memory for a name",
+        );
+        if self.asked.push(Asked { name: copy, limit }).is_err() {
+            self.rt.abort();
+        }
+        self.inner.load(name, limit, into)
+    }
+}
+
+#[test]
+fn a_sink_tells_also_the_piece_whose_put_failed(rt: HostRuntime) -> Result<(), Fail> {
+    let mut sink = KeepingSink {
+        rt: rt.clone()?,
+        alloc: rt.alloc(),
+        inner: MemSink::new(rt.alloc(), 9)?,
+        pieces: Vec::new(rt.alloc()),
+    };
+    assert_eq!(rt; sink.put(b"out 5\n"), Ok(()));
+    assert_eq!(rt; sink.put(b"four"), Err(Failed));
+    assert_eq!(rt; sink.pieces.len(), 2);
+    assert_eq!(rt; sink.pieces[0].as_slice(), b"out 5\n".as_slice());
+    assert_eq!(rt; sink.pieces[1].as_slice(), b"four".as_slice());
+    assert_eq!(rt; sink.inner.written(), b"out 5\n".as_slice());
+    Ok(())
+}
+
+#[test]
+fn a_shelf_tells_each_name_and_limit(rt: HostRuntime) -> Result<(), Fail> {
+    let mut inner = MemShelf::new(rt.alloc());
+    inner.add("a", b"five!")?;
+    let mut shelf = KeepingShelf {
+        rt: rt.clone()?,
+        alloc: rt.alloc(),
+        inner,
+        asked: Vec::new(rt.alloc()),
+    };
+    let mut bytes = Vec::new(rt.alloc());
+    assert_eq!(rt; shelf.load("b", 7, &mut bytes), Err(LoadFault::Failed));
+    assert_eq!(rt; shelf.load("a", 5, &mut bytes), Ok(Load::Whole));
+    assert_eq!(rt; shelf.asked.len(), 2);
+    assert_eq!(rt; shelf.asked[0].name.as_slice(), b"b".as_slice());
+    assert_eq!(rt; shelf.asked[0].limit, 7);
+    assert_eq!(rt; shelf.asked[1].name.as_slice(), b"a".as_slice());
+    assert_eq!(rt; shelf.asked[1].limit, 5);
+    Ok(())
+}
