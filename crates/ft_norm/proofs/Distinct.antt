@@ -25,7 +25,7 @@ use Rattle.ft_norm.proofs.Sums.{form_alike}
 
 -- equal terms say the same
 same_term : (x y : Term) → (term.ghosts).eq x y ≡ true → parts x ≡ parts y
-same_term x y h = let t = both _ _ h in rw (same_factors x.factors.items y.factors.items t.0, (Decides-eqb x.coefficient y.coefficient).0 t.1) refl
+same_term x y h = let t = both _ _ h in rw (same_factors x.factors.value.items y.factors.value.items t.0, (Decides-eqb x.coefficient y.coefficient).0 t.1) refl
 
 -- so do equal lists of them
 same_terms : (xs ys : List Term) → pointwise (term.ghosts).eq xs ys ≡ true → map parts xs ≡ map parts ys
@@ -53,7 +53,7 @@ term_equal : (x y : Term) → parts x ≡ parts y → (term.ghosts).eq x y ≡ t
 term_equal x y e =
     let f = ap (λ (p : List Factor × ℕ). p.0) e in
     let c = ap (λ (p : List Factor × ℕ). p.1) e in
-    let q : pointwise (factor.ghosts).eq x.factors.items y.factors.items ≡ true = ap (λ zs. pointwise (factor.ghosts).eq x.factors.items zs) (sym f) ∙ factors_itself x.factors.items in
+    let q : pointwise (factor.ghosts).eq x.factors.value.items y.factors.value.items ≡ true = ap (λ zs. pointwise (factor.ghosts).eq x.factors.value.items zs) (sym f) ∙ factors_itself x.factors.value.items in
     rw (q, (Decides-eqb x.coefficient y.coefficient).1 c) refl
 
 -- so are lists of them

@@ -42,7 +42,7 @@ monomial_agree n fs gs hs h (x ∷ xs) l = let a = atom_agree n fs gs hs h x (om
 -- and terms
 pub terms_agree : (n : ℕ) (fs gs hs : List Form) → Agree n fs gs → (ts : List Term) → reach_of_terms hs ts ≤ n → polynomial_form fs ts ≡ polynomial_form gs ts
 terms_agree n fs gs hs h [] l = refl
-terms_agree n fs gs hs h (t ∷ ts) l = let a = monomial_agree n fs gs hs h t.factors.items (omega arith) in let b = terms_agree n fs gs hs h ts (omega arith) in rw (a, b) refl
+terms_agree n fs gs hs h (t ∷ ts) l = let a = monomial_agree n fs gs hs h t.factors.value.items (omega arith) in let b = terms_agree n fs gs hs h ts (omega arith) in rw (a, b) refl
 
 -- and entries
 pub entry_agree : (n : ℕ) (fs gs hs : List Form) → Agree n fs gs → (e : Entry) → reach_of_entry hs e ≤ n → entry_form fs e ≡ entry_form gs e
@@ -140,7 +140,7 @@ factors_reach_agree n m fs gs h l k (x ∷ xs) r = let a = reach_agree n m fs gs
 -- that terms name
 terms_reach_agree : (n m : ℕ) (fs gs : List Form) → Agree n fs gs → n ≤ length fs → m ≤ n → (ts : List Term) → reach_of_terms fs ts ≤ m → reach_of_terms gs ts ≤ m
 terms_reach_agree n m fs gs h l k [] r = r
-terms_reach_agree n m fs gs h l k (t ∷ ts) r = let a = factors_reach_agree n m fs gs h l k t.factors.items (omega arith) in let b = terms_reach_agree n m fs gs h l k ts (omega arith) in omega arith
+terms_reach_agree n m fs gs h l k (t ∷ ts) r = let a = factors_reach_agree n m fs gs h l k t.factors.value.items (omega arith) in let b = terms_reach_agree n m fs gs h l k ts (omega arith) in omega arith
 
 -- that an entry names
 entry_reach_agree : (n m : ℕ) (fs gs : List Form) → Agree n fs gs → n ≤ length fs → m ≤ n → (e : Entry) → reach_of_entry fs e ≤ m → reach_of_entry gs e ≤ m

@@ -114,6 +114,16 @@ factors_with : (a : Atom) (m : Monomial) → factors (with_factor a m) ≡ suc (
 factors_with a one = refl
 factors_with a (times b m) = by_cases (λ n. factors n ≡ suc (suc (factors m))) (cmp_atom a b) (times a (times b m)) (times a (times b m)) (times b (with_factor a m)) (λ e. refl) (λ e. refl) (λ e. ap suc (factors_with a m))
 
+-- no factor behind those of a list
+join_none : (fs : List Form) (xs : List Factor) → join (monomial_form fs xs) one ≡ monomial_form fs xs
+join_none fs [] = refl
+join_none fs (x ∷ xs) = join_added (atom_form fs x) (monomial_form fs xs) one ∙ ap (with_factor (atom_form fs x)) (join_none fs xs)
+
+-- so a list with none behind it is the product
+pub join_last_none : (fs : List Form) (xs ys zs : List Factor) → length ys ≡ 0 → zs ≡ xs → monomial_form fs zs ≡ join (monomial_form fs xs) (monomial_form fs ys)
+join_last_none fs xs [] zs e f = ap (monomial_form fs) f ∙ sym (join_none fs xs)
+join_last_none fs xs (y ∷ ys) zs e f = absurd (omega arith)
+
 -- a monomial has as many atoms as there are factors
 pub factors-monomial_form : (fs : List Form) (xs : List Factor) → factors (monomial_form fs xs) ≡ length xs
 factors-monomial_form fs [] = refl

@@ -66,10 +66,10 @@ ordered_insert (x ∷ xs) a (suc i) h p = (
 -- what is below the factors before terms is below those terms
 pub precedes_through : (xs ys : List Factor) (ts : List Term) → cmp_factors xs ys ≡ Less → Precedes ys ts → Precedes xs ts
 precedes_through xs ys [] e h = tt
-precedes_through xs ys (t ∷ ts) e h = cmp_factors_total.trans xs ys t.factors.items e h
+precedes_through xs ys (t ∷ ts) e h = cmp_factors_total.trans xs ys t.factors.value.items e h
 
 -- a term put where it keeps the order
-pub terms_insert : (ts : List Term) (i : ℕ) (v : Term) → AreTerms ts → IsPlace ts v.factors.items i → AreOrdered v.factors.items → 0 < v.coefficient → v.coefficient < 2 ^ 64 → AreTerms (take i ts ++ v ∷ drop i ts)
+pub terms_insert : (ts : List Term) (i : ℕ) (v : Term) → AreTerms ts → IsPlace ts v.factors.value.items i → AreOrdered v.factors.value.items → 0 < v.coefficient → v.coefficient < 2 ^ 64 → AreTerms (take i ts ++ v ∷ drop i ts)
 terms_insert [] zero v h p o c w = (o, c, w, tt, tt)
 terms_insert [] (suc i) v h p o c w = absurd (let x = p.within in omega arith)
 terms_insert (t ∷ ts) zero v h p o c w = (o, c, w, p.before v (omega arith), h)
@@ -85,7 +85,7 @@ terms_insert (t ∷ ts) (suc i) v h p o c w = (
   }) o c w,
 )
   where
-    precede : (us : List Term) (k : ℕ) → Precedes t.factors.items us → IsPlace (t ∷ us) v.factors.items (suc k) → Precedes t.factors.items (take k us ++ v ∷ drop k us)
+    precede : (us : List Term) (k : ℕ) → Precedes t.factors.value.items us → IsPlace (t ∷ us) v.factors.value.items (suc k) → Precedes t.factors.value.items (take k us ++ v ∷ drop k us)
     precede us zero g q = q.after v 0 (omega arith)
     precede [] (suc k) g q = absurd (let x = q.within in omega arith)
     precede (u ∷ us) (suc k) g q = g
@@ -97,19 +97,19 @@ terms_remove [] (suc i) h = tt
 terms_remove (t ∷ ts) zero h = h.4
 terms_remove (t ∷ ts) (suc i) h = (h.0, h.1, h.2, precede ts i h.3 h.4, terms_remove ts i h.4)
   where
-    precede : (us : List Term) (k : ℕ) → Precedes t.factors.items us → AreTerms us → Precedes t.factors.items (take k us ++ drop (suc k) us)
+    precede : (us : List Term) (k : ℕ) → Precedes t.factors.value.items us → AreTerms us → Precedes t.factors.value.items (take k us ++ drop (suc k) us)
     precede [] zero g q = tt
     precede [] (suc k) g q = tt
-    precede (u ∷ us) zero g q = precedes_through t.factors.items u.factors.items us g q.3
+    precede (u ∷ us) zero g q = precedes_through t.factors.value.items u.factors.value.items us g q.3
     precede (u ∷ us) (suc k) g q = g
 
 -- another coefficient
-pub terms_set : (ts : List Term) (i : ℕ) (y d : Term) → AreTerms ts → i < length ts → y.factors.items ≡ (get_or ts i d).factors.items → 0 < y.coefficient → y.coefficient < 2 ^ 64 → AreTerms (set ts i y)
+pub terms_set : (ts : List Term) (i : ℕ) (y d : Term) → AreTerms ts → i < length ts → y.factors.value.items ≡ (get_or ts i d).factors.value.items → 0 < y.coefficient → y.coefficient < 2 ^ 64 → AreTerms (set ts i y)
 terms_set [] i y d h l f c w = absurd (omega arith)
 terms_set (t ∷ ts) zero y d h l f c w = (rw f h.0, c, w, rw f h.3, h.4)
 terms_set (t ∷ ts) (suc i) y d h l f c w = (h.0, h.1, h.2, precede ts i h.3 (omega arith) f, terms_set ts i y d h.4 (omega arith) f c w)
   where
-    precede : (us : List Term) (k : ℕ) → Precedes t.factors.items us → k < length us → y.factors.items ≡ (get_or us k d).factors.items → Precedes t.factors.items (set us k y)
+    precede : (us : List Term) (k : ℕ) → Precedes t.factors.value.items us → k < length us → y.factors.value.items ≡ (get_or us k d).factors.value.items → Precedes t.factors.value.items (set us k y)
     precede [] k g l f = absurd (omega arith)
     precede (u ∷ us) zero g l f = rw f g
     precede (u ∷ us) (suc k) g l f = g
@@ -125,7 +125,7 @@ terms_alike (x ∷ xs) (y ∷ ys) e h =
     let c = ap (λ (r : List Factor × ℕ). r.1) p in
     (rw f h.0, rw c h.1, rw c h.2, rw f (precede xs ys q h.3), terms_alike xs ys q h.4)
   where
-    precede : (us ws : List Term) → map parts us ≡ map parts ws → Precedes y.factors.items ws → Precedes y.factors.items us
+    precede : (us ws : List Term) → map parts us ≡ map parts ws → Precedes y.factors.value.items ws → Precedes y.factors.value.items us
     precede [] ws q g = tt
     precede (u ∷ us) [] q g = cc
     precede (u ∷ us) (w ∷ ws) q g = let p : parts u ≡ parts w = cc in rw (ap (λ (r : List Factor × ℕ). r.0) p) g
@@ -142,7 +142,7 @@ terms_negated (x ∷ xs) (y ∷ ys) e h =
     let n = negative y.coefficient h.1 h.2 in
     (rw f h.0, rw (c, n) (omega (arith, h.2)), rw (c, n) (omega (arith, h.1)), rw f (precede xs ys q h.3), terms_negated xs ys q h.4)
   where
-    precede : (us ws : List Term) → map parts us ≡ map negated_parts ws → Precedes y.factors.items ws → Precedes y.factors.items us
+    precede : (us ws : List Term) → map parts us ≡ map negated_parts ws → Precedes y.factors.value.items ws → Precedes y.factors.value.items us
     precede [] ws q g = tt
     precede (u ∷ us) [] q g = cc
     precede (u ∷ us) (w ∷ ws) q g = let p : parts u ≡ negated_parts w = cc in rw (ap (λ (r : List Factor × ℕ). r.0) p) g
@@ -155,14 +155,14 @@ terms_drop (t ∷ ts) zero h = h
 terms_drop (t ∷ ts) (suc i) h = terms_drop ts i h.4
 
 -- a term of them has its factors in order
-pub term_ordered : (ts : List Term) (i : ℕ) (d : Term) → AreTerms ts → i < length ts → AreOrdered (get_or ts i d).factors.items
+pub term_ordered : (ts : List Term) (i : ℕ) (d : Term) → AreTerms ts → i < length ts → AreOrdered (get_or ts i d).factors.value.items
 term_ordered [] i d h l = absurd (omega arith)
 term_ordered (t ∷ ts) zero d h l = h.0
 term_ordered (t ∷ ts) (suc i) d h l = term_ordered ts i d h.4 (omega arith)
 
 -- the same of a term that was read
-pub read_ordered : (ts : List Term) (t : Term) (i : ℕ) → AreTerms ts → i < length ts → t ≡ get_or ts i t → AreOrdered t.factors.items
-read_ordered ts t i h l r = let P : Term → Type 0 = λ u. AreOrdered u.factors.items in subst P (sym r) (term_ordered ts i t h l)
+pub read_ordered : (ts : List Term) (t : Term) (i : ℕ) → AreTerms ts → i < length ts → t ≡ get_or ts i t → AreOrdered t.factors.value.items
+read_ordered ts t i h l r = let P : Term → Type 0 = λ u. AreOrdered u.factors.value.items in subst P (sym r) (term_ordered ts i t h l)
 
 -- and a word as its coefficient
 pub term_word : (ts : List Term) (i : ℕ) (d : Term) → AreTerms ts → i < length ts → (get_or ts i d).coefficient < 2 ^ 64
@@ -171,24 +171,24 @@ term_word (t ∷ ts) zero d h l = h.2
 term_word (t ∷ ts) (suc i) d h l = term_word ts i d h.4 (omega arith)
 
 -- a term that was read compares as it does in its place
-read_compares : (ts : List Term) (xs ys : List Factor) (t : Term) (k : ℕ) (o : Ordering) → k < length ts → ys ≡ (get_or ts k t).factors.items → o ≡ cmp_factors ys xs → (d : Term) → cmp_factors (get_or ts k d).factors.items xs ≡ o
+read_compares : (ts : List Term) (xs ys : List Factor) (t : Term) (k : ℕ) (o : Ordering) → k < length ts → ys ≡ (get_or ts k t).factors.value.items → o ≡ cmp_factors ys xs → (d : Term) → cmp_factors (get_or ts k d).factors.value.items xs ≡ o
 read_compares ts xs ys t k o l f e d =
-    let P : Term → Ordering = λ u. cmp_factors u.factors.items xs in
+    let P : Term → Ordering = λ u. cmp_factors u.factors.value.items xs in
     ap P (get_or_default ts k d t l) ∙ (ap (λ zs. cmp_factors zs xs) (sym f) ∙ sym e)
 
 -- a search ends where the term stands
-pub search_there : (ts : List Term) (xs ys : List Factor) (t : Term) (k : ℕ) (o : Ordering) → k < length ts → ys ≡ (get_or ts k t).factors.items → o ≡ cmp_factors ys xs → o ≡ Equal → IsThere ts xs k
-search_there ts xs ys t k o l f e g = record { within = l; same = λ d. factors_equal (get_or ts k d).factors.items xs (read_compares ts xs ys t k o l f e d ∙ g) }
+pub search_there : (ts : List Term) (xs ys : List Factor) (t : Term) (k : ℕ) (o : Ordering) → k < length ts → ys ≡ (get_or ts k t).factors.value.items → o ≡ cmp_factors ys xs → o ≡ Equal → IsThere ts xs k
+search_there ts xs ys t k o l f e g = record { within = l; same = λ d. factors_equal (get_or ts k d).factors.value.items xs (read_compares ts xs ys t k o l f e d ∙ g) }
 
 -- it goes on after a lower term
-pub search_after : (ts : List Term) (xs ys : List Factor) (t : Term) (k : ℕ) (o : Ordering) → k < length ts → ys ≡ (get_or ts k t).factors.items → o ≡ cmp_factors ys xs → o ≡ Less
-    → (d : Term) (j : ℕ) → j + 1 ≡ k + 1 → cmp_factors (get_or ts j d).factors.items xs ≡ Less
+pub search_after : (ts : List Term) (xs ys : List Factor) (t : Term) (k : ℕ) (o : Ordering) → k < length ts → ys ≡ (get_or ts k t).factors.value.items → o ≡ cmp_factors ys xs → o ≡ Less
+    → (d : Term) (j : ℕ) → j + 1 ≡ k + 1 → cmp_factors (get_or ts j d).factors.value.items xs ≡ Less
 search_after ts xs ys t k o l f e g d j q = let s : j ≡ k = omega (arith, q) in rw s (read_compares ts xs ys t k o l f e d ∙ g)
 
 -- and before a greater one
-pub search_before : (ts : List Term) (xs ys : List Factor) (t : Term) (k : ℕ) (o : Ordering) → k < length ts → ys ≡ (get_or ts k t).factors.items → o ≡ cmp_factors ys xs → o ≡ Greater
-    → (d : Term) → k < length ts → cmp_factors xs (get_or ts k d).factors.items ≡ Less
-search_before ts xs ys t k o l f e g d m = factors_turned (get_or ts k d).factors.items xs (read_compares ts xs ys t k o l f e d ∙ g)
+pub search_before : (ts : List Term) (xs ys : List Factor) (t : Term) (k : ℕ) (o : Ordering) → k < length ts → ys ≡ (get_or ts k t).factors.value.items → o ≡ cmp_factors ys xs → o ≡ Greater
+    → (d : Term) → k < length ts → cmp_factors xs (get_or ts k d).factors.value.items ≡ Less
+search_before ts xs ys t k o l f e g d m = factors_turned (get_or ts k d).factors.value.items xs (read_compares ts xs ys t k o l f e d ∙ g)
 
 -- the middle of two places is between them
 pub halves : (low high : ℕ) → low < high → (low ≤ low + (high - low) / 2) × (low + (high - low) / 2 < high)

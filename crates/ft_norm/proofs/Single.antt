@@ -101,13 +101,13 @@ degree_add m c (plus n d p) l w = by_cases (λ q. degree q ≡ max (factors m) (
 -- what a monomial gets of terms
 abbrev gives : List Form → Monomial → List Term → ℕ
 gives fs k [] = 0
-gives fs k (t ∷ ts) = share k (monomial_form fs t.factors.items) t.coefficient + gives fs k ts
+gives fs k (t ∷ ts) = share k (monomial_form fs t.factors.value.items) t.coefficient + gives fs k ts
 
 -- it gets the same of their polynomial
 weigh_form : (fs : List Form) (k : Monomial) (ts : List Term) → weigh (share k) (polynomial_form fs ts) % 2 ^ 64 ≡ gives fs k ts % 2 ^ 64
 weigh_form fs k [] = refl
 weigh_form fs k (t ∷ ts) =
-    let m = monomial_form fs t.factors.items in
+    let m = monomial_form fs t.factors.value.items in
     weigh_add (share k) (share_linear k) m t.coefficient (polynomial_form fs ts)
     ∙ mods_both (share k m t.coefficient) (share k m t.coefficient) (weigh (share k) (polynomial_form fs ts)) (gives fs k ts) refl (weigh_form fs k ts)
 
@@ -170,45 +170,45 @@ module _ (fs : List Form) (d : IsDistinct fs) where
   -- a monomial below those of terms is none of theirs
   misses_form : (xs : List Factor) (ts : List Term) → AreOrdered xs → reach_of_factors fs xs ≤ length fs → AreTerms ts → reach_of_terms fs ts ≤ length fs → Precedes xs ts → Misses (monomial_form fs xs) (polynomial_form fs ts)
   misses_form xs [] h a k b p = tt
-  misses_form xs (t ∷ ts) h a k b p = misses_add (monomial_form fs xs) (monomial_form fs t.factors.items) t.coefficient (polynomial_form fs ts)
-      (monomials_apart xs t.factors.items h k.0 a (omega arith) p)
-      (misses_form xs ts h a k.4 (omega arith) (precedes_through xs t.factors.items ts p k.3))
+  misses_form xs (t ∷ ts) h a k b p = misses_add (monomial_form fs xs) (monomial_form fs t.factors.value.items) t.coefficient (polynomial_form fs ts)
+      (monomials_apart xs t.factors.value.items h k.0 a (omega arith) p)
+      (misses_form xs ts h a k.4 (omega arith) (precedes_through xs t.factors.value.items ts p k.3))
 
   -- nor does it get anything of them
   gives_none : (xs : List Factor) (ts : List Term) → AreOrdered xs → reach_of_factors fs xs ≤ length fs → AreTerms ts → reach_of_terms fs ts ≤ length fs → Precedes xs ts → gives fs (monomial_form fs xs) ts ≡ 0
   gives_none xs [] h a k b p = refl
   gives_none xs (t ∷ ts) h a k b p =
-      let x = share_other (monomial_form fs xs) (monomial_form fs t.factors.items) t.coefficient (monomials_apart xs t.factors.items h k.0 a (omega arith) p) in
-      let y = gives_none xs ts h a k.4 (omega arith) (precedes_through xs t.factors.items ts p k.3) in
+      let x = share_other (monomial_form fs xs) (monomial_form fs t.factors.value.items) t.coefficient (monomials_apart xs t.factors.value.items h k.0 a (omega arith) p) in
+      let y = gives_none xs ts h a k.4 (omega arith) (precedes_through xs t.factors.value.items ts p k.3) in
       omega (arith, x, y)
 
   -- the first monomial gets its coefficient
-  gives_first : (t : Term) (ts : List Term) → AreTerms (t ∷ ts) → reach_of_terms fs (t ∷ ts) ≤ length fs → gives fs (monomial_form fs t.factors.items) (t ∷ ts) ≡ t.coefficient
+  gives_first : (t : Term) (ts : List Term) → AreTerms (t ∷ ts) → reach_of_terms fs (t ∷ ts) ≤ length fs → gives fs (monomial_form fs t.factors.value.items) (t ∷ ts) ≡ t.coefficient
   gives_first t ts h b =
-      let x = share_same (monomial_form fs t.factors.items) t.coefficient in
-      let y = gives_none t.factors.items ts h.0 (omega arith) h.4 (omega arith) h.3 in
+      let x = share_same (monomial_form fs t.factors.value.items) t.coefficient in
+      let y = gives_none t.factors.value.items ts h.0 (omega arith) h.4 (omega arith) h.3 in
       omega (arith, x, y)
 
   -- terms that give each monomial the same are the same
   same_gives : (ts us : List Term) → AreTerms ts → AreTerms us → reach_of_terms fs ts ≤ length fs → reach_of_terms fs us ≤ length fs → ((k : Monomial) → gives fs k ts % 2 ^ 64 ≡ gives fs k us % 2 ^ 64) → map parts ts ≡ map parts us
   same_gives [] [] h k a b e = refl
-  same_gives [] (u ∷ us) h k a b e = absurd (let z = words_same 0 u.coefficient (e (monomial_form fs u.factors.items) ∙ ap (λ x. x % 2 ^ 64) (gives_first u us k b)) (lit< tt) k.2 in omega (arith, z, k.1))
-  same_gives (t ∷ ts) [] h k a b e = absurd (let z = words_same 0 t.coefficient (sym (e (monomial_form fs t.factors.items)) ∙ ap (λ x. x % 2 ^ 64) (gives_first t ts h a)) (lit< tt) h.2 in omega (arith, z, h.1))
-  same_gives (t ∷ ts) (u ∷ us) h k a b e = order_split _ (cmp_factors t.factors.items u.factors.items)
+  same_gives [] (u ∷ us) h k a b e = absurd (let z = words_same 0 u.coefficient (e (monomial_form fs u.factors.value.items) ∙ ap (λ x. x % 2 ^ 64) (gives_first u us k b)) (lit< tt) k.2 in omega (arith, z, k.1))
+  same_gives (t ∷ ts) [] h k a b e = absurd (let z = words_same 0 t.coefficient (sym (e (monomial_form fs t.factors.value.items)) ∙ ap (λ x. x % 2 ^ 64) (gives_first t ts h a)) (lit< tt) h.2 in omega (arith, z, h.1))
+  same_gives (t ∷ ts) (u ∷ us) h k a b e = order_split _ (cmp_factors t.factors.value.items u.factors.value.items)
       (λ o. absurd (
-      let z = words_same t.coefficient 0 (ap (λ x. x % 2 ^ 64) (sym (gives_first t ts h a)) ∙ (e (monomial_form fs t.factors.items) ∙ ap (λ x. x % 2 ^ 64) (gives_none t.factors.items (u ∷ us) h.0 (omega arith) k b o))) h.2 (lit< tt) in
+      let z = words_same t.coefficient 0 (ap (λ x. x % 2 ^ 64) (sym (gives_first t ts h a)) ∙ (e (monomial_form fs t.factors.value.items) ∙ ap (λ x. x % 2 ^ 64) (gives_none t.factors.value.items (u ∷ us) h.0 (omega arith) k b o))) h.2 (lit< tt) in
       omega (arith, z, h.1)))
       (λ o.
-      let f : t.factors.items ≡ u.factors.items = factors_equal t.factors.items u.factors.items o in
-      let m = monomial_form fs t.factors.items in
+      let f : t.factors.value.items ≡ u.factors.value.items = factors_equal t.factors.value.items u.factors.value.items o in
+      let m = monomial_form fs t.factors.value.items in
       let y : gives fs m (u ∷ us) ≡ u.coefficient = ap (λ xs. gives fs (monomial_form fs xs) (u ∷ us)) f ∙ gives_first u us k b in
       let c : t.coefficient ≡ u.coefficient = words_same t.coefficient u.coefficient (ap (λ x. x % 2 ^ 64) (sym (gives_first t ts h a)) ∙ (e m ∙ ap (λ x. x % 2 ^ 64) y)) h.2 k.2 in
-      let s : (q : Monomial) → share q (monomial_form fs u.factors.items) u.coefficient ≡ share q m t.coefficient = λ q. ap (λ xs. share q (monomial_form fs xs) u.coefficient) (sym f) ∙ ap (share q m) (sym c) in
+      let s : (q : Monomial) → share q (monomial_form fs u.factors.value.items) u.coefficient ≡ share q m t.coefficient = λ q. ap (λ xs. share q (monomial_form fs xs) u.coefficient) (sym f) ∙ ap (share q m) (sym c) in
       let r : map parts ts ≡ map parts us = same_gives ts us h.4 k.4 (omega arith) (omega arith) (λ q. mods_less (gives fs q ts) (gives fs q us) (share q m t.coefficient) (e q ∙ ap (λ x. (x + gives fs q us) % 2 ^ 64) (s q))) in
       rw (f, c, r) refl)
       (λ o. absurd (
-      let p = factors_turned t.factors.items u.factors.items o in
-      let z = words_same u.coefficient 0 (ap (λ x. x % 2 ^ 64) (sym (gives_first u us k b)) ∙ (sym (e (monomial_form fs u.factors.items)) ∙ ap (λ x. x % 2 ^ 64) (gives_none u.factors.items (t ∷ ts) k.0 (omega arith) h a p))) k.2 (lit< tt) in
+      let p = factors_turned t.factors.value.items u.factors.value.items o in
+      let z = words_same u.coefficient 0 (ap (λ x. x % 2 ^ 64) (sym (gives_first u us k b)) ∙ (sym (e (monomial_form fs u.factors.value.items)) ∙ ap (λ x. x % 2 ^ 64) (gives_none u.factors.value.items (t ∷ ts) k.0 (omega arith) h a p))) k.2 (lit< tt) in
       omega (arith, z, k.1)))
 
   -- one polynomial has one list of terms in order
@@ -220,18 +220,18 @@ rest_over : (fs : List Form) (t : Term) (ts : List Term) → AreOver fs (t ∷ t
 rest_over fs t ts h = record { terms = h.terms.4; distinct = h.distinct; reach = let r = h.reach in omega (arith, r) }
 
 -- the first monomial is not among those after it
-first_misses : (fs : List Form) (t : Term) (ts : List Term) → AreOver fs (t ∷ ts) → Misses (monomial_form fs t.factors.items) (polynomial_form fs ts)
-first_misses fs t ts h = let r = h.reach in misses_form fs h.distinct t.factors.items ts h.terms.0 (omega (arith, r)) h.terms.4 (omega (arith, r)) h.terms.3
+first_misses : (fs : List Form) (t : Term) (ts : List Term) → AreOver fs (t ∷ ts) → Misses (monomial_form fs t.factors.value.items) (polynomial_form fs ts)
+first_misses fs t ts h = let r = h.reach in misses_form fs h.distinct t.factors.value.items ts h.terms.0 (omega (arith, r)) h.terms.4 (omega (arith, r)) h.terms.3
 
 -- a polynomial has as many monomials as terms in order
 pub terms_over : (fs : List Form) (ts : List Term) → AreOver fs ts → terms (polynomial_form fs ts) ≡ length ts
 terms_over fs [] h = refl
-terms_over fs (t ∷ ts) h = terms_add (monomial_form fs t.factors.items) t.coefficient (polynomial_form fs ts) h.terms.1 (first_misses fs t ts h) ∙ ap suc (terms_over fs ts (rest_over fs t ts h))
+terms_over fs (t ∷ ts) h = terms_add (monomial_form fs t.factors.value.items) t.coefficient (polynomial_form fs ts) h.terms.1 (first_misses fs t ts h) ∙ ap suc (terms_over fs ts (rest_over fs t ts h))
 
 -- the greatest number of factors
 abbrev pub greatest : List Term → ℕ
 greatest [] = 0
-greatest (t ∷ ts) = max (length t.factors.items) (greatest ts)
+greatest (t ∷ ts) = max (length t.factors.value.items) (greatest ts)
 
 -- that of two lists
 greatest-append : (xs ys : List Term) → greatest (xs ++ ys) ≡ max (greatest xs) (greatest ys)
@@ -239,11 +239,11 @@ greatest-append [] ys = omega arith
 greatest-append (x ∷ xs) ys = let h = greatest-append xs ys in omega (arith, h)
 
 -- with one more term
-pub greatest_more : (xs : List Term) (x : Term) (i n : ℕ) → i < length xs → x ≡ get_or xs i x → n ≡ greatest (take i xs) → max n (length x.factors.items) ≡ greatest (take (i + 1) xs)
+pub greatest_more : (xs : List Term) (x : Term) (i n : ℕ) → i < length xs → x ≡ get_or xs i x → n ≡ greatest (take i xs) → max n (length x.factors.value.items) ≡ greatest (take (i + 1) xs)
 greatest_more xs x i n l r e =
     let a = greatest-append (take i xs) (get_or xs i x ∷ []) in
-    let c : length x.factors.items ≡ length (get_or xs i x).factors.items = ap (λ (t : Term). length t.factors.items) r in
-    let m : max n (length x.factors.items) ≡ greatest (take i xs ++ get_or xs i x ∷ []) = omega (arith, a, c, e) in
+    let c : length x.factors.value.items ≡ length (get_or xs i x).factors.value.items = ap (λ (t : Term). length t.factors.value.items) r in
+    let m : max n (length x.factors.value.items) ≡ greatest (take i xs ++ get_or xs i x ∷ []) = omega (arith, a, c, e) in
     m ∙ ap greatest (sym (take_more xs i x l))
 
 -- of all terms
@@ -251,14 +251,14 @@ pub greatest_all : (xs : List Term) (i : ℕ) → length xs ≤ i → greatest (
 greatest_all [] zero h = refl
 greatest_all [] (suc i) h = refl
 greatest_all (x ∷ xs) zero h = absurd (omega (arith, h))
-greatest_all (x ∷ xs) (suc i) h = ap (max (length x.factors.items)) (greatest_all xs i (omega (arith, h)))
+greatest_all (x ∷ xs) (suc i) h = ap (max (length x.factors.value.items)) (greatest_all xs i (omega (arith, h)))
 
 -- that is the degree
 pub degree_over : (fs : List Form) (ts : List Term) → AreOver fs ts → degree (polynomial_form fs ts) ≡ greatest ts
 degree_over fs [] h = refl
 degree_over fs (t ∷ ts) h =
-    let x = degree_add (monomial_form fs t.factors.items) t.coefficient (polynomial_form fs ts) h.terms.1 (first_misses fs t ts h) in
-    let y = factors-monomial_form fs t.factors.items in
+    let x = degree_add (monomial_form fs t.factors.value.items) t.coefficient (polynomial_form fs ts) h.terms.1 (first_misses fs t ts h) in
+    let y = factors-monomial_form fs t.factors.value.items in
     let z = degree_over fs ts (rest_over fs t ts h) in
     omega (arith, x, y, z)
 

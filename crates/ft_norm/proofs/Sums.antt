@@ -14,56 +14,56 @@ use Rattle.ft_norm.proofs.Weights.{Rises, rises_add}
 -- the polynomial of terms rises
 pub form_rises : (fs : List Form) (ts : List Term) → AreTerms ts → Rises (polynomial_form fs ts)
 form_rises fs [] h = tt
-form_rises fs (t ∷ ts) h = rises_add (monomial_form fs t.factors.items) t.coefficient (polynomial_form fs ts) h.2 (form_rises fs ts h.4)
+form_rises fs (t ∷ ts) h = rises_add (monomial_form fs t.factors.value.items) t.coefficient (polynomial_form fs ts) h.2 (form_rises fs ts h.4)
 
 -- a term put anywhere
 pub form_insert : (fs : List Form) (ts : List Term) (i : ℕ) (v : Term) → AreTerms ts → v.coefficient < 2 ^ 64
-    → polynomial_form fs (take i ts ++ v ∷ drop i ts) ≡ add_term (monomial_form fs v.factors.items) v.coefficient (polynomial_form fs ts)
+    → polynomial_form fs (take i ts ++ v ∷ drop i ts) ≡ add_term (monomial_form fs v.factors.value.items) v.coefficient (polynomial_form fs ts)
 form_insert fs [] zero v h w = refl
 form_insert fs [] (suc i) v h w = refl
 form_insert fs (t ∷ ts) zero v h w = refl
 form_insert fs (t ∷ ts) (suc i) v h w =
-    ap (add_term (monomial_form fs t.factors.items) t.coefficient) (form_insert fs ts i v h.4 w)
-    ∙ add_swap (monomial_form fs t.factors.items) (monomial_form fs v.factors.items) t.coefficient v.coefficient (polynomial_form fs ts) h.2 w (form_rises fs ts h.4)
+    ap (add_term (monomial_form fs t.factors.value.items) t.coefficient) (form_insert fs ts i v h.4 w)
+    ∙ add_swap (monomial_form fs t.factors.value.items) (monomial_form fs v.factors.value.items) t.coefficient v.coefficient (polynomial_form fs ts) h.2 w (form_rises fs ts h.4)
 
 -- a coefficient raised
-pub form_set : (fs : List Form) (ts : List Term) (i : ℕ) (y d : Term) (c : ℕ) → AreTerms ts → i < length ts → c < 2 ^ 64 → y.factors.items ≡ (get_or ts i d).factors.items → y.coefficient ≡ (c + (get_or ts i d).coefficient) % 2 ^ 64
-    → polynomial_form fs (set ts i y) ≡ add_term (monomial_form fs (get_or ts i d).factors.items) c (polynomial_form fs ts)
+pub form_set : (fs : List Form) (ts : List Term) (i : ℕ) (y d : Term) (c : ℕ) → AreTerms ts → i < length ts → c < 2 ^ 64 → y.factors.value.items ≡ (get_or ts i d).factors.value.items → y.coefficient ≡ (c + (get_or ts i d).coefficient) % 2 ^ 64
+    → polynomial_form fs (set ts i y) ≡ add_term (monomial_form fs (get_or ts i d).factors.value.items) c (polynomial_form fs ts)
 form_set fs [] i y d c h l w f e = absurd (omega arith)
 form_set fs (t ∷ ts) zero y d c h l w f e =
     ap (λ k. add_term (monomial_form fs k) y.coefficient (polynomial_form fs ts)) f
-    ∙ (ap (λ k. add_term (monomial_form fs t.factors.items) k (polynomial_form fs ts)) e
-    ∙ add_merge (monomial_form fs t.factors.items) c t.coefficient (polynomial_form fs ts) w h.2 (form_rises fs ts h.4))
+    ∙ (ap (λ k. add_term (monomial_form fs t.factors.value.items) k (polynomial_form fs ts)) e
+    ∙ add_merge (monomial_form fs t.factors.value.items) c t.coefficient (polynomial_form fs ts) w h.2 (form_rises fs ts h.4))
 form_set fs (t ∷ ts) (suc i) y d c h l w f e =
-    ap (add_term (monomial_form fs t.factors.items) t.coefficient) (form_set fs ts i y d c h.4 (omega arith) w f e)
-    ∙ add_swap (monomial_form fs t.factors.items) (monomial_form fs (get_or ts i d).factors.items) t.coefficient c (polynomial_form fs ts) h.2 w (form_rises fs ts h.4)
+    ap (add_term (monomial_form fs t.factors.value.items) t.coefficient) (form_set fs ts i y d c h.4 (omega arith) w f e)
+    ∙ add_swap (monomial_form fs t.factors.value.items) (monomial_form fs (get_or ts i d).factors.value.items) t.coefficient c (polynomial_form fs ts) h.2 w (form_rises fs ts h.4)
 
 -- a coefficient raised to 0: its term is gone
 pub form_remove : (fs : List Form) (ts : List Term) (i : ℕ) (d : Term) (c : ℕ) → AreTerms ts → i < length ts → c < 2 ^ 64 → (c + (get_or ts i d).coefficient) % 2 ^ 64 ≡ 0
-    → polynomial_form fs (take i ts ++ drop (suc i) ts) ≡ add_term (monomial_form fs (get_or ts i d).factors.items) c (polynomial_form fs ts)
+    → polynomial_form fs (take i ts ++ drop (suc i) ts) ≡ add_term (monomial_form fs (get_or ts i d).factors.value.items) c (polynomial_form fs ts)
 form_remove fs [] i d c h l w e = absurd (omega arith)
 form_remove fs (t ∷ ts) zero d c h l w e =
     let r = form_rises fs ts h.4 in
-    sym (add_none (monomial_form fs t.factors.items) (polynomial_form fs ts) r)
-    ∙ (ap (λ k. add_term (monomial_form fs t.factors.items) k (polynomial_form fs ts)) (sym e)
-    ∙ add_merge (monomial_form fs t.factors.items) c t.coefficient (polynomial_form fs ts) w h.2 r)
+    sym (add_none (monomial_form fs t.factors.value.items) (polynomial_form fs ts) r)
+    ∙ (ap (λ k. add_term (monomial_form fs t.factors.value.items) k (polynomial_form fs ts)) (sym e)
+    ∙ add_merge (monomial_form fs t.factors.value.items) c t.coefficient (polynomial_form fs ts) w h.2 r)
 form_remove fs (t ∷ ts) (suc i) d c h l w e =
-    ap (add_term (monomial_form fs t.factors.items) t.coefficient) (form_remove fs ts i d c h.4 (omega arith) w e)
-    ∙ add_swap (monomial_form fs t.factors.items) (monomial_form fs (get_or ts i d).factors.items) t.coefficient c (polynomial_form fs ts) h.2 w (form_rises fs ts h.4)
+    ap (add_term (monomial_form fs t.factors.value.items) t.coefficient) (form_remove fs ts i d c h.4 (omega arith) w e)
+    ∙ add_swap (monomial_form fs t.factors.value.items) (monomial_form fs (get_or ts i d).factors.value.items) t.coefficient c (polynomial_form fs ts) h.2 w (form_rises fs ts h.4)
 
 -- the same at a term that was read
 pub gone : (fs : List Form) (ts : List Term) (i : ℕ) (a d : Term) (c : ℕ) → AreTerms ts → i < length ts → c < 2 ^ 64 → a ≡ get_or ts i a → (c + a.coefficient) % 2 ^ 64 ≡ 0
-    → polynomial_form fs (take i ts ++ drop (suc i) ts) ≡ add_term (monomial_form fs (get_or ts i d).factors.items) c (polynomial_form fs ts)
+    → polynomial_form fs (take i ts ++ drop (suc i) ts) ≡ add_term (monomial_form fs (get_or ts i d).factors.value.items) c (polynomial_form fs ts)
 gone fs ts i a d c h l w r z =
     let e : get_or ts i d ≡ a = get_or_default ts i d a l ∙ sym r in
     form_remove fs ts i d c h l w (ap (λ (t : Term). (c + t.coefficient) % 2 ^ 64) e ∙ z)
 
 -- and where the coefficient does not become 0
-pub raised : (fs : List Form) (ts : List Term) (i : ℕ) (a d v : Term) (c : ℕ) → AreTerms ts → i < length ts → c < 2 ^ 64 → a ≡ get_or ts i a → v.factors.items ≡ (get_or ts i a).factors.items → v.coefficient ≡ (c + a.coefficient) % 2 ^ 64
-    → polynomial_form fs (set ts i v) ≡ add_term (monomial_form fs (get_or ts i d).factors.items) c (polynomial_form fs ts)
+pub raised : (fs : List Form) (ts : List Term) (i : ℕ) (a d v : Term) (c : ℕ) → AreTerms ts → i < length ts → c < 2 ^ 64 → a ≡ get_or ts i a → v.factors.value.items ≡ (get_or ts i a).factors.value.items → v.coefficient ≡ (c + a.coefficient) % 2 ^ 64
+    → polynomial_form fs (set ts i v) ≡ add_term (monomial_form fs (get_or ts i d).factors.value.items) c (polynomial_form fs ts)
 raised fs ts i a d v c h l w r f g =
     let e : get_or ts i d ≡ get_or ts i a = get_or_default ts i d a l in
-    form_set fs ts i v d c h l w (f ∙ ap (λ (t : Term). t.factors.items) (sym e)) (g ∙ ap (λ (t : Term). (c + t.coefficient) % 2 ^ 64) (r ∙ sym e))
+    form_set fs ts i v d c h l w (f ∙ ap (λ (t : Term). t.factors.value.items) (sym e)) (g ∙ ap (λ (t : Term). (c + t.coefficient) % 2 ^ 64) (r ∙ sym e))
 
 -- a term with the coefficient 0 changes nothing
 pub form_skip : (fs : List Form) (ts : List Term) (m : Monomial) (c : ℕ) → AreTerms ts → c ≡ 0 → polynomial_form fs ts ≡ add_term m c (polynomial_form fs ts)
@@ -91,7 +91,7 @@ form_negated fs (x ∷ xs) (y ∷ ys) e h =
     let t : map parts xs ≡ map negated_parts ys = cc in
     let f = ap (λ (p : List Factor × ℕ). p.0) p in
     let c = ap (λ (p : List Factor × ℕ). p.1) p in
-    rw (f, c, form_negated fs xs ys t h.4) (sym (negation_add (monomial_form fs y.factors.items) y.coefficient (polynomial_form fs ys) h.2 (form_rises fs ys h.4)))
+    rw (f, c, form_negated fs xs ys t h.4) (sym (negation_add (monomial_form fs y.factors.value.items) y.coefficient (polynomial_form fs ys) h.2 (form_rises fs ys h.4)))
 
 -- the terms from place i on
 dropped : (xs : List Term) (x : Term) (i : ℕ) → i < length xs → x ≡ get_or xs i x → drop i xs ≡ get_or xs i x ∷ drop (i + 1) xs
@@ -99,30 +99,30 @@ dropped xs x i l r = rw (add-one, drop-cons xs i x) refl
 
 -- one more term is added
 pub total_more : (fs : List Form) (xs : List Term) (x : Term) (q : Polynomial) (i : ℕ) → AreTerms xs → Rises q → i < length xs → x ≡ get_or xs i x
-    → total (polynomial_form fs (drop i xs)) q ≡ total (polynomial_form fs (drop (i + 1) xs)) (add_term (monomial_form fs x.factors.items) x.coefficient q)
+    → total (polynomial_form fs (drop i xs)) q ≡ total (polynomial_form fs (drop (i + 1) xs)) (add_term (monomial_form fs x.factors.value.items) x.coefficient q)
 total_more fs xs x q i h w l r =
     let y = get_or xs i x in
     ap (λ t. total (polynomial_form fs t) q) (dropped xs x i l r)
-    ∙ (total_add (monomial_form fs y.factors.items) y.coefficient (polynomial_form fs (drop (i + 1) xs)) q (term_word xs i x h l) (form_rises fs (drop (i + 1) xs) (terms_drop xs (i + 1) h)) w
-    ∙ ap (λ (t : Term). total (polynomial_form fs (drop (i + 1) xs)) (add_term (monomial_form fs t.factors.items) t.coefficient q)) (sym r))
+    ∙ (total_add (monomial_form fs y.factors.value.items) y.coefficient (polynomial_form fs (drop (i + 1) xs)) q (term_word xs i x h l) (form_rises fs (drop (i + 1) xs) (terms_drop xs (i + 1) h)) w
+    ∙ ap (λ (t : Term). total (polynomial_form fs (drop (i + 1) xs)) (add_term (monomial_form fs t.factors.value.items) t.coefficient q)) (sym r))
 
 -- one more term times another
 pub multiple_more : (fs : List Form) (M : Monomial) (c : ℕ) (xs : List Term) (x : Term) (q : Polynomial) (i : ℕ) → AreTerms xs → Rises q → i < length xs → x ≡ get_or xs i x
-    → add_multiple M c (polynomial_form fs (drop i xs)) q ≡ add_multiple M c (polynomial_form fs (drop (i + 1) xs)) (add_term (join M (monomial_form fs x.factors.items)) ((c * x.coefficient) % 2 ^ 64) q)
+    → add_multiple M c (polynomial_form fs (drop i xs)) q ≡ add_multiple M c (polynomial_form fs (drop (i + 1) xs)) (add_term (join M (monomial_form fs x.factors.value.items)) ((c * x.coefficient) % 2 ^ 64) q)
 multiple_more fs M c xs x q i h w l r =
     let y = get_or xs i x in
     ap (λ t. add_multiple M c (polynomial_form fs t) q) (dropped xs x i l r)
-    ∙ (multiple_add M (monomial_form fs y.factors.items) c y.coefficient (polynomial_form fs (drop (i + 1) xs)) q (term_word xs i x h l) w
-    ∙ ap (λ (t : Term). add_multiple M c (polynomial_form fs (drop (i + 1) xs)) (add_term (join M (monomial_form fs t.factors.items)) ((c * t.coefficient) % 2 ^ 64) q)) (sym r))
+    ∙ (multiple_add M (monomial_form fs y.factors.value.items) c y.coefficient (polynomial_form fs (drop (i + 1) xs)) q (term_word xs i x h l) w
+    ∙ ap (λ (t : Term). add_multiple M c (polynomial_form fs (drop (i + 1) xs)) (add_term (join M (monomial_form fs t.factors.value.items)) ((c * t.coefficient) % 2 ^ 64) q)) (sym r))
 
 -- one more term is multiplied
 pub products_more : (fs : List Form) (xs : List Term) (x : Term) (p q : Polynomial) (i : ℕ) → Rises q → i < length xs → x ≡ get_or xs i x
-    → add_products (polynomial_form fs (drop i xs)) p q ≡ add_products (polynomial_form fs (drop (i + 1) xs)) p (add_multiple (monomial_form fs x.factors.items) x.coefficient p q)
+    → add_products (polynomial_form fs (drop i xs)) p q ≡ add_products (polynomial_form fs (drop (i + 1) xs)) p (add_multiple (monomial_form fs x.factors.value.items) x.coefficient p q)
 products_more fs xs x p q i w l r =
     let y = get_or xs i x in
     ap (λ t. add_products (polynomial_form fs t) p q) (dropped xs x i l r)
-    ∙ (products_add (monomial_form fs y.factors.items) y.coefficient (polynomial_form fs (drop (i + 1) xs)) p q w
-    ∙ ap (λ (t : Term). add_products (polynomial_form fs (drop (i + 1) xs)) p (add_multiple (monomial_form fs t.factors.items) t.coefficient p q)) (sym r))
+    ∙ (products_add (monomial_form fs y.factors.value.items) y.coefficient (polynomial_form fs (drop (i + 1) xs)) p q w
+    ∙ ap (λ (t : Term). add_products (polynomial_form fs (drop (i + 1) xs)) p (add_multiple (monomial_form fs t.factors.value.items) t.coefficient p q)) (sym r))
 
 -- two lists name no more than the larger bound
 reach-append : (fs : List Form) (xs ys : List Term) (n : ℕ) → reach_of_terms fs xs ≤ n → reach_of_terms fs ys ≤ n → reach_of_terms fs (xs ++ ys) ≤ n
@@ -148,24 +148,24 @@ pub reach-remove : (fs : List Form) (xs : List Term) (i n : ℕ) → reach_of_te
 reach-remove fs xs i n h = reach-append fs (take i xs) (drop (suc i) xs) n (reach-take fs xs i n h) (reach-drop fs xs (suc i) n h)
 
 -- nor do they with one more
-pub reach-insert : (fs : List Form) (xs : List Term) (i n : ℕ) (v : Term) → reach_of_terms fs xs ≤ n → reach_of_factors fs v.factors.items ≤ n → reach_of_terms fs (take i xs ++ v ∷ drop i xs) ≤ n
+pub reach-insert : (fs : List Form) (xs : List Term) (i n : ℕ) (v : Term) → reach_of_terms fs xs ≤ n → reach_of_factors fs v.factors.value.items ≤ n → reach_of_terms fs (take i xs ++ v ∷ drop i xs) ≤ n
 reach-insert fs xs i n v h k = reach-append fs (take i xs) (v ∷ drop i xs) n (reach-take fs xs i n h) (let r = reach-drop fs xs i n h in omega arith)
 
 -- nor do they with another one
-pub reach-set : (fs : List Form) (xs : List Term) (i n : ℕ) (v : Term) → reach_of_terms fs xs ≤ n → reach_of_factors fs v.factors.items ≤ n → reach_of_terms fs (set xs i v) ≤ n
+pub reach-set : (fs : List Form) (xs : List Term) (i n : ℕ) (v : Term) → reach_of_terms fs xs ≤ n → reach_of_factors fs v.factors.value.items ≤ n → reach_of_terms fs (set xs i v) ≤ n
 reach-set fs [] i n v h k = h
 reach-set fs (x ∷ xs) zero n v h k = omega arith
 reach-set fs (x ∷ xs) (suc i) n v h k = let r = reach-set fs xs i n v (omega arith) k in omega arith
 
 -- a term names no more than all of them
-term_reach : (fs : List Form) (xs : List Term) (d : Term) (k : ℕ) → k < length xs → reach_of_factors fs (get_or xs k d).factors.items ≤ reach_of_terms fs xs
+term_reach : (fs : List Form) (xs : List Term) (d : Term) (k : ℕ) → k < length xs → reach_of_factors fs (get_or xs k d).factors.value.items ≤ reach_of_terms fs xs
 term_reach fs [] d k l = absurd (omega arith)
 term_reach fs (x ∷ xs) d zero l = omega arith
 term_reach fs (x ∷ xs) d (suc k) l = let h = term_reach fs xs d k (omega arith) in omega arith
 
 -- nor does one that was read
-pub term_reach_read : (fs : List Form) (xs : List Term) (a : Term) (k : ℕ) → k < length xs → a ≡ get_or xs k a → reach_of_factors fs a.factors.items ≤ reach_of_terms fs xs
-term_reach_read fs xs a k l ra = let P : Term → ℕ = λ t. reach_of_factors fs t.factors.items in let e = ap P ra in let h = term_reach fs xs a k l in omega (arith, e, h)
+pub term_reach_read : (fs : List Form) (xs : List Term) (a : Term) (k : ℕ) → k < length xs → a ≡ get_or xs k a → reach_of_factors fs a.factors.value.items ≤ reach_of_terms fs xs
+term_reach_read fs xs a k l ra = let P : Term → ℕ = λ t. reach_of_factors fs t.factors.value.items in let e = ap P ra in let h = term_reach fs xs a k l in omega (arith, e, h)
 
 -- terms that say the same name the same
 pub alike_reach : (fs : List Form) (xs ys : List Term) → map parts xs ≡ map parts ys → reach_of_terms fs xs ≡ reach_of_terms fs ys

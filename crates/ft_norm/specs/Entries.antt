@@ -27,7 +27,7 @@ monomial_form fs (x ∷ xs) = with_factor (atom_form fs x) (monomial_form fs xs)
 -- the polynomial of terms, whatever their order
 abbrev pub polynomial_form : List Form → List Term → Polynomial
 polynomial_form fs [] = nought
-polynomial_form fs (t ∷ ts) = add_term (monomial_form fs t.factors.items) t.coefficient (polynomial_form fs ts)
+polynomial_form fs (t ∷ ts) = add_term (monomial_form fs t.factors.value.items) t.coefficient (polynomial_form fs ts)
 
 -- the form of an entry
 abbrev pub entry_form : List Form → Entry → Form
@@ -82,7 +82,7 @@ reach_of_factors fs (x ∷ xs) = max (reach fs x) (reach_of_factors fs xs)
 -- the same of terms
 abbrev pub reach_of_terms : List Form → List Term → ℕ
 reach_of_terms fs [] = 0
-reach_of_terms fs (t ∷ ts) = max (reach_of_factors fs t.factors.items) (reach_of_terms fs ts)
+reach_of_terms fs (t ∷ ts) = max (reach_of_factors fs t.factors.value.items) (reach_of_terms fs ts)
 
 -- the same of an entry
 abbrev pub reach_of_entry : List Form → Entry → ℕ
@@ -126,8 +126,8 @@ pub record AreEntries (es : List Entry) : Type 0 where
 
 -- what a term says, whatever memory holds it
 abbrev pub parts : Term → List Factor × ℕ
-parts t = (t.factors.items, t.coefficient)
+parts t = (t.factors.value.items, t.coefficient)
 
 -- the same of a term with its coefficient negated
 abbrev pub negated_parts : Term → List Factor × ℕ
-negated_parts t = (t.factors.items, (2 ^ 64 - t.coefficient % 2 ^ 64) % 2 ^ 64)
+negated_parts t = (t.factors.value.items, (2 ^ 64 - t.coefficient % 2 ^ 64) % 2 ^ 64)

@@ -28,9 +28,9 @@ AreOrdered (x ∷ xs) = Leads x xs × AreOrdered xs
 -- factors that are below those of the first term
 abbrev pub Precedes : List Factor → List Term → Type 0
 Precedes xs [] = Unit {0}
-Precedes xs (t ∷ ts) = cmp_factors xs t.factors.items ≡ Less
+Precedes xs (t ∷ ts) = cmp_factors xs t.factors.value.items ≡ Less
 
 -- terms whose factors rise strictly, with words other than 0 as coefficients
 abbrev pub AreTerms : List Term → Type 0
 AreTerms [] = Unit {0}
-AreTerms (t ∷ ts) = AreOrdered t.factors.items × (0 < t.coefficient) × (t.coefficient < 2 ^ 64) × Precedes t.factors.items ts × AreTerms ts
+AreTerms (t ∷ ts) = AreOrdered t.factors.value.items × (0 < t.coefficient) × (t.coefficient < 2 ^ 64) × Precedes t.factors.value.items ts × AreTerms ts

@@ -16,13 +16,13 @@ pub record IsFactorPlace (xs : List Factor) (a : Factor) (i : ℕ) : Type 0 wher
 -- where a term of these factors stands
 pub record IsThere (ts : List Term) (xs : List Factor) (i : ℕ) : Type 0 where
   pub within : i < length ts
-  pub same : (t : Term) → (slice_index_or ts i t).factors.items ≡ xs
+  pub same : (t : Term) → (slice_index_or ts i t).factors.value.items ≡ xs
 
 -- where it keeps the order, if none stands
 pub record IsPlace (ts : List Term) (xs : List Factor) (i : ℕ) : Type 0 where
   pub within : i ≤ length ts
-  pub after : (t : Term) (j : ℕ) → j + 1 ≡ i → cmp_factors (slice_index_or ts j t).factors.items xs ≡ Less
-  pub before : (t : Term) → i < length ts → cmp_factors xs (slice_index_or ts i t).factors.items ≡ Less
+  pub after : (t : Term) (j : ℕ) → j + 1 ≡ i → cmp_factors (slice_index_or ts j t).factors.value.items xs ≡ Less
+  pub before : (t : Term) → i < length ts → cmp_factors xs (slice_index_or ts i t).factors.value.items ≡ Less
 
 -- terms as entries keep them, over forms that are distinct and hold what the terms name
 pub record AreOver (fs : List Form) (ts : List Term) : Type 0 where

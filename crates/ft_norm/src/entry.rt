@@ -8,6 +8,8 @@ ghost use Rattle.ft_norm.specs.Held.{polynomial_at};
 ghost use Rattle.ft_norm.specs.Entries.{AreEntries, IsCanonical, entry_form, forms_of, monomial_form, polynomial_form, reach_of_entry, reach_of_terms};
 ghost use Rattle.ft_norm.specs.Orders.{AreTerms};
 
+use smallvec::SmallVec;
+use std::rc::Rc;
 use std::slice::from_ref;
 
 /// The greatest number of monomials of a polynomial.
@@ -15,6 +17,9 @@ pub const MONOMIALS: usize = 64;
 
 /// The greatest number of atoms of a monomial.
 pub const ATOMS: usize = 4;
+
+/// How many more monomials than it has a polynomial may keep room for.
+const SPARE: usize = 4;
 
 /// An atom: a variable, or an operation on the forms of these numbers.
 #[derive(Clone, Copy, PartialEq, Eq, PartialOrd, Ord, Hash)]
@@ -27,11 +32,31 @@ pub enum Factor {
     Sum(usize, usize),
 }
 
-/// A monomial, its factors in rising order, and its coefficient.
+/// An unused place of a list of factors.
+impl Default for Factor {
+    fn default() -> Factor {
+        Factor::Variable(0)
+    }
+}
+
+/// The factors of a monomial, in rising order. The terms that are copied from one another share them.
+pub type Factors = Rc<SmallVec<Factor, 1>>;
+
+/// A monomial, its factors, and its coefficient.
 #[derive(Drop, PartialEq, Eq, Hash)]
 pub struct Term {
-    pub factors: Vec<Factor>,
+    pub factors: Factors,
     pub coefficient: u64,
+}
+
+impl Term {
+    /// The factors.
+    #[inline]
+    pub fn list(&self) -> &[Factor]
+        ensures { result.now ≡ self.now.factors.value.items }
+    {
+        self.factors.as_ref().as_slice()
+    }
 }
 
 /// A form: a polynomial of one term, or of any other number of terms in rising order; or the memory
@@ -58,6 +83,9 @@ pub fn entry_of(mut terms: Vec<Term>) -> Entry
     ensures canonical { IsCanonical result }
 {
     if terms.len() != 1 {
+        if terms.capacity().saturating_sub(terms.len()) > SPARE {
+            terms.shrink_to_fit();
+        }
         return Entry::Several(terms);
     }
     match terms.pop() {
@@ -103,7 +131,7 @@ pub fn is_word(entry: &Entry, w: u64) -> bool
     ensures { (fs : List Normal) → result ≡ true → entry_form fs entry.now ≡ integer_form (constant w) }
 {
     match entry {
-        Entry::Single(term) => is_word_term(&term.factors, term.coefficient, w),
+        Entry::Single(term) => is_word_term(term.list(), term.coefficient, w),
         _ => false,
     }
 }

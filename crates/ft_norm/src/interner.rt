@@ -23,8 +23,10 @@ use ft_isa::{NoMemory, Op, apply};
 use ft_static::Nodes;
 use ft_steps::Steps;
 use indexmap::IndexSet;
+use smallvec::SmallVec;
 use std::alloc::{AllocError, Global};
 use std::marker::Model;
+use std::rc::Rc;
 use std::sync::ledger::Ledger;
 
 /// How many words the interner remembers places for.
@@ -262,8 +264,9 @@ impl Interner {
         if w == 0 {
             return self.put(Entry::Several(Vec::new(self.alloc)));
         }
+        let factors = Rc::new(self.alloc, SmallVec::new(self.alloc))?;
         self.put(Entry::Single(Term {
-            factors: Vec::new(self.alloc),
+            factors,
             coefficient: w,
         }))
     }
@@ -274,8 +277,9 @@ impl Interner {
         ensures kept { Keeps self.old self.new }
         ensures form { IfOk result (λ f. held self.new f ≡ Some (integer_form (alone (atom_form self.old factor)))) }
     {
-        let mut factors = Vec::with_capacity(self.alloc, 1)?;
-        factors.push(factor)?;
+        let mut list = SmallVec::new(self.alloc);
+        list.push(factor)?;
+        let factors = Rc::new(self.alloc, list)?;
         self.put(Entry::Single(Term {
             factors,
             coefficient: 1,

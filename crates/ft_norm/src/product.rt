@@ -6,10 +6,12 @@ ghost use Rattle.ft_norm.specs.Entries.{monomial_form, polynomial_form, reach_of
 ghost use Rattle.ft_norm.specs.Orders.{AreOrdered, AreTerms, cmp_factor};
 ghost use Rattle.ft_norm.specs.Terms.{AreOver, IsFactorPlace};
 
-use crate::entry::{ATOMS, Factor, MONOMIALS, Term};
+use crate::entry::{ATOMS, Factor, Factors, MONOMIALS, Term};
 use crate::sum::add_term;
+use smallvec::SmallVec;
 use std::alloc::{AllocError, Global};
 use std::cmp::Ordering;
+use std::rc::Rc;
 
 /// Whether `a` may stand before `b`.
 fn may_precede(a: Factor, b: Factor) -> bool
@@ -31,32 +33,61 @@ fn place_of_factor(factors: &[Factor], a: Factor) -> usize
     factors.len()
 }
 
-/// The factors of the product of two monomials.
-fn joined(m: &[Factor], n: &Vec<Factor>) -> Result<Vec<Factor>, AllocError>
-    requires { AreOrdered n.now.items }
-    ensures value { IfOk result (λ v. (fs : List Normal) → monomial_form fs v.items ≡ join (monomial_form fs m.now) (monomial_form fs n.now.items)) }
-    ensures ordered { IfOk result (λ v. AreOrdered v.items) }
-    ensures reach { IfOk result (λ v. (fs : List Normal) (k : ℕ) → reach_of_factors fs m.now ≤ k → reach_of_factors fs n.now.items ≤ k → reach_of_factors fs v.items ≤ k) }
+/// The factors of the product of two monomials, in a list of their own.
+fn merged(alloc: Global, m: &[Factor], n: &[Factor]) -> Result<Factors, AllocError>
+    requires { AreOrdered n.now }
+    ensures value { IfOk result (λ v. (fs : List Normal) → monomial_form fs v.value.items ≡ join (monomial_form fs m.now) (monomial_form fs n.now)) }
+    ensures ordered { IfOk result (λ v. AreOrdered v.value.items) }
+    ensures reach { IfOk result (λ v. (fs : List Normal) (k : ℕ) → reach_of_factors fs m.now ≤ k → reach_of_factors fs n.now ≤ k → reach_of_factors fs v.value.items ≤ k) }
 {
-    let mut product = n.clone()?;
+    let mut product: SmallVec<Factor, 1> = SmallVec::from_slice(alloc, n)?;
     for i in 0..m.len() {
-        let place = place_of_factor(&product, m[i]);
+        let place = place_of_factor(product.as_slice(), m[i]);
         product.insert(place, m[i])?;
     }
-    Ok(product)
+    let shared = Rc::new(alloc, product)?;
+    Ok(shared)
+}
+
+/// The factors of the product of two terms. They are shared where one of the two is a constant.
+fn joined(alloc: Global, t: &Term, u: &Term) -> Result<Factors, AllocError>
+    requires first { AreOrdered t.now.factors.value.items }
+    requires second { AreOrdered u.now.factors.value.items }
+    ensures value { IfOk result (λ v. (fs : List Normal) → monomial_form fs v.value.items ≡ join (monomial_form fs t.now.factors.value.items) (monomial_form fs u.now.factors.value.items)) }
+    ensures ordered { IfOk result (λ v. AreOrdered v.value.items) }
+    ensures reach { IfOk result (λ v. (fs : List Normal) (k : ℕ) → reach_of_factors fs t.now.factors.value.items ≤ k → reach_of_factors fs u.now.factors.value.items ≤ k → reach_of_factors fs v.value.items ≤ k) }
+{
+    let m = t.list();
+    let n = u.list();
+    if m.is_empty() {
+        let factors = u.factors.clone()?;
+        return Ok(factors);
+    }
+    if n.is_empty() {
+        let factors = t.factors.clone()?;
+        return Ok(factors);
+    }
+    let factors = merged(alloc, m, n)?;
+    Ok(factors)
 }
 
 /// Adds the product of `t` and each of `terms` to `sum`.
-fn add_multiple(sum: &mut Vec<Term>, t: &Term, terms: &[Term]) -> Result<(), AllocError>
+fn add_multiple(
+    alloc: Global,
+    sum: &mut Vec<Term>,
+    t: &Term,
+    terms: &[Term],
+) -> Result<(), AllocError>
     requires sum { AreTerms sum.old.items }
+    requires term { AreOrdered t.now.factors.value.items }
     requires terms { AreTerms terms.now }
-    ensures value { IfOk result (λ _. (fs : List Normal) → polynomial_form fs sum.new.items ≡ sum_with_multiple (monomial_form fs t.now.factors.items) t.now.coefficient (polynomial_form fs terms.now) (polynomial_form fs sum.old.items)) }
+    ensures value { IfOk result (λ _. (fs : List Normal) → polynomial_form fs sum.new.items ≡ sum_with_multiple (monomial_form fs t.now.factors.value.items) t.now.coefficient (polynomial_form fs terms.now) (polynomial_form fs sum.old.items)) }
     ensures terms { AreTerms sum.new.items }
-    ensures reach { (fs : List Normal) (n : ℕ) → reach_of_terms fs sum.old.items ≤ n → reach_of_factors fs t.now.factors.items ≤ n → reach_of_terms fs terms.now ≤ n → reach_of_terms fs sum.new.items ≤ n }
+    ensures reach { (fs : List Normal) (n : ℕ) → reach_of_terms fs sum.old.items ≤ n → reach_of_factors fs t.now.factors.value.items ≤ n → reach_of_terms fs terms.now ≤ n → reach_of_terms fs sum.new.items ≤ n }
     ensures count { length sum.new.items ≤ length sum.old.items + length terms.now }
 {
     for u in terms {
-        let factors = joined(&t.factors, &u.factors)?;
+        let factors = joined(alloc, t, u)?;
         add_term(sum, factors, t.coefficient.wrapping_mul(u.coefficient))?;
     }
     Ok(())
@@ -73,7 +104,7 @@ pub fn product_terms(alloc: Global, p: &[Term], q: &[Term]) -> Result<Vec<Term>,
 {
     let mut sum = Vec::new(alloc);
     for t in p {
-        add_multiple(&mut sum, t, q)?;
+        add_multiple(alloc, &mut sum, t, q)?;
     }
     Ok(sum)
 }
@@ -84,7 +115,7 @@ fn degree_of(terms: &[Term]) -> usize
 {
     let mut most: usize = 0;
     for t in terms {
-        most = most.max(t.factors.len());
+        most = most.max(t.list().len());
     }
     most
 }

@@ -6,7 +6,7 @@ ghost use Rattle.ft_norm.specs.Entries.{monomial_form, negated_parts, parts, pol
 ghost use Rattle.ft_norm.specs.Orders.{AreOrdered, AreTerms, cmp_factors};
 ghost use Rattle.ft_norm.specs.Terms.{IsPlace, IsThere};
 
-use crate::entry::{Factor, Term};
+use crate::entry::{Factor, Factors, Term};
 use std::alloc::{AllocError, Global};
 use std::cmp::Ordering;
 
@@ -26,7 +26,7 @@ fn place_of(sum: &[Term], factors: &[Factor]) -> Result<usize, usize>
     let mut high = sum.len();
     while low < high {
         let middle = low + (high - low) / 2;
-        match compare(&sum[middle].factors, factors) {
+        match compare(sum[middle].list(), factors) {
             Ordering::Equal => return Ok(middle),
             Ordering::Less => low = middle + 1,
             Ordering::Greater => high = middle,
@@ -39,7 +39,7 @@ fn place_of(sum: &[Term], factors: &[Factor]) -> Result<usize, usize>
 fn raise(sum: &mut Vec<Term>, i: usize, coefficient: u64)
     requires within { i < length sum.old.items }
     requires terms { AreTerms sum.old.items }
-    ensures value { (fs : List Normal) (t : Term) → polynomial_form fs sum.new.items ≡ sum_with (monomial_form fs (slice_index_or sum.old.items i t).factors.items) coefficient (polynomial_form fs sum.old.items) }
+    ensures value { (fs : List Normal) (t : Term) → polynomial_form fs sum.new.items ≡ sum_with (monomial_form fs (slice_index_or sum.old.items i t).factors.value.items) coefficient (polynomial_form fs sum.old.items) }
     ensures terms { AreTerms sum.new.items }
     ensures reach { (fs : List Normal) (n : ℕ) → reach_of_terms fs sum.old.items ≤ n → reach_of_terms fs sum.new.items ≤ n }
     ensures count { length sum.new.items ≤ length sum.old.items }
@@ -57,15 +57,15 @@ fn raise(sum: &mut Vec<Term>, i: usize, coefficient: u64)
 fn insert(
     sum: &mut Vec<Term>,
     i: usize,
-    factors: Vec<Factor>,
+    factors: Factors,
     coefficient: u64,
 ) -> Result<(), AllocError>
     requires terms { AreTerms sum.old.items }
-    requires place { IsPlace sum.old.items factors.items i }
-    requires factors { AreOrdered factors.items }
-    ensures value { IfOk result (λ _. (fs : List Normal) → polynomial_form fs sum.new.items ≡ sum_with (monomial_form fs factors.items) coefficient (polynomial_form fs sum.old.items)) }
+    requires place { IsPlace sum.old.items factors.value.items i }
+    requires factors { AreOrdered factors.value.items }
+    ensures value { IfOk result (λ _. (fs : List Normal) → polynomial_form fs sum.new.items ≡ sum_with (monomial_form fs factors.value.items) coefficient (polynomial_form fs sum.old.items)) }
     ensures terms { AreTerms sum.new.items }
-    ensures reach { (fs : List Normal) (n : ℕ) → reach_of_terms fs sum.old.items ≤ n → reach_of_factors fs factors.items ≤ n → reach_of_terms fs sum.new.items ≤ n }
+    ensures reach { (fs : List Normal) (n : ℕ) → reach_of_terms fs sum.old.items ≤ n → reach_of_factors fs factors.value.items ≤ n → reach_of_terms fs sum.new.items ≤ n }
     ensures count { length sum.new.items ≤ length sum.old.items + 1 }
 {
     if coefficient == 0 {
@@ -82,19 +82,15 @@ fn insert(
 }
 
 /// Adds a term, which is handed over.
-pub fn add_term(
-    sum: &mut Vec<Term>,
-    factors: Vec<Factor>,
-    coefficient: u64,
-) -> Result<(), AllocError>
+pub fn add_term(sum: &mut Vec<Term>, factors: Factors, coefficient: u64) -> Result<(), AllocError>
     requires terms { AreTerms sum.old.items }
-    requires factors { AreOrdered factors.items }
-    ensures value { IfOk result (λ _. (fs : List Normal) → polynomial_form fs sum.new.items ≡ sum_with (monomial_form fs factors.items) coefficient (polynomial_form fs sum.old.items)) }
+    requires factors { AreOrdered factors.value.items }
+    ensures value { IfOk result (λ _. (fs : List Normal) → polynomial_form fs sum.new.items ≡ sum_with (monomial_form fs factors.value.items) coefficient (polynomial_form fs sum.old.items)) }
     ensures terms { AreTerms sum.new.items }
-    ensures reach { (fs : List Normal) (n : ℕ) → reach_of_terms fs sum.old.items ≤ n → reach_of_factors fs factors.items ≤ n → reach_of_terms fs sum.new.items ≤ n }
+    ensures reach { (fs : List Normal) (n : ℕ) → reach_of_terms fs sum.old.items ≤ n → reach_of_factors fs factors.value.items ≤ n → reach_of_terms fs sum.new.items ≤ n }
     ensures count { length sum.new.items ≤ length sum.old.items + 1 }
 {
-    match place_of(sum, &factors) {
+    match place_of(sum, factors.as_ref().as_slice()) {
         Ok(i) => {
             raise(sum, i, coefficient);
             Ok(())
@@ -106,12 +102,12 @@ pub fn add_term(
 /// Adds a term, which is copied only where it becomes a term of the sum.
 fn add_copy(sum: &mut Vec<Term>, term: &Term) -> Result<(), AllocError>
     requires terms { AreTerms sum.old.items }
-    requires factors { AreOrdered term.now.factors.items }
-    ensures value { IfOk result (λ _. (fs : List Normal) → polynomial_form fs sum.new.items ≡ sum_with (monomial_form fs term.now.factors.items) term.now.coefficient (polynomial_form fs sum.old.items)) }
+    requires factors { AreOrdered term.now.factors.value.items }
+    ensures value { IfOk result (λ _. (fs : List Normal) → polynomial_form fs sum.new.items ≡ sum_with (monomial_form fs term.now.factors.value.items) term.now.coefficient (polynomial_form fs sum.old.items)) }
     ensures terms { AreTerms sum.new.items }
-    ensures reach { (fs : List Normal) (n : ℕ) → reach_of_terms fs sum.old.items ≤ n → reach_of_factors fs term.now.factors.items ≤ n → reach_of_terms fs sum.new.items ≤ n }
+    ensures reach { (fs : List Normal) (n : ℕ) → reach_of_terms fs sum.old.items ≤ n → reach_of_factors fs term.now.factors.value.items ≤ n → reach_of_terms fs sum.new.items ≤ n }
 {
-    match place_of(sum, &term.factors) {
+    match place_of(sum, term.list()) {
         Ok(i) => {
             raise(sum, i, term.coefficient);
             Ok(())

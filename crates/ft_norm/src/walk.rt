@@ -37,7 +37,7 @@ pub fn constant_in(terms: &[Term]) -> Option<u64>
 {
     match terms {
         [] => Some(0),
-        [term] => constant_of_term(&term.factors, term.coefficient),
+        [term] => constant_of_term(term.list(), term.coefficient),
         _ => None,
     }
 }

@@ -1,19 +1,18 @@
-use Rattle.std.proofs.Common.{ℕ, List, ◌≡◌, ◌≤◌, ◌∙◌, ◌+◌, ◌*◌, ◌%◌, ◌^◌, sym, ap, drop, arith}
+use Rattle.std.proofs.Common.{ℕ, List, ◌≡◌, ◌∙◌, ◌+◌, ◌*◌, ◌%◌, ◌^◌, sym, ap, drop, arith}
 use Rattle.ft_static.specs.Form.{Form as Normal, Monomial}
 use Rattle.ft_static.specs.NormalForm.{add_multiple as sum_with_multiple, add_term, join}
-use Rattle.ft_norm.specs.Entries.{monomial_form, polynomial_form, reach_of_factors}
+use Rattle.ft_norm.specs.Entries.{monomial_form, polynomial_form}
 use Rattle.ft_norm.proofs.Ordered.{read_ordered}
 use Rattle.ft_norm.proofs.Sums.{form_rises, multiple_more, term_reach_read}
 use Rattle.ft_norm.proofs.product.add_multiple.Goals as goal
 
-pub joined-requires : goal.joined-requires
-joined-requires c = read_ordered c.args.terms.now c.u-item.result c.loop-u.u-index c.requires.terms c.loop-u-test.true c.u-item.is
+pub joined-requires-clause-second : goal.joined-requires-clause-second
+joined-requires-clause-second c = read_ordered c.args.terms.now c.u-item.result c.loop-u.u-index c.requires.terms c.loop-u-test.true c.u-item.is
 
 pub returns-in_err-add_term-clause-reach : goal.returns-in_err-add_term-clause-reach
 returns-in_err-add_term-clause-reach c = λ fs n h k j.
     let r = term_reach_read fs c.args.terms.now c.u-item.result c.loop-u.u-index c.loop-u-test.true c.u-item.is in
-    let m : reach_of_factors fs c.deref.result.now ≤ n = rw c.deref.ensures.value k in
-    c.in_err-add_term.ensures.reach fs n (c.loop-u.invariant.reach fs n h k j) (c.in_ok-factors.ensures.reach fs n m (omega (arith, r, j)))
+    c.in_err-add_term.ensures.reach fs n (c.loop-u.invariant.reach fs n h k j) (c.in_ok-factors.ensures.reach fs n k (omega (arith, r, j)))
 
 pub loop-u-preserved : goal.loop-u-preserved
 loop-u-preserved c =
@@ -25,14 +24,13 @@ loop-u-preserved c =
     let xs = c.loop-u.sum.items in
     record {
       value = λ (fs : List Normal).
-          let m : monomial_form fs c.in_ok-factors.factors.items ≡ join (monomial_form fs t.factors.items) (monomial_form fs u.factors.items) = c.in_ok-factors.ensures.value fs ∙ ap (λ ks. join (monomial_form fs ks) (monomial_form fs u.factors.items)) c.deref.ensures.value in
-          c.loop-u.invariant.value fs ∙ (multiple_more fs (monomial_form fs t.factors.items) t.coefficient us u (polynomial_form fs xs) i c.requires.terms (form_rises fs xs c.loop-u.invariant.terms) c.loop-u-test.true c.u-item.is
-          ∙ ap (sum_with_multiple (monomial_form fs t.factors.items) t.coefficient (polynomial_form fs (drop (i + 1) us)))
+          let m : monomial_form fs c.in_ok-factors.factors.value.items ≡ join (monomial_form fs t.factors.value.items) (monomial_form fs u.factors.value.items) = c.in_ok-factors.ensures.value fs in
+          c.loop-u.invariant.value fs ∙ (multiple_more fs (monomial_form fs t.factors.value.items) t.coefficient us u (polynomial_form fs xs) i c.requires.terms (form_rises fs xs c.loop-u.invariant.terms) c.loop-u-test.true c.u-item.is
+          ∙ ap (sum_with_multiple (monomial_form fs t.factors.value.items) t.coefficient (polynomial_form fs (drop (i + 1) us)))
           (sym (e.value fs ∙ ap (λ (k : Monomial). add_term k ((t.coefficient * u.coefficient) % 2 ^ 64) (polynomial_form fs xs)) m)));
       terms = e.terms;
       reach = λ (fs : List Normal) (n : ℕ) h k j.
           let r = term_reach_read fs us u i c.loop-u-test.true c.u-item.is in
-          let m : reach_of_factors fs c.deref.result.now ≤ n = rw c.deref.ensures.value k in
-          e.reach fs n (c.loop-u.invariant.reach fs n h k j) (c.in_ok-factors.ensures.reach fs n m (omega (arith, r, j)));
+          e.reach fs n (c.loop-u.invariant.reach fs n h k j) (c.in_ok-factors.ensures.reach fs n k (omega (arith, r, j)));
       count = omega (arith, e.count, c.loop-u.invariant.count);
     }

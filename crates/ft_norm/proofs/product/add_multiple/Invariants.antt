@@ -7,9 +7,9 @@ use Rattle.ft_norm.proofs.product.add_multiple.Given as goal
 
 abbrev pub invariant-loop-u : goal.invariant-loop-u
 invariant-loop-u l = record {
-  value : (fs : List Normal) → sum_with_multiple (monomial_form fs l.t.factors.items) l.t.coefficient (polynomial_form fs l.terms) (polynomial_form fs l.initial.sum.items)
-      ≡ sum_with_multiple (monomial_form fs l.t.factors.items) l.t.coefficient (polynomial_form fs (drop l.u-index l.terms)) (polynomial_form fs l.sum.items);
+  value : (fs : List Normal) → sum_with_multiple (monomial_form fs l.t.factors.value.items) l.t.coefficient (polynomial_form fs l.terms) (polynomial_form fs l.initial.sum.items)
+      ≡ sum_with_multiple (monomial_form fs l.t.factors.value.items) l.t.coefficient (polynomial_form fs (drop l.u-index l.terms)) (polynomial_form fs l.sum.items);
   terms : AreTerms l.sum.items;
-  reach : (fs : List Normal) (n : ℕ) → reach_of_terms fs l.initial.sum.items ≤ n → reach_of_factors fs l.t.factors.items ≤ n → reach_of_terms fs l.terms ≤ n → reach_of_terms fs l.sum.items ≤ n;
+  reach : (fs : List Normal) (n : ℕ) → reach_of_terms fs l.initial.sum.items ≤ n → reach_of_factors fs l.t.factors.value.items ≤ n → reach_of_terms fs l.terms ≤ n → reach_of_terms fs l.sum.items ≤ n;
   count : length l.sum.items ≤ length l.initial.sum.items + l.u-index;
 }

@@ -5,7 +5,7 @@ use Rattle.ft_norm.proofs.product.degree_of.Goals as goal
 pub loop-t-preserved : goal.loop-t-preserved
 loop-t-preserved c =
     let d = greatest_more c.args.terms.now c.t-item.result c.loop-t.t-index c.loop-t.most c.loop-t-test.true c.t-item.is c.loop-t.invariant in
-    let q : c.len.result ≡ length c.t-item.result.factors.items = c.len.ensures ∙ c.t-item.result.factors.ok.0 in
+    let q : length c.list.result.now ≡ length c.t-item.result.factors.value.items = ap length c.list.ensures in
     c.max-most.ensures ∙ (ap (max c.loop-t.most) q ∙ d)
 
 pub returns : goal.returns

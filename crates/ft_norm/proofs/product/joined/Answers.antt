@@ -1,24 +1,11 @@
-use Rattle.std.proofs.Common.{ℕ, List, arith, ◌∙◌, sym, ap, get_or, drop, ◌+◌}
-use Rattle.ft_static.specs.Form.{Form as Normal}
-use Rattle.ft_static.specs.NormalForm.{join}
-use Rattle.ft_norm.specs.declared.entry.Factor.TheVariants.{Variable}
-use Rattle.ft_norm.specs.Entries.{monomial_form}
-use Rattle.ft_norm.proofs.Joining.{factor_put, factor_reach, factors_insert, join_more}
-use Rattle.ft_norm.proofs.Ordered.{ordered_insert}
+use Rattle.std.proofs.Common.{◌∙◌, sym, ap, length}
+use Rattle.std.proofs.lemmas.Bool.{eqb-true}
+use Rattle.smallvec.specs.SmallVec.{SmallVec}
+use Rattle.ft_norm.specs.declared.entry.Factor.{Factor}
+use Rattle.ft_norm.proofs.Joining.{join_last_none}
 use Rattle.ft_norm.proofs.product.joined.Goals as goal
 
-pub loop-i-preserved : goal.loop-i-preserved
-loop-i-preserved c =
-    let i = c.loop-i.i in
-    let m = c.args.m.now in
-    let a = get_or m i (Variable 0) in
-    let xs = c.loop-i.product.items in
-    let place = c.place_of_factor-place.result in
-    let v = c.deref.ensures.value in
-    let p = rw v at c.place_of_factor-place.ensures in
-    record {
-      value = λ (fs : List Normal). c.loop-i.invariant.value fs ∙ (join_more fs m (monomial_form fs xs) i (Variable 0) c.loop-i-test.true
-          ∙ ap (λ n. join (monomial_form fs (drop (i + 1) m)) n) (sym (ap (monomial_form fs) c.in_ok-insert.ensures.items ∙ factor_put fs xs place a)));
-      ordered = rw c.in_ok-insert.ensures.items (ordered_insert xs a place c.loop-i.invariant.ordered p);
-      reach = λ (fs : List Normal) (k : ℕ) h j. rw c.in_ok-insert.ensures.items (factors_insert fs xs place k a (c.loop-i.invariant.reach fs k h j) (let x = factor_reach fs m (Variable 0) i c.loop-i-test.true in omega (arith, x, h)));
-    }
+pub returns-then-is_empty-2-clause-value : goal.returns-then-is_empty-2-clause-value
+returns-then-is_empty-2-clause-value c = λ fs.
+    let e = eqb-true _ _ (sym c.is_empty-2.ensures ∙ c.if-is_empty-2.true) in
+    join_last_none fs c.args.t.now.factors.value.items c.args.u.now.factors.value.items c.in_ok-factors-2.factors.value.items (ap length (sym c.list-n.ensures) ∙ e) (ap (λ (l : SmallVec Factor). l.items) c.in_ok-factors-2.ensures.cases)

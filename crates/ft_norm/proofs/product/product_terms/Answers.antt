@@ -2,8 +2,12 @@ use Rattle.std.proofs.Common.{ℕ, List, ◌≡◌, ◌∙◌, ◌+◌, ◌*◌,
 use Rattle.ft_static.specs.Form.{Form as Normal}
 use Rattle.ft_static.specs.NormalForm.{add_products}
 use Rattle.ft_norm.specs.Entries.{polynomial_form}
+use Rattle.ft_norm.proofs.Ordered.{read_ordered}
 use Rattle.ft_norm.proofs.Sums.{form_rises, products_more, term_reach_read}
 use Rattle.ft_norm.proofs.product.product_terms.Goals as goal
+
+pub add_multiple-requires-clause-term : goal.add_multiple-requires-clause-term
+add_multiple-requires-clause-term c = read_ordered c.args.p.now c.t-item.result c.loop-t.t-index c.requires.first c.loop-t-test.true c.t-item.is
 
 pub loop-t-preserved : goal.loop-t-preserved
 loop-t-preserved c =

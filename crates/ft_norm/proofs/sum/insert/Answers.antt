@@ -6,7 +6,7 @@ use Rattle.ft_norm.proofs.Sums.{form_insert, form_skip, reach-insert}
 use Rattle.ft_norm.proofs.sum.insert.Goals as goal
 
 pub returns-then-coefficient-eq0-clause-value : goal.returns-then-coefficient-eq0-clause-value
-returns-then-coefficient-eq0-clause-value c = λ fs. form_skip fs c.args.sum.now.items (monomial_form fs c.args.factors.items) c.args.coefficient c.requires.terms c.if-coefficient-eq0.true
+returns-then-coefficient-eq0-clause-value c = λ fs. form_skip fs c.args.sum.now.items (monomial_form fs c.args.factors.value.items) c.args.coefficient c.requires.terms c.if-coefficient-eq0.true
 
 pub returns-clause-value : goal.returns-clause-value
 returns-clause-value c = λ fs. ap (polynomial_form fs) c.in_ok-insert.ensures.items ∙ form_insert fs c.args.sum.now.items c.args.i (record { factors = c.args.factors; coefficient = c.args.coefficient }) c.requires.terms c.ranges.coefficient.fits

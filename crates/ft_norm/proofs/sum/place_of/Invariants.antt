@@ -8,8 +8,8 @@ abbrev pub invariant-loop-low : goal.invariant-loop-low
 invariant-loop-low l = record {
   within : l.high ≤ length l.sum;
   order : l.low ≤ l.high;
-  after : (t : Term) (j : ℕ) → j + 1 ≡ l.low → cmp_factors (slice_index_or l.sum j t).factors.items l.factors ≡ Less;
-  before : (t : Term) → l.high < length l.sum → cmp_factors l.factors (slice_index_or l.sum l.high t).factors.items ≡ Less;
+  after : (t : Term) (j : ℕ) → j + 1 ≡ l.low → cmp_factors (slice_index_or l.sum j t).factors.value.items l.factors ≡ Less;
+  before : (t : Term) → l.high < length l.sum → cmp_factors l.factors (slice_index_or l.sum l.high t).factors.value.items ≡ Less;
 }
 
 abbrev pub decreases-loop-low : goal.decreases-loop-low

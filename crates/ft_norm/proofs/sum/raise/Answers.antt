@@ -19,13 +19,13 @@ returns-then-vanishes-clause-reach c = λ fs n h. rw c.remove.ensures.items (rea
 
 pub returns-else-vanishes-clause-value : goal.returns-else-vanishes-clause-value
 returns-else-vanishes-clause-value c = λ fs t.
-    let g = ap (λ (u : Term). u.factors.items) (c.index_mut.ensures.value ∙ get_or_default c.args.sum.now.items c.args.i c.index_mut.result.now c.index.result.now c.requires.within) in
+    let g = ap (λ (u : Term). u.factors.value.items) (c.index_mut.ensures.value ∙ get_or_default c.args.sum.now.items c.args.i c.index_mut.result.now c.index.result.now c.requires.within) in
     raised fs c.args.sum.now.items c.args.i c.index.result.now t
     (record { factors = c.index_mut.result.now.factors; coefficient = (c.args.coefficient + c.index.result.now.coefficient) % 2 ^ 64 }) c.args.coefficient c.requires.terms c.requires.within c.ranges.coefficient.fits c.index.ensures g refl
 
 pub returns-else-vanishes-clause-terms : goal.returns-else-vanishes-clause-terms
 returns-else-vanishes-clause-terms c =
-    let g = ap (λ (u : Term). u.factors.items) c.index_mut.ensures.value in
+    let g = ap (λ (u : Term). u.factors.value.items) c.index_mut.ensures.value in
     terms_set c.args.sum.now.items c.args.i (record { factors = c.index_mut.result.now.factors; coefficient = (c.args.coefficient + c.index.result.now.coefficient) % 2 ^ 64 }) c.index_mut.result.now
     c.requires.terms c.requires.within g (positive ((c.args.coefficient + c.index.result.now.coefficient) % 2 ^ 64) c.if-vanishes.false) (mod-lt _ (lit< tt))
 
