@@ -1,8 +1,11 @@
 //! Nodes, each after those to which it refers.
-ghost use Rattle.std.specs.Prelude.{◌≡◌, ◌<◌, ◌≤◌, ◌^◌};
+//!
+//! A large object is mostly nodes, so their rules are inlined. The last check of a record is left by `?` like those
+//! before it: then each check is one comparison and one branch.
+ghost use Rattle.std.specs.Prelude.{◌≡◌, ◌+◌, ◌<◌, ◌≤◌, ◌^◌};
 ghost use Rattle.ft_records.specs.Found.{Finds};
 ghost use Rattle.ft_format.specs.Fields.{node_numbers};
-ghost use Rattle.ft_format.specs.Rules.{node_op_broken, variable_broken, pair_broken, memory_broken, upd_broken, parts_broken, node_broken};
+ghost use Rattle.ft_format.specs.Rules.{◌next◌, zero_broken, count_broken, variable_broken, pair_broken, memory_broken, upd_broken, parts_broken, node_broken};
 ghost use Rattle.ft_format.specs.Values.{shape_of, node_of};
 
 use crate::node_records::NodeRecords;
@@ -10,17 +13,6 @@ use crate::parts::{op, word};
 use crate::rules::{check, check_count, check_named, check_op, check_zero};
 use ft_format::{NodeRow, ObjectError};
 use ft_static::{Node, Shape};
-
-/// The operation of a node, which only kind 2 has.
-fn check_node_op(at: usize, kind: u8, op: u8) -> Result<(), ObjectError>
-    ensures { Finds result (node_op_broken at kind op) }
-{
-    if kind == 2 {
-        check_op(at, u32::from(op))
-    } else {
-        check_zero(at, u32::from(op))
-    }
-}
 
 /// A variable, whose number is below the scope.
 fn check_variable(at: usize, row: NodeRow) -> Result<(), ObjectError>
@@ -36,6 +28,7 @@ fn check_variable(at: usize, row: NodeRow) -> Result<(), ObjectError>
 }
 
 /// An operation on two integers, or what a memory holds at an address.
+#[inline(always)]
 fn check_pair(
     earlier: &NodeRecords,
     memory: bool,
@@ -47,7 +40,8 @@ fn check_pair(
 {
     check_named(earlier, row.scope, memory, at + 4, row.a)?;
     check_named(earlier, row.scope, false, at + 8, row.b)?;
-    check_zero(at + 12, row.c)
+    check_zero(at + 12, row.c)?;
+    Ok(())
 }
 
 /// The memory variable.
@@ -71,12 +65,16 @@ fn check_upd(earlier: &NodeRecords, at: usize, row: NodeRow) -> Result<(), Objec
 }
 
 /// The parts a, b and c of a node, by its kind, where any above 4 is that of `upd`.
+#[inline(always)]
 fn check_parts(earlier: &NodeRecords, at: usize, row: NodeRow) -> Result<(), ObjectError>
     requires { at ≤ 2 ^ 27 }
     ensures { Finds result (parts_broken earlier.now at row.kind row.scope row.a row.b row.c) }
 {
     match row.kind {
-        0 => check_zero(at + 4, row.a),
+        0 => {
+            check_zero(at + 4, row.a)?;
+            Ok(())
+        }
         1 => check_variable(at, row),
         2 => check_pair(earlier, false, at, row),
         3 => check_pair(earlier, true, at, row),
@@ -85,17 +83,32 @@ fn check_parts(earlier: &NodeRecords, at: usize, row: NodeRow) -> Result<(), Obj
     }
 }
 
+/// The rules of a node's record from its scope on.
+#[inline(always)]
+fn check_rest(earlier: &NodeRecords, at: usize, row: NodeRow) -> Result<(), ObjectError>
+    requires { at ≤ 2 ^ 27 }
+    ensures { Finds result (count_broken 128 (at + 2) row.scope next zero_broken (at + 3) row.pad next parts_broken earlier.now at row.kind row.scope row.a row.b row.c) }
+{
+    check_count(128, at + 2, u32::from(row.scope))?;
+    check_zero(at + 3, u32::from(row.pad))?;
+    check_parts(earlier, at, row)
+}
+
 /// The rules of the record of a node, after the earlier ones: `Kind` for a code that stands for nothing or a node of
 /// the wrong sort, `Pad`, `Count` for the scope, `Index` for a node or variable that may not be named.
+#[inline(always)]
 pub fn check_node(earlier: &NodeRecords, at: usize, row: NodeRow) -> Result<(), ObjectError>
     requires { at ≤ 2 ^ 27 }
     ensures { Finds result (node_broken earlier.now at (node_numbers row)) }
 {
-    check(row.kind <= 5, ObjectError::Kind { at })?;
-    check_node_op(at + 1, row.kind, row.op)?;
-    check_count(128, at + 2, u32::from(row.scope))?;
-    check_zero(at + 3, u32::from(row.pad))?;
-    check_parts(earlier, at, row)
+    if row.kind == 2 {
+        check_op(at + 1, u32::from(row.op))?;
+        check_rest(earlier, at, row)
+    } else {
+        check(row.kind <= 5, ObjectError::Kind { at })?;
+        check_zero(at + 1, u32::from(row.op))?;
+        check_rest(earlier, at, row)
+    }
 }
 
 /// The shape of a record, by its kind, where any above 4 is that of `upd`.

@@ -85,6 +85,7 @@ pub(crate) fn check_basic(
 
 /// The number at this place is that of a node, else `Index`, and of a memory or an integer as wanted, else
 /// `Kind`.
+#[inline(always)]
 pub fn check_node_number(
     nodes: &NodeRecords,
     memory: bool,
@@ -98,6 +99,7 @@ pub fn check_node_number(
 }
 
 /// The number at this place is that of a node of the sort and of at most the scope.
+#[inline(always)]
 pub(crate) fn check_named(
     nodes: &NodeRecords,
     scope: u8,

@@ -25,15 +25,6 @@ unfolding AreEnds
 first_end end_of all start ws m n bs row e is h =
     subst (AreEnds end_of all start) (rows_more ws m n bs e ∙ ap (λ r. r ∷ rows ws n (drop (size ws) bs)) (sym is)) h
 
--- the values of some records, and then those of others
-pub gives_more : {A : Type 0} (f : List ℕ → A) (ws : List Width) (a b m : ℕ) (bs : List ℕ) (done all : List A) → m ≡ a + b
-    → done ++ map f (rows ws m bs) ≡ all → (done ++ map f (rows ws a bs)) ++ map f (rows ws b (drop (size ws * a) bs)) ≡ all
-gives_more f ws a b m bs done all e h =
-    let rest = drop (size ws * a) bs in
-    append_assoc done (map f (rows ws a bs)) (map f (rows ws b rest))
-    ∙ ap (λ l. done ++ l) (sym (ap (λ k. map f (rows ws k bs)) e ∙ ap (map f) (rows_plus ws a b bs) ∙ map-append f (rows ws a bs) (rows ws b rest)))
-    ∙ h
-
 -- the first code type takes its rows, and leaves the others to the next
 pub types_more : (from queue_from : ℕ) (row : List ℕ) (rest : List (List ℕ)) (regs : List RegType) (queue : List (ℕ × ℕ)) (own_regs : List RegType) (own_queue : List (ℕ × ℕ))
     → from ≤ regs_end_of row → queue_from ≤ queue_end_of row

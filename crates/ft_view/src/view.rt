@@ -186,6 +186,13 @@ impl<'a> View<'a> {
         }
     }
 
+    /// The bytes, for as long as they live.
+    pub fn bytes(&self) -> &'a [u8]
+        ensures { result.now ≡ self.now }
+    {
+        self.bytes
+    }
+
     /// The bytes of a section, a slice of the bytes.
     pub fn section(&self, section: Section) -> &'a [u8]
         ensures { result.now ≡ section_of section self.now }

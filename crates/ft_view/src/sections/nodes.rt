@@ -7,7 +7,8 @@ ghost use Rattle.ft_records.specs.Found.{Finds};
 use ft_format::{Header, NodeRow, ObjectError};
 use ft_records::{NodeRecords, check_node};
 
-/// The rules of the records of all nodes, the first of which is at a place.
+/// The rules of the records of all nodes, the first of which is at a place. By itself the loop has enough registers.
+#[inline(never)]
 pub(crate) fn check_nodes(header: Header, at: usize, bytes: &[u8]) -> Result<(), ObjectError>
     requires there { 16 * header.nodes ≤ length bytes.now }
     requires places { at + 16 * header.nodes ≤ 2 ^ 27 }
