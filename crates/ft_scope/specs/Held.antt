@@ -1,8 +1,9 @@
 -- What the table of names holds.
 use Rattle.std.specs.Prelude.{◌≡◌, ℕ, List, map, Option, Some, min, is_some, true}
 use Rattle.std.specs.Option.{option_map}
-use Rattle.std.specs.Str.{bytes_eq}
-use Rattle.indexmap.specs.IndexMap.{get_by}
+use Rattle.std.specs.Ordering.{nat_cmp}
+use Rattle.std.specs.Cmp.Lexicographic.{slice_cmp}
+use Rattle.std.specs.BTreeMap.{get_by}
 use Rattle.ft_syntax.specs.Syntax.{Declared}
 use Rattle.ft_syntax.specs.declared.source_error.SourceError.{SourceError}
 use Rattle.ft_syntax.specs.declared.source_error.SourceError.TheVariants.{Twice, NoMemory}
@@ -18,7 +19,7 @@ narrow (Var x) = Var (min x 255)
 
 -- what the table has for a text
 unfoldable pub look : Names → List ℕ → Option Slot
-look n text = get_by (λ k. bytes_eq text k.now) n.slots
+look n text = get_by (λ k. slice_cmp nat_cmp text k.now) n.slots
 
 -- the table holds these declarations
 pub record Holds (n : Names) (ds : List Declared) : Type 0 where

@@ -7,13 +7,14 @@ ghost use Rattle.ft_scope.specs.Held.{Holds, look, DeclareFails, TwiceFails};
 
 use crate::slot::Slot;
 use ft_syntax::{Decl, SourceError, Spot};
-use indexmap::IndexMap;
 use std::alloc::Global;
+use std::collections::BTreeMap;
 
-/// The declared names with what they name, the cells in order, and how many variables there are.
+/// The declared names with what they name, the cells in order, and how many variables there are. The
+/// names are kept in order, so a text of any names is looked up in the same time.
 #[derive(Drop)]
 pub struct Names<'a> {
-    pub slots: IndexMap<&'a [u8], Slot>,
+    pub slots: BTreeMap<&'a [u8], Slot>,
     pub cells: Vec<&'a [u8]>,
     pub inits: Vec<u64>,
     pub vars: usize,
@@ -33,7 +34,7 @@ impl<'a> Names<'a> {
         ensures { Holds result [] }
     {
         Names {
-            slots: IndexMap::new(alloc),
+            slots: BTreeMap::new(alloc),
             cells: Vec::new(alloc),
             inits: Vec::new(alloc),
             vars: 0,
