@@ -8,12 +8,12 @@ use Rattle.std.proofs.lemmas.Option.{slice_get_cases, slice_get_within}
 use Rattle.ft_isa.specs.declared.plan.Wild.{Wild}
 use Rattle.ft_isa.specs.declared.plan.Strike.{Strike}
 use Rattle.ft_types.specs.declared.object.Object.{Object}
-use Rattle.ft_types.specs.declared.status.Status.{Status}
-use Rattle.ft_types.specs.declared.status.Status.TheVariants as status
-use Rattle.ft_types.specs.declared.status.Status.TheVariants.{Running}
-use Rattle.ft_types.specs.State.{State}
-use Rattle.ft_types.specs.Strike.{struck_state, is_running, is_site, is_there}
-use Rattle.ft_types.specs.Run.{Ran, run, state_after, wild_after, outputs_after, status_after, is_struck}
+use Rattle.ft_semantics.specs.declared.status.Status.{Status}
+use Rattle.ft_semantics.specs.declared.status.Status.TheVariants as status
+use Rattle.ft_semantics.specs.declared.status.Status.TheVariants.{Running}
+use Rattle.ft_semantics.specs.State.{State}
+use Rattle.ft_semantics.specs.Strike.{struck_state, is_running, is_site, is_there}
+use Rattle.ft_semantics.specs.Run.{Ran, run, state_after, wild_after, outputs_after, status_after, is_struck}
 use Rattle.ft_machine.specs.Spans.{span}
 use Rattle.ft_machine.proofs.Runs.{run_grows}
 use Rattle.ft_machine.proofs.Spanned.{joined}

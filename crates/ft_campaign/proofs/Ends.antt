@@ -2,13 +2,13 @@
 use Rattle.std.proofs.Common.{◌≡◌, ℕ, ◌-◌, ◌≤◌, true, false, List, Option, refl, ap, ◌∙◌, arith}
 use Rattle.std.specs.Prelude.{not}
 use denote.Enum.Bare.{sameb}
-use Rattle.ft_types.specs.contracts.status.Status as status
+use Rattle.ft_semantics.specs.contracts.status.Status as status
 use Rattle.ft_isa.specs.declared.plan.Strike.{Strike}
 use Rattle.ft_isa.specs.declared.plan.Wild.{Wild}
 use Rattle.ft_types.specs.declared.object.Object.{Object}
-use Rattle.ft_types.specs.declared.status.Status.{Status}
-use Rattle.ft_types.specs.declared.status.Status.TheVariants.{Running, Done, Detected}
-use Rattle.ft_types.specs.Run.{run, status_after}
+use Rattle.ft_semantics.specs.declared.status.Status.{Status}
+use Rattle.ft_semantics.specs.declared.status.Status.TheVariants.{Running, Done, Detected}
+use Rattle.ft_semantics.specs.Run.{run, status_after}
 use Rattle.ft_machine.proofs.Runs.{run_stopped, HasStopped}
 
 -- a run that has stopped stays as it is

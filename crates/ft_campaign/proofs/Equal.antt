@@ -6,10 +6,10 @@ use Rattle.std.proofs.lemmas.Slice.Eq.{slice_eq-Decides, starts_is}
 use denote.Enum.Bare.{sameb}
 use lib.Pointwise.{pointwise}
 use Rattle.ft_isa.specs.declared.output.Output.{Output}
-use Rattle.ft_types.specs.contracts.status.Status as status
-use Rattle.ft_types.specs.declared.status.Status.{Status}
-use Rattle.ft_types.specs.declared.status.Status.TheVariants.{Running, Done, Detected}
-use Rattle.ft_types.specs.Agrees.{IsPrefix}
+use Rattle.ft_semantics.specs.contracts.status.Status as status
+use Rattle.ft_semantics.specs.declared.status.Status.{Status}
+use Rattle.ft_semantics.specs.declared.status.Status.TheVariants.{Running, Done, Detected}
+use Rattle.ft_semantics.specs.Agrees.{IsPrefix}
 
 -- two outputs are equal
 abbrev pub same_output : Output → Output → Bool
@@ -42,10 +42,6 @@ other_status Done Detected h e = cc
 other_status Detected Running h e = cc
 other_status Detected Done h e = cc
 other_status Detected Detected h e = cc
-
--- equal outputs
-pub outputs_decide : (xs ys : List Output) (r : Bool) → r ≡ pointwise same_output xs ys → Decides r (xs ≡ ys)
-outputs_decide xs ys r e = slice_eq-Decides output_decides xs ys r e
 
 -- outputs that begin others
 pub prefix_decides : (all front : List Output) (r : Bool) → r ≡ pointwise same_output front (take (length front) all) → Decides r (IsPrefix front all)

@@ -6,11 +6,11 @@ use Rattle.std.specs.Option.{option_to_list}
 use Rattle.ft_isa.specs.declared.plan.Wild.{Wild}
 use Rattle.ft_isa.specs.declared.output.Output.{Output}
 use Rattle.ft_types.specs.declared.object.Object.{Object}
-use Rattle.ft_types.specs.declared.status.Status.{Status}
-use Rattle.ft_types.specs.declared.status.Status.TheVariants.{Running}
-use Rattle.ft_types.specs.State.{State}
-use Rattle.ft_types.specs.Agrees.{IsPrefix}
-use Rattle.ft_types.specs.Run.{Ran}
+use Rattle.ft_semantics.specs.declared.status.Status.{Status}
+use Rattle.ft_semantics.specs.declared.status.Status.TheVariants.{Running}
+use Rattle.ft_semantics.specs.State.{State}
+use Rattle.ft_semantics.specs.Agrees.{IsPrefix}
+use Rattle.ft_semantics.specs.Run.{Ran}
 use Rattle.ft_machine.specs.declared.machine.Stepped.{Stepped}
 use Rattle.ft_machine.specs.Advances.{output_told, Advances}
 use Rattle.ft_machine.specs.Spans.{span, span-zero}

@@ -8,14 +8,14 @@ use Rattle.ft_isa.specs.declared.output.Output.{Output}
 use Rattle.ft_isa.specs.declared.plan.Strike.{Strike}
 use Rattle.ft_isa.specs.declared.plan.Wild.{Wild}
 use Rattle.ft_types.specs.declared.object.Object.{Object}
-use Rattle.ft_types.specs.declared.status.Status.{Status}
-use Rattle.ft_types.specs.declared.status.Status.TheVariants.{Running, Detected}
-use Rattle.ft_types.specs.Accepted.{IsAccepted}
-use Rattle.ft_types.specs.Agrees.{IsPrefix, Agrees, equal, stopped}
+use Rattle.ft_semantics.specs.declared.status.Status.{Status}
+use Rattle.ft_semantics.specs.declared.status.Status.TheVariants.{Running, Detected}
+use Rattle.ft_typing.specs.Accepted.{IsAccepted}
+use Rattle.ft_semantics.specs.Agrees.{IsPrefix, Agrees, equal, stopped}
 use Rattle.ft_types.specs.Spellable.{IsSpellable}
-use Rattle.ft_types.specs.Run.{Ran, status_after}
+use Rattle.ft_semantics.specs.Run.{Ran, status_after}
 use Rattle.ft_machine.proofs.Runs.{HasStopped}
-use Rattle.ft_inject.proofs.Masking.{tolerant}
+use Rattle.ft_tolerance.proofs.Masking.{tolerant}
 use Rattle.ft_campaign.specs.declared.verdict.Verdict.{Verdict}
 use Rattle.ft_campaign.specs.declared.verdict.Verdict.TheVariants as verdicts
 use Rattle.ft_campaign.specs.Texts.{is_corrupt}
@@ -81,7 +81,7 @@ none_corrupt o (x ∷ xs) w n (verdicts.Detected at ∷ vs) spelled acc h = let 
 none_corrupt o (x ∷ xs) w n (verdicts.Corrupt ∷ vs) spelled acc h = absurd (never_corrupt o x w n spelled acc h.0)
 
 -- a campaign on an accepted object ends without a corrupt verdict
-pub uncorrupted : (e : CampaignEnd) (o : Object) (xs : List Strike) (w : List Wild) (n : ℕ) (old new : Option (List ℕ)) (before now : Option ℕ) → IsSpellable o → IsAccepted o → EndsAs e o xs w n old new before now → IsUncorrupted e
+pub uncorrupted : (e : CampaignEnd) (o : Object) (xs : List Strike) (w : List Wild) (n : ℕ) (old new : Option (List ℕ)) (before now : Option (List (List ℕ))) → IsSpellable o → IsAccepted o → EndsAs e o xs w n old new before now → IsUncorrupted e
 uncorrupted (Finished totals) o xs w n old new before now spelled acc h = ap (λ (t : Totals). t.corrupt) h.totals_are ∙ none_corrupt o xs w n h.found spelled acc h.verdicts
 uncorrupted (TooMuch product) o xs w n old new before now spelled acc h = tt
 uncorrupted WriteFault o xs w n old new before now spelled acc h = tt

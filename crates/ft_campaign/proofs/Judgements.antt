@@ -7,11 +7,11 @@ use Rattle.ft_isa.specs.declared.plan.Wild.{Wild}
 use Rattle.ft_isa.specs.declared.plan.Strike.{Strike}
 use Rattle.ft_isa.specs.declared.output.Output.{Output}
 use Rattle.ft_types.specs.declared.object.Object.{Object}
-use Rattle.ft_types.specs.declared.status.Status.{Status}
-use Rattle.ft_types.specs.declared.status.Status.TheVariants.{Running, Detected}
-use Rattle.ft_types.specs.State.{State}
-use Rattle.ft_types.specs.Agrees.{IsPrefix}
-use Rattle.ft_types.specs.Run.{Ran, outputs_after, status_after, is_struck}
+use Rattle.ft_semantics.specs.declared.status.Status.{Status}
+use Rattle.ft_semantics.specs.declared.status.Status.TheVariants.{Running, Detected}
+use Rattle.ft_semantics.specs.State.{State}
+use Rattle.ft_semantics.specs.Agrees.{IsPrefix}
+use Rattle.ft_semantics.specs.Run.{Ran, outputs_after, status_after, is_struck}
 use Rattle.ft_machine.proofs.Runs.{HasStopped}
 use Rattle.ft_campaign.specs.declared.clean.Clean.{Clean}
 use Rattle.ft_campaign.specs.declared.verdict.Verdict.TheVariants as verdicts

@@ -3,8 +3,8 @@ use Rattle.std.proofs.Common.{◌≡◌, ℕ, zero, suc, ◌+◌, ◌*◌, ◌/�
 use Rattle.std.proofs.lemmas.List.{length-append}
 use Rattle.ft_isa.specs.declared.plan.Wild.{Wild}
 use Rattle.ft_types.specs.declared.object.Object.{Object}
-use Rattle.ft_types.specs.declared.status.Status.TheVariants.{Running}
-use Rattle.ft_types.specs.Run.{Ran, state_after, outputs_after, status_after}
+use Rattle.ft_semantics.specs.declared.status.Status.TheVariants.{Running}
+use Rattle.ft_semantics.specs.Run.{Ran, state_after, outputs_after, status_after}
 use Rattle.ft_machine.proofs.Runs.{HasStopped}
 use Rattle.ft_campaign.specs.declared.clean.Clean.{Clean}
 use Rattle.ft_campaign.specs.declared.clean.Snapshot.{Snapshot}
@@ -27,9 +27,6 @@ snapshots_none o w = record { row = omega arith; snapshots_are = λ j s e. absur
 
 pub lengths_none : (o : Object) (w : List Wild) → AreLengths o w 0 []
 lengths_none o w = record { long = refl; queues = λ i b e. absurd (cc) }
-
-pub snapshots_same : (o : Object) (w : List Wild) (k : ℕ) (xs : List Snapshot) → AreSnapshots o w k xs → k / 1024 < length xs → AreSnapshots o w (k + 1) xs
-snapshots_same o w k xs h lt = record { row = omega (arith, lt); snapshots_are = h.snapshots_are }
 
 pub snapshots_more : (o : Object) (w : List Wild) (k : ℕ) (xs : List Snapshot) (s : Snapshot) → AreSnapshots o w k xs → length xs ≤ k / 1024 → IsSnapshot o w k s → AreSnapshots o w (k + 1) (xs ++ s ∷ [])
 snapshots_more o w k xs s h le is =
@@ -75,16 +72,3 @@ clean_stopped o w k n c lt stop outputs status last running a b =
       within = omega (arith, lt);
       past = λ i le below e. not_running (status_after o None w (k + 1)) stop (sym (ap (λ (x : Ran). x.state.status) (stays o None w (k + 1) i le stop)) ∙ e);
     }
-
--- a run that is still running
-pub clean_running : (o : Object) (w : List Wild) (k n : ℕ) (c : Clean) → k ≡ n → c.outputs.items ≡ outputs_after o None w k → c.status ≡ Running → status_after o None w k ≡ Running → AreLengths o w k c.lengths.items → AreSnapshots o w k c.snapshots.items → IsClean o w n c
-clean_running o w k n c e outputs status running a b = record {
-  outputs = outputs ∙ ap (outputs_after o None w) e;
-  status = status ∙ sym running ∙ ap (status_after o None w) e;
-  running = λ d. (let bad = sym status ∙ d in cc);
-  detected = λ d. (let bad = sym status ∙ d in cc);
-  upto = k;
-  kept = kept_by o w k c.lengths.items c.snapshots.items a b;
-  within = omega (arith, e);
-  past = λ i le below. absurd (omega (arith, e, le, below));
-}

@@ -4,9 +4,9 @@ use Rattle.std.proofs.lemmas.List.{append-nil}
 use Rattle.ft_isa.specs.declared.plan.Wild.{Wild}
 use Rattle.ft_isa.specs.declared.plan.Strike.{Strike}
 use Rattle.ft_types.specs.declared.object.Object.{Object}
-use Rattle.ft_types.specs.State.{State}
-use Rattle.ft_types.specs.Strike.{struck_before}
-use Rattle.ft_types.specs.Run.{Ran, run, state_after, wild_after, outputs_after}
+use Rattle.ft_semantics.specs.State.{State}
+use Rattle.ft_semantics.specs.Strike.{struck_before}
+use Rattle.ft_semantics.specs.Run.{Ran, run, state_after, wild_after, outputs_after}
 use Rattle.ft_machine.specs.Spans.{span, span-zero}
 use Rattle.ft_machine.proofs.Spanned.{joined, run_start, run_on, spared}
 use Rattle.ft_campaign.specs.Snapshots.{Meets, HasMet}

@@ -6,12 +6,12 @@ use Rattle.ft_isa.specs.declared.plan.Wild.{Wild}
 use Rattle.ft_isa.specs.declared.plan.Strike.{Strike}
 use Rattle.ft_isa.specs.declared.output.Output.{Output}
 use Rattle.ft_types.specs.declared.object.Object.{Object}
-use Rattle.ft_types.specs.declared.status.Status.{Status}
-use Rattle.ft_types.specs.declared.status.Status.TheVariants as status
-use Rattle.ft_types.specs.declared.status.Status.TheVariants.{Running, Detected}
-use Rattle.ft_types.specs.State.{State, HasCells, is_cell}
-use Rattle.ft_types.specs.Agrees.{IsPrefix}
-use Rattle.ft_types.specs.Run.{Ran, run, state_after, wild_after, outputs_after, status_after, is_struck}
+use Rattle.ft_semantics.specs.declared.status.Status.{Status}
+use Rattle.ft_semantics.specs.declared.status.Status.TheVariants as status
+use Rattle.ft_semantics.specs.declared.status.Status.TheVariants.{Running, Detected}
+use Rattle.ft_semantics.specs.State.{State, HasCells, is_cell}
+use Rattle.ft_semantics.specs.Agrees.{IsPrefix}
+use Rattle.ft_semantics.specs.Run.{Ran, run, state_after, wild_after, outputs_after, status_after, is_struck}
 use Rattle.ft_machine.specs.Spans.{span}
 use Rattle.ft_machine.proofs.Runs.{HasStopped, run_grows, run_has_cells}
 use Rattle.ft_machine.proofs.Steps.{strike_keeps}

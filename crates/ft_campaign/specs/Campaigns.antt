@@ -13,26 +13,26 @@ use Rattle.ft_campaign.specs.Verdicts.{AreVerdicts}
 use Rattle.ft_campaign.specs.Texts.{totals_of, campaign_lines}
 
 -- a campaign came to its end: each fault has its verdict, the totals count them, and all lines were added
-pub record Finishes (totals : Totals) (o : Object) (faults : List Strike) (w : List Wild) (n : ℕ) (old new : Option (List ℕ)) (before now : Option ℕ) : Type 0 where
+pub record Finishes (totals : Totals) (o : Object) (faults : List Strike) (w : List Wild) (n : ℕ) (old new : Option (List ℕ)) (before now : Option (List (List ℕ))) : Type 0 where
   pub found : List Verdict
   pub verdicts : AreVerdicts o faults w n found
   pub totals_are : totals ≡ totals_of found
   pub lines : PutsLines (campaign_lines faults found) old new before now
 
 -- a put of a campaign's lines failed
-pub record Stops (o : Object) (faults : List Strike) (w : List Wild) (n : ℕ) (old new : Option (List ℕ)) (before now : Option ℕ) : Type 0 where
+pub record Stops (o : Object) (faults : List Strike) (w : List Wild) (n : ℕ) (old new : Option (List ℕ)) (before now : Option (List (List ℕ))) : Type 0 where
   pub found : List Verdict
   pub verdicts : AreVerdicts o faults w n found
   pub lines : BreaksOff (campaign_lines faults found) old new before now
 
 -- a campaign is refused: the number of faults times n is above 1,000,000,000
-pub record IsTooMuch (product : ℕ) (faults : List Strike) (n : ℕ) (old new : Option (List ℕ)) (before now : Option ℕ) : Type 0 where
+pub record IsTooMuch (product : ℕ) (faults : List Strike) (n : ℕ) (old new : Option (List ℕ)) (before now : Option (List (List ℕ))) : Type 0 where
   pub product_is : product ≡ length faults * n
   pub above : 1000000000 < product
   pub nothing : PutsNothing old new before now
 
 -- how a campaign ended
-abbrev pub EndsAs : CampaignEnd → Object → List Strike → List Wild → ℕ → Option (List ℕ) → Option (List ℕ) → Option ℕ → Option ℕ → Type 0
+abbrev pub EndsAs : CampaignEnd → Object → List Strike → List Wild → ℕ → Option (List ℕ) → Option (List ℕ) → Option (List (List ℕ)) → Option (List (List ℕ)) → Type 0
 EndsAs (Finished totals) o faults w n old new before now = Finishes totals o faults w n old new before now
 EndsAs (TooMuch product) o faults w n old new before now = IsTooMuch product faults n old new before now
 EndsAs WriteFault o faults w n old new before now = Stops o faults w n old new before now

@@ -3,9 +3,9 @@ use Rattle.std.specs.Prelude.{◌≡◌, ℕ, ◌≤◌, ◌<◌, Bool, true, fa
 use Rattle.ft_isa.specs.declared.output.Output.{Output}
 use Rattle.ft_isa.specs.declared.plan.Wild.{Wild}
 use Rattle.ft_types.specs.declared.object.Object.{Object}
-use Rattle.ft_types.specs.declared.status.Status.TheVariants.{Running}
-use Rattle.ft_types.specs.State.{State}
-use Rattle.ft_types.specs.Agrees.{IsPrefix}
+use Rattle.ft_semantics.specs.declared.status.Status.TheVariants.{Running}
+use Rattle.ft_semantics.specs.State.{State}
+use Rattle.ft_semantics.specs.Agrees.{IsPrefix}
 use Rattle.ft_machine.specs.Spans.{span}
 use Rattle.ft_campaign.specs.declared.follow.How.{How}
 use Rattle.ft_campaign.specs.declared.follow.How.TheVariants.{On, Stopped, Apart}

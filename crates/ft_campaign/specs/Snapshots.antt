@@ -4,13 +4,13 @@ use Rattle.ft_isa.specs.declared.plan.Strike.{Strike}
 use Rattle.ft_isa.specs.declared.plan.Wild.{Wild}
 use Rattle.ft_isa.specs.declared.output.Output.{Output}
 use Rattle.ft_types.specs.declared.object.Object.{Object}
-use Rattle.ft_types.specs.declared.status.Status.{Status}
-use Rattle.ft_types.specs.declared.status.Status.TheVariants.{Running, Detected}
+use Rattle.ft_semantics.specs.declared.status.Status.{Status}
+use Rattle.ft_semantics.specs.declared.status.Status.TheVariants.{Running, Detected}
 use Rattle.ft_campaign.specs.declared.clean.Snapshot.{Snapshot}
 use Rattle.ft_campaign.specs.declared.clean.Clean.{Clean}
-use Rattle.ft_types.specs.State.{State}
-use Rattle.ft_types.specs.Strike.{struck_before}
-use Rattle.ft_types.specs.Run.{state_after, wild_after, outputs_after, status_after, is_struck}
+use Rattle.ft_semantics.specs.State.{State}
+use Rattle.ft_semantics.specs.Strike.{struck_before}
+use Rattle.ft_semantics.specs.Run.{state_after, wild_after, outputs_after, status_after, is_struck}
 
 -- the two runs meet after m steps: a snapshot is kept there, after the strike, and states and wild answers left are equal
 pub record Meets (o : Object) (x : Strike) (w : List Wild) (m : ℕ) : Type 0 where

@@ -4,9 +4,9 @@ use Rattle.std.specs.List.{AllZip}
 use Rattle.ft_isa.specs.declared.plan.Strike.{Strike}
 use Rattle.ft_isa.specs.declared.plan.Wild.{Wild}
 use Rattle.ft_types.specs.declared.object.Object.{Object}
-use Rattle.ft_types.specs.declared.status.Status.TheVariants.{Running, Detected}
-use Rattle.ft_types.specs.Agrees.{IsPrefix}
-use Rattle.ft_types.specs.Run.{outputs_after, status_after, is_struck}
+use Rattle.ft_semantics.specs.declared.status.Status.TheVariants.{Running, Detected}
+use Rattle.ft_semantics.specs.Agrees.{IsPrefix}
+use Rattle.ft_semantics.specs.Run.{outputs_after, status_after, is_struck}
 use Rattle.ft_campaign.specs.declared.verdict.Verdict.{Verdict}
 use Rattle.ft_campaign.specs.declared.verdict.Verdict.TheVariants as verdicts
 

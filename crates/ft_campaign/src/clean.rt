@@ -3,16 +3,16 @@ ghost use Rattle.std.specs.Prelude.{◌≡◌, ◌≤◌, ◌+◌, ◌<◌, ℕ,
 ghost use Rattle.ft_isa.specs.declared.plan.Strike.{Strike as Fault};
 ghost use Rattle.ft_isa.specs.declared.plan.Wild.{Wild as Answer};
 ghost use Rattle.ft_types.specs.declared.object.Object.{Object};
-ghost use Rattle.ft_types.specs.Agrees.{IsPrefix};
-ghost use Rattle.ft_types.specs.Run.{is_struck, state_after, wild_after, outputs_after};
-ghost use Rattle.ft_types.specs.Strike.{is_site};
+ghost use Rattle.ft_semantics.specs.Agrees.{IsPrefix};
+ghost use Rattle.ft_semantics.specs.Run.{is_struck, state_after, wild_after, outputs_after};
+ghost use Rattle.ft_semantics.specs.Strike.{is_site};
 ghost use Rattle.ft_campaign.specs.Verdicts.{IsVerdict};
 ghost use Rattle.ft_campaign.specs.Snapshots.{IsClean, HasEnded, IsAtMeeting};
 
 use crate::verdict::Verdict;
 use ft_isa::{Output, Site, Strike};
 use ft_machine::{Machine, WildLeft};
-use ft_types::Status;
+use ft_semantics::Status;
 
 /// The run without a fault after some steps.
 #[derive(Drop)]

@@ -2,16 +2,17 @@
 ghost use Rattle.std.specs.Prelude.{◌≡◌, ◌≤◌, ◌+◌, ◌*◌, ◌++◌, ◌∷◌, [], IfOk, OnOk, length, None};
 ghost use Rattle.std.specs.Option.{option_to_list};
 ghost use Rattle.ft_types.specs.Spellable.{IsSpellable};
-ghost use Rattle.ft_types.specs.State.{HasCells};
-ghost use Rattle.ft_types.specs.Step.{step};
-ghost use Rattle.ft_types.specs.Run.{state_after, wild_after, outputs_after};
+ghost use Rattle.ft_semantics.specs.State.{HasCells};
+ghost use Rattle.ft_semantics.specs.Step.{step};
+ghost use Rattle.ft_semantics.specs.Run.{state_after, wild_after, outputs_after};
 ghost use Rattle.ft_campaign.specs.Snapshots.{IsClean, IsSnapshot, AreSnapshots};
 
 use crate::clean::{Clean, Snapshot};
 use ft_isa::{NoMemory, Output, Wild};
 use ft_machine::{Machine, Stepped, WildLeft};
+use ft_semantics::Status;
 use ft_steps::Steps;
-use ft_types::{Program, Status};
+use ft_types::Program;
 use std::alloc::Global;
 use std::sync::ledger::Ledger;
 

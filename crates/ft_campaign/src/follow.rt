@@ -1,7 +1,7 @@
 //! Steps of a struck run beside the outputs of the run without a fault.
 ghost use Rattle.std.specs.Prelude.{◌≡◌, ◌≤◌, ◌<◌, ◌+◌, ◌++◌, ◌∷◌, [], ℕ, length, take};
 ghost use Rattle.std.specs.Option.{option_to_list};
-ghost use Rattle.ft_types.specs.Agrees.{IsPrefix};
+ghost use Rattle.ft_semantics.specs.Agrees.{IsPrefix};
 ghost use Rattle.ft_types.specs.Spellable.{IsSpellable};
 ghost use Rattle.ft_machine.specs.Advances.{output_told};
 ghost use Rattle.ft_machine.specs.Spans.{span};
@@ -9,8 +9,9 @@ ghost use Rattle.ft_campaign.specs.Follows.{Heeds, Follows};
 
 use ft_isa::Output;
 use ft_machine::{Machine, Stepped, WildLeft};
+use ft_semantics::Status;
 use ft_steps::Steps;
-use ft_types::{Program, Status};
+use ft_types::Program;
 use std::sync::ledger::Ledger;
 
 /// How some steps of a struck run went.

@@ -2,7 +2,7 @@
 ghost use Rattle.std.specs.Prelude.{◌≡◌, ◌≤◌, ◌+◌, ◌*◌, ℕ, IfOk, length, sum_by};
 ghost use Rattle.ft_isa.specs.declared.plan.Strike.{Strike as Fault};
 ghost use Rattle.ft_types.specs.Spellable.{IsSpellable};
-ghost use Rattle.ft_types.specs.State.{HasCells};
+ghost use Rattle.ft_semantics.specs.State.{HasCells};
 ghost use Rattle.ft_campaign.specs.Snapshots.{IsClean, IsCost};
 ghost use Rattle.ft_campaign.specs.Verdicts.{IsVerdict, AreVerdicts};
 

@@ -4,7 +4,7 @@ ghost use Rattle.std.specs.Prelude.{◌≡◌, ◌≢◌, ◌≤◌, ℕ, List};
 ghost use Rattle.ft_isa.specs.declared.plan.Strike.{Strike};
 ghost use Rattle.ft_isa.specs.declared.plan.Wild.{Wild};
 ghost use Rattle.ft_types.specs.declared.object.Object.{Object};
-ghost use Rattle.ft_types.specs.Accepted.{IsAccepted};
+ghost use Rattle.ft_typing.specs.Accepted.{IsAccepted};
 ghost use Rattle.ft_types.specs.Spellable.{IsSpellable};
 ghost use Rattle.ft_campaign.specs.declared.fault_list.ListError.{ListError};
 ghost use Rattle.ft_campaign.specs.declared.fault_list.ListError.TheVariants.{NoMemory};

@@ -4,8 +4,8 @@ ghost use Rattle.ft_isa.specs.declared.plan.Strike.{Strike as Fault};
 ghost use Rattle.ft_isa.specs.declared.plan.Wild.{Wild as Answer};
 ghost use Rattle.ft_types.specs.declared.object.Object.{Object};
 ghost use Rattle.ft_types.specs.Spellable.{IsSpellable};
-ghost use Rattle.ft_types.specs.State.{HasCells};
-ghost use Rattle.ft_types.specs.Run.{state_after, wild_after, status_after, is_struck};
+ghost use Rattle.ft_semantics.specs.State.{HasCells};
+ghost use Rattle.ft_semantics.specs.Run.{state_after, wild_after, status_after, is_struck};
 ghost use Rattle.ft_campaign.specs.Verdicts.{IsVerdict};
 ghost use Rattle.ft_campaign.specs.Snapshots.{IsClean, IsRacing, IsMeeting, IsEnd, Meets};
 
@@ -14,8 +14,9 @@ use crate::follow::{How, follow};
 use crate::verdict::Verdict;
 use ft_isa::{Strike, Wild};
 use ft_machine::{Machine, WildLeft};
+use ft_semantics::Status;
 use ft_steps::Steps;
-use ft_types::{Program, Status};
+use ft_types::Program;
 use std::sync::ledger::Ledger;
 
 /// Where a run is compared next after step `s`, at the latest after step `n`.

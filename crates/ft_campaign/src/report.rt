@@ -13,11 +13,11 @@ use ft_isa::Strike;
 /// Puts a line for each fault and its verdict.
 fn put_verdicts<K: Sink>(faults: &[Strike], verdicts: &[Verdict], out: &mut K) -> Result<(), Failed>
     requires { length verdicts.now ≡ length faults.now }
-    ensures ok { OnOk result (PutsLines (verdict_lines faults.now verdicts.now) (K.written out.old) (K.written out.new) (K.puts out.old) (K.puts out.new)) }
-    ensures err { OnErr result (BreaksOff (verdict_lines faults.now verdicts.now) (K.written out.old) (K.written out.new) (K.puts out.old) (K.puts out.new)) }
-    ensures count { K.faults out.old ≤ K.faults out.new }
-    ensures same_count { OnOk result (K.faults out.new ≡ K.faults out.old) }
-    ensures cause { OnErr result (Rose (K.faults out.old) (K.faults out.new)) }
+    ensures ok { OnOk result (PutsLines (verdict_lines faults.now verdicts.now) (K.written out.old) (K.written out.new) (K.pieces out.old) (K.pieces out.new)) }
+    ensures err { OnErr result (BreaksOff (verdict_lines faults.now verdicts.now) (K.written out.old) (K.written out.new) (K.pieces out.old) (K.pieces out.new)) }
+    ensures count { K.failures out.old ≤ K.failures out.new }
+    ensures same_count { OnOk result (K.failures out.new ≡ K.failures out.old) }
+    ensures cause { OnErr result (Rose (K.failures out.old) (K.failures out.new)) }
 {
     for (i, fault) in faults.iter().enumerate() {
         let verdict = verdicts[i];
@@ -36,11 +36,11 @@ pub(crate) fn report<K: Sink>(
 ) -> Result<(), Failed>
     requires long { length verdicts.now ≡ length faults.now }
     requires totals { totals ≡ totals_of verdicts.now }
-    ensures ok { OnOk result (PutsLines (campaign_lines faults.now verdicts.now) (K.written out.old) (K.written out.new) (K.puts out.old) (K.puts out.new)) }
-    ensures err { OnErr result (BreaksOff (campaign_lines faults.now verdicts.now) (K.written out.old) (K.written out.new) (K.puts out.old) (K.puts out.new)) }
-    ensures count { K.faults out.old ≤ K.faults out.new }
-    ensures same_count { OnOk result (K.faults out.new ≡ K.faults out.old) }
-    ensures cause { OnErr result (Rose (K.faults out.old) (K.faults out.new)) }
+    ensures ok { OnOk result (PutsLines (campaign_lines faults.now verdicts.now) (K.written out.old) (K.written out.new) (K.pieces out.old) (K.pieces out.new)) }
+    ensures err { OnErr result (BreaksOff (campaign_lines faults.now verdicts.now) (K.written out.old) (K.written out.new) (K.pieces out.old) (K.pieces out.new)) }
+    ensures count { K.failures out.old ≤ K.failures out.new }
+    ensures same_count { OnOk result (K.failures out.new ≡ K.failures out.old) }
+    ensures cause { OnErr result (Rose (K.failures out.old) (K.failures out.new)) }
 {
     put_verdicts(faults, verdicts, out)?;
     out.put(end_line(faults.len(), totals).as_bytes())?;

@@ -8,11 +8,11 @@ use Rattle.ft_isa.specs.declared.plan.Wild.{Wild}
 use Rattle.ft_edge.specs.Puts.{PutsLines, BreaksOff}
 use Rattle.ft_edge.proofs.PutLines.{puts_none, puts_then, breaks_then, breaks_before}
 use Rattle.ft_types.specs.declared.object.Object.{Object}
-use Rattle.ft_types.specs.declared.status.Status.{Status}
-use Rattle.ft_types.specs.declared.status.Status.TheVariants as status
-use Rattle.ft_types.specs.State.{State}
-use Rattle.ft_types.specs.Step.{step}
-use Rattle.ft_types.specs.Strike.{is_running}
+use Rattle.ft_semantics.specs.declared.status.Status.{Status}
+use Rattle.ft_semantics.specs.declared.status.Status.TheVariants as status
+use Rattle.ft_semantics.specs.State.{State}
+use Rattle.ft_semantics.specs.Step.{step}
+use Rattle.ft_semantics.specs.Strike.{is_running}
 use Rattle.ft_types.specs.Texts.{line_at}
 use Rattle.ft_machine.specs.declared.machine.Stepped.{Stepped}
 use Rattle.ft_machine.specs.Answers.{told_output, Takes}
@@ -46,7 +46,7 @@ pub record Advances (o : Object) (d e : Debugger) (stepped : Stepped) : Type 0 w
   pub count : e.history.count ≡ min (d.history.count + 1) 4096
   pub breaks : e.breaks ≡ d.breaks
 
-pub does_advance : (o : Object) (d e : Debugger) (stepped : Stepped) (r : Result (Unit {0}) Failed) (old new : Option (List ℕ)) (before now : Option ℕ) → Advances o d e stepped → Puts r (committed_lines o stepped) old new before now → Does (advances o) o d e r old new before now
+pub does_advance : (o : Object) (d e : Debugger) (stepped : Stepped) (r : Result (Unit {0}) Failed) (old new : Option (List ℕ)) (before now : Option (List (List ℕ))) → Advances o d e stepped → Puts r (committed_lines o stepped) old new before now → Does (advances o) o d e r old new before now
 does_advance o d e stepped (Ok done) old new before now a p = λ w s h. (
   holds_further o w s d e a.full h a.takes.state_is a.takes.wild_is a.position a.items a.count a.breaks,
   subst (λ (ls : List (List ℕ)). PutsLines ls old new before now) (step_puts o w s d e stepped h a.takes) p,
@@ -86,17 +86,17 @@ walk_takes o w halts (suc n) s l e =
     ∙ ap (λ m. after_lines (step_lines o (present o w s)) (walks o w halts m (further s))) same
 
 -- after so many of the steps, the rest of the walk is left
-abbrev pub Walked : Object → (State → Bool) → ℕ → ℕ → Debugger → Debugger → Option (List ℕ) → Option (List ℕ) → Option ℕ → Option ℕ → Type 0
+abbrev pub Walked : Object → (State → Bool) → ℕ → ℕ → Debugger → Debugger → Option (List ℕ) → Option (List ℕ) → Option (List (List ℕ)) → Option (List (List ℕ)) → Type 0
 Walked o halts n k d e old new before now = (w : List Wild) (s : Session) → Holds o w s d → (t : Session) × (ls : List (List ℕ)) × Holds o w t e × PutsLines ls old new before now × (walks o w halts n s ≡ after_lines ls (walks o w halts (n - k) t))
 
-pub walked_none : (o : Object) (halts : State → Bool) (n : ℕ) (d : Debugger) (old : Option (List ℕ)) (before : Option ℕ) → Walked o halts n 0 d d old old before before
+pub walked_none : (o : Object) (halts : State → Bool) (n : ℕ) (d : Debugger) (old : Option (List ℕ)) (before : Option (List (List ℕ))) → Walked o halts n 0 d d old old before before
 walked_none o halts n d old before = λ w s h. let same : n ≡ n - 0 = omega arith in (s, [], h, puts_none old before, ap (λ m. walks o w halts m s) same)
 
 goes_on_there : (o : Object) (w : List Wild) (halts : State → Bool) (t : Session) (e : Debugger) (b : Bool) → Holds o w t e → (not (halts e.present.machine) && is_running e.present.machine.status) ≡ b → (not (halts (present o w t).state) && is_running (present o w t).state.status) ≡ b
 goes_on_there o w halts t e b h g = sym (ap (λ (m : Moment). not (halts m.machine) && is_running m.machine.status) h.present) ∙ g
 
 -- one more step
-pub walked_more : (o : Object) (halts : State → Bool) (n k : ℕ) (d e f : Debugger) (old mid new : Option (List ℕ)) (a b c : Option ℕ) → k < n → (not (halts e.present.machine) && is_running e.present.machine.status) ≡ true
+pub walked_more : (o : Object) (halts : State → Bool) (n k : ℕ) (d e f : Debugger) (old mid new : Option (List ℕ)) (a b c : Option (List (List ℕ))) → k < n → (not (halts e.present.machine) && is_running e.present.machine.status) ≡ true
     → Walked o halts n k d e old mid a b → Does (advances o) o e f (Ok tt) mid new b c → Walked o halts n (k + 1) d f old new a c
 walked_more o halts n k d e f old mid new a b c l g walked does = λ w s h.
     let x = walked w s h in
@@ -112,24 +112,24 @@ walked_more o halts n k d e f old mid new a b c l g walked does = λ w s h.
           ∙ ap (λ ls. record { session = (walks o w halts (n - (k + 1)) (further t)).session; lines = ls }) (sym (append_assoc x.1 (step_lines o (present o w t)) (walks o w halts (n - (k + 1)) (further t)).lines)),
     )
 
-ended : (o : Object) (w : List Wild) (e : Debugger) (t : Session) (ls : List (List ℕ)) (r : Reply) (old new : Option (List ℕ)) (a b : Option ℕ) → Holds o w t e → PutsLines ls old new a b → r ≡ after_lines ls (stays t) → Holds o w r.session e × PutsLines r.lines old new a b
+ended : (o : Object) (w : List Wild) (e : Debugger) (t : Session) (ls : List (List ℕ)) (r : Reply) (old new : Option (List ℕ)) (a b : Option (List (List ℕ))) → Holds o w t e → PutsLines ls old new a b → r ≡ after_lines ls (stays t) → Holds o w r.session e × PutsLines r.lines old new a b
 ended o w e t ls r old new a b h p eq = subst (λ (q : Reply). Holds o w q.session e × PutsLines q.lines old new a b) (ap (λ l. record { session = t; lines = l }) (sym (append-nil ls)) ∙ sym eq) (h, p)
 
 -- the walk ended where the machine is not to go on
-pub walk_halts : (o : Object) (halts : State → Bool) (n k : ℕ) (d e : Debugger) (old new : Option (List ℕ)) (a b : Option ℕ) → (not (halts e.present.machine) && is_running e.present.machine.status) ≡ false → Walked o halts n k d e old new a b → Does (λ w. walks o w halts n) o d e (Ok tt) old new a b
+pub walk_halts : (o : Object) (halts : State → Bool) (n k : ℕ) (d e : Debugger) (old new : Option (List ℕ)) (a b : Option (List (List ℕ))) → (not (halts e.present.machine) && is_running e.present.machine.status) ≡ false → Walked o halts n k d e old new a b → Does (λ w. walks o w halts n) o d e (Ok tt) old new a b
 walk_halts o halts n k d e old new a b g walked = λ w s h.
     let x = walked w s h in
     ended o w e x.0 x.1 (walks o w halts n s) old new a b x.2 x.3 (x.4 ∙ ap (after_lines x.1) (walk_stays o w halts (n - k) x.0 (goes_on_there o w halts x.0 e false x.2 g)))
 
 -- the walk ended after its last step
-pub walk_ends : (o : Object) (halts : State → Bool) (n k : ℕ) (d e : Debugger) (old new : Option (List ℕ)) (a b : Option ℕ) → n ≤ k → Walked o halts n k d e old new a b → Does (λ w. walks o w halts n) o d e (Ok tt) old new a b
+pub walk_ends : (o : Object) (halts : State → Bool) (n k : ℕ) (d e : Debugger) (old new : Option (List ℕ)) (a b : Option (List (List ℕ))) → n ≤ k → Walked o halts n k d e old new a b → Does (λ w. walks o w halts n) o d e (Ok tt) old new a b
 walk_ends o halts n k d e old new a b l walked = λ w s h.
     let x = walked w s h in
     let none : n - k ≡ 0 = omega arith in
     ended o w e x.0 x.1 (walks o w halts n s) old new a b x.2 x.3 (x.4 ∙ ap (λ m. after_lines x.1 (walks o w halts m x.0)) none ∙ ap (after_lines x.1) (none_walked o w halts x.0))
 
 -- a put failed on the way
-pub walk_breaks : (o : Object) (halts : State → Bool) (n k : ℕ) (d e f : Debugger) (failed : Failed) (old mid new : Option (List ℕ)) (a b c : Option ℕ) → k < n → (not (halts e.present.machine) && is_running e.present.machine.status) ≡ true
+pub walk_breaks : (o : Object) (halts : State → Bool) (n k : ℕ) (d e f : Debugger) (failed : Failed) (old mid new : Option (List ℕ)) (a b c : Option (List (List ℕ))) → k < n → (not (halts e.present.machine) && is_running e.present.machine.status) ≡ true
     → Walked o halts n k d e old mid a b → Does (advances o) o e f (Err failed) mid new b c → Does (λ w. walks o w halts n) o d f (Err failed) old new a c
 walk_breaks o halts n k d e f failed old mid new a b c l g walked does = λ w s h.
     let x = walked w s h in
@@ -141,6 +141,6 @@ walk_breaks o halts n k d e f failed old mid new a b c l g walked does = λ w s 
 -- THE EXIT OF A FAILED PUT
 
 -- what a failed part did is what the whole did
-pub does_err : (go : List Wild → Session → Reply) (o : Object) (d e : Debugger) (r : Result (Unit {0}) Failed) (failed : Failed) (old new : Option (List ℕ)) (a b : Option ℕ) → IsErr r → Does go o d e (Err failed) old new a b → Does go o d e r old new a b
+pub does_err : (go : List Wild → Session → Reply) (o : Object) (d e : Debugger) (r : Result (Unit {0}) Failed) (failed : Failed) (old new : Option (List ℕ)) (a b : Option (List (List ℕ))) → IsErr r → Does go o d e (Err failed) old new a b → Does go o d e r old new a b
 does_err go o d e (Ok u) failed old new a b h does = absurd (cc)
 does_err go o d e (Err f) failed old new a b h does = does

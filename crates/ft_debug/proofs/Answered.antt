@@ -9,7 +9,7 @@ use Rattle.ft_isa.specs.declared.plan.Wild.{Wild}
 use Rattle.ft_edge.specs.Puts.{PutsLines, BreaksOff}
 use Rattle.ft_edge.proofs.PutLines.{puts_none, puts_then, breaks_then, breaks_before}
 use Rattle.ft_types.specs.declared.object.Object.{Object}
-use Rattle.ft_types.specs.Strike.{is_there}
+use Rattle.ft_semantics.specs.Strike.{is_there}
 use Rattle.ft_script.specs.declared.command.Command as read
 use Rattle.ft_script.specs.Commands.{Bad, Break}
 use Rattle.ft_script.specs.Reads.{command_of}
@@ -25,7 +25,7 @@ at_there : (o : Object) (w : List Wild) (t : Session) (e : Debugger) → Holds o
 at_there o w t e h = ap (λ (m : Moment). at_line m.position m.machine) h.present
 
 -- after what was done, the position is put
-pub does_report : (go : List Wild → Session → Reply) (o : Object) (d e : Debugger) (r : Result (Unit {0}) Failed) (old mid new : Option (List ℕ)) (a b c : Option ℕ) → Does go o d e (Ok tt) old mid a b → Puts r (at_line e.present.position e.present.machine ∷ []) mid new b c → Does (λ w s. reports o w (go w s)) o d e r old new a c
+pub does_report : (go : List Wild → Session → Reply) (o : Object) (d e : Debugger) (r : Result (Unit {0}) Failed) (old mid new : Option (List ℕ)) (a b c : Option (List (List ℕ))) → Does go o d e (Ok tt) old mid a b → Puts r (at_line e.present.position e.present.machine ∷ []) mid new b c → Does (λ w s. reports o w (go w s)) o d e r old new a c
 does_report go o d e (Ok u) old mid new a b c does p = λ w s h.
     let x = does w s h in
     let t = (go w s).session in
@@ -36,7 +36,7 @@ does_report go o d e (Err failed) old mid new a b c does p = λ w s h.
     breaks_then (go w s).lines (at_line t.position (present o w t).state ∷ []) old mid new a b c x.1 (subst (λ (l : List ℕ). BreaksOff (l ∷ []) mid new b c) (at_there o w t e x.0) p)
 
 -- a put failed before the position was put
-pub report_breaks : (go : List Wild → Session → Reply) (o : Object) (d e : Debugger) (failed : Failed) (old new : Option (List ℕ)) (a b : Option ℕ) → Does go o d e (Err failed) old new a b → Does (λ w s. reports o w (go w s)) o d e (Err failed) old new a b
+pub report_breaks : (go : List Wild → Session → Reply) (o : Object) (d e : Debugger) (failed : Failed) (old new : Option (List ℕ)) (a b : Option (List (List ℕ))) → Does go o d e (Err failed) old new a b → Does (λ w s. reports o w (go w s)) o d e (Err failed) old new a b
 report_breaks go o d e failed old new a b does = λ w s h.
     let t = (go w s).session in
     breaks_before (go w s).lines (at_line t.position (present o w t).state ∷ []) old new a b (does w s h)
@@ -44,7 +44,7 @@ report_breaks go o d e failed old new a b does = λ w s h.
 -- ONE LINE
 
 -- one line was put, and the session after it is held
-pub says_line : (go : List Wild → Session → Reply) (o : Object) (d e : Debugger) (line : List ℕ) (next : List Wild → Session → Session) (r : Result (Unit {0}) Failed) (old new : Option (List ℕ)) (a b : Option ℕ)
+pub says_line : (go : List Wild → Session → Reply) (o : Object) (d e : Debugger) (line : List ℕ) (next : List Wild → Session → Session) (r : Result (Unit {0}) Failed) (old new : Option (List ℕ)) (a b : Option (List (List ℕ)))
     → ((w : List Wild) (s : Session) → Holds o w s d → (go w s ≡ says line (next w s)) × Holds o w (next w s) e) → Puts r (line ∷ []) old new a b → Does go o d e r old new a b
 says_line go o d e line next (Ok u) old new a b said p = λ w s h.
     let x = said w s h in
@@ -52,7 +52,7 @@ says_line go o d e line next (Ok u) old new a b said p = λ w s h.
 says_line go o d e line next (Err failed) old new a b said p = λ w s h. let x = said w s h in subst (λ (r : Reply). BreaksOff r.lines old new a b) (sym x.0) p
 
 -- replies that are equal are answered alike
-pub does_as : (go same : List Wild → Session → Reply) (o : Object) (d e : Debugger) (r : Result (Unit {0}) Failed) (old new : Option (List ℕ)) (a b : Option ℕ) → ((w : List Wild) (s : Session) → Holds o w s d → same w s ≡ go w s) → Does go o d e r old new a b → Does same o d e r old new a b
+pub does_as : (go same : List Wild → Session → Reply) (o : Object) (d e : Debugger) (r : Result (Unit {0}) Failed) (old new : Option (List ℕ)) (a b : Option (List (List ℕ))) → ((w : List Wild) (s : Session) → Holds o w s d → same w s ≡ go w s) → Does go o d e r old new a b → Does same o d e r old new a b
 does_as go same o d e (Ok u) old new a b eq does = λ w s h. subst (λ (r : Reply). Holds o w r.session e × PutsLines r.lines old new a b) (sym (eq w s h)) (does w s h)
 does_as go same o d e (Err failed) old new a b eq does = λ w s h. subst (λ (r : Reply). BreaksOff r.lines old new a b) (sym (eq w s h)) (does w s h)
 
@@ -65,7 +65,7 @@ zap_line : (b : Bool) (x y : Session) (l m : List ℕ) → (if b then says l x e
 zap_line true x y l m = refl
 zap_line false x y l m = refl
 
-pub does_zap : (o : Object) (d e : Debugger) (site : Site) (value : ℕ) (b : Bool) (r : Result (Unit {0}) Failed) (old new : Option (List ℕ)) (a c : Option ℕ) → is_there d.present.machine site ≡ b → ((w : List Wild) (s : Session) → Holds o w s d → Holds o w (zaps o w site value s).session e)
+pub does_zap : (o : Object) (d e : Debugger) (site : Site) (value : ℕ) (b : Bool) (r : Result (Unit {0}) Failed) (old new : Option (List ℕ)) (a c : Option (List (List ℕ))) → is_there d.present.machine site ≡ b → ((w : List Wild) (s : Session) → Holds o w s d → Holds o w (zaps o w site value s).session e)
     → Puts r ((if b then codes "zapped\n" else codes "nothing there\n") ∷ []) old new a c → Does (λ w. zaps o w site value) o d e r old new a c
 does_zap o d e site value b r old new a c there holds p =
     says_line (λ w. zaps o w site value) o d e (if b then codes "zapped\n" else codes "nothing there\n") (λ w s. (zaps o w site value s).session) r old new a c (λ w s h. (
@@ -79,14 +79,14 @@ does_zap o d e site value b r old new a c there holds p =
 kept_back : (o : Object) (w : List Wild) (s : Session) (d : Debugger) (n : ℕ) (b : Bool) → Holds o w s d → nat_lt d.history.count n ≡ b → nat_lt (s.position - s.low) n ≡ b
 kept_back o w s d n b h e = let kept = h.kept in let same : s.position - s.low ≡ d.history.count = omega arith in ap (λ m. nat_lt m n) same ∙ e
 
-pub back_refused : (o : Object) (d : Debugger) (n : ℕ) (r : Result (Unit {0}) Failed) (old new : Option (List ℕ)) (a c : Option ℕ) → d.history.count < n → Puts r (codes "no history\n" ∷ []) old new a c → Does (λ w. goes_back o w n) o d d r old new a c
+pub back_refused : (o : Object) (d : Debugger) (n : ℕ) (r : Result (Unit {0}) Failed) (old new : Option (List ℕ)) (a c : Option (List (List ℕ))) → d.history.count < n → Puts r (codes "no history\n" ∷ []) old new a c → Does (λ w. goes_back o w n) o d d r old new a c
 back_refused o d n r old new a c l p =
     says_line (λ w. goes_back o w n) o d d (codes "no history\n") (λ w s. s) r old new a c (λ w s h. (
       ap (λ t. if t then says (codes "no history\n") s else reports o w (stays (earlier n s))) (kept_back o w s d n true h (lt-ltb d.history.count n l)),
       h,
     )) p
 
-pub back_taken : (o : Object) (d e : Debugger) (n : ℕ) (r : Result (Unit {0}) Failed) (old new : Option (List ℕ)) (a c : Option ℕ) → n ≤ d.history.count → ((w : List Wild) (s : Session) → Holds o w s d → Holds o w (earlier n s) e)
+pub back_taken : (o : Object) (d e : Debugger) (n : ℕ) (r : Result (Unit {0}) Failed) (old new : Option (List ℕ)) (a c : Option (List (List ℕ))) → n ≤ d.history.count → ((w : List Wild) (s : Session) → Holds o w s d → Holds o w (earlier n s) e)
     → Puts r (at_line e.present.position e.present.machine ∷ []) old new a c → Does (λ w. goes_back o w n) o d e r old new a c
 back_taken o d e n r old new a c l holds p =
     does_as (λ w s. reports o w (stays (earlier n s))) (λ w. goes_back o w n) o d e r old new a c
@@ -97,10 +97,10 @@ back_taken o d e n r old new a c l holds p =
     not_more m n le = grind (arith, nat_tests)
 
 -- the answer to a command is the answer to what it is
-pub answers : (o : Object) (d e : Debugger) (x y : read.Command) (r : Result (Unit {0}) Failed) (old new : Option (List ℕ)) (a b : Option ℕ) → x ≡ y → Does (λ w. reply o w (command_of y)) o d e r old new a b → Does (λ w. reply o w (command_of x)) o d e r old new a b
+pub answers : (o : Object) (d e : Debugger) (x y : read.Command) (r : Result (Unit {0}) Failed) (old new : Option (List ℕ)) (a b : Option (List (List ℕ))) → x ≡ y → Does (λ w. reply o w (command_of y)) o d e r old new a b → Does (λ w. reply o w (command_of x)) o d e r old new a b
 answers o d e x y r old new a b e' does = subst (λ (c : read.Command). Does (λ w. reply o w (command_of c)) o d e r old new a b) (sym e') does
 
-pub answers_bad : (o : Object) (d : Debugger) (r : Result (Unit {0}) Failed) (old new : Option (List ℕ)) (a b : Option ℕ) → Puts r (codes "bad command\n" ∷ []) old new a b → Does (λ w. reply o w Bad) o d d r old new a b
+pub answers_bad : (o : Object) (d : Debugger) (r : Result (Unit {0}) Failed) (old new : Option (List ℕ)) (a b : Option (List (List ℕ))) → Puts r (codes "bad command\n" ∷ []) old new a b → Does (λ w. reply o w Bad) o d d r old new a b
 answers_bad o d r old new a b p = says_line (λ w. reply o w Bad) o d d (codes "bad command\n") (λ w s. s) r old new a b (λ w s h. (refl, h)) p
 
 -- BREAK
@@ -108,18 +108,18 @@ answers_bad o d r old new a b p = says_line (λ w. reply o w Bad) o d d (codes "
 breaks_are : (o : Object) (w : List Wild) (s : Session) (d : Debugger) (a : ℕ) (t : Bool) → Holds o w s d → is_set d.breaks a ≡ t → is_set s.breaks a ≡ t
 breaks_are o w s d a t h e = ap (λ l. is_set l a) (sym h.breaks) ∙ e
 
-pub break_nowhere : (o : Object) (d : Debugger) (b i : ℕ) (r : Result (Unit {0}) Failed) (old new : Option (List ℕ)) (x y : Option ℕ) → break_address o b i ≡ None → Puts r (codes "no place\n" ∷ []) old new x y → Does (λ w. reply o w (Break b i)) o d d r old new x y
+pub break_nowhere : (o : Object) (d : Debugger) (b i : ℕ) (r : Result (Unit {0}) Failed) (old new : Option (List ℕ)) (x y : Option (List (List ℕ))) → break_address o b i ≡ None → Puts r (codes "no place\n" ∷ []) old new x y → Does (λ w. reply o w (Break b i)) o d d r old new x y
 break_nowhere o d b i r old new x y e p = says_line (λ w. reply o w (Break b i)) o d d (codes "no place\n") (λ w s. s) r old new x y (λ w s h. (ap (λ a. sets_break a s) e, h)) p
 
 -- what is set, where a place is there
 abbrev set_or : Bool → Bool → ℕ → Session → Reply
 set_or known room a s = if known then says (codes "break set\n") s else (if room then says (codes "break set\n") (with_break a s) else says (codes "too many breaks\n") s)
 
-pub break_again : (o : Object) (d : Debugger) (b i a : ℕ) (r : Result (Unit {0}) Failed) (old new : Option (List ℕ)) (x y : Option ℕ) → break_address o b i ≡ Some a → is_set d.breaks a ≡ true → Puts r (codes "break set\n" ∷ []) old new x y → Does (λ w. reply o w (Break b i)) o d d r old new x y
+pub break_again : (o : Object) (d : Debugger) (b i a : ℕ) (r : Result (Unit {0}) Failed) (old new : Option (List ℕ)) (x y : Option (List (List ℕ))) → break_address o b i ≡ Some a → is_set d.breaks a ≡ true → Puts r (codes "break set\n" ∷ []) old new x y → Does (λ w. reply o w (Break b i)) o d d r old new x y
 break_again o d b i a r old new x y e known p =
     says_line (λ w. reply o w (Break b i)) o d d (codes "break set\n") (λ w s. s) r old new x y (λ w s h. (ap (λ c. sets_break c s) e ∙ ap (λ t. set_or t (nat_lt (length s.breaks) 64) a s) (breaks_are o w s d a true h known), h)) p
 
-pub break_refused : (o : Object) (d : Debugger) (b i a : ℕ) (r : Result (Unit {0}) Failed) (old new : Option (List ℕ)) (x y : Option ℕ) → break_address o b i ≡ Some a → is_set d.breaks a ≡ false → nat_lt (length d.breaks) 64 ≡ false → Puts r (codes "too many breaks\n" ∷ []) old new x y
+pub break_refused : (o : Object) (d : Debugger) (b i a : ℕ) (r : Result (Unit {0}) Failed) (old new : Option (List ℕ)) (x y : Option (List (List ℕ))) → break_address o b i ≡ Some a → is_set d.breaks a ≡ false → nat_lt (length d.breaks) 64 ≡ false → Puts r (codes "too many breaks\n" ∷ []) old new x y
     → Does (λ w. reply o w (Break b i)) o d d r old new x y
 break_refused o d b i a r old new x y e known full p =
     says_line (λ w. reply o w (Break b i)) o d d (codes "too many breaks\n") (λ w s. s) r old new x y (λ w s h. (
@@ -137,7 +137,7 @@ holds_break o w s d e a h ep eh eb = record {
   made = h.made;
 }
 
-pub break_added : (o : Object) (d e : Debugger) (b i a : ℕ) (r : Result (Unit {0}) Failed) (old new : Option (List ℕ)) (x y : Option ℕ) → break_address o b i ≡ Some a → is_set d.breaks a ≡ false → nat_lt (length d.breaks) 64 ≡ true
+pub break_added : (o : Object) (d e : Debugger) (b i a : ℕ) (r : Result (Unit {0}) Failed) (old new : Option (List ℕ)) (x y : Option (List (List ℕ))) → break_address o b i ≡ Some a → is_set d.breaks a ≡ false → nat_lt (length d.breaks) 64 ≡ true
     → e.present ≡ d.present → e.history ≡ d.history → e.breaks ≡ d.breaks ++ a ∷ [] → Puts r (codes "break set\n" ∷ []) old new x y → Does (λ w. reply o w (Break b i)) o d e r old new x y
 break_added o d e b i a r old new x y there known room ep eh eb p =
     says_line (λ w. reply o w (Break b i)) o d e (codes "break set\n") (λ w s. with_break a s) r old new x y (λ w s h. (

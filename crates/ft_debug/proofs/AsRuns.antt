@@ -3,9 +3,9 @@ use Rattle.std.proofs.Common.{◌≡◌, ℕ, zero, suc, List, [], ◌∷◌, Op
 use Rattle.ft_isa.specs.declared.plan.Wild.{Wild}
 use Rattle.ft_isa.specs.declared.plan.Strike.{Strike}
 use Rattle.ft_types.specs.declared.object.Object.{Object}
-use Rattle.ft_types.specs.Step.{step}
-use Rattle.ft_types.specs.Strike.{struck_before}
-use Rattle.ft_types.specs.Run.{Ran, run}
+use Rattle.ft_semantics.specs.Step.{step}
+use Rattle.ft_semantics.specs.Strike.{struck_before}
+use Rattle.ft_semantics.specs.Run.{Ran, run}
 use Rattle.ft_debug.specs.Sessions.{Shown, shown, led_to}
 
 -- what a run has at a position

@@ -73,10 +73,10 @@ no_name o name k le none =
 -- THE QUEUE
 
 -- the lines of the first i entries were put
-abbrev pub PutsEntries : Pending → ℕ → Option (List ℕ) → Option (List ℕ) → Option ℕ → Option ℕ → Type 0
+abbrev pub PutsEntries : Pending → ℕ → Option (List ℕ) → Option (List ℕ) → Option (List (List ℕ)) → Option (List (List ℕ)) → Type 0
 PutsEntries q i old new before now = PutsLines (map entry_line (take i q)) old new before now
 
-pub entries_more : (q : Pending) (i : ℕ) (e : ℕ × ℕ) (old mid new : Option (List ℕ)) (a b c : Option ℕ) → slice_get q i ≡ Some e → PutsEntries q i old mid a b → PutsLines (entry_line e ∷ []) mid new b c → PutsEntries q (i + 1) old new a c
+pub entries_more : (q : Pending) (i : ℕ) (e : ℕ × ℕ) (old mid new : Option (List ℕ)) (a b c : Option (List (List ℕ))) → slice_get q i ≡ Some e → PutsEntries q i old mid a b → PutsLines (entry_line e ∷ []) mid new b c → PutsEntries q (i + 1) old new a c
 entries_more q i e old mid new a b c there before here =
     let next : take (i + 1) q ≡ take i q ++ e ∷ [] = take_more q i e (slice_get_within q i e there) ∙ ap (λ x. take i q ++ x ∷ []) (get_or_from_slice_get q i e e there) in
     subst (λ (ls : List (List ℕ)). PutsLines ls old new a c) (sym (ap (map entry_line) next ∙ map-append entry_line (take i q) (e ∷ []))) (puts_then (map entry_line (take i q)) (entry_line e ∷ []) old mid new a b c before here)
@@ -85,16 +85,16 @@ some_lines : (q : Pending) → ¬ (q ≡ []) → queue_lines q ≡ map entry_lin
 some_lines [] ne = absurd (ne refl)
 some_lines (e ∷ q) ne = refl
 
-pub entries_break : (q : Pending) (i : ℕ) (e : ℕ × ℕ) (old mid new : Option (List ℕ)) (a b c : Option ℕ) → ¬ (q ≡ []) → slice_get q i ≡ Some e → PutsEntries q i old mid a b → BreaksOff (entry_line e ∷ []) mid new b c → BreaksOff (queue_lines q) old new a c
+pub entries_break : (q : Pending) (i : ℕ) (e : ℕ × ℕ) (old mid new : Option (List ℕ)) (a b c : Option (List (List ℕ))) → ¬ (q ≡ []) → slice_get q i ≡ Some e → PutsEntries q i old mid a b → BreaksOff (entry_line e ∷ []) mid new b c → BreaksOff (queue_lines q) old new a c
 entries_break q i e old mid new a b c ne there before here =
     let whole : q ≡ take i q ++ e ∷ drop (suc i) q = split_at q i e (slice_get_within q i e there) ∙ ap (λ x. take i q ++ x ∷ drop (suc i) q) (get_or_from_slice_get q i e e there) in
     subst (λ (ls : List (List ℕ)). BreaksOff ls old new a c) (sym (some_lines q ne ∙ ap (map entry_line) whole ∙ map-append entry_line (take i q) (e ∷ drop (suc i) q)))
     (breaks_then (map entry_line (take i q)) (entry_line e ∷ map entry_line (drop (suc i) q)) old mid new a b c before (breaks_before (entry_line e ∷ []) (map entry_line (drop (suc i) q)) mid new b c here))
 
-pub entries_all : (q : Pending) (i : ℕ) (old new : Option (List ℕ)) (a b : Option ℕ) → ¬ (q ≡ []) → length q ≤ i → PutsEntries q i old new a b → PutsLines (queue_lines q) old new a b
+pub entries_all : (q : Pending) (i : ℕ) (old new : Option (List ℕ)) (a b : Option (List (List ℕ))) → ¬ (q ≡ []) → length q ≤ i → PutsEntries q i old new a b → PutsLines (queue_lines q) old new a b
 entries_all q i old new a b ne le h = subst (λ (ls : List (List ℕ)). PutsLines ls old new a b) (sym (some_lines q ne ∙ ap (map entry_line) (sym (take_all i q le)))) h
 
 -- what was put of one line, where its put failed
-pub broke : (r : Result (Unit {0}) Failed) (lines : List (List ℕ)) (failed : Failed) (old new : Option (List ℕ)) (a b : Option ℕ) → IsErr r → BreaksOff lines old new a b → Puts r lines old new a b
+pub broke : (r : Result (Unit {0}) Failed) (lines : List (List ℕ)) (failed : Failed) (old new : Option (List ℕ)) (a b : Option (List (List ℕ))) → IsErr r → BreaksOff lines old new a b → Puts r lines old new a b
 broke (Ok u) lines failed old new a b h e = absurd (cc)
 broke (Err f) lines failed old new a b h e = e

@@ -9,8 +9,8 @@ use Rattle.ft_isa.specs.declared.plan.Wild.{Wild}
 use Rattle.ft_edge.specs.Puts.{PutsLines, BreaksOff}
 use Rattle.ft_edge.proofs.PutLines.{puts_none, puts_then, breaks_then, breaks_before}
 use Rattle.ft_types.specs.declared.object.Object.{Object}
-use Rattle.ft_types.specs.State.{State}
-use Rattle.ft_types.specs.Strike.{is_running, is_there}
+use Rattle.ft_semantics.specs.State.{State}
+use Rattle.ft_semantics.specs.Strike.{is_running, is_there}
 use Rattle.ft_script.specs.declared.command.Command as read
 use Rattle.ft_script.specs.Commands.{Command, Step, Go, Back, Zap, Reg, Queue, Cell, Where, Break, Bad, Gives}
 use Rattle.ft_script.specs.Reads.{command_of}
@@ -74,7 +74,7 @@ reply_within o w Bad s h = omega arith
 -- ONE AFTER THE OTHER
 
 -- after the first of some commands: the session that is held, what was put, and what the rest put
-pub record Replied (o : Object) (w : List Wild) (xs : List read.Command) (i : ℕ) (d : Debugger) (old new : Option (List ℕ)) (before now : Option ℕ) : Type 0 where
+pub record Replied (o : Object) (w : List Wild) (xs : List read.Command) (i : ℕ) (d : Debugger) (old new : Option (List ℕ)) (before now : Option (List (List ℕ))) : Type 0 where
   pub session : Session
   pub holds : Holds o w session d
   pub lines : List (List ℕ)
@@ -82,13 +82,13 @@ pub record Replied (o : Object) (w : List Wild) (xs : List read.Command) (i : �
   pub rest : (cs : List Command) → replies o w (map command_of (take i xs) ++ cs) first_session ≡ lines ++ replies o w cs session
   pub within : session.position ≤ 1000000 * i
 
-pub replied_none : (o : Object) (w : List Wild) (xs : List read.Command) (d : Debugger) (old : Option (List ℕ)) (a : Option ℕ) → Holds o w first_session d → Replied o w xs 0 d old old a a
+pub replied_none : (o : Object) (w : List Wild) (xs : List read.Command) (d : Debugger) (old : Option (List ℕ)) (a : Option (List (List ℕ))) → Holds o w first_session d → Replied o w xs 0 d old old a a
 replied_none o w xs d old a h = record { session = first_session; holds = h; lines = []; puts = puts_none old a; rest = λ cs. refl; within = omega arith }
 
 next_command : (xs : List read.Command) (i : ℕ) (x : read.Command) → i < length xs → x ≡ get_or xs i x → map command_of (take (i + 1) xs) ≡ map command_of (take i xs) ++ command_of x ∷ []
 next_command xs i x l e = ap (map command_of) (take_more xs i x l ∙ ap (λ y. take i xs ++ y ∷ []) (sym e)) ∙ map-append command_of (take i xs) (x ∷ [])
 
-pub replied_more : (o : Object) (w : List Wild) (xs : List read.Command) (i : ℕ) (x : read.Command) (d e : Debugger) (old mid new : Option (List ℕ)) (a b c : Option ℕ) → i < length xs → x ≡ get_or xs i x → IsSmall (command_of x)
+pub replied_more : (o : Object) (w : List Wild) (xs : List read.Command) (i : ℕ) (x : read.Command) (d e : Debugger) (old mid new : Option (List ℕ)) (a b c : Option (List (List ℕ))) → i < length xs → x ≡ get_or xs i x → IsSmall (command_of x)
     → Replied o w xs i d old mid a b → Does (λ v. reply o v (command_of x)) o d e (Ok tt) mid new b c → Replied o w xs (i + 1) e old new a c
 replied_more o w xs i x d e old mid new a b c l at small h does =
     let s = h.session in
@@ -112,11 +112,11 @@ all_lines o w xs i s lines le rest =
     ap (λ l. replies o w (map command_of l) first_session) (sym (take_all i xs le)) ∙ ap (λ l. replies o w l first_session) (sym (append-nil (map command_of (take i xs)))) ∙ rest [] ∙ append-nil lines
 
 -- all commands were answered
-pub replied_all : (o : Object) (w : List Wild) (xs : List read.Command) (i : ℕ) (d : Debugger) (old new : Option (List ℕ)) (a b : Option ℕ) → length xs ≤ i → Replied o w xs i d old new a b → PutsLines (session_lines o w (map command_of xs)) old new a b
+pub replied_all : (o : Object) (w : List Wild) (xs : List read.Command) (i : ℕ) (d : Debugger) (old new : Option (List ℕ)) (a b : Option (List (List ℕ))) → length xs ≤ i → Replied o w xs i d old new a b → PutsLines (session_lines o w (map command_of xs)) old new a b
 replied_all o w xs i d old new a b le h = subst (λ (ls : List (List ℕ)). PutsLines ls old new a b) (sym (all_lines o w xs i h.session h.lines le h.rest)) h.puts
 
 -- a put failed in the answer to a command
-pub replied_breaks : (o : Object) (w : List Wild) (xs : List read.Command) (i : ℕ) (x : read.Command) (d e : Debugger) (failed : Failed) (old mid new : Option (List ℕ)) (a b c : Option ℕ) → i < length xs → x ≡ get_or xs i x
+pub replied_breaks : (o : Object) (w : List Wild) (xs : List read.Command) (i : ℕ) (x : read.Command) (d e : Debugger) (failed : Failed) (old mid new : Option (List ℕ)) (a b c : Option (List (List ℕ))) → i < length xs → x ≡ get_or xs i x
     → Replied o w xs i d old mid a b → Does (λ v. reply o v (command_of x)) o d e (Err failed) mid new b c → BreaksOff (session_lines o w (map command_of xs)) old new a c
 replied_breaks o w xs i x d e failed old mid new a b c l at h does =
     let s = h.session in

@@ -8,9 +8,9 @@ use Rattle.ft_isa.specs.declared.plan.Site.{Site}
 use Rattle.ft_isa.specs.declared.plan.Strike.{Strike}
 use Rattle.ft_isa.specs.declared.plan.Wild.{Wild}
 use Rattle.ft_types.specs.declared.object.Object.{Object}
-use Rattle.ft_types.specs.State.{State, start}
-use Rattle.ft_types.specs.Step.{Stepping, quiet, step}
-use Rattle.ft_types.specs.Strike.{struck_state, struck_before}
+use Rattle.ft_semantics.specs.State.{State, start}
+use Rattle.ft_semantics.specs.Step.{Stepping, quiet, step}
+use Rattle.ft_semantics.specs.Strike.{struck_state, struck_before}
 use Rattle.ft_debug.specs.Sessions.{Shown, shown, led_to, struck_at}
 use Rattle.ft_debug.specs.Inside.{IsMadeBy}
 

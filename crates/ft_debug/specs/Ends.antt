@@ -10,19 +10,19 @@ use Rattle.ft_debug.specs.declared.debug_end.DebugEnd.TheVariants.{Ended, WriteF
 use Rattle.ft_debug.specs.Sessions.{session_lines}
 
 -- all lines of the session were put
-pub record Finishes (o : Object) (w : List Wild) (script : List ℕ) (old new : Option (List ℕ)) (before now : Option ℕ) : Type 0 where
+pub record Finishes (o : Object) (w : List Wild) (script : List ℕ) (old new : Option (List ℕ)) (before now : Option (List (List ℕ))) : Type 0 where
   pub commands : List Command
   pub given : AreCommands script commands
   pub lines : PutsLines (session_lines o w commands) old new before now
 
 -- a put of the session's lines failed
-pub record Stops (o : Object) (w : List Wild) (script : List ℕ) (old new : Option (List ℕ)) (before now : Option ℕ) : Type 0 where
+pub record Stops (o : Object) (w : List Wild) (script : List ℕ) (old new : Option (List ℕ)) (before now : Option (List (List ℕ))) : Type 0 where
   pub commands : List Command
   pub given : AreCommands script commands
   pub lines : BreaksOff (session_lines o w commands) old new before now
 
 -- how a session ended
-abbrev pub EndsAs : DebugEnd → Object → List Wild → List ℕ → Option (List ℕ) → Option (List ℕ) → Option ℕ → Option ℕ → Type 0
+abbrev pub EndsAs : DebugEnd → Object → List Wild → List ℕ → Option (List ℕ) → Option (List ℕ) → Option (List (List ℕ)) → Option (List (List ℕ)) → Type 0
 EndsAs Ended o w script old new before now = Finishes o w script old new before now
 EndsAs WriteFault o w script old new before now = Stops o w script old new before now
 EndsAs NoMemory o w script old new before now = PutsNothing old new before now

@@ -7,8 +7,8 @@ use Rattle.ft_isa.specs.declared.plan.Strike.{Strike}
 use Rattle.ft_isa.specs.declared.plan.Wild.{Wild}
 use Rattle.ft_edge.specs.Puts.{PutsLines, BreaksOff}
 use Rattle.ft_types.specs.declared.object.Object.{Object}
-use Rattle.ft_types.specs.State.{State, HasCells}
-use Rattle.ft_types.specs.Strike.{is_running}
+use Rattle.ft_semantics.specs.State.{State, HasCells}
+use Rattle.ft_semantics.specs.Strike.{is_running}
 use Rattle.ft_types.specs.Texts.{line_at}
 use Rattle.ft_machine.specs.declared.machine.Stepped.{Stepped}
 use Rattle.ft_machine.specs.declared.machine.Stepped.TheVariants.{Commit, Quiet, Done, Detected}
@@ -53,12 +53,12 @@ pub record Holds (o : Object) (w : List Wild) (s : Session) (d : Debugger) : Typ
   pub made : AllByRecursion (IsMadeBy s.position) s.strikes
 
 -- these lines were put, up to one whose put failed
-abbrev pub Puts : Result (Unit {0}) Failed → List (List ℕ) → Option (List ℕ) → Option (List ℕ) → Option ℕ → Option ℕ → Type 0
+abbrev pub Puts : Result (Unit {0}) Failed → List (List ℕ) → Option (List ℕ) → Option (List ℕ) → Option (List (List ℕ)) → Option (List (List ℕ)) → Type 0
 Puts (Ok done) lines old new before now = PutsLines lines old new before now
 Puts (Err failed) lines old new before now = BreaksOff lines old new before now
 
 -- whatever session was held, its reply was put, and the session after it is held
-abbrev pub Does : (List Wild → Session → Reply) → Object → Debugger → Debugger → Result (Unit {0}) Failed → Option (List ℕ) → Option (List ℕ) → Option ℕ → Option ℕ → Type 0
+abbrev pub Does : (List Wild → Session → Reply) → Object → Debugger → Debugger → Result (Unit {0}) Failed → Option (List ℕ) → Option (List ℕ) → Option (List (List ℕ)) → Option (List (List ℕ)) → Type 0
 Does go o d e (Ok done) old new before now = (w : List Wild) (s : Session) → Holds o w s d → Holds o w (go w s).session e × PutsLines (go w s).lines old new before now
 Does go o d e (Err failed) old new before now = (w : List Wild) (s : Session) → Holds o w s d → BreaksOff (go w s).lines old new before now
 

@@ -1,6 +1,6 @@
 -- What the history keeps: private to the code.
 use Rattle.std.specs.Prelude.{◌≡◌, ℕ, ◌≤◌, length}
-use Rattle.ft_types.specs.State.{is_cell, HasCells}
+use Rattle.ft_semantics.specs.State.{is_cell, HasCells}
 use Rattle.ft_debug.specs.declared.history.History.{History}
 use Rattle.ft_debug.specs.declared.moment.Moment.{Moment}
 

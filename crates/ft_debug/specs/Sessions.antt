@@ -13,12 +13,12 @@ use Rattle.ft_isa.specs.declared.plan.Wild.{Wild}
 use Rattle.ft_types.specs.declared.object.Object.{Object}
 use Rattle.ft_types.specs.declared.object.Cell.{Cell}
 use Rattle.ft_types.specs.declared.object.Block.{Block}
-use Rattle.ft_types.specs.declared.status.Status.{Status}
-use Rattle.ft_types.specs.declared.status.Status.TheVariants as status
+use Rattle.ft_semantics.specs.declared.status.Status.{Status}
+use Rattle.ft_semantics.specs.declared.status.Status.TheVariants as status
 use Rattle.ft_types.specs.Objects.{block_start, block_end}
-use Rattle.ft_types.specs.State.{State, start, register, cell_at}
-use Rattle.ft_types.specs.Step.{Stepping, quiet, step}
-use Rattle.ft_types.specs.Strike.{is_running, is_there, struck_before}
+use Rattle.ft_semantics.specs.State.{State, start, register, cell_at}
+use Rattle.ft_semantics.specs.Step.{Stepping, quiet, step}
+use Rattle.ft_semantics.specs.Strike.{is_running, is_there, struck_before}
 use Rattle.ft_types.specs.Texts.{line_at}
 use Rattle.ft_script.specs.declared.register.Register.{Register}
 use Rattle.ft_script.specs.declared.register.Register.TheVariants as registers

@@ -35,9 +35,9 @@ fn named_cell<P: Program>(program: &P, name: &[u8]) -> Option<u32>
 
 /// Puts a line for each pending store, oldest first.
 fn put_queue<K: Sink>(queue: &StoreQueue, out: &mut K) -> Result<(), Failed>
-    ensures puts { Puts result (queue_lines queue.now) (K.written out.old) (K.written out.new) (K.puts out.old) (K.puts out.new) }
-    ensures count { K.faults out.old ≤ K.faults out.new }
-    ensures cause { Excused result (K.faults out.old) (K.faults out.new) }
+    ensures puts { Puts result (queue_lines queue.now) (K.written out.old) (K.written out.new) (K.pieces out.old) (K.pieces out.new) }
+    ensures count { K.failures out.old ≤ K.failures out.new }
+    ensures cause { Excused result (K.failures out.old) (K.failures out.new) }
 {
     if queue.is_empty() {
         return put_text(b"empty\n", out);
@@ -76,9 +76,9 @@ impl<'w> Debugger<'w> {
 
     /// Puts the position.
     fn put_at<K: Sink>(&self, out: &mut K) -> Result<(), Failed>
-        ensures puts { Puts result (at_line self.now.present.position self.now.present.machine ∷ []) (K.written out.old) (K.written out.new) (K.puts out.old) (K.puts out.new) }
-        ensures count { K.faults out.old ≤ K.faults out.new }
-        ensures cause { Excused result (K.faults out.old) (K.faults out.new) }
+        ensures puts { Puts result (at_line self.now.present.position self.now.present.machine ∷ []) (K.written out.old) (K.written out.new) (K.pieces out.old) (K.pieces out.new) }
+        ensures count { K.failures out.old ≤ K.failures out.new }
+        ensures cause { Excused result (K.failures out.old) (K.failures out.new) }
     {
         put_text(at_line(&self.present).as_bytes(), out)
     }
@@ -94,9 +94,9 @@ impl<'w> Debugger<'w> {
         requires ready { Ready (P.object program.now) self.old }
         requires room { self.old.present.position + count < 2 ^ 63 }
         ensures ready { Ready (P.object program.now) self.new }
-        ensures does { Does (λ w. reply (P.object program.now) w (commands.Step count)) (P.object program.now) self.old self.new result (K.written out.old) (K.written out.new) (K.puts out.old) (K.puts out.new) }
-        ensures count { K.faults out.old ≤ K.faults out.new }
-        ensures cause { Excused result (K.faults out.old) (K.faults out.new) }
+        ensures does { Does (λ w. reply (P.object program.now) w (commands.Step count)) (P.object program.now) self.old self.new result (K.written out.old) (K.written out.new) (K.pieces out.old) (K.pieces out.new) }
+        ensures count { K.failures out.old ≤ K.failures out.new }
+        ensures cause { Excused result (K.failures out.old) (K.failures out.new) }
     {
         self.walk(program, false, count, out)?;
         self.put_at(out)
@@ -113,9 +113,9 @@ impl<'w> Debugger<'w> {
         requires ready { Ready (P.object program.now) self.old }
         requires room { self.old.present.position + count < 2 ^ 63 }
         ensures ready { Ready (P.object program.now) self.new }
-        ensures does { Does (λ w. reply (P.object program.now) w (commands.Go count)) (P.object program.now) self.old self.new result (K.written out.old) (K.written out.new) (K.puts out.old) (K.puts out.new) }
-        ensures count { K.faults out.old ≤ K.faults out.new }
-        ensures cause { Excused result (K.faults out.old) (K.faults out.new) }
+        ensures does { Does (λ w. reply (P.object program.now) w (commands.Go count)) (P.object program.now) self.old self.new result (K.written out.old) (K.written out.new) (K.pieces out.old) (K.pieces out.new) }
+        ensures count { K.failures out.old ≤ K.failures out.new }
+        ensures cause { Excused result (K.failures out.old) (K.failures out.new) }
     {
         self.go(program, count, out)?;
         self.put_at(out)
@@ -125,9 +125,9 @@ impl<'w> Debugger<'w> {
     fn answer_back<K: Sink>(&mut self, count: u64, out: &mut K) -> Result<(), Failed>
         requires { IsFull self.old.history }
         ensures ready { (o : Object) → Ready o self.old → Ready o self.new }
-        ensures does { (o : Object) → Does (λ w. reply o w (commands.Back count)) o self.old self.new result (K.written out.old) (K.written out.new) (K.puts out.old) (K.puts out.new) }
-        ensures count { K.faults out.old ≤ K.faults out.new }
-        ensures cause { Excused result (K.faults out.old) (K.faults out.new) }
+        ensures does { (o : Object) → Does (λ w. reply o w (commands.Back count)) o self.old self.new result (K.written out.old) (K.written out.new) (K.pieces out.old) (K.pieces out.new) }
+        ensures count { K.failures out.old ≤ K.failures out.new }
+        ensures cause { Excused result (K.failures out.old) (K.failures out.new) }
     {
         if count > self.history.len() as u64 {
             return put_text(b"no history\n", out);
@@ -140,9 +140,9 @@ impl<'w> Debugger<'w> {
     fn answer_zap<K: Sink>(&mut self, site: Site, value: u64, out: &mut K) -> Result<(), Failed>
         requires { IsFull self.old.history }
         ensures ready { (o : Object) → Ready o self.old → Ready o self.new }
-        ensures does { (o : Object) → Does (λ w. reply o w (commands.Zap site value)) o self.old self.new result (K.written out.old) (K.written out.new) (K.puts out.old) (K.puts out.new) }
-        ensures count { K.faults out.old ≤ K.faults out.new }
-        ensures cause { Excused result (K.faults out.old) (K.faults out.new) }
+        ensures does { (o : Object) → Does (λ w. reply o w (commands.Zap site value)) o self.old self.new result (K.written out.old) (K.written out.new) (K.pieces out.old) (K.pieces out.new) }
+        ensures count { K.failures out.old ≤ K.failures out.new }
+        ensures cause { Excused result (K.failures out.old) (K.failures out.new) }
     {
         if self.zap(site, value) {
             put_text(b"zapped\n", out)
@@ -153,9 +153,9 @@ impl<'w> Debugger<'w> {
 
     /// Shows a register.
     fn answer_reg<K: Sink>(&self, register: Register, out: &mut K) -> Result<(), Failed>
-        ensures does { (o : Object) → Does (λ w. reply o w (commands.Reg register)) o self.now self.now result (K.written out.old) (K.written out.new) (K.puts out.old) (K.puts out.new) }
-        ensures count { K.faults out.old ≤ K.faults out.new }
-        ensures cause { Excused result (K.faults out.old) (K.faults out.new) }
+        ensures does { (o : Object) → Does (λ w. reply o w (commands.Reg register)) o self.now self.now result (K.written out.old) (K.written out.new) (K.pieces out.old) (K.pieces out.new) }
+        ensures count { K.failures out.old ≤ K.failures out.new }
+        ensures cause { Excused result (K.failures out.old) (K.failures out.new) }
     {
         let line = register_line(register, self.coloured(register));
         put_text(line.as_bytes(), out)
@@ -163,9 +163,9 @@ impl<'w> Debugger<'w> {
 
     /// Shows the pending stores.
     fn answer_queue<K: Sink>(&self, out: &mut K) -> Result<(), Failed>
-        ensures does { (o : Object) → Does (λ w. reply o w commands.Queue) o self.now self.now result (K.written out.old) (K.written out.new) (K.puts out.old) (K.puts out.new) }
-        ensures count { K.faults out.old ≤ K.faults out.new }
-        ensures cause { Excused result (K.faults out.old) (K.faults out.new) }
+        ensures does { (o : Object) → Does (λ w. reply o w commands.Queue) o self.now self.now result (K.written out.old) (K.written out.new) (K.pieces out.old) (K.pieces out.new) }
+        ensures count { K.failures out.old ≤ K.failures out.new }
+        ensures cause { Excused result (K.failures out.old) (K.failures out.new) }
     {
         put_queue(self.present.machine.queue(), out)
     }
@@ -179,9 +179,9 @@ impl<'w> Debugger<'w> {
     ) -> Result<(), Failed>
         requires spellable { IsSpellable (P.object program.now) }
         requires ready { Ready (P.object program.now) self.now }
-        ensures does { Does (λ w. reply (P.object program.now) w (commands.Cell name.now)) (P.object program.now) self.now self.now result (K.written out.old) (K.written out.new) (K.puts out.old) (K.puts out.new) }
-        ensures count { K.faults out.old ≤ K.faults out.new }
-        ensures cause { Excused result (K.faults out.old) (K.faults out.new) }
+        ensures does { Does (λ w. reply (P.object program.now) w (commands.Cell name.now)) (P.object program.now) self.now self.now result (K.written out.old) (K.written out.new) (K.pieces out.old) (K.pieces out.new) }
+        ensures count { K.failures out.old ≤ K.failures out.new }
+        ensures cause { Excused result (K.failures out.old) (K.failures out.new) }
     {
         match named_cell(program, name) {
             Some(k) => {
@@ -195,9 +195,9 @@ impl<'w> Debugger<'w> {
     /// Shows where the machine is.
     fn answer_where<P: Program, K: Sink>(&self, program: &P, out: &mut K) -> Result<(), Failed>
         requires { IsSpellable (P.object program.now) }
-        ensures does { Does (λ w. reply (P.object program.now) w commands.Where) (P.object program.now) self.now self.now result (K.written out.old) (K.written out.new) (K.puts out.old) (K.puts out.new) }
-        ensures count { K.faults out.old ≤ K.faults out.new }
-        ensures cause { Excused result (K.faults out.old) (K.faults out.new) }
+        ensures does { Does (λ w. reply (P.object program.now) w commands.Where) (P.object program.now) self.now self.now result (K.written out.old) (K.written out.new) (K.pieces out.old) (K.pieces out.new) }
+        ensures count { K.failures out.old ≤ K.failures out.new }
+        ensures cause { Excused result (K.failures out.old) (K.failures out.new) }
     {
         put_text(where_line(program, &self.present).as_bytes(), out)
     }
@@ -213,9 +213,9 @@ impl<'w> Debugger<'w> {
         requires spellable { IsSpellable (P.object program.now) }
         requires ready { Ready (P.object program.now) self.old }
         ensures ready { Ready (P.object program.now) self.new }
-        ensures does { Does (λ w. reply (P.object program.now) w (commands.Break block index)) (P.object program.now) self.old self.new result (K.written out.old) (K.written out.new) (K.puts out.old) (K.puts out.new) }
-        ensures count { K.faults out.old ≤ K.faults out.new }
-        ensures cause { Excused result (K.faults out.old) (K.faults out.new) }
+        ensures does { Does (λ w. reply (P.object program.now) w (commands.Break block index)) (P.object program.now) self.old self.new result (K.written out.old) (K.written out.new) (K.pieces out.old) (K.pieces out.new) }
+        ensures count { K.failures out.old ≤ K.failures out.new }
+        ensures cause { Excused result (K.failures out.old) (K.failures out.new) }
     {
         let Some(address) = break_address(program, block, index) else {
             return put_text(b"no place\n", out);
@@ -242,9 +242,9 @@ impl<'w> Debugger<'w> {
         requires room { self.old.present.position < 2 ^ 62 }
         requires small { IsSmall (command_of command) }
         ensures ready { Ready (P.object program.now) self.new }
-        ensures does { Does (λ w. reply (P.object program.now) w (command_of command.entry)) (P.object program.now) self.old self.new result (K.written out.old) (K.written out.new) (K.puts out.old) (K.puts out.new) }
-        ensures count { K.faults out.old ≤ K.faults out.new }
-        ensures cause { Excused result (K.faults out.old) (K.faults out.new) }
+        ensures does { Does (λ w. reply (P.object program.now) w (command_of command.entry)) (P.object program.now) self.old self.new result (K.written out.old) (K.written out.new) (K.pieces out.old) (K.pieces out.new) }
+        ensures count { K.failures out.old ≤ K.failures out.new }
+        ensures cause { Excused result (K.failures out.old) (K.failures out.new) }
     {
         match command {
             Command::Step(count) => self.answer_step(program, count, out),

@@ -5,7 +5,7 @@ ghost use Rattle.ft_isa.specs.declared.plan.Wild.{Wild as Answer};
 ghost use Rattle.ft_types.specs.Spellable.{IsSpellable};
 ghost use Rattle.ft_debug.specs.Sessions.{Session, first_session, is_at_break, walks, goes, goes_back, earlier, zaps, sets_break, break_address};
 ghost use Rattle.ft_types.specs.declared.object.Object.{Object};
-ghost use Rattle.ft_types.specs.Strike.{is_running, is_there};
+ghost use Rattle.ft_semantics.specs.Strike.{is_running, is_there};
 ghost use Rattle.ft_isa.specs.declared.output.Output as outputs;
 ghost use Rattle.ft_debug.specs.Kept.{IsFull};
 ghost use Rattle.ft_debug.specs.Inside.{Ready, Holds, Puts, Does, Excused, committed_lines, advances, halting, goes_on};
@@ -19,7 +19,8 @@ use crate::put::put_text;
 use ft_edge::{Failed, Sink};
 use ft_isa::{Colour, NoMemory, Site, Wild};
 use ft_machine::Stepped;
-use ft_types::{Program, Status};
+use ft_semantics::Status;
+use ft_types::Program;
 use std::alloc::Global;
 
 /// A session in progress: the moment that is shown, the moments before it, and the break places. No
@@ -84,11 +85,11 @@ impl<'w> Debugger<'w> {
         requires running { self.old.present.machine.status ≡ Status.Running }
         requires room { self.old.present.position < 2 ^ 63 }
         ensures ready { Ready (P.object program.now) self.new }
-        ensures does { Does (advances (P.object program.now)) (P.object program.now) self.old self.new result (K.written out.old) (K.written out.new) (K.puts out.old) (K.puts out.new) }
+        ensures does { Does (advances (P.object program.now)) (P.object program.now) self.old self.new result (K.written out.old) (K.written out.new) (K.pieces out.old) (K.pieces out.new) }
         ensures breaks { self.new.breaks ≡ self.old.breaks }
         ensures position { self.new.present.position ≡ self.old.present.position + 1 }
-        ensures count { K.faults out.old ≤ K.faults out.new }
-        ensures cause { Excused result (K.faults out.old) (K.faults out.new) }
+        ensures count { K.failures out.old ≤ K.failures out.new }
+        ensures cause { Excused result (K.failures out.old) (K.failures out.new) }
     {
         self.history.keep(&self.present);
         let stepped = self.present.step(program);
@@ -107,9 +108,9 @@ impl<'w> Debugger<'w> {
         requires ready { Ready (P.object program.now) self.old }
         requires room { self.old.present.position + count < 2 ^ 63 }
         ensures ready { Ready (P.object program.now) self.new }
-        ensures does { Does (λ w. walks (P.object program.now) w (halting halts self.old.breaks) count) (P.object program.now) self.old self.new result (K.written out.old) (K.written out.new) (K.puts out.old) (K.puts out.new) }
-        ensures count { K.faults out.old ≤ K.faults out.new }
-        ensures cause { Excused result (K.faults out.old) (K.faults out.new) }
+        ensures does { Does (λ w. walks (P.object program.now) w (halting halts self.old.breaks) count) (P.object program.now) self.old self.new result (K.written out.old) (K.written out.new) (K.pieces out.old) (K.pieces out.new) }
+        ensures count { K.failures out.old ≤ K.failures out.new }
+        ensures cause { Excused result (K.failures out.old) (K.failures out.new) }
     {
         for _ in 0..count {
             if !self.goes_on(halts) {
@@ -131,9 +132,9 @@ impl<'w> Debugger<'w> {
         requires ready { Ready (P.object program.now) self.old }
         requires room { self.old.present.position + count < 2 ^ 63 }
         ensures ready { Ready (P.object program.now) self.new }
-        ensures does { Does (λ w. goes (P.object program.now) w count) (P.object program.now) self.old self.new result (K.written out.old) (K.written out.new) (K.puts out.old) (K.puts out.new) }
-        ensures count { K.faults out.old ≤ K.faults out.new }
-        ensures cause { Excused result (K.faults out.old) (K.faults out.new) }
+        ensures does { Does (λ w. goes (P.object program.now) w count) (P.object program.now) self.old self.new result (K.written out.old) (K.written out.new) (K.pieces out.old) (K.pieces out.new) }
+        ensures count { K.failures out.old ≤ K.failures out.new }
+        ensures cause { Excused result (K.failures out.old) (K.failures out.new) }
     {
         if count == 0 {
             return Ok(());
@@ -173,9 +174,9 @@ fn put_output<P: Program, K: Sink>(program: &P, stepped: Stepped, out: &mut K) -
     requires spellable { IsSpellable (P.object program.now) }
     requires low { (output : outputs.Output) → stepped ≡ Stepped.Commit output → 1048576 ≤ output.addr }
     requires high { (output : outputs.Output) → stepped ≡ Stepped.Commit output → output.addr < 1048576 + length (P.object program.now).cells }
-    ensures puts { Puts result (committed_lines (P.object program.now) stepped) (K.written out.old) (K.written out.new) (K.puts out.old) (K.puts out.new) }
-    ensures count { K.faults out.old ≤ K.faults out.new }
-    ensures cause { Excused result (K.faults out.old) (K.faults out.new) }
+    ensures puts { Puts result (committed_lines (P.object program.now) stepped) (K.written out.old) (K.written out.new) (K.pieces out.old) (K.pieces out.new) }
+    ensures count { K.failures out.old ≤ K.failures out.new }
+    ensures cause { Excused result (K.failures out.old) (K.failures out.new) }
 {
     match stepped {
         Stepped::Commit(output) => put_text(output_line(program, output).as_bytes(), out),

@@ -3,8 +3,8 @@ ghost use Rattle.std.specs.Prelude.{◌≡◌, ℕ, List, [], ◌∷◌, Some, N
 ghost use Rattle.ft_isa.specs.declared.plan.Wild.{Wild};
 ghost use Rattle.ft_isa.specs.declared.plan.Strike.{Strike};
 ghost use Rattle.ft_types.specs.declared.object.Object.{Object};
-ghost use Rattle.ft_types.specs.Strike.{struck_before};
-ghost use Rattle.ft_types.specs.Run.{state_after, wild_after};
+ghost use Rattle.ft_semantics.specs.Strike.{struck_before};
+ghost use Rattle.ft_semantics.specs.Run.{state_after, wild_after};
 ghost use Rattle.ft_debug.specs.Sessions.{shown};
 
 /// What a session shows at a position is what a run of the machine has after so many steps. Without

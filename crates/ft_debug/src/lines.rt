@@ -10,13 +10,11 @@ ghost use Rattle.ft_debug.specs.Places.{shown_place};
 
 use crate::code_places::{Place, place_of};
 use crate::moment::Moment;
-use ft_isa::{Colour, Coloured, Output};
+use ft_isa::{Colour, Coloured, FIRST_CELL, Output};
 use ft_script::Register;
+use ft_semantics::Status;
 use ft_text::Line;
-use ft_types::{Program, Status};
-
-/// The address of the first cell.
-const CELL_BASE: u64 = 1_048_576;
+use ft_types::Program;
 
 /// The text of a status.
 fn status_text(status: Status) -> &'static [u8]
@@ -68,11 +66,11 @@ pub fn word_line(name: &[u8], word: u64) -> Line
 /// The line of an output.
 pub fn output_line<P: Program>(program: &P, output: Output) -> Line
     requires spellable { IsSpellable (P.object program.now) }
-    requires low { CELL_BASE ≤ output.addr }
-    requires high { output.addr < CELL_BASE + length (P.object program.now).cells }
+    requires low { FIRST_CELL ≤ output.addr }
+    requires high { output.addr < FIRST_CELL + length (P.object program.now).cells }
     ensures { result ≡ line_at (P.object program.now) output }
 {
-    let name = program.name((output.addr - CELL_BASE) as u32);
+    let name = program.name((output.addr - FIRST_CELL) as u32);
     word_line(name, output.value)
 }
 

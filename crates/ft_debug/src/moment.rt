@@ -1,8 +1,8 @@
 //! Moments of a session.
 ghost use Rattle.std.specs.Prelude.{◌≡◌, ◌+◌, ◌^◌, ◌<◌, ℕ, true, IfOk, length};
 ghost use Rattle.ft_types.specs.Spellable.{IsSpellable};
-ghost use Rattle.ft_types.specs.State.{start, is_cell, HasCells};
-ghost use Rattle.ft_types.specs.Step.{step};
+ghost use Rattle.ft_semantics.specs.State.{start, is_cell, HasCells};
+ghost use Rattle.ft_semantics.specs.Step.{step};
 ghost use Rattle.ft_machine.specs.Answers.{Takes};
 ghost use Rattle.ft_isa.specs.declared.output.Output as outputs;
 

@@ -6,9 +6,9 @@ use ft_edge::{Failed, Sink};
 
 /// Puts one line.
 pub fn put_text<K: Sink>(line: &[u8], out: &mut K) -> Result<(), Failed>
-    ensures puts { Puts result (line.now ∷ []) (K.written out.old) (K.written out.new) (K.puts out.old) (K.puts out.new) }
-    ensures count { K.faults out.old ≤ K.faults out.new }
-    ensures cause { Excused result (K.faults out.old) (K.faults out.new) }
+    ensures puts { Puts result (line.now ∷ []) (K.written out.old) (K.written out.new) (K.pieces out.old) (K.pieces out.new) }
+    ensures count { K.failures out.old ≤ K.failures out.new }
+    ensures cause { Excused result (K.failures out.old) (K.failures out.new) }
 {
     out.put(line)
 }

@@ -28,9 +28,9 @@ fn answer_all<P: Program, K: Sink>(
     requires holds { Holds (P.object program.now) wild.now first_session debugger.old }
     requires small { AllByRecursion IsSmall (map command_of commands.now) }
     requires few { length commands.now ≤ 1048576 }
-    ensures puts { Puts result (session_lines (P.object program.now) wild.now (map command_of commands.now)) (K.written out.old) (K.written out.new) (K.puts out.old) (K.puts out.new) }
-    ensures count { K.faults out.old ≤ K.faults out.new }
-    ensures cause { Excused result (K.faults out.old) (K.faults out.new) }
+    ensures puts { Puts result (session_lines (P.object program.now) wild.now (map command_of commands.now)) (K.written out.old) (K.written out.new) (K.pieces out.old) (K.pieces out.new) }
+    ensures count { K.failures out.old ≤ K.failures out.new }
+    ensures cause { Excused result (K.failures out.old) (K.failures out.new) }
 {
     for command in commands {
         debugger.answer(program, *command, out)?;
@@ -55,9 +55,9 @@ pub fn session<P: Program, K: Sink>(
 ) -> DebugEnd
     requires spellable { IsSpellable (P.object program.now) }
     requires short { length script.now ≤ 1048576 }
-    ensures ends { EndsAs result (P.object program.now) wild.now script.now (K.written out.old) (K.written out.new) (K.puts out.old) (K.puts out.new) }
-    ensures count { K.faults out.old ≤ K.faults out.new }
-    ensures cause { IsExcused result (K.faults out.old) (K.faults out.new) }
+    ensures ends { EndsAs result (P.object program.now) wild.now script.now (K.written out.old) (K.written out.new) (K.pieces out.old) (K.pieces out.new) }
+    ensures count { K.failures out.old ≤ K.failures out.new }
+    ensures cause { IsExcused result (K.failures out.old) (K.failures out.new) }
 {
     let Ok(commands) = read_script(alloc, script) else {
         return DebugEnd::NoMemory;

@@ -3,19 +3,19 @@ use Rattle.std.proofs.Common.{◌≡◌, ℕ, ◌+◌, ◌<◌, List, [], ◌∷
 use Rattle.std.specs.Option.{option_to_list}
 use Rattle.ft_isa.specs.declared.output.Output.{Output}
 use Rattle.ft_types.specs.declared.object.Object.{Object}
-use Rattle.ft_types.specs.declared.status.Status.{Status}
-use Rattle.ft_types.specs.declared.status.Status.TheVariants as status
-use Rattle.ft_types.specs.Accepted.{IsAccepted}
+use Rattle.ft_semantics.specs.declared.status.Status.{Status}
+use Rattle.ft_semantics.specs.declared.status.Status.TheVariants as status
+use Rattle.ft_typing.specs.Accepted.{IsAccepted}
 use Rattle.ft_types.specs.Spellable.{IsSpellable}
-use Rattle.ft_types.specs.State.{State}
-use Rattle.ft_types.specs.Step.{step}
-use Rattle.ft_types.specs.Run.{Ran, run-add_one, state_after, wild_after, outputs_after, status_after}
+use Rattle.ft_semantics.specs.State.{State}
+use Rattle.ft_semantics.specs.Step.{step}
+use Rattle.ft_semantics.specs.Run.{Ran, run-add_one, state_after, wild_after, outputs_after, status_after}
 use Rattle.ft_machine.specs.Answers.{told, told_output}
 use Rattle.ft_machine.specs.declared.machine.Stepped.{Stepped}
 use Rattle.ft_machine.specs.declared.machine.Stepped.TheVariants.{Quiet, Commit, Done, Detected}
 use Rattle.ft_machine.proofs.Runs.{HasStopped}
-use Rattle.ft_inject.proofs.Whole.{accepted_fits}
-use Rattle.ft_inject.proofs.AnyAnswers.{AreSame, step_same}
+use Rattle.ft_tolerance.proofs.Whole.{accepted_fits}
+use Rattle.ft_tolerance.proofs.AnyAnswers.{AreSame, step_same}
 use Rattle.ft_campaign.proofs.Ends.{stays}
 use Rattle.ft_demo.specs.Demonstrations.{last_value_or}
 use Rattle.ft_demo.specs.Shown.{Tallies}

@@ -8,7 +8,7 @@ use Rattle.ft_isa.specs.declared.output.Output.{Output}
 use Rattle.ft_isa.specs.declared.plan.Site.TheVariants.{R}
 use Rattle.ft_isa.specs.declared.plan.Strike.{Strike}
 use Rattle.ft_types.specs.declared.object.Object.{Object}
-use Rattle.ft_types.specs.Run.{outputs_after}
+use Rattle.ft_semantics.specs.Run.{outputs_after}
 use Rattle.ft_campaign.specs.declared.verdict.Verdict.{Verdict}
 use Rattle.ft_campaign.specs.Verdicts.{AreVerdicts}
 use Rattle.ft_campaign.specs.Texts.{is_corrupt, totals_of, end_line}
@@ -48,21 +48,21 @@ abbrev pub demo_lines : Object → List Verdict → List (List ℕ)
 demo_lines o verdicts = run_line o ∷ end_line 64 (totals_of verdicts) ∷ []
 
 -- a demonstration came to its end: no verdict is corrupt, and both lines were added
-pub record Finishes (n : ℕ) (old new : Option (List ℕ)) (before now : Option ℕ) : Type 0 where
+pub record Finishes (n : ℕ) (old new : Option (List ℕ)) (before now : Option (List (List ℕ))) : Type 0 where
   pub found : List Verdict
   pub verdicts : AreDemoVerdicts (sample_object n) found
   pub uncorrupted : count_by is_corrupt found ≡ 0
   pub lines : PutsLines (demo_lines (sample_object n) found) old new before now
 
 -- a put of a demonstration's lines failed
-pub record Stops (n : ℕ) (old new : Option (List ℕ)) (before now : Option ℕ) : Type 0 where
+pub record Stops (n : ℕ) (old new : Option (List ℕ)) (before now : Option (List (List ℕ))) : Type 0 where
   pub found : List Verdict
   pub verdicts : AreDemoVerdicts (sample_object n) found
   pub uncorrupted : count_by is_corrupt found ≡ 0
   pub lines : BreaksOff (demo_lines (sample_object n) found) old new before now
 
 -- how a demonstration of n turns ended
-abbrev pub EndsAs : DemoEnd → ℕ → Option (List ℕ) → Option (List ℕ) → Option ℕ → Option ℕ → Type 0
+abbrev pub EndsAs : DemoEnd → ℕ → Option (List ℕ) → Option (List ℕ) → Option (List (List ℕ)) → Option (List (List ℕ)) → Type 0
 EndsAs Finished n old new before now = Finishes n old new before now
 EndsAs WriteFault n old new before now = Stops n old new before now
 EndsAs NoMemory n old new before now = PutsNothing old new before now

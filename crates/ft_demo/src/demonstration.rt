@@ -1,7 +1,7 @@
 //! Demonstrations.
 ghost use Rattle.std.specs.Prelude.{◌≡◌, ◌≤◌, ◌<◌, [], length, None, IfOk};
 ghost use Rattle.ft_sample.specs.Sample.{sample_object};
-ghost use Rattle.ft_types.specs.Accepted.{IsAccepted, refusal};
+ghost use Rattle.ft_typing.specs.Accepted.{IsAccepted, refusal};
 ghost use Rattle.ft_types.specs.Spellable.{IsSpellable};
 ghost use Rattle.ft_demo.specs.Demonstrations.{EndsAs, IsExcused};
 ghost use Rattle.ft_demo.specs.Shown.{IsShown, AreTotals};
@@ -103,9 +103,9 @@ fn show_sample(alloc: Global, turns: u32) -> Result<Shown, NoMemory>
 pub fn demo<K: Sink>(alloc: Global, turns: u32, out: &mut K) -> DemoEnd
     requires some { 1 ≤ turns }
     requires few { turns ≤ 10921 }
-    ensures ends { EndsAs result turns (K.written out.old) (K.written out.new) (K.puts out.old) (K.puts out.new) }
-    ensures count { K.faults out.old ≤ K.faults out.new }
-    ensures cause { IsExcused result (K.faults out.old) (K.faults out.new) }
+    ensures ends { EndsAs result turns (K.written out.old) (K.written out.new) (K.pieces out.old) (K.pieces out.new) }
+    ensures count { K.failures out.old ≤ K.failures out.new }
+    ensures cause { IsExcused result (K.failures out.old) (K.failures out.new) }
 {
     let Ok(shown) = show_sample(alloc, turns) else {
         return DemoEnd::NoMemory;

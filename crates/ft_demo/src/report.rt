@@ -25,11 +25,11 @@ fn outputs_line(tally: Tally) -> Line
 
 /// Puts the line of the outputs and the line of the totals of the 64 faults.
 pub(crate) fn put_lines<K: Sink>(tally: Tally, totals: Totals, out: &mut K) -> Result<(), Failed>
-    ensures ok { OnOk result (PutsLines (outputs_line tally.count tally.last ∷ campaign_line 64 totals ∷ []) (K.written out.old) (K.written out.new) (K.puts out.old) (K.puts out.new)) }
-    ensures err { OnErr result (BreaksOff (outputs_line tally.count tally.last ∷ campaign_line 64 totals ∷ []) (K.written out.old) (K.written out.new) (K.puts out.old) (K.puts out.new)) }
-    ensures count { K.faults out.old ≤ K.faults out.new }
-    ensures same_count { OnOk result (K.faults out.new ≡ K.faults out.old) }
-    ensures cause { OnErr result (Rose (K.faults out.old) (K.faults out.new)) }
+    ensures ok { OnOk result (PutsLines (outputs_line tally.count tally.last ∷ campaign_line 64 totals ∷ []) (K.written out.old) (K.written out.new) (K.pieces out.old) (K.pieces out.new)) }
+    ensures err { OnErr result (BreaksOff (outputs_line tally.count tally.last ∷ campaign_line 64 totals ∷ []) (K.written out.old) (K.written out.new) (K.pieces out.old) (K.pieces out.new)) }
+    ensures count { K.failures out.old ≤ K.failures out.new }
+    ensures same_count { OnOk result (K.failures out.new ≡ K.failures out.old) }
+    ensures cause { OnErr result (Rose (K.failures out.old) (K.failures out.new)) }
 {
     out.put(outputs_line(tally).as_bytes())?;
     out.put(end_line(64, totals).as_bytes())?;

@@ -1,9 +1,9 @@
 //! How many outputs a run has, and the value of the last one.
 ghost use Rattle.std.specs.Prelude.{◌≡◌, ◌≤◌, ◌<◌, ◌+◌, ◌^◌, ◌++◌, ◌∷◌, [], List, None};
 ghost use Rattle.ft_isa.specs.declared.output.Output.{Output as Out};
-ghost use Rattle.ft_types.specs.Accepted.{IsAccepted};
+ghost use Rattle.ft_typing.specs.Accepted.{IsAccepted};
 ghost use Rattle.ft_types.specs.Spellable.{IsSpellable};
-ghost use Rattle.ft_types.specs.Run.{outputs_after};
+ghost use Rattle.ft_semantics.specs.Run.{outputs_after};
 ghost use Rattle.ft_demo.specs.Shown.{Tallies};
 
 use ft_inject::Clean;

@@ -1,19 +1,20 @@
 -- Steps up to the first that is not quiet.
-use Rattle.std.proofs.Common.{◌≡◌, ℕ, zero, suc, ◌+◌, ◌-◌, ◌*◌, ◌^◌, ◌<◌, ◌≤◌, List, [], ◌∷◌, ◌++◌, length, Option, Some, None, true, refl, ap, sym, subst, ◌∙◌, ⊎_elim, arith}
+use Rattle.std.proofs.Common.{◌≡◌, ℕ, zero, suc, ◌+◌, ◌-◌, ◌*◌, ◌^◌, ◌<◌, ◌≤◌, List, [], ◌∷◌, ◌++◌, Option, Some, None, true, refl, ap, sym, subst, ◌∙◌, ⊎_elim, arith}
 use Rattle.std.proofs.lemmas.Bool.{cases_lt}
 use Rattle.std.specs.Option.{option_to_list}
-use Rattle.ft_edge.specs.Puts.{puts_after, PutsLines}
+use Rattle.ft_edge.specs.Told.{append_told}
+use Rattle.ft_edge.specs.Puts.{PutsLines}
 use Rattle.ft_isa.specs.declared.plan.Wild.{Wild}
 use Rattle.ft_isa.specs.declared.output.Output.{Output}
 use Rattle.ft_isa.specs.declared.instr.Instr.{Instr}
 use Rattle.ft_types.specs.declared.object.Object.{Object}
-use Rattle.ft_types.specs.declared.status.Status.{Status}
-use Rattle.ft_types.specs.declared.status.Status.TheVariants as status
-use Rattle.ft_types.specs.declared.status.Status.TheVariants.{Running}
-use Rattle.ft_types.specs.State.{State, is_cell, HasCells}
-use Rattle.ft_types.specs.Step.{next, step, execute}
+use Rattle.ft_semantics.specs.declared.status.Status.{Status}
+use Rattle.ft_semantics.specs.declared.status.Status.TheVariants as status
+use Rattle.ft_semantics.specs.declared.status.Status.TheVariants.{Running}
+use Rattle.ft_semantics.specs.State.{State, is_cell, HasCells}
+use Rattle.ft_semantics.specs.Step.{next, step, execute}
 use Rattle.ft_types.specs.Objects.{instr_at}
-use Rattle.ft_types.specs.Run.{Ran, extended}
+use Rattle.ft_semantics.specs.Run.{Ran, extended}
 use Rattle.ft_machine.specs.declared.bank.Bank.{Bank}
 use Rattle.ft_machine.specs.declared.bank.Effect.{Effect}
 use Rattle.ft_machine.specs.declared.bank.Effect.TheVariants as effects
@@ -21,7 +22,7 @@ use Rattle.ft_machine.specs.declared.machine.Stepped.{Stepped}
 use Rattle.ft_machine.specs.declared.machine.Stepped.TheVariants.{Quiet, Commit, Done, Detected}
 use Rattle.ft_machine.specs.declared.run.RunEnd.{RunEnd}
 use Rattle.ft_machine.specs.Answers.{Takes, told_output}
-use Rattle.ft_machine.specs.Drives.{TurnEnds, TurnPuts, output_lines}
+use Rattle.ft_machine.specs.Drives.{EndsWith, GivesLast, TurnEnds, TurnPuts, output_lines}
 use Rattle.ft_machine.specs.Effects.{Does, doing, followed, put_out, told_effect}
 use Rattle.ft_machine.specs.Spans.{span, span-zero, span-add_one, HasGone, Goes}
 use Rattle.ft_machine.specs.Advances.{output_told, status_told, IsEnough, IsQuiet, Advances, state_where}
@@ -208,15 +209,26 @@ enough_few Done n most h = h.1
 enough_few Detected n most h = h.1
 
 -- what was written and put with them
-gone_so_far : (o : Object) (s s' : State) (w w' : List Wild) (most n : ℕ) (last : Stepped) (e : Option RunEnd) (k k' : Option (List ℕ)) (p p' : Option ℕ) → Advances o s w s' w' most n last
-    → TurnEnds e (status_told last) → TurnPuts e (output_lines o (option_to_list (output_told last))) k k' p p' → p' ≡ puts_after (length (option_to_list (output_told last))) p → HasGone o s w e s' w' k k' p p' n
-gone_so_far o s s' w w' most n last e k k' p p' a ends put puts = record {
+gone_so_far : (o : Object) (s s' : State) (w w' : List Wild) (most n : ℕ) (last : Stepped) (e : Option RunEnd) (k k' : Option (List ℕ)) (p p' : Option (List (List ℕ))) → Advances o s w s' w' most n last
+    → TurnEnds e (status_told last) → TurnPuts e (output_lines o (option_to_list (output_told last))) k k' p p' → p' ≡ append_told p (output_lines o (option_to_list (output_told last)))
+    → EndsWith e (λ i. (span o i s w).outputs) n → HasGone o s w e s' w' k k' p p' n
+gone_so_far o s s' w w' most n last e k k' p p' a ends put told given = record {
   state_is = a.state_is;
   wild_is = a.wild_is;
   ends = subst (TurnEnds e) (sym a.status_is) ends;
   lines = subst (λ xs. TurnPuts e (output_lines o xs) k k' p p') (sym a.outputs) put;
-  puts = puts ∙ ap (λ (xs : List Output). puts_after (length xs) p) (sym a.outputs);
+  pieces = told ∙ ap (λ (xs : List Output). append_told p (output_lines o xs)) (sym a.outputs);
+  last = given;
 }
+
+-- the last of steps that committed an output gave it
+one_before : (n : ℕ) → 0 < n → n ≡ n - 1 + 1
+one_before n some = omega (arith, some)
+
+pub commit_last : (o : Object) (s s' : State) (w w' : List Wild) (most n : ℕ) (x : Output) → Advances o s w s' w' most n (Commit x) → GivesLast (λ i. (span o i s w).outputs) n
+commit_last o s s' w w' most n x a =
+    let some = a.enough.0 in
+    (n - 1, (x, (one_before n some, a.outputs ∙ ap (λ ys. ys ++ x ∷ []) (sym (a.before (n - 1) (below_it n some)).nothing))))
 
 rest_less : (number left n : ℕ) → left ≤ number → n ≤ left → (number - left) + n ≡ number - (left - n)
 rest_less number left n le few = omega arith
@@ -227,25 +239,25 @@ rest_few number left n le few = omega arith
 some_more : (m n : ℕ) → 0 < n → 0 < m + n
 some_more m n some = omega arith
 
-module _ (o : Object) (s s1 s2 : State) (w w1 w2 : List Wild) (k k1 k2 : Option (List ℕ)) (p p1 p2 : Option ℕ) (number left n : ℕ) (last : Stepped) (le : left ≤ number)
+module _ (o : Object) (s s1 s2 : State) (w w1 w2 : List Wild) (k k1 k2 : Option (List ℕ)) (p p1 p2 : Option (List (List ℕ))) (number left n : ℕ) (last : Stepped) (le : left ≤ number)
     (g : HasGone o s w None s1 w1 k k1 p p1 (number - left)) (a : Advances o s1 w1 s2 w2 left n last) where
   -- a run that goes on with these steps
-  pub gone_on : status_told last ≡ Running → PutsLines (output_lines o (option_to_list (output_told last))) k1 k2 p1 p2 → p2 ≡ puts_after (length (option_to_list (output_told last))) p1
+  pub gone_on : status_told last ≡ Running → PutsLines (output_lines o (option_to_list (output_told last))) k1 k2 p1 p2 → p2 ≡ append_told p1 (output_lines o (option_to_list (output_told last)))
       → HasGone o s w None s2 w2 k k2 p p2 (number - (left - n))
-  gone_on runs put puts =
+  gone_on runs put told =
       subst (HasGone o s w None s2 w2 k k2 p p2) (rest_less number left n le (enough_few last n left a.enough))
-      (gone_more o s s1 s2 w w1 w2 None k k1 k2 p p1 p2 (number - left) n g (gone_so_far o s1 s2 w1 w2 left n last None k1 k2 p1 p2 a runs put puts))
+      (gone_more o s s1 s2 w w1 w2 None k k1 k2 p p1 p2 (number - left) n g (gone_so_far o s1 s2 w1 w2 left n last None k1 k2 p1 p2 a runs put told tt))
 
   -- a run that ends with them
-  pub gone_to_end : (e : RunEnd) → 0 < n → TurnEnds (Some e) (status_told last) → TurnPuts (Some e) (output_lines o (option_to_list (output_told last))) k1 k2 p1 p2 → p2 ≡ puts_after (length (option_to_list (output_told last))) p1
-      → Goes (Some e) number (HasGone o s w (Some e) s2 w2 k k2 p p2)
-  gone_to_end e some ends put puts = (
+  pub gone_to_end : (e : RunEnd) → 0 < n → TurnEnds (Some e) (status_told last) → TurnPuts (Some e) (output_lines o (option_to_list (output_told last))) k1 k2 p1 p2 → p2 ≡ append_told p1 (output_lines o (option_to_list (output_told last)))
+      → EndsWith (Some e) (λ i. (span o i s1 w1).outputs) n → Goes (Some e) number (HasGone o s w (Some e) s2 w2 k k2 p p2)
+  gone_to_end e some ends put told given = (
     (number - left) + n,
     (
       some_more (number - left) n some,
       (
         rest_few number left n le (enough_few last n left a.enough),
-        gone_more o s s1 s2 w w1 w2 (Some e) k k1 k2 p p1 p2 (number - left) n g (gone_so_far o s1 s2 w1 w2 left n last (Some e) k1 k2 p1 p2 a ends put puts),
+        gone_more o s s1 s2 w w1 w2 (Some e) k k1 k2 p p1 p2 (number - left) n g (gone_so_far o s1 s2 w1 w2 left n last (Some e) k1 k2 p1 p2 a ends put told given),
       ),
     ),
   )

@@ -14,7 +14,7 @@ use Rattle.ft_isa.specs.declared.colour.Colour.TheVariants.{Green}
 use Rattle.ft_isa.specs.declared.colour.Coloured.{Coloured}
 use Rattle.ft_isa.specs.Words.{cell_address}
 use Rattle.ft_types.proofs.Maps.{get-insert}
-use Rattle.ft_types.specs.State.{tabulate, held, with_held, green_zero, cell_at, is_cell, with_cell}
+use Rattle.ft_semantics.specs.State.{tabulate, held, with_held, green_zero, cell_at, is_cell, with_cell}
 use Rattle.ft_machine.specs.Arrays.{held_in, registers_of, word_in, cells_of}
 use Rattle.ft_machine.proofs.Tabulated.{cells_there}
 

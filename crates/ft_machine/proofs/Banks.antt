@@ -9,8 +9,8 @@ use Rattle.ft_isa.specs.declared.instr.Instr.{Instr}
 use Rattle.ft_isa.specs.declared.plan.Wild.{Wild}
 use Rattle.ft_isa.specs.declared.plan.Wild.TheVariants.{Word, Stop}
 use Rattle.ft_isa.specs.Pending.{Pending, is_oldest}
-use Rattle.ft_types.specs.State.{State, Registers, Cells, held, with_held, with_cell, is_cell}
-use Rattle.ft_types.specs.Step.{Stepping, next, detected, quiet, goes_on, transfers, writes, found, load, wild_load, store_green, store_blue, commit, commits, jump_green, jump_blue, pass}
+use Rattle.ft_semantics.specs.State.{State, Registers, Cells, held, with_held, with_cell, is_cell}
+use Rattle.ft_semantics.specs.Step.{Stepping, next, detected, quiet, goes_on, transfers, writes, found, load, wild_load, store_green, store_blue, commit, commits, jump_green, jump_blue, pass}
 use Rattle.ft_machine.specs.declared.bank.Bank.{Bank}
 use Rattle.ft_machine.specs.declared.bank.Effect.{Effect}
 use Rattle.ft_machine.specs.declared.bank.Effect.TheVariants.{On, To, Commit, Done, Detected}

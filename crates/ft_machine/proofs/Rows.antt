@@ -7,11 +7,11 @@ use Rattle.ft_isa.specs.Pending.{Pending, with_address, with_value}
 use Rattle.ft_queue.proofs.PendingLemmas.{with_address-beyond, with_value-beyond}
 use Rattle.ft_types.specs.declared.object.Object.{Object}
 use Rattle.ft_types.specs.Objects.{instr_at}
-use Rattle.ft_types.specs.State.{State}
-use Rattle.ft_types.specs.Step.{Stepping, detected, advance, fetch}
+use Rattle.ft_semantics.specs.State.{State}
+use Rattle.ft_semantics.specs.Step.{Stepping, detected, advance, fetch}
 use Rattle.ft_isa.specs.declared.plan.Site.TheVariants.{QAddr, QVal}
-use Rattle.ft_types.specs.declared.status.Status.TheVariants.{Running}
-use Rattle.ft_types.specs.Strike.{is_running, is_there, struck_state}
+use Rattle.ft_semantics.specs.declared.status.Status.TheVariants.{Running}
+use Rattle.ft_semantics.specs.Strike.{is_running, is_there, struck_state}
 use Rattle.ft_machine.specs.declared.machine.Stepped.{Stepped}
 use Rattle.ft_machine.specs.Answers.{TakesQuietly}
 

@@ -7,12 +7,12 @@ use Rattle.ft_isa.specs.declared.plan.Wild.{Wild}
 use Rattle.ft_isa.specs.declared.plan.Strike.{Strike}
 use Rattle.ft_isa.specs.declared.output.Output.{Output}
 use Rattle.ft_types.specs.declared.object.Object.{Object}
-use Rattle.ft_types.specs.declared.status.Status.{Status}
-use Rattle.ft_types.specs.declared.status.Status.TheVariants as status
-use Rattle.ft_types.specs.State.{State, is_cell, HasCells}
-use Rattle.ft_types.specs.Step.{step, step_at, quiet}
-use Rattle.ft_types.specs.Strike.{is_running, is_site, struck_state, struck_before, with_word}
-use Rattle.ft_types.specs.Run.{Ran, extended, after_step, run, run-add_one}
+use Rattle.ft_semantics.specs.declared.status.Status.{Status}
+use Rattle.ft_semantics.specs.declared.status.Status.TheVariants as status
+use Rattle.ft_semantics.specs.State.{State, is_cell, HasCells}
+use Rattle.ft_semantics.specs.Step.{step, step_at, quiet}
+use Rattle.ft_semantics.specs.Strike.{is_running, is_site, struck_state, struck_before, with_word}
+use Rattle.ft_semantics.specs.Run.{Ran, extended, after_step, run, run-add_one}
 use Rattle.ft_machine.proofs.Steps.{step_is_proper, strike_keeps}
 use Rattle.ft_machine.proofs.Tabulated.{cells_there}
 

@@ -11,9 +11,8 @@ use denote.Enum.Bare.{sameb}
 use Rattle.std.specs.Prelude.{not}
 use Rattle.ft_isa.specs.declared.colour.Coloured.{Coloured}
 use Rattle.ft_queue.proofs.SameLists.{same_lists}
-use Rattle.ft_types.specs.State.{State, cell_at, is_cell, held}
+use Rattle.ft_semantics.specs.State.{cell_at, is_cell, held}
 use Rattle.ft_machine.specs.Arrays.{cells_of, registers_of, held_in}
-use Rattle.ft_machine.specs.Inside.{Stands}
 use Rattle.ft_machine.proofs.Arrayed.{cell_read, as_many_words, register_read}
 
 at_place : (j : ℕ) → 1048576 + j - 1048576 ≡ j
@@ -60,16 +59,3 @@ not_true r false e t = refl
 pub not_false : (r p : Bool) → r ≡ not p → r ≡ false → p ≡ true
 not_false r true e t = refl
 not_false r false e t = absurd (cc)
-
--- equal parts make an equal state
-pub same_parts : (s t : State) → Stands s t → s.queue ≡ t.queue → s.registers ≡ t.registers → s.cells ≡ t.cells → s ≡ t
-same_parts s t h eq er ec =
-    let a = h.d in let b = h.pc_green in let c = h.pc_blue in let d = h.status in let e = h.fetched in
-    ap (λ x. let u : State = record { registers = x; d = s.d; pc_green = s.pc_green; pc_blue = s.pc_blue; queue = s.queue; cells = s.cells; fetched = s.fetched; status = s.status } in u) er
-    ∙ ap (λ x. let u : State = record { registers = t.registers; d = x; pc_green = s.pc_green; pc_blue = s.pc_blue; queue = s.queue; cells = s.cells; fetched = s.fetched; status = s.status } in u) a
-    ∙ ap (λ x. let u : State = record { registers = t.registers; d = t.d; pc_green = x; pc_blue = s.pc_blue; queue = s.queue; cells = s.cells; fetched = s.fetched; status = s.status } in u) b
-    ∙ ap (λ x. let u : State = record { registers = t.registers; d = t.d; pc_green = t.pc_green; pc_blue = x; queue = s.queue; cells = s.cells; fetched = s.fetched; status = s.status } in u) c
-    ∙ ap (λ x. let u : State = record { registers = t.registers; d = t.d; pc_green = t.pc_green; pc_blue = t.pc_blue; queue = x; cells = s.cells; fetched = s.fetched; status = s.status } in u) eq
-    ∙ ap (λ x. let u : State = record { registers = t.registers; d = t.d; pc_green = t.pc_green; pc_blue = t.pc_blue; queue = t.queue; cells = x; fetched = s.fetched; status = s.status } in u) ec
-    ∙ ap (λ x. let u : State = record { registers = t.registers; d = t.d; pc_green = t.pc_green; pc_blue = t.pc_blue; queue = t.queue; cells = t.cells; fetched = x; status = s.status } in u) e
-    ∙ ap (λ x. let u : State = record { registers = t.registers; d = t.d; pc_green = t.pc_green; pc_blue = t.pc_blue; queue = t.queue; cells = t.cells; fetched = t.fetched; status = x } in u) d

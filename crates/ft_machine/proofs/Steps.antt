@@ -16,12 +16,12 @@ use Rattle.ft_isa.specs.declared.instr.Instr.TheVariants.{OpReg, OpWord, Mov, Ld
 use Rattle.ft_isa.specs.Words.{apply}
 use Rattle.ft_isa.specs.Pending.{is_oldest}
 use Rattle.ft_types.specs.declared.object.Object.{Object}
-use Rattle.ft_types.specs.declared.status.Status.{Status}
-use Rattle.ft_types.specs.declared.status.Status.TheVariants as status
+use Rattle.ft_semantics.specs.declared.status.Status.{Status}
+use Rattle.ft_semantics.specs.declared.status.Status.TheVariants as status
 use Rattle.ft_types.specs.Objects.{instr_at}
-use Rattle.ft_types.specs.State.{State, word, colour, is_cell}
-use Rattle.ft_types.specs.Step.{Stepping, step, step_at, advance, fetch, execute, quiet, detected, goes_on, transfers, writes, found, load, wild_load, store, commit, commits, jump_green, jump_blue, pass}
-use Rattle.ft_types.specs.Strike.{with_word, is_there, struck_state, struck_before}
+use Rattle.ft_semantics.specs.State.{State, word, colour, is_cell}
+use Rattle.ft_semantics.specs.Step.{Stepping, step, step_at, advance, fetch, execute, quiet, detected, goes_on, transfers, writes, found, load, wild_load, store, commit, commits, jump_green, jump_blue, pass}
+use Rattle.ft_semantics.specs.Strike.{with_word, is_there, struck_state, struck_before}
 use Rattle.ft_machine.proofs.Tabulated.{contains_key-insert}
 
 -- an output leaves the status and goes to a cell, and the cells keep their addresses

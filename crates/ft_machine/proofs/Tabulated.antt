@@ -6,7 +6,7 @@ use Rattle.std.specs.Cmp.{nat_cmp_total, unsigned_tied}
 use Rattle.std.specs.FinMap.{get, insert, contains_key, get-insert, get-empty}
 use Rattle.std.specs.Prelude.{◌||◌, ◌==◌}
 use Rattle.ft_isa.specs.Words.{cell_address}
-use Rattle.ft_types.specs.State.{tabulate}
+use Rattle.ft_semantics.specs.State.{tabulate}
 
 either_way : {V : Type 0} (b : Bool) (v : V) (o : Option V) → is_some (cond b (Some v) o) ≡ (b || is_some o)
 either_way true v o = refl

@@ -5,11 +5,11 @@ use Rattle.ft_isa.specs.declared.instr.Instr.{Instr}
 use Rattle.ft_isa.specs.declared.output.Output.{Output}
 use Rattle.ft_isa.specs.declared.plan.Wild.{Wild}
 use Rattle.ft_types.specs.declared.object.Object.{Object}
-use Rattle.ft_types.specs.declared.status.Status.{Status}
-use Rattle.ft_types.specs.declared.status.Status.TheVariants as status
+use Rattle.ft_semantics.specs.declared.status.Status.{Status}
+use Rattle.ft_semantics.specs.declared.status.Status.TheVariants as status
 use Rattle.ft_types.specs.Objects.{instr_at}
-use Rattle.ft_types.specs.State.{State}
-use Rattle.ft_types.specs.Run.{Ran}
+use Rattle.ft_semantics.specs.State.{State}
+use Rattle.ft_semantics.specs.Run.{Ran}
 use Rattle.ft_machine.specs.Spans.{span}
 use Rattle.ft_machine.specs.Effects.{doing}
 use Rattle.ft_machine.specs.declared.bank.Bank.{Bank}

@@ -3,10 +3,10 @@ use Rattle.std.specs.Prelude.{◌≡◌, List, [], ◌∷◌, Option, Some, None
 use Rattle.ft_isa.specs.declared.output.Output.{Output}
 use Rattle.ft_isa.specs.declared.plan.Wild.{Wild}
 use Rattle.ft_isa.specs.declared.plan.Wild.TheVariants.{Stop}
-use Rattle.ft_types.specs.declared.status.Status.{Status}
-use Rattle.ft_types.specs.declared.status.Status.TheVariants as status
-use Rattle.ft_types.specs.State.{State}
-use Rattle.ft_types.specs.Step.{Stepping}
+use Rattle.ft_semantics.specs.declared.status.Status.{Status}
+use Rattle.ft_semantics.specs.declared.status.Status.TheVariants as status
+use Rattle.ft_semantics.specs.State.{State}
+use Rattle.ft_semantics.specs.Step.{Stepping}
 use Rattle.ft_machine.specs.declared.machine.Stepped.{Stepped}
 use Rattle.ft_machine.specs.declared.machine.Stepped.TheVariants.{Quiet, Commit, Done, Detected}
 

@@ -4,7 +4,7 @@ use Rattle.ft_isa.specs.declared.colour.Colour.{Colour}
 use Rattle.ft_isa.specs.declared.colour.Colour.TheVariants.{Green}
 use Rattle.ft_isa.specs.declared.colour.Coloured.{Coloured}
 use Rattle.ft_isa.specs.Words.{cell_address}
-use Rattle.ft_types.specs.State.{Registers, Cells, tabulate}
+use Rattle.ft_semantics.specs.State.{Registers, Cells, tabulate}
 
 -- what register r holds
 abbrev pub held_in : List ℕ → List Colour → ℕ → Coloured

@@ -1,6 +1,6 @@
 -- The state that a machine's fields stand for.
 use Rattle.std.specs.Prelude.{◌≡◌}
-use Rattle.ft_types.specs.State.{State}
+use Rattle.ft_semantics.specs.State.{State}
 use Rattle.ft_machine.specs.declared.machine.Machine.TheInside.{Inside}
 
 -- the state that the fields hold

@@ -3,8 +3,8 @@ ghost use Rattle.std.specs.Prelude.{◌≡◌, ℕ, IsTrue, Option, ◌&&◌};
 ghost use Rattle.ft_isa.specs.Words.{apply};
 ghost use Rattle.ft_isa.specs.Pending.{is_oldest};
 ghost use Rattle.ft_isa.specs.declared.instr.Instr as instrs;
-ghost use Rattle.ft_types.specs.State.{held, is_cell};
-ghost use Rattle.ft_types.specs.Step.{execute, detected, writes, found, load, wild_load, store_green, store_blue, commit, jump_green, jump_blue, pass};
+ghost use Rattle.ft_semantics.specs.State.{held, is_cell};
+ghost use Rattle.ft_semantics.specs.Step.{execute, detected, writes, found, load, wild_load, store_green, store_blue, commit, jump_green, jump_blue, pass};
 ghost use Rattle.ft_machine.specs.Effects.{Does, DoesQuietly, doing};
 
 use crate::cells::Cells;

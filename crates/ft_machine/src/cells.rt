@@ -1,12 +1,10 @@
 //! The words of the cells, in one block, which contracts see as a finite map from addresses.
 ghost use Rattle.std.specs.Prelude.{◌≡◌, ℕ, IsTrue, slice_get, Decides};
-ghost use Rattle.ft_types.specs.State.{is_cell, cell_at, with_cell};
+ghost use Rattle.ft_semantics.specs.State.{is_cell, cell_at, with_cell};
 ghost use Rattle.ft_machine.specs.Arrays.{cells_of};
 
+use ft_isa::FIRST_CELL;
 use std::marker::Model;
-
-/// The address of the first cell.
-pub const CELL_BASE: u64 = 1_048_576;
 
 /// The words of the cells, from the first cell's address on.
 #[derive(Drop)]
@@ -18,7 +16,7 @@ impl Model for Cells {
     ghost use Rattle.std.specs.FinMap as map;
     ghost use Rattle.std.specs.Ordering.{nat_cmp};
     ghost use Rattle.std.specs.Coded.{coded_ℕ};
-    ghost use Rattle.ft_types.specs.State as state;
+    ghost use Rattle.ft_semantics.specs.State as state;
 
     ghost Value = { state.Cells };
 
@@ -51,10 +49,10 @@ impl Cells {
         ensures { result ≡ cell_at self.now addr }
     {
         let words = self.words.as_slice();
-        if addr < CELL_BASE {
+        if addr < FIRST_CELL {
             return None;
         }
-        word_at(words, (addr - CELL_BASE) as usize)
+        word_at(words, (addr - FIRST_CELL) as usize)
     }
 
     /// Whether a cell has this address.
@@ -72,7 +70,7 @@ impl Cells {
         ensures { self.new ≡ with_cell self.old addr word }
     {
         let _count = self.words.len();
-        let k = (addr - CELL_BASE) as usize;
+        let k = (addr - FIRST_CELL) as usize;
         self.words[k] = word;
     }
 

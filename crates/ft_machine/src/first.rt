@@ -1,6 +1,6 @@
 //! Cells before the first step.
 ghost use Rattle.std.specs.Prelude.{◌≡◌, IfOk, length};
-ghost use Rattle.ft_types.specs.State.{tabulate};
+ghost use Rattle.ft_semantics.specs.State.{tabulate};
 ghost use Rattle.ft_types.specs.Objects.{init_of, entry_address};
 ghost use Rattle.ft_types.specs.Spellable.{IsSpellable};
 ghost use Rattle.ft_isa.specs.Words.{cell_address};

@@ -15,7 +15,7 @@ mod run;
 mod stretch;
 mod wild;
 
-pub use ft_types::Status;
+pub use ft_semantics::Status;
 pub use machine::{Advance, Machine, Stepped};
 pub use run::{RunEnd, drive};
 pub use wild::WildLeft;

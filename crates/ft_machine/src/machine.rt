@@ -3,9 +3,9 @@ ghost use Rattle.std.specs.Prelude.{◌≡◌, ℕ, ◌≤◌, ◌<◌, IfOk, Is
 ghost use Rattle.ft_isa.specs.Words.{cell_address};
 ghost use Rattle.ft_types.specs.Objects.{instr_at};
 ghost use Rattle.ft_types.specs.Spellable.{IsSpellable};
-ghost use Rattle.ft_types.specs.State.{start, held, cell_at, is_cell, HasCells};
-ghost use Rattle.ft_types.specs.Step.{step, advance, detected, goes_on};
-ghost use Rattle.ft_types.specs.Strike.{is_there, struck_state};
+ghost use Rattle.ft_semantics.specs.State.{start, held, cell_at, is_cell, HasCells};
+ghost use Rattle.ft_semantics.specs.Step.{step, advance, detected, goes_on};
+ghost use Rattle.ft_semantics.specs.Strike.{is_there, struck_state};
 ghost use Rattle.ft_machine.specs.Answers.{Takes, TakesQuietly};
 ghost use Rattle.ft_machine.specs.Advances.{Advances, status_told, fetched_where};
 ghost use Rattle.ft_machine.specs.Effects.{doing, followed, told_effect, bank_of};
@@ -13,14 +13,14 @@ ghost use Rattle.ft_machine.specs.Inside.{Stands};
 ghost use Rattle.ft_isa.specs.declared.output.Output as outputs;
 
 use crate::bank::{Bank, Effect};
-use crate::cells::CELL_BASE;
 use crate::first::{entry_address, first_cells};
 use crate::registers::Registers;
 use crate::stretch::do_instructions;
 use crate::wild::WildLeft;
-use ft_isa::{Colour, Coloured, Instr, NoMemory, Output, Reg, Site};
+use ft_isa::{Colour, Coloured, FIRST_CELL, Instr, NoMemory, Output, Reg, Site};
 use ft_queue::StoreQueue;
-use ft_types::{Program, Status};
+use ft_semantics::Status;
+use ft_types::Program;
 use std::alloc::Global;
 use std::marker::Model;
 
@@ -61,7 +61,7 @@ pub struct Machine {
 impl Model for Machine {
     ghost use Rattle.std.specs.FinMap as map;
     ghost use Rattle.std.specs.Ordering.{nat_cmp};
-    ghost use Rattle.ft_types.specs.State.{State};
+    ghost use Rattle.ft_semantics.specs.State.{State};
     ghost use Rattle.ft_isa.specs.contracts.colour.Coloured as coloured;
     ghost use Rattle.std.specs.Coded.{codes, coded_ℕ};
 
@@ -187,7 +187,7 @@ impl Machine {
         requires { IsTrue (is_cell self.now.cells (cell_address k)) }
         ensures { cell_at self.now.cells (cell_address k) ≡ Some result }
     {
-        match self.bank.cells.get(CELL_BASE + k as u64) {
+        match self.bank.cells.get(FIRST_CELL + k as u64) {
             Some(word) => word,
             None => unreachable!(),
         }

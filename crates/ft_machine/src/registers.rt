@@ -1,6 +1,6 @@
 //! The registers, in arrays, which contracts see as a finite map.
 ghost use Rattle.std.specs.Prelude.{◌≡◌, Decides};
-ghost use Rattle.ft_types.specs.State.{tabulate, green_zero, held, with_held};
+ghost use Rattle.ft_semantics.specs.State.{tabulate, green_zero, held, with_held};
 
 use ft_isa::{Colour, Coloured, Reg};
 use std::marker::Model;
@@ -17,7 +17,7 @@ impl Model for Registers {
     ghost use Rattle.std.specs.Ordering.{nat_cmp};
     ghost use Rattle.std.specs.Coded.{coded_ℕ};
     ghost use Rattle.ft_isa.specs.contracts.colour.Coloured as coloured;
-    ghost use Rattle.ft_types.specs.State as state;
+    ghost use Rattle.ft_semantics.specs.State as state;
 
     ghost Value = { state.Registers };
 

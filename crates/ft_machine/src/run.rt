@@ -1,26 +1,26 @@
 //! Whole runs under a plan, with a line for each output.
-ghost use Rattle.std.specs.Prelude.{◌≡◌, ℕ, ◌<◌, ◌≤◌, ◌+◌, ◌-◌, ◌*◌, length, None, IfSome, IfNone, OnOk, OnErr};
+ghost use Rattle.std.specs.Prelude.{◌≡◌, ℕ, ◌<◌, ◌≤◌, ◌+◌, ◌-◌, ◌*◌, [], ◌∷◌, length, None, IfSome, IfNone, OnOk, OnErr};
 ghost use Rattle.std.specs.Option.{option_to_list};
 ghost use Rattle.std.specs.Io.KnownBytes.{append_known};
 ghost use Rattle.ft_edge.specs.Causes.{Rose, AddsPrefix};
-ghost use Rattle.ft_edge.specs.Puts.{one_more, puts_after};
+ghost use Rattle.ft_edge.specs.Told.{append_told};
 ghost use Rattle.ft_types.specs.Objects.{instr_at};
 ghost use Rattle.ft_types.specs.Spellable.{IsSpellable};
-ghost use Rattle.ft_types.specs.State.{start, HasCells};
-ghost use Rattle.ft_types.specs.Step.{step};
-ghost use Rattle.ft_types.specs.Strike.{struck_before};
-ghost use Rattle.ft_types.specs.Run.{outputs_after, status_after};
-ghost use Rattle.ft_types.specs.Texts.{line_at, lines};
+ghost use Rattle.ft_semantics.specs.State.{start, HasCells};
+ghost use Rattle.ft_semantics.specs.Step.{step};
+ghost use Rattle.ft_semantics.specs.Strike.{struck_before};
+ghost use Rattle.ft_semantics.specs.Run.{outputs_after, status_after};
+ghost use Rattle.ft_types.specs.Texts.{line_at};
 ghost use Rattle.ft_machine.specs.Effects.{doing};
 ghost use Rattle.ft_machine.specs.Spans.{Goes, HasGone, HasDriven, Spares};
-ghost use Rattle.ft_machine.specs.Drives.{EndsAs, Writes, Puts, output_lines, IsExcused, HasTaken, Stops, TurnEnds, TurnPuts, TurnIsExcused};
+ghost use Rattle.ft_machine.specs.Drives.{EndsAs, Puts, output_lines, IsExcused, HasTaken, Stops, TurnEnds, TurnPuts, TurnIsExcused};
 
-use crate::cells::CELL_BASE;
 use crate::machine::{Machine, Stepped};
 use crate::wild::WildLeft;
 use ft_edge::{Failed, Sink};
-use ft_isa::{LINE_ROOM, Output, Plan, Strike, write_line};
-use ft_types::{Program, Status};
+use ft_isa::{FIRST_CELL, LINE_ROOM, Output, Plan, Strike, write_line};
+use ft_semantics::Status;
+use ft_types::Program;
 
 /// How a run ended.
 #[derive(Clone, Copy, Debug, PartialEq, Eq)]
@@ -38,18 +38,18 @@ pub enum RunEnd {
 /// Puts the line of an output.
 fn put_line<P: Program, K: Sink>(program: &P, output: Output, out: &mut K) -> Result<(), Failed>
     requires spellable { IsSpellable (P.object program.now) }
-    requires low { CELL_BASE ≤ output.addr }
-    requires high { output.addr < CELL_BASE + length (P.object program.now).cells }
-    ensures puts { K.puts out.new ≡ one_more (K.puts out.old) }
-    ensures count { K.faults out.old ≤ K.faults out.new }
-    ensures same_count { OnOk result (K.faults out.new ≡ K.faults out.old) }
+    requires low { FIRST_CELL ≤ output.addr }
+    requires high { output.addr < FIRST_CELL + length (P.object program.now).cells }
+    ensures pieces { K.pieces out.new ≡ append_told (K.pieces out.old) (line_at (P.object program.now) output ∷ []) }
+    ensures count { K.failures out.old ≤ K.failures out.new }
+    ensures same_count { OnOk result (K.failures out.new ≡ K.failures out.old) }
     ensures ok { OnOk result (K.written out.new
         ≡ append_known (K.written out.old) (line_at (P.object program.now) output)) }
     ensures err { OnErr result (AddsPrefix (K.written out.old) (K.written out.new)
         (line_at (P.object program.now) output)) }
-    ensures cause { OnErr result (Rose (K.faults out.old) (K.faults out.new)) }
+    ensures cause { OnErr result (Rose (K.failures out.old) (K.failures out.new)) }
 {
-    let name = program.name((output.addr - CELL_BASE) as u32);
+    let name = program.name((output.addr - FIRST_CELL) as u32);
     let mut line = [0u8; LINE_ROOM];
     let end = write_line(&mut line, name, output.value);
     out.put(&line[..end])
@@ -78,9 +78,9 @@ fn take_all<P: Program, K: Sink>(
     requires running { machine.old.status ≡ Status.Running }
     requires cells { HasCells (length (P.object program.now).cells) machine.old }
     ensures goes { Goes result number (HasGone (P.object program.now) machine.old wild.old result machine.new wild.new
-        (K.written out.old) (K.written out.new) (K.puts out.old) (K.puts out.new)) }
-    ensures count { K.faults out.old ≤ K.faults out.new }
-    ensures cause { TurnIsExcused result (K.faults out.old) (K.faults out.new) }
+        (K.written out.old) (K.written out.new) (K.pieces out.old) (K.pieces out.new)) }
+    ensures count { K.failures out.old ≤ K.failures out.new }
+    ensures cause { TurnIsExcused result (K.failures out.old) (K.failures out.new) }
 {
     let mut left = number;
     while left > 0 {
@@ -125,9 +125,9 @@ fn run_through<P: Program, K: Sink>(
     requires spellable { IsSpellable (P.object program.now) }
     requires start { machine.old ≡ start (P.object program.now) }
     ensures driven { HasDriven (P.object program.now) plan.entry.strike plan.entry.wild.now result machine.new
-        (K.written out.old) (K.written out.new) (K.puts out.old) (K.puts out.new) steps }
-    ensures count { K.faults out.old ≤ K.faults out.new }
-    ensures cause { IsExcused result (K.faults out.old) (K.faults out.new) }
+        (K.written out.old) (K.written out.new) (K.pieces out.old) (K.pieces out.new) steps }
+    ensures count { K.failures out.old ≤ K.failures out.new }
+    ensures cause { IsExcused result (K.failures out.old) (K.failures out.new) }
 {
     let mut wild = WildLeft::new(plan.wild);
     let before = steps_before(plan.strike, steps);
@@ -156,14 +156,12 @@ pub fn drive<P: Program, K: Sink>(
     requires spellable { IsSpellable (P.object program.now) }
     requires start { machine.old ≡ start (P.object program.now) }
     ensures ends { EndsAs result (status_after (P.object program.now) plan.entry.strike plan.entry.wild.now steps) }
-    ensures writes { Writes result (K.written out.old) (K.written out.new)
-        (lines (P.object program.now) (outputs_after (P.object program.now) plan.entry.strike plan.entry.wild.now steps)) }
     ensures lines { Puts result (output_lines (P.object program.now) (outputs_after (P.object program.now) plan.entry.strike plan.entry.wild.now steps))
-        (K.written out.old) (K.written out.new) (K.puts out.old) (K.puts out.new) }
+        (K.written out.old) (K.written out.new) (K.pieces out.old) (K.pieces out.new) }
     ensures stops { Stops result (λ k. HasTaken (P.object program.now) plan.entry.strike plan.entry.wild.now k
-        machine.new (K.puts out.old) (K.puts out.new)) steps }
-    ensures count { K.faults out.old ≤ K.faults out.new }
-    ensures cause { IsExcused result (K.faults out.old) (K.faults out.new) }
+        machine.new (K.pieces out.old) (K.pieces out.new)) (outputs_after (P.object program.now) plan.entry.strike plan.entry.wild.now) steps }
+    ensures count { K.failures out.old ≤ K.failures out.new }
+    ensures cause { IsExcused result (K.failures out.old) (K.failures out.new) }
 {
     run_through(machine, program, plan, steps, out)
 }

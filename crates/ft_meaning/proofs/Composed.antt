@@ -1,7 +1,5 @@
 -- Runs of the code, one after the other, against the definition.
 use Rattle.std.proofs.Common.{◌≡◌, ℕ, ◌-◌, List, [], map, replicate, Option, Result, Ok, Err, Bor, sym, ap, ◌∙◌, subst, arith}
-use Rattle.std.specs.Io.KnownBytes.{append_known}
-use Rattle.ft_edge.specs.Causes.{AddsPrefix}
 use Rattle.ft_edge.specs.Puts.{BreaksOff}
 use Rattle.ft_isa.specs.declared.output.Output.{Output}
 use Rattle.ft_syntax.specs.declared.stmt.Stmt.{Stmt}
@@ -17,13 +15,13 @@ use Rattle.ft_meaning.specs.declared.run.Stop.TheVariants as stops
 use Rattle.ft_meaning.specs.declared.mean_end.MeanEnd.{MeanEnd}
 use Rattle.ft_meaning.specs.declared.mean_end.MeanEnd.TheVariants as ends
 use Rattle.ft_meaning.specs.Meaning.{State, Outcome, Ended, Cut, state_of, outputs, then_do, run, start, meaning}
-use Rattle.ft_meaning.specs.Lines.{output_lines, lines}
+use Rattle.ft_meaning.specs.Lines.{output_lines}
 use Rattle.ft_meaning.specs.Begins.{Begins}
-use Rattle.ft_meaning.specs.Ends.{EndsAs, Writes, Puts}
+use Rattle.ft_meaning.specs.Ends.{EndsAs, Puts}
 use Rattle.ft_meaning.specs.Room.{HasRoom}
 use Rattle.ft_meaning.specs.Runs.{state, Told, sink_of, told, Keeps, Ready, RunsTo}
 use Rattle.ft_meaning.proofs.Longer.{Grows, begins_refl}
-use Rattle.ft_meaning.proofs.Sinks.{lines_text, told_puts, told_nothing, breaks_longer}
+use Rattle.ft_meaning.proofs.Sinks.{told_puts, told_nothing, breaks_longer}
 
 -- a run that goes as another does, perhaps after some work
 pub runs_from : (go whole : State → Outcome) (f : ℕ → ℕ) (names : List (List ℕ)) (r q : Run) (before after : Told) (res : Result (Unit {0}) Stop) →
@@ -31,7 +29,7 @@ pub runs_from : (go whole : State → Outcome) (f : ℕ → ℕ) (names : List (
 runs_from go whole f names r q before after (Ok u) e h = λ first o w is. let x = h first o (f w) is in (x.0, x.1, e o w ∙ x.2, x.3)
 runs_from go whole f names r q before after (Err stops.Cut) e h = λ first o w is. let x = h first o (f w) is in (x.0, x.1, e o w ∙ x.2, x.3)
 runs_from go whole f names r q before after (Err stops.WriteFault) e h = λ first o w is.
-    subst (λ x. BreaksOff (output_lines names (outputs x)) first.written after.written first.puts after.puts) (sym (e o w)) (h first o (f w) is)
+    subst (λ x. BreaksOff (output_lines names (outputs x)) first.written after.written first.pieces after.pieces) (sym (e o w)) (h first o (f w) is)
 
 -- what is put out before stays put out
 then_begins : (r : Outcome) (rest : State → Outcome) → ((s : State) → Grows s (state_of (rest s))) → Begins (outputs r) (outputs (then_do r rest))
@@ -52,8 +50,8 @@ stops_run whole go names r0 r q before now after stops.Cut reach h = λ first o 
 stops_run whole go names r0 r q before now after stops.WriteFault reach h = λ first o w is.
     let R = reach first o w is in
     let s = state r R.0 R.1 in
-    subst (λ x. BreaksOff (output_lines names (outputs x)) first.written after.written first.puts after.puts) (sym R.4)
-    (breaks_longer names first.written after.written first.puts after.puts (outputs (go s)) (outputs (then_do (go s) R.2)) (h first R.0 R.1 R.5) (then_begins (go s) R.2 R.3))
+    subst (λ x. BreaksOff (output_lines names (outputs x)) first.written after.written first.pieces after.pieces) (sym R.4)
+    (breaks_longer names first.written after.written first.pieces after.pieces (outputs (go s)) (outputs (then_do (go s) R.2)) (h first R.0 R.1 R.5) (then_begins (go s) R.2 R.3))
 
 -- the words keep their shape
 pub keeps_trans : (r s q : Run) → Keeps r s → Keeps s q → Keeps r q
@@ -74,29 +72,28 @@ answer (Err stops.Cut) = ends.Cut
 answer (Err stops.WriteFault) = ends.WriteFault
 
 -- what an answer says of a meaning
-pub record Meant (e : MeanEnd) (names : List (List ℕ)) (m : Outcome) (w0 w1 : Option (List ℕ)) (p0 p1 : Option ℕ) : Type 0 where
+pub record Meant (e : MeanEnd) (names : List (List ℕ)) (m : Outcome) (w0 w1 : Option (List ℕ)) (p0 p1 : Option (List (List ℕ))) : Type 0 where
   pub ends : EndsAs e m
-  pub writes : Writes e w0 w1 (lines names (outputs m))
   pub lines : Puts e (output_lines names (outputs m)) w0 w1 p0 p1
 
-meant_at : (m : Outcome) (names : List (List ℕ)) (w0 w1 : Option (List ℕ)) (p0 p1 : Option ℕ) (q : Run) (p : List Output) (v : ℕ) → m ≡ Ended (state q p v) → sink_of w1 p1 ≡ told names (sink_of w0 p0) p → Meant ends.Ended names m w0 w1 p0 p1
-meant_at m names w0 w1 p0 p1 q p v e h = subst (λ x. Meant ends.Ended names x w0 w1 p0 p1) (sym e) (record { ends = tt; writes = ap (λ (t : Told). t.written) h ∙ ap (append_known w0) (lines_text names p); lines = told_puts names (sink_of w0 p0) (sink_of w1 p1) p h })
+meant_at : (m : Outcome) (names : List (List ℕ)) (w0 w1 : Option (List ℕ)) (p0 p1 : Option (List (List ℕ))) (q : Run) (p : List Output) (v : ℕ) → m ≡ Ended (state q p v) → sink_of w1 p1 ≡ told names (sink_of w0 p0) p → Meant ends.Ended names m w0 w1 p0 p1
+meant_at m names w0 w1 p0 p1 q p v e h = subst (λ x. Meant ends.Ended names x w0 w1 p0 p1) (sym e) (record { ends = tt; lines = told_puts names (sink_of w0 p0) (sink_of w1 p1) p h })
 
-cut_at : (m : Outcome) (names : List (List ℕ)) (w0 w1 : Option (List ℕ)) (p0 p1 : Option ℕ) (q : Run) (p : List Output) (v : ℕ) → m ≡ Cut (state q p v) → sink_of w1 p1 ≡ told names (sink_of w0 p0) p → Meant ends.Cut names m w0 w1 p0 p1
-cut_at m names w0 w1 p0 p1 q p v e h = subst (λ x. Meant ends.Cut names x w0 w1 p0 p1) (sym e) (record { ends = tt; writes = ap (λ (t : Told). t.written) h ∙ ap (append_known w0) (lines_text names p); lines = told_puts names (sink_of w0 p0) (sink_of w1 p1) p h })
+cut_at : (m : Outcome) (names : List (List ℕ)) (w0 w1 : Option (List ℕ)) (p0 p1 : Option (List (List ℕ))) (q : Run) (p : List Output) (v : ℕ) → m ≡ Cut (state q p v) → sink_of w1 p1 ≡ told names (sink_of w0 p0) p → Meant ends.Cut names m w0 w1 p0 p1
+cut_at m names w0 w1 p0 p1 q p v e h = subst (λ x. Meant ends.Cut names x w0 w1 p0 p1) (sym e) (record { ends = tt; lines = told_puts names (sink_of w0 p0) (sink_of w1 p1) p h })
 
-meant_from : (go : State → Outcome) (names : List (List ℕ)) (r q : Run) (w0 w1 : Option (List ℕ)) (p0 p1 : Option ℕ) (res : Result (Unit {0}) Stop) → RunsTo go names r q (sink_of w0 p0) (sink_of w1 p1) res → Meant (answer res) names (go (state r [] 0)) w0 w1 p0 p1
+meant_from : (go : State → Outcome) (names : List (List ℕ)) (r q : Run) (w0 w1 : Option (List ℕ)) (p0 p1 : Option (List (List ℕ))) (res : Result (Unit {0}) Stop) → RunsTo go names r q (sink_of w0 p0) (sink_of w1 p1) res → Meant (answer res) names (go (state r [] 0)) w0 w1 p0 p1
 meant_from go names r q w0 w1 p0 p1 (Ok u) h = let x = h (sink_of w0 p0) [] 0 (told_nothing names (sink_of w0 p0)) in meant_at (go (state r [] 0)) names w0 w1 p0 p1 q x.0 x.1 x.2 x.3
 meant_from go names r q w0 w1 p0 p1 (Err stops.Cut) h = let x = h (sink_of w0 p0) [] 0 (told_nothing names (sink_of w0 p0)) in cut_at (go (state r [] 0)) names w0 w1 p0 p1 q x.0 x.1 x.2 x.3
 meant_from go names r q w0 w1 p0 p1 (Err stops.WriteFault) h =
     let x = h (sink_of w0 p0) [] 0 (told_nothing names (sink_of w0 p0)) in
-    record { ends = tt; writes = subst (AddsPrefix w0 w1) (lines_text names (outputs (go (state r [] 0)))) x.text; lines = x }
+    record { ends = tt; lines = x }
 
 start_is : (p : Program) (t : ℕ) (r : Run) → r.vars.items ≡ replicate p.vars 0 → r.cells.items ≡ p.inits → r.left ≡ t → state r [] 0 ≡ start p t
 start_is p t r a b c = λ i. record { vars = a i; cells = b i; out = []; left = c i; work = 0 }
 
 -- a run of the whole program from its start
-pub meant : (prog : Prog) (t : ℕ) (r q : Run) (ns : List (Bor (List ℕ))) (bs : List (Stmt Slot)) (w0 w1 : Option (List ℕ)) (p0 p1 : Option ℕ) (res : Result (Unit {0}) Stop) →
+pub meant : (prog : Prog) (t : ℕ) (r q : Run) (ns : List (Bor (List ℕ))) (bs : List (Stmt Slot)) (w0 w1 : Option (List ℕ)) (p0 p1 : Option (List (List ℕ))) (res : Result (Unit {0}) Stop) →
     ns ≡ prog.names.items → bs ≡ prog.body.items → r.vars.items ≡ replicate prog.vars 0 → r.cells.items ≡ prog.inits.items → r.left ≡ t →
     RunsTo (run (plain_list same_slot bs)) (map (λ n. n.now) ns) r q (sink_of w0 p0) (sink_of w1 p1) res → Meant (answer res) (program_of prog).names (meaning (program_of prog) t) w0 w1 p0 p1
 meant prog t r q ns bs w0 w1 p0 p1 res e f a b c h =

@@ -1,53 +1,47 @@
 -- What a sink has after one more line, and where a put fails.
 use Rattle.std.proofs.Common.{◌≡◌, ℕ, zero, suc, ◌+◌, ◌-◌, ◌<◌, ◌≤◌, max, take, add-one, List, [], ◌∷◌, ◌++◌, length, map, get_or, Option, Bor, refl, sym, ap, ◌∙◌, subst, arith}
-use Rattle.std.specs.List.{concat}
 use Rattle.std.proofs.lemmas.List.{map-append}
-use Rattle.std.proofs.lemmas.List.Concat.{concat_is}
-use Rattle.std.proofs.lemmas.List.Folds.{flat_map-map}
 use Rattle.std.proofs.Math.Seq.{take-suc}
 use Rattle.std.specs.Io.KnownBytes.{append_known}
 use Rattle.ft_isa.specs.Words.{cell_address, line}
 use Rattle.ft_isa.specs.declared.output.Output.{Output}
 use Rattle.ft_edge.specs.Causes.{AddsPrefix}
-use Rattle.ft_edge.specs.Puts.{one_more, PutsLines, BreaksOff}
+use Rattle.ft_edge.specs.Told.{append_told}
+use Rattle.ft_edge.specs.Puts.{PutsLines, BreaksOff}
 use Rattle.ft_edge.proofs.PutLines.{puts_none, puts_one, puts_then, breaks_one, breaks_then, breaks_before}
-use Rattle.ft_meaning.specs.Lines.{name_of, line_of, output_lines, lines}
+use Rattle.ft_meaning.specs.Lines.{name_of, line_of, output_lines}
 use Rattle.ft_meaning.specs.Begins.{Begins}
 use Rattle.ft_meaning.specs.Room.{HasRoom}
 use Rattle.ft_meaning.specs.Runs.{Told, told}
 
--- the text of the lines
-pub lines_text : (names : List (List ℕ)) (o : List Output) → concat (output_lines names o) ≡ lines names o
-lines_text names o = concat_is (output_lines names o) ∙ flat_map-map (λ x. x) (line_of names) o
-
 -- a sink that has these lines is one that they were put to
-pub told_puts : (names : List (List ℕ)) (first now : Told) (o : List Output) → now ≡ told names first o → PutsLines (output_lines names o) first.written now.written first.puts now.puts
-told_puts names first now o h = record { written = ap (λ (t : Told). t.written) h; puts = ap (λ (t : Told). t.puts) h }
+pub told_puts : (names : List (List ℕ)) (first now : Told) (o : List Output) → now ≡ told names first o → PutsLines (output_lines names o) first.written now.written first.pieces now.pieces
+told_puts names first now o h = record { written = ap (λ (t : Told). t.written) h; pieces = ap (λ (t : Told). t.pieces) h }
 
-puts_told : (names : List (List ℕ)) (first now : Told) (o : List Output) → PutsLines (output_lines names o) first.written now.written first.puts now.puts → now ≡ told names first o
-puts_told names first now o h = let a = h.written in let b = h.puts in λ i. record { written = a i; puts = b i }
+puts_told : (names : List (List ℕ)) (first now : Told) (o : List Output) → PutsLines (output_lines names o) first.written now.written first.pieces now.pieces → now ≡ told names first o
+puts_told names first now o h = let a = h.written in let b = h.pieces in λ i. record { written = a i; pieces = b i }
 
 -- nothing was put yet
 pub told_nothing : (names : List (List ℕ)) (first : Told) → first ≡ told names first []
-told_nothing names first = puts_told names first first [] (puts_none first.written first.puts)
+told_nothing names first = puts_told names first first [] (puts_none first.written first.pieces)
 
 -- a line was put
-pub told_push : (names : List (List ℕ)) (first before after : Told) (o : List Output) (x : Output) → before ≡ told names first o → after.written ≡ append_known before.written (line_of names x) → after.puts ≡ one_more before.puts → after ≡ told names first (o ++ x ∷ [])
+pub told_push : (names : List (List ℕ)) (first before after : Told) (o : List Output) (x : Output) → before ≡ told names first o → after.written ≡ append_known before.written (line_of names x) → after.pieces ≡ append_told before.pieces (line_of names x ∷ []) → after ≡ told names first (o ++ x ∷ [])
 told_push names first before after o x h w p =
     puts_told names first after (o ++ x ∷ [])
-    (subst (λ ls. PutsLines ls first.written after.written first.puts after.puts) (sym (map-append (line_of names) o (x ∷ [])))
-    (puts_then (output_lines names o) (line_of names x ∷ []) first.written before.written after.written first.puts before.puts after.puts (told_puts names first before o h)
-    (puts_one (line_of names x) before.written after.written before.puts after.puts w p)))
+    (subst (λ ls. PutsLines ls first.written after.written first.pieces after.pieces) (sym (map-append (line_of names) o (x ∷ [])))
+    (puts_then (output_lines names o) (line_of names x ∷ []) first.written before.written after.written first.pieces before.pieces after.pieces (told_puts names first before o h)
+    (puts_one (line_of names x) before.written after.written before.pieces after.pieces w p)))
 
 -- a put failed
-pub breaks_here : (names : List (List ℕ)) (first before after : Told) (o outputs : List Output) (x : Output) → before ≡ told names first o → AddsPrefix before.written after.written (line_of names x) → after.puts ≡ one_more before.puts → outputs ≡ o ++ x ∷ [] → BreaksOff (output_lines names outputs) first.written after.written first.puts after.puts
+pub breaks_here : (names : List (List ℕ)) (first before after : Told) (o outputs : List Output) (x : Output) → before ≡ told names first o → AddsPrefix before.written after.written (line_of names x) → after.pieces ≡ append_told before.pieces (line_of names x ∷ []) → outputs ≡ o ++ x ∷ [] → BreaksOff (output_lines names outputs) first.written after.written first.pieces after.pieces
 breaks_here names first before after o outputs x h a p e =
-    subst (λ ls. BreaksOff ls first.written after.written first.puts after.puts) (sym (map-append (line_of names) o (x ∷ [])) ∙ ap (output_lines names) (sym e))
-    (breaks_then (output_lines names o) (line_of names x ∷ []) first.written before.written after.written first.puts before.puts after.puts (told_puts names first before o h)
-    (breaks_one (line_of names x) before.written after.written before.puts after.puts a p))
+    subst (λ ls. BreaksOff ls first.written after.written first.pieces after.pieces) (sym (map-append (line_of names) o (x ∷ [])) ∙ ap (output_lines names) (sym e))
+    (breaks_then (output_lines names o) (line_of names x ∷ []) first.written before.written after.written first.pieces before.pieces after.pieces (told_puts names first before o h)
+    (breaks_one (line_of names x) before.written after.written before.pieces after.pieces a p))
 
 -- more outputs change nothing of a put that failed
-pub breaks_longer : (names : List (List ℕ)) (old new : Option (List ℕ)) (before now : Option ℕ) (xs ys : List Output) → BreaksOff (output_lines names xs) old new before now → Begins xs ys → BreaksOff (output_lines names ys) old new before now
+pub breaks_longer : (names : List (List ℕ)) (old new : Option (List ℕ)) (before now : Option (List (List ℕ))) (xs ys : List Output) → BreaksOff (output_lines names xs) old new before now → Begins xs ys → BreaksOff (output_lines names ys) old new before now
 breaks_longer names old new before now xs ys b more =
     subst (λ ls. BreaksOff ls old new before now) (sym (map-append (line_of names) xs more.0) ∙ ap (output_lines names) more.1)
     (breaks_before (output_lines names xs) (output_lines names more.0) old new before now b)

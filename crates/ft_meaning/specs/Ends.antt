@@ -1,7 +1,6 @@
--- What is answered of a meaning, and what is written of it.
+-- What is answered of a meaning, and what is put of it.
 use Rattle.std.specs.Prelude.{◌≡◌, ℕ, List, Option}
-use Rattle.std.specs.Io.KnownBytes.{append_known}
-use Rattle.ft_edge.specs.Causes.{Rose, AddsPrefix}
+use Rattle.ft_edge.specs.Causes.{Rose}
 use Rattle.ft_edge.specs.Puts.{PutsLines, BreaksOff, PutsNothing}
 use Rattle.ft_meaning.specs.declared.mean_end.MeanEnd.{MeanEnd}
 use Rattle.ft_meaning.specs.declared.mean_end.MeanEnd.TheVariants as ends
@@ -16,15 +15,8 @@ EndsAs ends.Cut (Cut s) = Unit {0}
 EndsAs ends.WriteFault r = Unit {0}
 EndsAs ends.NoMemory r = Unit {0}
 
--- the text was added, or after a failed put a prefix of it, or nothing for want of memory
-abbrev pub Writes : MeanEnd → Option (List ℕ) → Option (List ℕ) → List ℕ → Type 0
-Writes ends.Ended old new text = new ≡ append_known old text
-Writes ends.Cut old new text = new ≡ append_known old text
-Writes ends.WriteFault old new text = AddsPrefix old new text
-Writes ends.NoMemory old new text = new ≡ old
-
 -- all lines were put, by one put each, or a put failed, which was the last, or nothing was put for want of memory
-abbrev pub Puts : MeanEnd → List (List ℕ) → Option (List ℕ) → Option (List ℕ) → Option ℕ → Option ℕ → Type 0
+abbrev pub Puts : MeanEnd → List (List ℕ) → Option (List ℕ) → Option (List ℕ) → Option (List (List ℕ)) → Option (List (List ℕ)) → Type 0
 Puts ends.Ended lines old new before now = PutsLines lines old new before now
 Puts ends.Cut lines old new before now = PutsLines lines old new before now
 Puts ends.WriteFault lines old new before now = BreaksOff lines old new before now

@@ -3,7 +3,8 @@ use Rattle.std.specs.Prelude.{◌≡◌, ℕ, ◌-◌, ◌≤◌, List, length, 
 use Rattle.std.specs.List.{concat}
 use Rattle.std.specs.Io.KnownBytes.{append_known}
 use Rattle.ft_edge.specs.Causes.{Rose}
-use Rattle.ft_edge.specs.Puts.{puts_after, BreaksOff}
+use Rattle.ft_edge.specs.Told.{append_told}
+use Rattle.ft_edge.specs.Puts.{BreaksOff}
 use Rattle.ft_isa.specs.declared.output.Output.{Output}
 use Rattle.ft_meaning.specs.declared.run.Run.{Run}
 use Rattle.ft_meaning.specs.declared.run.Stop.{Stop}
@@ -16,18 +17,18 @@ use Rattle.ft_meaning.specs.Room.{HasRoom}
 abbrev pub state : Run → List Output → ℕ → State
 state r out w = record { vars = r.vars.items; cells = r.cells.items; out = out; left = r.left; work = w }
 
--- what a sink has, where it tells it, and how often was put
+-- what a sink has and the pieces that it was asked to put, where it tells them
 pub record Told : Type 0 where
   pub written : Option (List ℕ)
-  pub puts : Option ℕ
+  pub pieces : Option (List (List ℕ))
 
--- a sink that has this, of so many puts
-abbrev pub sink_of : Option (List ℕ) → Option ℕ → Told
-sink_of written puts = record { written = written; puts = puts }
+-- a sink that has this, of these pieces
+abbrev pub sink_of : Option (List ℕ) → Option (List (List ℕ)) → Told
+sink_of written pieces = record { written = written; pieces = pieces }
 
--- what a sink has after the lines of these outputs, of one put each
+-- what a sink has after the lines of these outputs, each put as one piece
 abbrev pub told : List (List ℕ) → Told → List Output → Told
-told names first out = record { written = append_known first.written (concat (output_lines names out)); puts = puts_after (length (output_lines names out)) first.puts }
+told names first out = record { written = append_known first.written (concat (output_lines names out)); pieces = append_told first.pieces (output_lines names out) }
 
 -- the code's words have the shape that they had, and no turn came back
 pub record Keeps (r q : Run) : Type 0 where
@@ -47,7 +48,7 @@ pub record Ready (names : List (List ℕ)) (r : Run) : Type 0 where
 abbrev pub RunsTo : (State → Outcome) → List (List ℕ) → Run → Run → Told → Told → Result (Unit {0}) Stop → Type 0
 RunsTo go names r q before after (Ok u) = (first : Told) (o : List Output) (w : ℕ) → before ≡ told names first o → (p : List Output) × (v : ℕ) × (go (state r o w) ≡ Ended (state q p v)) × (after ≡ told names first p)
 RunsTo go names r q before after (Err stops.Cut) = (first : Told) (o : List Output) (w : ℕ) → before ≡ told names first o → (p : List Output) × (v : ℕ) × (go (state r o w) ≡ Cut (state q p v)) × (after ≡ told names first p)
-RunsTo go names r q before after (Err stops.WriteFault) = (first : Told) (o : List Output) (w : ℕ) → before ≡ told names first o → BreaksOff (output_lines names (outputs (go (state r o w)))) first.written after.written first.puts after.puts
+RunsTo go names r q before after (Err stops.WriteFault) = (first : Told) (o : List Output) (w : ℕ) → before ≡ told names first o → BreaksOff (output_lines names (outputs (go (state r o w)))) first.written after.written first.pieces after.pieces
 
 -- only a count that rose excuses a failed put
 abbrev pub Excused : Result (Unit {0}) Stop → ℕ → ℕ → Type 0

@@ -1,9 +1,9 @@
 //! The lines of outputs.
-ghost use Rattle.std.specs.Prelude.{◌≡◌, ◌≤◌, ◌+◌, ◌++◌, ℕ, List, map, length, take, All, OnOk, OnErr};
+ghost use Rattle.std.specs.Prelude.{◌≡◌, ◌≤◌, ◌+◌, ◌++◌, ℕ, List, [], ◌∷◌, map, length, take, All, OnOk, OnErr};
 ghost use Rattle.std.specs.Io.KnownBytes.{append_known};
 ghost use Rattle.ft_isa.specs.Words.{line};
 ghost use Rattle.ft_edge.specs.Causes.{Rose, AddsPrefix};
-ghost use Rattle.ft_edge.specs.Puts.{one_more};
+ghost use Rattle.ft_edge.specs.Told.{append_told};
 ghost use Rattle.ft_meaning.specs.Room.{HasRoom};
 
 use ft_edge::{Failed, Sink};
@@ -39,12 +39,12 @@ fn put_at(buf: &mut [u8], at: usize, piece: &[u8]) -> usize
 pub fn put_line<K: Sink>(name: &[u8], value: u64, buf: &mut [u8], out: &mut K) -> Result<(), Failed>
     requires { length name.now + VALUE_ROOM ≤ length buf.old }
     ensures same { length buf.new ≡ length buf.old }
-    ensures puts { K.puts out.new ≡ one_more (K.puts out.old) }
-    ensures count { K.faults out.old ≤ K.faults out.new }
-    ensures same_count { OnOk result (K.faults out.new ≡ K.faults out.old) }
+    ensures pieces { K.pieces out.new ≡ append_told (K.pieces out.old) (line name.now value ∷ []) }
+    ensures count { K.failures out.old ≤ K.failures out.new }
+    ensures same_count { OnOk result (K.failures out.new ≡ K.failures out.old) }
     ensures ok { OnOk result (K.written out.new ≡ append_known (K.written out.old) (line name.now value)) }
     ensures err { OnErr result (AddsPrefix (K.written out.old) (K.written out.new) (line name.now value)) }
-    ensures cause { OnErr result (Rose (K.faults out.old) (K.faults out.new)) }
+    ensures cause { OnErr result (Rose (K.failures out.old) (K.failures out.new)) }
 {
     let mut digits = Buffer::new();
     let end = put_at(buf, 0, name);

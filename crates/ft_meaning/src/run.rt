@@ -66,10 +66,10 @@ impl Run {
     ) -> Result<(), Stop>
         requires fits { k < length self.old.cells.items }
         requires ready { Ready (map (λ n. n.now) names.now) self.old }
-        ensures runs { RunsTo (λ s. Ended (assigned (Cell k) word s)) (map (λ n. n.now) names.now) self.old self.new (sink_of (K.written out.old) (K.puts out.old)) (sink_of (K.written out.new) (K.puts out.new)) result }
+        ensures runs { RunsTo (λ s. Ended (assigned (Cell k) word s)) (map (λ n. n.now) names.now) self.old self.new (sink_of (K.written out.old) (K.pieces out.old)) (sink_of (K.written out.new) (K.pieces out.new)) result }
         ensures keeps { Keeps self.old self.new }
-        ensures count { K.faults out.old ≤ K.faults out.new }
-        ensures cause { Excused result (K.faults out.old) (K.faults out.new) }
+        ensures count { K.failures out.old ≤ K.failures out.new }
+        ensures cause { Excused result (K.failures out.old) (K.failures out.new) }
     {
         let k = k as usize;
         match put_line(names[k], word, &mut self.line, out) {
@@ -90,10 +90,10 @@ impl Run {
     ) -> Result<(), Stop>
         requires fits { SlotFits (length self.old.cells.items) (length self.old.vars.items) to }
         requires ready { Ready (map (λ n. n.now) names.now) self.old }
-        ensures runs { RunsTo (λ s. Ended (assigned to word s)) (map (λ n. n.now) names.now) self.old self.new (sink_of (K.written out.old) (K.puts out.old)) (sink_of (K.written out.new) (K.puts out.new)) result }
+        ensures runs { RunsTo (λ s. Ended (assigned to word s)) (map (λ n. n.now) names.now) self.old self.new (sink_of (K.written out.old) (K.pieces out.old)) (sink_of (K.written out.new) (K.pieces out.new)) result }
         ensures keeps { Keeps self.old self.new }
-        ensures count { K.faults out.old ≤ K.faults out.new }
-        ensures cause { Excused result (K.faults out.old) (K.faults out.new) }
+        ensures count { K.failures out.old ≤ K.failures out.new }
+        ensures cause { Excused result (K.failures out.old) (K.failures out.new) }
     {
         match to {
             Slot::Cell(k) => self.assign_cell(names, k, word, out),
@@ -114,10 +114,10 @@ impl Run {
     ) -> Result<(), Stop>
         requires fits { StatementsFit (length self.old.cells.items) (length self.old.vars.items) (plain_list same_slot all.now) }
         requires ready { Ready (map (λ n. n.now) names.now) self.old }
-        ensures runs { RunsTo (run (plain_list same_slot all.now)) (map (λ n. n.now) names.now) self.old self.new (sink_of (K.written out.old) (K.puts out.old)) (sink_of (K.written out.new) (K.puts out.new)) result }
+        ensures runs { RunsTo (run (plain_list same_slot all.now)) (map (λ n. n.now) names.now) self.old self.new (sink_of (K.written out.old) (K.pieces out.old)) (sink_of (K.written out.new) (K.pieces out.new)) result }
         ensures keeps { Keeps self.old self.new }
-        ensures count { K.faults out.old ≤ K.faults out.new }
-        ensures cause { Excused result (K.faults out.old) (K.faults out.new) }
+        ensures count { K.failures out.old ≤ K.failures out.new }
+        ensures cause { Excused result (K.failures out.old) (K.failures out.new) }
     {
         for s in all {
             if let Err(stop) = self.statement(names, s, out) {
@@ -137,10 +137,10 @@ impl Run {
     ) -> Result<(), Stop>
         requires fits { StatementsFit (length self.old.cells.items) (length self.old.vars.items) (plain_statement same_slot s.now none) }
         requires ready { Ready (map (λ n. n.now) names.now) self.old }
-        ensures runs { RunsTo (run (plain_statement same_slot s.now none)) (map (λ n. n.now) names.now) self.old self.new (sink_of (K.written out.old) (K.puts out.old)) (sink_of (K.written out.new) (K.puts out.new)) result }
+        ensures runs { RunsTo (run (plain_statement same_slot s.now none)) (map (λ n. n.now) names.now) self.old self.new (sink_of (K.written out.old) (K.pieces out.old)) (sink_of (K.written out.new) (K.pieces out.new)) result }
         ensures keeps { Keeps self.old self.new }
-        ensures count { K.faults out.old ≤ K.faults out.new }
-        ensures cause { Excused result (K.faults out.old) (K.faults out.new) }
+        ensures count { K.failures out.old ≤ K.failures out.new }
+        ensures cause { Excused result (K.failures out.old) (K.failures out.new) }
     {
         match s {
             Stmt::Assign { to, value } => {
@@ -170,10 +170,10 @@ impl Run {
         requires test { ExpressionFits (length self.old.cells.items) (length self.old.vars.items) (plain_expression same_slot test.now) }
         requires body { StatementsFit (length self.old.cells.items) (length self.old.vars.items) (plain_list same_slot body.now) }
         requires ready { Ready (map (λ n. n.now) names.now) self.old }
-        ensures runs { RunsTo (loops self.old.left (plain_expression same_slot test.now) (run (plain_list same_slot body.now))) (map (λ n. n.now) names.now) self.old self.new (sink_of (K.written out.old) (K.puts out.old)) (sink_of (K.written out.new) (K.puts out.new)) result }
+        ensures runs { RunsTo (loops self.old.left (plain_expression same_slot test.now) (run (plain_list same_slot body.now))) (map (λ n. n.now) names.now) self.old self.new (sink_of (K.written out.old) (K.pieces out.old)) (sink_of (K.written out.new) (K.pieces out.new)) result }
         ensures keeps { Keeps self.old self.new }
-        ensures count { K.faults out.old ≤ K.faults out.new }
-        ensures cause { Excused result (K.faults out.old) (K.faults out.new) }
+        ensures count { K.failures out.old ≤ K.failures out.new }
+        ensures cause { Excused result (K.failures out.old) (K.failures out.new) }
     {
         while self.word(test) != 0 {
             if self.left == 0 {

@@ -2,8 +2,8 @@
 ghost use Rattle.std.specs.Prelude.{◌≡◌, ◌≤◌, map, replicate, IfOk};
 ghost use Rattle.ft_scope.specs.ProgramOf.{program_of};
 ghost use Rattle.ft_meaning.specs.Meaning.{meaning, outputs};
-ghost use Rattle.ft_meaning.specs.Lines.{output_lines, lines};
-ghost use Rattle.ft_meaning.specs.Ends.{EndsAs, Writes, Puts, IsExcused};
+ghost use Rattle.ft_meaning.specs.Lines.{output_lines};
+ghost use Rattle.ft_meaning.specs.Ends.{EndsAs, Puts, IsExcused};
 ghost use Rattle.ft_meaning.specs.Runs.{Ready};
 
 use crate::mean_end::MeanEnd;
@@ -40,10 +40,9 @@ fn start(alloc: Global, prog: &Prog<'_>, turns: u64) -> Result<Run, NoMemory>
 /// nest in the source.
 pub fn mean<K: Sink>(alloc: Global, prog: &Prog<'_>, turns: u64, out: &mut K) -> MeanEnd
     ensures ends { EndsAs result (meaning (program_of prog.now) turns) }
-    ensures writes { Writes result (K.written out.old) (K.written out.new) (lines (program_of prog.now).names (outputs (meaning (program_of prog.now) turns))) }
-    ensures lines { Puts result (output_lines (program_of prog.now).names (outputs (meaning (program_of prog.now) turns))) (K.written out.old) (K.written out.new) (K.puts out.old) (K.puts out.new) }
-    ensures count { K.faults out.old ≤ K.faults out.new }
-    ensures cause { IsExcused result (K.faults out.old) (K.faults out.new) }
+    ensures lines { Puts result (output_lines (program_of prog.now).names (outputs (meaning (program_of prog.now) turns))) (K.written out.old) (K.written out.new) (K.pieces out.old) (K.pieces out.new) }
+    ensures count { K.failures out.old ≤ K.failures out.new }
+    ensures cause { IsExcused result (K.failures out.old) (K.failures out.new) }
 {
     let Ok(mut state) = start(alloc, prog, turns) else {
         return MeanEnd::NoMemory;

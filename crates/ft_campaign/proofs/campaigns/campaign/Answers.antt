@@ -1,7 +1,7 @@
 use Rattle.std.proofs.Common.{sym, subst}
 use Rattle.ft_campaign.specs.Snapshots.{IsCost}
-use Rattle.ft_inject.specs.Soundness.{IsNeverDetected}
-use Rattle.ft_inject.proofs.Whole.{never_detected}
+use Rattle.ft_tolerance.specs.Soundness.{IsNeverDetected}
+use Rattle.ft_tolerance.proofs.Whole.{never_detected}
 use Rattle.ft_campaign.proofs.Judged.{uncorrupted}
 use Rattle.ft_campaign.proofs.campaigns.campaign.Goals as goal
 

@@ -1,7 +1,7 @@
 use Rattle.std.proofs.Common.{◌≡◌, ℕ, ◌-◌, List, length, take, drop, subst, Decides, arith}
 use Rattle.std.proofs.lemmas.List.{take_all, length-drop}
 use Rattle.ft_isa.specs.declared.output.Output.{Output}
-use Rattle.ft_types.specs.Agrees.{IsPrefix}
+use Rattle.ft_semantics.specs.Agrees.{IsPrefix}
 use Rattle.ft_campaign.proofs.Equal.{prefix_decides}
 use Rattle.ft_campaign.proofs.clean.is_noticed_later.Goals as goal
 

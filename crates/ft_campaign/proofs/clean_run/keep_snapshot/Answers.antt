@@ -1,6 +1,6 @@
 use Rattle.std.proofs.Common.{◌≡◌, ◌+◌, true, is_ok, None, List, ap, sym, subst, ◌∙◌, arith}
 use Rattle.std.proofs.lemmas.Bool.{cond-true}
-use Rattle.ft_types.specs.State.{State, is_cell}
+use Rattle.ft_semantics.specs.State.{State, is_cell}
 use Rattle.ft_machine.proofs.Runs.{run_has_cells}
 use Rattle.ft_campaign.specs.declared.clean.Snapshot.{Snapshot}
 use Rattle.ft_campaign.specs.Snapshots.{AreSnapshots}

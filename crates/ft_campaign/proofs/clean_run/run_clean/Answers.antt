@@ -1,8 +1,8 @@
 use Rattle.std.proofs.Common.{◌++◌, ◌+◌, None, length, ap, sym, ◌∙◌, refl, subst, arith, List, ℕ}
 use Rattle.std.specs.Option.{option_to_list}
-use Rattle.ft_types.specs.State.{State}
-use Rattle.ft_types.specs.Step.{step}
-use Rattle.ft_types.specs.Run.{Ran, run-zero}
+use Rattle.ft_semantics.specs.State.{State}
+use Rattle.ft_semantics.specs.Step.{step}
+use Rattle.ft_semantics.specs.Run.{Ran, run-zero}
 use Rattle.ft_machine.proofs.Driven.{next}
 use Rattle.ft_machine.proofs.Runs.{HasStopped}
 use Rattle.ft_campaign.specs.Snapshots.{AreLengths, AreSnapshots}

@@ -1,6 +1,6 @@
 use Rattle.std.proofs.Common.{◌≡◌, ◌+◌, None}
-use Rattle.ft_types.specs.declared.status.Status.TheVariants.{Running}
-use Rattle.ft_types.specs.Run.{run}
+use Rattle.ft_semantics.specs.declared.status.Status.TheVariants.{Running}
+use Rattle.ft_semantics.specs.Run.{run}
 use Rattle.ft_campaign.specs.Snapshots.{AreSnapshots, AreLengths}
 use Rattle.ft_campaign.proofs.clean_run.run_clean.Given as goal
 

@@ -1,6 +1,6 @@
 use Rattle.std.proofs.Common.{◌≡◌, ℕ, ◌+◌, ◌-◌, ◌≤◌, length, ap, sym, ◌∙◌, arith}
-use Rattle.ft_types.specs.State.{State}
-use Rattle.ft_types.specs.Run.{Ran}
+use Rattle.ft_semantics.specs.State.{State}
+use Rattle.ft_semantics.specs.Run.{Ran}
 use Rattle.ft_machine.specs.Spans.{span, span-zero}
 use Rattle.ft_machine.proofs.Spanned.{span_running}
 use Rattle.ft_campaign.proofs.Following.{state_next, wild_next, count_next}

@@ -1,5 +1,5 @@
 use Rattle.std.proofs.Common.{◌≡◌, ◌≤◌, ◌+◌, ◌-◌, ℕ}
-use Rattle.ft_types.specs.declared.status.Status.TheVariants.{Running}
+use Rattle.ft_semantics.specs.declared.status.Status.TheVariants.{Running}
 use Rattle.ft_machine.specs.Spans.{span}
 use Rattle.ft_campaign.specs.Follows.{Continues}
 use Rattle.ft_campaign.proofs.follow.follow.Given as goal

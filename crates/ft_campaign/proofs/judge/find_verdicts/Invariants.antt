@@ -1,6 +1,6 @@
 use Rattle.std.proofs.Common.{◌≤◌, ◌+◌, ◌*◌, ℕ, length, take, sum_by}
 use Rattle.ft_isa.specs.declared.plan.Strike.{Strike}
-use Rattle.ft_types.specs.State.{HasCells}
+use Rattle.ft_semantics.specs.State.{HasCells}
 use Rattle.ft_campaign.specs.Snapshots.{IsCost}
 use Rattle.ft_campaign.specs.Verdicts.{AreVerdicts}
 use Rattle.ft_campaign.proofs.judge.find_verdicts.Given as goal

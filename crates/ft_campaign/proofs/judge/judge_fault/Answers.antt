@@ -3,9 +3,9 @@ use Rattle.std.proofs.lemmas.Option.{slice_get_read}
 use Rattle.ft_isa.specs.declared.plan.Wild.{Wild}
 use Rattle.ft_isa.specs.declared.plan.Strike.{Strike}
 use Rattle.ft_types.specs.declared.object.Object.{Object}
-use Rattle.ft_types.specs.State.{State, is_cell}
-use Rattle.ft_types.specs.Strike.{struck_state}
-use Rattle.ft_types.specs.Run.{Ran, is_struck}
+use Rattle.ft_semantics.specs.State.{State, is_cell}
+use Rattle.ft_semantics.specs.Strike.{struck_state}
+use Rattle.ft_semantics.specs.Run.{Ran, is_struck}
 use Rattle.ft_machine.specs.Spans.{span}
 use Rattle.ft_machine.proofs.Runs.{run_has_cells}
 use Rattle.ft_campaign.specs.declared.clean.Snapshot.{Snapshot}

@@ -1,6 +1,6 @@
 use Rattle.std.proofs.Common.{◌≡◌, ◌+◌, ◌-◌, ◌<◌, ◌≤◌, List, length, None, ap, sym, subst, ◌∙◌, arith}
 use Rattle.ft_isa.specs.declared.output.Output.{Output}
-use Rattle.ft_types.specs.Run.{outputs_after}
+use Rattle.ft_semantics.specs.Run.{outputs_after}
 use Rattle.ft_campaign.specs.Snapshots.{HasEnded}
 use Rattle.ft_campaign.proofs.Racing.{unmet_next, unmet_there, count_fits, racing_running, racing_cells, later_cells, race_apart, race_stopped, steps_apart, steps_stopped, on_state, on_wild, on_running, on_few, on_done, race_on, race_met, steps_on, ended_running, ends_at_last}
 use Rattle.ft_campaign.proofs.race.race.Goals as goal

@@ -7,7 +7,7 @@ use Rattle.ft_debug.proofs.Listed.{entries_more, entries_break, entries_all, bro
 use Rattle.ft_debug.proofs.answers.put_queue.Goals as goal
 
 pub loop-i-init : goal.loop-i-init
-loop-i-init g c = record { entries = puts_none (g.K.Sink.written c.args.out.now) (g.K.Sink.puts c.args.out.now); faults = refl }
+loop-i-init g c = record { entries = puts_none (g.K.Sink.written c.args.out.now) (g.K.Sink.pieces c.args.out.now); failures = refl }
 
 pub unreachable-requires : goal.unreachable-requires
 unreachable-requires g c = c.in_default.not-Some _ (c.get.ensures ∙ slice_get-get_or c.args.queue.now c.loop-i.i (0, 0) (omega (arith, c.len-i-end.ensures.pairs, c.loop-i-test.true)))
@@ -17,14 +17,14 @@ returns-in_err-put_text-clause-puts g c =
     let some : ¬ (c.args.queue.now ≡ []) = λ e. true≢false (sym (c.is_empty.ensures.1 e) ∙ c.if-is_empty.false) in
     broke c.from_residual.result _ c.in_err-put_text.field-0.0 _ _ _ _ c.from_residual.ensures.0
     (entries_break c.args.queue.now c.loop-i.i c.in-Some.entry _ _ _ _ _ _ some (sym c.get.ensures ∙ c.in-Some.is) c.loop-i.invariant.entries
-    (subst (λ (l : List ℕ). BreaksOff (l ∷ []) (g.K.Sink.written c.loop-i.out) (g.K.Sink.written c.put_text-in-loop-i.new.out) (g.K.Sink.puts c.loop-i.out) (g.K.Sink.puts c.put_text-in-loop-i.new.out)) (c.as_bytes.ensures ∙ c.entry_line.ensures) c.in_err-put_text.ensures.puts))
+    (subst (λ (l : List ℕ). BreaksOff (l ∷ []) (g.K.Sink.written c.loop-i.out) (g.K.Sink.written c.put_text-in-loop-i.new.out) (g.K.Sink.pieces c.loop-i.out) (g.K.Sink.pieces c.put_text-in-loop-i.new.out)) (c.as_bytes.ensures ∙ c.entry_line.ensures) c.in_err-put_text.ensures.puts))
 
 pub loop-i-preserved : goal.loop-i-preserved
 loop-i-preserved g c = record {
   entries =
       entries_more c.args.queue.now c.loop-i.i c.in-Some.entry _ _ _ _ _ _ (sym c.get.ensures ∙ c.in-Some.is) c.loop-i.invariant.entries
-      (subst (λ (l : List ℕ). PutsLines (l ∷ []) (g.K.Sink.written c.loop-i.out) (g.K.Sink.written c.put_text-in-loop-i.new.out) (g.K.Sink.puts c.loop-i.out) (g.K.Sink.puts c.put_text-in-loop-i.new.out)) (c.as_bytes.ensures ∙ c.entry_line.ensures) c.in_ok-put_text.ensures.puts);
-  faults = c.in_ok-put_text.ensures.cause ∙ c.loop-i.invariant.faults;
+      (subst (λ (l : List ℕ). PutsLines (l ∷ []) (g.K.Sink.written c.loop-i.out) (g.K.Sink.written c.put_text-in-loop-i.new.out) (g.K.Sink.pieces c.loop-i.out) (g.K.Sink.pieces c.put_text-in-loop-i.new.out)) (c.as_bytes.ensures ∙ c.entry_line.ensures) c.in_ok-put_text.ensures.puts);
+  failures = c.in_ok-put_text.ensures.cause ∙ c.loop-i.invariant.failures;
 }
 
 pub returns-clause-puts : goal.returns-clause-puts

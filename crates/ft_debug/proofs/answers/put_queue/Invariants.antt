@@ -4,6 +4,6 @@ use Rattle.ft_debug.proofs.answers.put_queue.Given as goal
 
 abbrev pub invariant-loop-i : goal.invariant-loop-i
 invariant-loop-i g l = record {
-  entries : PutsEntries l.queue l.i (g.K.Sink.written l.fn.out) (g.K.Sink.written l.out) (g.K.Sink.puts l.fn.out) (g.K.Sink.puts l.out);
-  faults : g.K.Sink.faults l.out ≡ g.K.Sink.faults l.fn.out;
+  entries : PutsEntries l.queue l.i (g.K.Sink.written l.fn.out) (g.K.Sink.written l.out) (g.K.Sink.pieces l.fn.out) (g.K.Sink.pieces l.out);
+  failures : g.K.Sink.failures l.out ≡ g.K.Sink.failures l.fn.out;
 }

@@ -19,8 +19,8 @@ returns-in-Quiet g c =
     let o = g.P.Program.object c.args.program.now in
     record {
       puts =
-          subst (λ (ls : List (List ℕ)). PutsLines ls (g.K.Sink.written c.args.out.now) (g.K.Sink.written c.args.out.now) (g.K.Sink.puts c.args.out.now) (g.K.Sink.puts c.args.out.now)) (sym (no_line o c.args.stepped c.in-Quiet.is))
-          (puts_none (g.K.Sink.written c.args.out.now) (g.K.Sink.puts c.args.out.now));
+          subst (λ (ls : List (List ℕ)). PutsLines ls (g.K.Sink.written c.args.out.now) (g.K.Sink.written c.args.out.now) (g.K.Sink.pieces c.args.out.now) (g.K.Sink.pieces c.args.out.now)) (sym (no_line o c.args.stepped c.in-Quiet.is))
+          (puts_none (g.K.Sink.written c.args.out.now) (g.K.Sink.pieces c.args.out.now));
       count = omega arith;
       cause = refl;
     }

@@ -10,8 +10,8 @@ use Rattle.ft_debug.proofs.sessions.answer_all.Goals as goal
 pub loop-command-init : goal.loop-command-init
 loop-command-init g c = record {
   ready = c.requires.ready;
-  faults = refl;
-  replied = replied_none (g.P.Program.object c.args.program.now) c.args.wild.now c.args.commands.now c.args.debugger.now (g.K.Sink.written c.args.out.now) (g.K.Sink.puts c.args.out.now) c.requires.holds;
+  failures = refl;
+  replied = replied_none (g.P.Program.object c.args.program.now) c.args.wild.now c.args.commands.now c.args.debugger.now (g.K.Sink.written c.args.out.now) (g.K.Sink.pieces c.args.out.now) c.requires.holds;
 }
 
 pub answer-requires-clause-room : goal.answer-requires-clause-room
@@ -40,7 +40,7 @@ loop-command-preserved g c =
     let small = subst (λ (x : Command). IsSmall (command_of x)) (sym c.command-item.is) (small_at c.args.commands.now c.loop-command.command-index c.command-item.result c.loop-command-test.true c.requires.small) in
     record {
       ready = c.answer.ensures.ready;
-      faults = c.in_ok-answer.ensures.cause ∙ c.loop-command.invariant.faults;
+      failures = c.in_ok-answer.ensures.cause ∙ c.loop-command.invariant.failures;
       replied =
           replied_more o c.args.wild.now c.args.commands.now c.loop-command.command-index c.command-item.result c.loop-command.debugger c.answer.new.self _ _ _ _ _ _ c.loop-command-test.true c.command-item.is small
           c.loop-command.invariant.replied c.in_ok-answer.ensures.does;

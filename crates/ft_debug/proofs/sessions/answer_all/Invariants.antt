@@ -8,6 +8,6 @@ invariant-loop-command g l =
     let o = g.P.Program.object l.program in
     record {
       ready : Ready o l.debugger;
-      faults : g.K.Sink.faults l.out ≡ g.K.Sink.faults l.fn.out;
-      replied : Replied o l.wild l.commands l.command-index l.debugger (g.K.Sink.written l.fn.out) (g.K.Sink.written l.out) (g.K.Sink.puts l.fn.out) (g.K.Sink.puts l.out);
+      failures : g.K.Sink.failures l.out ≡ g.K.Sink.failures l.fn.out;
+      replied : Replied o l.wild l.commands l.command-index l.debugger (g.K.Sink.written l.fn.out) (g.K.Sink.written l.out) (g.K.Sink.pieces l.fn.out) (g.K.Sink.pieces l.out);
     }

@@ -1,4 +1,4 @@
-use Rattle.ft_types.proofs.Acceptance.{accepted_is_unrefused}
+use Rattle.ft_typing.proofs.Acceptance.{accepted_is_unrefused}
 use Rattle.ft_demo.proofs.demonstration.show_sample.Goals as goal
 
 pub show-requires-clause-unrefused : goal.show-requires-clause-unrefused

@@ -1,6 +1,6 @@
 use Rattle.std.proofs.Common.{◌+◌, [], None, refl, sym, ap, ◌∙◌, subst, arith}
-use Rattle.ft_types.specs.Run.{Ran, run-zero, state_after, outputs_after}
-use Rattle.ft_types.specs.Step.{step}
+use Rattle.ft_semantics.specs.Run.{Ran, run-zero, state_after, outputs_after}
+use Rattle.ft_semantics.specs.Step.{step}
 use Rattle.ft_machine.specs.Answers.{told}
 use Rattle.ft_machine.specs.declared.machine.Stepped.TheVariants.{Quiet, Commit}
 use Rattle.ft_inject.specs.Runs.{CleanRun}

@@ -1,5 +1,5 @@
 use Rattle.std.proofs.Common.{◌≡◌, ◌≤◌, [], None}
-use Rattle.ft_types.specs.Run.{outputs_after}
+use Rattle.ft_semantics.specs.Run.{outputs_after}
 use Rattle.ft_demo.specs.Shown.{Tallies}
 use Rattle.ft_demo.proofs.tally.tally_run.Given as goal
 

@@ -1,6 +1,6 @@
 use Rattle.std.proofs.Common.{◌-◌, ◌<◌, length, ap, ◌∙◌, arith}
 use Rattle.ft_types.specs.Objects.{init_of}
-use Rattle.ft_types.specs.State.{State, is_cell}
+use Rattle.ft_semantics.specs.State.{State, is_cell}
 use Rattle.ft_machine.proofs.Steps.{strike_keeps}
 use Rattle.ft_machine.proofs.Tabulated.{cells_there}
 use Rattle.ft_machine.proofs.Runs.{run_has_cells}
@@ -30,7 +30,7 @@ returns-then-before-steps-clause-driven g c =
     let strike = c.args.plan.strike in
     let w = c.args.plan.wild.now in
     let before = c.steps_before-before.result in
-    let there = reached_first o strike w c.new-wild.result c.args.machine.now c.take_all.new.machine c.take_all.new.wild (g.K.Sink.written c.args.out.now) (g.K.Sink.written c.take_all.new.out) (g.K.Sink.puts c.args.out.now) (g.K.Sink.puts c.take_all.new.out) before c.requires.start c.new-wild.ensures
+    let there = reached_first o strike w c.new-wild.result c.args.machine.now c.take_all.new.machine c.take_all.new.wild (g.K.Sink.written c.args.out.now) (g.K.Sink.written c.take_all.new.out) (g.K.Sink.pieces c.args.out.now) (g.K.Sink.pieces c.take_all.new.out) before c.requires.start c.new-wild.ensures
     c.steps_before-before.ensures.before c.in_default.ensures.goes in
     (driven_through o strike w c.take_all.new.machine c.take_all.new.wild _ _ _ _ before c.args.steps c.if-before-steps.true there)
 
@@ -40,7 +40,7 @@ take_all-requires-2-clause-cells g c =
     let strike = c.args.plan.strike in
     let w = c.args.plan.wild.now in
     let before = c.steps_before-before.result in
-    let there = reached_first o strike w c.new-wild.result c.args.machine.now c.take_all.new.machine c.take_all.new.wild (g.K.Sink.written c.args.out.now) (g.K.Sink.written c.take_all.new.out) (g.K.Sink.puts c.args.out.now) (g.K.Sink.puts c.take_all.new.out) before c.requires.start c.new-wild.ensures
+    let there = reached_first o strike w c.new-wild.result c.args.machine.now c.take_all.new.machine c.take_all.new.wild (g.K.Sink.written c.args.out.now) (g.K.Sink.written c.take_all.new.out) (g.K.Sink.pieces c.args.out.now) (g.K.Sink.pieces c.take_all.new.out) before c.requires.start c.new-wild.ensures
     c.steps_before-before.ensures.before c.in_default.ensures.goes in
     (λ a.
     ap (λ (s : State). is_cell s.cells a) c.strike_before.ensures
@@ -54,7 +54,7 @@ returns-in-Some-take_all-clause-driven g c =
     let strike = c.args.plan.strike in
     let w = c.args.plan.wild.now in
     let before = c.steps_before-before.result in
-    let there = reached_first o strike w c.new-wild.result c.args.machine.now c.take_all.new.machine c.take_all.new.wild (g.K.Sink.written c.args.out.now) (g.K.Sink.written c.take_all.new.out) (g.K.Sink.puts c.args.out.now) (g.K.Sink.puts c.take_all.new.out) before c.requires.start c.new-wild.ensures
+    let there = reached_first o strike w c.new-wild.result c.args.machine.now c.take_all.new.machine c.take_all.new.wild (g.K.Sink.written c.args.out.now) (g.K.Sink.written c.take_all.new.out) (g.K.Sink.pieces c.args.out.now) (g.K.Sink.pieces c.take_all.new.out) before c.requires.start c.new-wild.ensures
     c.steps_before-before.ensures.before c.in_default.ensures.goes in
     let later = c.steps_before-before.ensures.after in
     let earlier : before < c.args.steps = omega (arith, c.steps_before-before.ensures.within, c.if-before-steps.false) in
@@ -67,7 +67,7 @@ returns-in-None-clause-driven g c =
     let strike = c.args.plan.strike in
     let w = c.args.plan.wild.now in
     let before = c.steps_before-before.result in
-    let there = reached_first o strike w c.new-wild.result c.args.machine.now c.take_all.new.machine c.take_all.new.wild (g.K.Sink.written c.args.out.now) (g.K.Sink.written c.take_all.new.out) (g.K.Sink.puts c.args.out.now) (g.K.Sink.puts c.take_all.new.out) before c.requires.start c.new-wild.ensures
+    let there = reached_first o strike w c.new-wild.result c.args.machine.now c.take_all.new.machine c.take_all.new.wild (g.K.Sink.written c.args.out.now) (g.K.Sink.written c.take_all.new.out) (g.K.Sink.pieces c.args.out.now) (g.K.Sink.pieces c.take_all.new.out) before c.requires.start c.new-wild.ensures
     c.steps_before-before.ensures.before c.in_default.ensures.goes in
     let later = c.steps_before-before.ensures.after in
     let earlier : before < c.args.steps = omega (arith, c.steps_before-before.ensures.within, c.if-before-steps.false) in

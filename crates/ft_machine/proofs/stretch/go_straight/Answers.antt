@@ -1,6 +1,6 @@
 use Rattle.std.proofs.Common.{◌≡◌, ℕ, ◌+◌, ◌-◌, ◌*◌, Option, None, refl, sym, subst, ◌∙◌, arith}
 use Rattle.ft_isa.specs.declared.instr.Instr.{Instr}
-use Rattle.ft_types.specs.declared.status.Status.TheVariants as status
+use Rattle.ft_semantics.specs.declared.status.Status.TheVariants as status
 use Rattle.ft_machine.specs.declared.bank.Effect.TheVariants as effects
 use Rattle.ft_machine.specs.declared.machine.Stepped.TheVariants.{Quiet, Commit, Done, Detected}
 use Rattle.ft_machine.specs.Effects.{doing}

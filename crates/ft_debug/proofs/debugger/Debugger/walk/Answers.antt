@@ -1,5 +1,5 @@
 use Rattle.std.proofs.Common.{◌≡◌, ◌&&◌, not, true, false, refl, ap, sym, ◌∙◌, arith}
-use Rattle.ft_types.specs.Strike.{is_running}
+use Rattle.ft_semantics.specs.Strike.{is_running}
 use Rattle.ft_debug.specs.Inside.{halting}
 use Rattle.ft_debug.specs.Sessions.{walks}
 use Rattle.ft_debug.proofs.Advanced.{walked_none, walked_more, walk_halts, walk_ends, walk_breaks, does_err}
@@ -10,8 +10,8 @@ loop-init g c = record {
   ready = c.requires.ready;
   breaks = refl;
   position = omega arith;
-  faults = refl;
-  walked = walked_none (g.P.Program.object c.args.program.now) (halting c.args.halts c.args.self.now.breaks) c.args.count c.args.self.now (g.K.Sink.written c.args.out.now) (g.K.Sink.puts c.args.out.now);
+  failures = refl;
+  walked = walked_none (g.P.Program.object c.args.program.now) (halting c.args.halts c.args.self.now.breaks) c.args.count c.args.self.now (g.K.Sink.written c.args.out.now) (g.K.Sink.pieces c.args.out.now);
 }
 
 pub returns-then-not-goes_on-clause-does : goal.returns-then-not-goes_on-clause-does
@@ -39,7 +39,7 @@ loop-preserved g c =
       ready = c.advance.ensures.ready;
       breaks = c.advance.ensures.breaks ∙ c.loop.invariant.breaks;
       position = (let before = c.loop.invariant.position in let more = c.advance.ensures.position in omega arith);
-      faults = c.in_ok-advance.ensures.cause ∙ c.loop.invariant.faults;
+      failures = c.in_ok-advance.ensures.cause ∙ c.loop.invariant.failures;
       walked = walked_more o h c.args.count c.loop.counter c.args.self.now c.loop.self c.advance.new.self _ _ _ _ _ _ c.loop-test.true on c.loop.invariant.walked c.in_ok-advance.ensures.does;
     }
 

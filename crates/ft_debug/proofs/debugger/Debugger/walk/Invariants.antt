@@ -10,6 +10,6 @@ invariant-loop g l =
       ready : Ready o l.self;
       breaks : l.self.breaks ≡ l.fn.self.breaks;
       position : l.self.present.position ≡ l.fn.self.present.position + l.counter;
-      faults : g.K.Sink.faults l.out ≡ g.K.Sink.faults l.fn.out;
-      walked : Walked o (halting l.halts l.fn.self.breaks) l.count l.counter l.fn.self l.self (g.K.Sink.written l.fn.out) (g.K.Sink.written l.out) (g.K.Sink.puts l.fn.out) (g.K.Sink.puts l.out);
+      failures : g.K.Sink.failures l.out ≡ g.K.Sink.failures l.fn.out;
+      walked : Walked o (halting l.halts l.fn.self.breaks) l.count l.counter l.fn.self l.self (g.K.Sink.written l.fn.out) (g.K.Sink.written l.out) (g.K.Sink.pieces l.fn.out) (g.K.Sink.pieces l.out);
     }

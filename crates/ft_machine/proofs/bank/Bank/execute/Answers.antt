@@ -1,7 +1,7 @@
 use Rattle.std.proofs.Common.{ℕ, sym, subst}
 use Rattle.ft_isa.specs.Words.{apply}
-use Rattle.ft_types.specs.Step.{execute, writes}
-use Rattle.ft_types.specs.State.{held}
+use Rattle.ft_semantics.specs.Step.{execute, writes}
+use Rattle.ft_semantics.specs.State.{held}
 use Rattle.ft_machine.specs.Effects.{Does, DoesQuietly}
 use Rattle.ft_machine.proofs.bank.Bank.execute.Goals as goal
 

@@ -1,5 +1,5 @@
 use Rattle.std.proofs.Common.{ap, ◌∙◌}
-use Rattle.ft_types.specs.Step.{found}
+use Rattle.ft_semantics.specs.Step.{found}
 use Rattle.ft_machine.specs.Effects.{doing}
 use Rattle.ft_machine.proofs.Banks.{load_found}
 use Rattle.ft_machine.proofs.bank.Bank.load.Goals as goal

@@ -1,7 +1,7 @@
 use Rattle.std.proofs.Common.{ℕ, subst}
 use Rattle.ft_isa.specs.declared.colour.Coloured.{Coloured}
 use Rattle.ft_isa.specs.Words.{apply}
-use Rattle.ft_types.specs.Step.{writes}
+use Rattle.ft_semantics.specs.Step.{writes}
 use Rattle.ft_machine.specs.Effects.{DoesQuietly}
 use Rattle.ft_machine.proofs.bank.Bank.operate.Goals as goal
 

@@ -1,6 +1,6 @@
 use Rattle.std.proofs.Common.{sym, subst, ◌∙◌}
-use Rattle.ft_types.specs.Step.{store_blue}
-use Rattle.ft_types.specs.State.{held}
+use Rattle.ft_semantics.specs.Step.{store_blue}
+use Rattle.ft_semantics.specs.State.{held}
 use Rattle.ft_machine.specs.Effects.{DoesQuietly}
 use Rattle.ft_machine.proofs.Banks.{store_commits}
 use Rattle.ft_machine.proofs.bank.Bank.store_blue.Goals as goal

@@ -1,5 +1,5 @@
 use Rattle.std.proofs.Common.{length, sym, ap, ◌∙◌}
-use Rattle.ft_types.specs.State.{is_cell}
+use Rattle.ft_semantics.specs.State.{is_cell}
 use Rattle.ft_machine.proofs.Arrayed.{as_many_words}
 use Rattle.ft_machine.proofs.cells.Cells.copy_from.Goals as goal
 

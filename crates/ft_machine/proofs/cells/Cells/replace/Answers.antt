@@ -1,5 +1,5 @@
 use Rattle.std.proofs.Common.{sym, ap, subst, ◌∙◌, ◌-◌, ◌<◌}
-use Rattle.ft_types.specs.State.{is_cell, with_cell}
+use Rattle.ft_semantics.specs.State.{is_cell, with_cell}
 use Rattle.ft_machine.proofs.Arrayed.{within, cell_put}
 use Rattle.ft_machine.proofs.cells.Cells.replace.Goals as goal
 

@@ -1,6 +1,6 @@
 use Rattle.std.proofs.Common.{ap, ◌∙◌, length}
 use Rattle.ft_types.specs.Objects.{init_of}
-use Rattle.ft_types.specs.State.{is_cell}
+use Rattle.ft_semantics.specs.State.{is_cell}
 use Rattle.ft_machine.proofs.Tabulated.{cells_there}
 use Rattle.ft_machine.proofs.machine.Machine.new.Goals as goal
 

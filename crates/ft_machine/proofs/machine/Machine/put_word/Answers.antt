@@ -1,7 +1,7 @@
 use Rattle.std.proofs.Common.{sym, ap, ◌∙◌}
 use Rattle.ft_isa.specs.declared.plan.Site.TheVariants.{QAddr, QVal}
-use Rattle.ft_types.specs.State.{State}
-use Rattle.ft_types.specs.Strike.{struck_state}
+use Rattle.ft_semantics.specs.State.{State}
+use Rattle.ft_semantics.specs.Strike.{struck_state}
 use Rattle.ft_machine.specs.Inside.{state_of}
 use Rattle.ft_machine.proofs.Rows.{strike_address, strike_value}
 use Rattle.ft_machine.proofs.machine.Machine.put_word.Goals as goal

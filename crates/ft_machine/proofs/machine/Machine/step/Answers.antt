@@ -1,6 +1,6 @@
 use Rattle.std.proofs.Common.{ap, ◌∙◌}
-use Rattle.ft_types.specs.declared.status.Status.TheVariants.{Running}
-use Rattle.ft_types.specs.State.{State, is_cell}
+use Rattle.ft_semantics.specs.declared.status.Status.TheVariants.{Running}
+use Rattle.ft_semantics.specs.State.{State, is_cell}
 use Rattle.ft_machine.proofs.Steps.{step_at_is_proper}
 use Rattle.ft_machine.proofs.machine.Machine.step.Goals as goal
 

@@ -1,5 +1,5 @@
 use Rattle.std.proofs.Common.{sym, ap, ◌∙◌}
-use Rattle.ft_types.specs.State.{held}
+use Rattle.ft_semantics.specs.State.{held}
 use Rattle.ft_machine.proofs.Arrayed.{register_read}
 use Rattle.ft_machine.proofs.registers.Registers.get.Goals as goal
 

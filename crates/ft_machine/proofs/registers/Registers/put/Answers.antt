@@ -1,5 +1,5 @@
 use Rattle.std.proofs.Common.{rules, ap, ◌∙◌}
-use Rattle.ft_types.specs.State.{with_held}
+use Rattle.ft_semantics.specs.State.{with_held}
 use Rattle.ft_machine.proofs.Arrayed.{register_put}
 use Rattle.ft_machine.proofs.registers.Registers.put.Goals as goal
 

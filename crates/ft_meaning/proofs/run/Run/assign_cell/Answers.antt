@@ -3,6 +3,7 @@ use Rattle.std.specs.Io.KnownBytes.{append_known}
 use Rattle.ft_isa.specs.Words.{cell_address}
 use Rattle.ft_isa.specs.declared.output.Output.{Output}
 use Rattle.ft_edge.specs.Causes.{AddsPrefix}
+use Rattle.ft_edge.specs.Told.{append_told}
 use Rattle.ft_meaning.specs.Runs.{sink_of}
 use Rattle.ft_meaning.proofs.Sinks.{names_length, name_found, room_for, line_is, told_push, breaks_here}
 use Rattle.ft_meaning.proofs.run.Run.assign_cell.Goals as goal
@@ -25,8 +26,8 @@ returns-in-Err-clause-runs g c = λ first o w is.
     let here : c.args.k < length ns = omega (arith, c.requires.fits, c.requires.ready.as_many, names_length ns) in
     let x : Output = record { addr = cell_address c.args.k; value = c.args.word } in
     let same = line_is names c.args.k c.args.word (get_or ns c.args.k d).now (name_found ns c.args.k d here) in
-    breaks_here names first (sink_of (g.K.Sink.written c.args.out.now) (g.K.Sink.puts c.args.out.now)) (sink_of (g.K.Sink.written c.put_line.new.out) (g.K.Sink.puts c.put_line.new.out)) o (o ++ x ∷ []) x is
-    (subst (AddsPrefix (g.K.Sink.written c.args.out.now) (g.K.Sink.written c.put_line.new.out)) (sym same) c.in-Err.ensures.err) c.in-Err.ensures.puts refl
+    breaks_here names first (sink_of (g.K.Sink.written c.args.out.now) (g.K.Sink.pieces c.args.out.now)) (sink_of (g.K.Sink.written c.put_line.new.out) (g.K.Sink.pieces c.put_line.new.out)) o (o ++ x ∷ []) x is
+    (subst (AddsPrefix (g.K.Sink.written c.args.out.now) (g.K.Sink.written c.put_line.new.out)) (sym same) c.in-Err.ensures.err) (c.in-Err.ensures.pieces ∙ ap (λ (l : List ℕ). append_told (g.K.Sink.pieces c.args.out.now) (l ∷ [])) (sym same)) refl
 
 pub returns-clause-runs : goal.returns-clause-runs
 returns-clause-runs g c = λ first o w is.
@@ -39,6 +40,6 @@ returns-clause-runs g c = λ first o w is.
       o ++ x ∷ [],
       w,
       refl,
-      told_push names first (sink_of (g.K.Sink.written c.args.out.now) (g.K.Sink.puts c.args.out.now)) (sink_of (g.K.Sink.written c.put_line.new.out) (g.K.Sink.puts c.put_line.new.out)) o x is
-          (c.in-Ok.ensures.ok ∙ ap (append_known (g.K.Sink.written c.args.out.now)) (sym same)) c.in-Ok.ensures.puts,
+      told_push names first (sink_of (g.K.Sink.written c.args.out.now) (g.K.Sink.pieces c.args.out.now)) (sink_of (g.K.Sink.written c.put_line.new.out) (g.K.Sink.pieces c.put_line.new.out)) o x is
+          (c.in-Ok.ensures.ok ∙ ap (append_known (g.K.Sink.written c.args.out.now)) (sym same)) (c.in-Ok.ensures.pieces ∙ ap (λ (l : List ℕ). append_told (g.K.Sink.pieces c.args.out.now) (l ∷ [])) (sym same)),
     )
