@@ -9,7 +9,7 @@ use Rattle.ft_isa.specs.declared.instr.Instr.TheVariants.{OpReg, OpWord, Mov, Ld
 use Rattle.ft_static.specs.Form.{updates}
 use Rattle.ft_types.specs.declared.object.Object.{Object}
 use Rattle.ft_types.specs.declared.object.Block.{Block}
-use Rattle.ft_types.specs.Context.{Context}
+use Rattle.ft_typing.specs.Context.{Context}
 use Rattle.ft_types.specs.Objects.{block_end, start_of}
 use Rattle.ft_types.specs.Spellable.{IsSpellable, BeginAtZero}
 use Rattle.ft_contexts.specs.Costs.{tree_cost}

@@ -4,12 +4,12 @@ use Rattle.std.specs.Option.{option_or, option_map, unwrap_or}
 use Rattle.ft_isa.specs.declared.instr.Instr.{Instr}
 use Rattle.ft_types.specs.declared.object.Object.{Object}
 use Rattle.ft_types.specs.declared.object.Block.{Block}
-use Rattle.ft_types.specs.Accepted.{Refusal, after_row, walk, first_refusal, has_none, cell_refusal, block_refusal, is_entry_type, refusal}
+use Rattle.ft_typing.specs.Accepted.{Refusal, after_row, walk, first_refusal, has_none, cell_refusal, block_refusal, is_entry_type, refusal}
 use Rattle.ft_types.specs.declared.object.Cell.{Cell}
 use Rattle.ft_types.specs.declared.object.CellHead.{CellHead}
-use Rattle.ft_types.specs.TypedWord.{has_type}
-use Rattle.ft_types.specs.Accepted as refusals
-use Rattle.ft_types.specs.Context.{Context, start_context}
+use Rattle.ft_typing.specs.TypedWord.{has_type}
+use Rattle.ft_typing.specs.Accepted as refusals
+use Rattle.ft_typing.specs.Context.{Context, start_context}
 use Rattle.ft_checker.specs.declared.error.CheckError.{CheckError}
 use Rattle.ft_checker.specs.declared.error.CheckError.TheVariants.{EntryType, CellType, Refused, NoMemory}
 use Rattle.ft_static.specs.Form.{Form as Normal, updates}
@@ -20,9 +20,10 @@ use Rattle.ft_checker.specs.Judges.{IsRefusalOf, IsStart, Judges}
 use Rattle.std.specs.Prelude.{IfSome}
 use Rattle.std.specs.Result.{IsErrAnd}
 use Rattle.ft_types.specs.Objects.{cell_head_of, start_of, code_type_of, block_type, block_end, block_start, block_instrs}
-use Rattle.ft_types.specs.Premise.{Premise, BlockEnd}
+use Rattle.ft_typing.specs.Premise.{Premise}
+use Rattle.ft_typing.specs.declared.why.Why.TheVariants.{BlockEnd}
 use Rattle.ft_types.specs.Spellable.{AreBlocks, IsSpellable}
-use Rattle.ft_types.specs.TypingRow.{Outcome, Goes, Ends, Fails, row}
+use Rattle.ft_typing.specs.TypingRow.{Outcome, Goes, Ends, Fails, row}
 use Rattle.ft_contexts.proofs.Lists.{drop_there, drop_all, range_there, range_past}
 
 -- after a row that goes on

@@ -1,25 +1,24 @@
 -- What the answers of the checker say of an object.
 use Rattle.std.specs.Prelude.{◌≡◌, ◌≤◌, ℕ, List, length, Bool, true, false, Option, Some, None, Result, Ok, Err}
-use Rattle.ft_types.specs.Accepted.{Refusal, IsAccepted}
+use Rattle.ft_typing.specs.Accepted.{Refusal, IsAccepted}
 use Rattle.ft_types.specs.Spellable.{IsSpellable}
 use Rattle.ft_types.specs.declared.object.Object.{Object}
-use Rattle.ft_types.specs.Accepted as refusals
-use Rattle.ft_types.specs.Premise.{Premise}
+use Rattle.ft_typing.specs.Accepted as refusals
+use Rattle.ft_typing.specs.Premise.{Premise}
 use Rattle.ft_rules.specs.declared.why.RuleError.{RuleError}
 use Rattle.ft_rules.specs.declared.why.RuleError.TheVariants as rule
-use Rattle.ft_rules.specs.Answers.{premise_of}
 use Rattle.ft_checker.specs.declared.error.CheckError.{CheckError}
 use Rattle.ft_checker.specs.declared.error.CheckError.TheVariants.{EntryType, CellType, Refused, NoMemory}
 use Rattle.ft_checker.specs.declared.blocks.Start.{Start}
 use Rattle.ft_static.specs.Form.{Form as Normal, updates}
-use Rattle.ft_types.specs.Context.{start_context}
+use Rattle.ft_typing.specs.Context.{start_context}
 use Rattle.ft_contexts.specs.Contexts.{HoldsForms, NamesTypes, context_in, pending_count}
 
 -- what an error says: which refusal it is; out of memory says nothing
 abbrev pub IsRefusalOf : Option Refusal → CheckError → Type 0
 IsRefusalOf x EntryType = x ≡ Some refusals.EntryType
 IsRefusalOf x (CellType k) = x ≡ Some (refusals.CellType k)
-IsRefusalOf x (Refused b i why) = x ≡ Some (refusals.Refused b i (premise_of why))
+IsRefusalOf x (Refused b i why) = x ≡ Some (refusals.Refused b i why)
 IsRefusalOf x NoMemory = Unit {0}
 
 -- what an answer says: nothing is refused, or this is
@@ -29,7 +28,7 @@ Judges x (Err e) = IsRefusalOf x e
 
 -- what an error of an instruction says of what the walk of its block gives from there, at instruction k, on
 abbrev pub StopsAt : Option (ℕ × Premise) → ℕ → RuleError → Type 0
-StopsAt x k (rule.Refused why) = x ≡ Some (k, premise_of why)
+StopsAt x k (rule.Refused why) = x ≡ Some (k, why)
 StopsAt x k rule.NoMemory = Unit {0}
 
 -- what it says whether the block has ended: the walk refuses nothing, or it goes on

@@ -3,12 +3,12 @@ ghost use Rattle.std.specs.Prelude.{◌≡◌, ◌+◌, ◌*◌, ◌<◌, ◌≤
 ghost use Rattle.std.specs.Option.{option_map};
 ghost use Rattle.ft_isa.specs.declared.instr.Instr.{Instr as Instruction};
 ghost use Rattle.ft_norm.specs.Held.{Keeps};
-ghost use Rattle.ft_types.specs.Accepted.{Refused, after_row, block_refusal, first_refusal, has_none, walk};
-ghost use Rattle.ft_types.specs.Context.{Context as Defined, start_context};
+ghost use Rattle.ft_typing.specs.Accepted.{Refused, after_row, block_refusal, first_refusal, has_none, walk};
+ghost use Rattle.ft_typing.specs.Context.{Context as Defined, start_context};
 ghost use Rattle.ft_types.specs.Objects.{block_end, block_instrs};
-ghost use Rattle.ft_types.specs.Premise.{Premise};
+ghost use Rattle.ft_typing.specs.Premise.{Premise};
 ghost use Rattle.ft_types.specs.Spellable.{IsSpellable};
-ghost use Rattle.ft_types.specs.TypingRow.{row};
+ghost use Rattle.ft_typing.specs.TypingRow.{row};
 ghost use Rattle.ft_types.specs.declared.object.Block.{Block as Started};
 ghost use Rattle.ft_rules.specs.Answers.{Grows, IsInstrOf, rule_cost};
 ghost use Rattle.ft_contexts.specs.Contexts.{HoldsForms, HoldsOwn, NamesTypes, context_in};

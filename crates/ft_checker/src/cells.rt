@@ -1,6 +1,6 @@
 //! The initial words of the cells.
 ghost use Rattle.std.specs.Prelude.{◌≡◌};
-ghost use Rattle.ft_types.specs.Accepted.{cell_refusal, first_refusal};
+ghost use Rattle.ft_typing.specs.Accepted.{cell_refusal, first_refusal};
 ghost use Rattle.ft_types.specs.Spellable.{IsSpellable};
 ghost use Rattle.ft_checker.specs.Judges.{Judges};
 

@@ -1,6 +1,6 @@
 //! Checked programs.
 ghost use Rattle.std.specs.Prelude.{◌≡◌};
-ghost use Rattle.ft_types.specs.Accepted.{IsAccepted};
+ghost use Rattle.ft_typing.specs.Accepted.{IsAccepted};
 ghost use Rattle.ft_types.specs.Spellable.{IsSpellable};
 ghost use Rattle.ft_checker.specs.Judges.{IsChecked};
 

@@ -1,6 +1,6 @@
 //! The code type with which a run begins.
 ghost use Rattle.std.specs.Prelude.{◌≡◌, ◌<◌, ◌==◌, ◌&&◌, length, slice_get};
-ghost use Rattle.ft_types.specs.Accepted.{is_entry_type, is_memory_variable};
+ghost use Rattle.ft_typing.specs.Accepted.{is_entry_type, is_memory_variable};
 ghost use Rattle.ft_types.specs.Spellable.{IsSpellable};
 
 use ft_static::Shape;

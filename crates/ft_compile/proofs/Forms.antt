@@ -13,7 +13,7 @@ use Rattle.ft_static.specs.NodeRules.{AreNodes}
 use Rattle.ft_static.specs.NodeTree.{integer_part, memory_part}
 use Rattle.ft_static.proofs.NodeTrees.{tree_at-row}
 use Rattle.ft_types.specs.declared.object.Object.{Object}
-use Rattle.ft_types.specs.Context.{Replacement, integer_form_of, memory_form_of, integer_form_after, memory_form_after}
+use Rattle.ft_typing.specs.Context.{Replacement, integer_form_of, memory_form_of, integer_form_after, memory_form_after}
 use Rattle.ft_dup.specs.Images.{register_zero, green, blue}
 use Rattle.ft_compile.specs.Emitted.{node}
 

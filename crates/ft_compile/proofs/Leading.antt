@@ -23,17 +23,18 @@ use Rattle.ft_static.proofs.Under.{get_or-map}
 use Rattle.ft_static.proofs.Equal.{equal_updates}
 use Rattle.ft_types.specs.declared.object.Object.{Object}
 use Rattle.ft_types.specs.declared.object.RegType.{RegType}
-use Rattle.ft_types.specs.Accepted.{Applies, last_row, next_row}
+use Rattle.ft_typing.specs.Accepted.{Applies, last_row, next_row}
 use Rattle.ft_types.specs.Objects.{reg_rows, queue_rows, ints_of, memory_of, scope_of, scope_of_node}
-use Rattle.ft_types.specs.Context.{Typed, d_zero, d_code, d_conditional, Context, typed, with_type, rows_of, replacement, typed_row, registers_after, start_context, integer_form_of, memory_form_of, integer_form_after, memory_form_after, queue_pair, FormPair, TypedRegisters}
-use Rattle.ft_types.specs.TypedWord.{int, has_type, is_seen_as, same_basic}
-use Rattle.ft_types.specs.TypingRow.{Outcome, Goes, Ends, same_colour, need, for_typed, for_code_over, for_zero, for_target, for_conditional, is_like, are_like, is_queue_like, is_annotated, is_empty, leads, row}
+use Rattle.ft_typing.specs.Context.{Typed, d_zero, d_code, d_conditional, Context, typed, with_type, rows_of, replacement, typed_row, registers_after, start_context, integer_form_of, memory_form_of, integer_form_after, memory_form_after, queue_pair, FormPair, TypedRegisters}
+use Rattle.ft_isa.specs.BasicTypes.{code, int, ref}
+use Rattle.ft_typing.specs.TypedWord.{has_type, is_seen_as, same_basic}
+use Rattle.ft_typing.specs.TypingRow.{Outcome, Goes, Ends, same_colour, need, for_typed, for_code_over, for_zero, for_target, for_conditional, is_like, are_like, is_queue_like, is_annotated, is_empty, leads, row}
 use Rattle.ft_types.proofs.Maps.{get-insert}
 use Rattle.ft_lower.specs.declared.step3.Step3.{Step3}
 use Rattle.ft_lower.specs.declared.step3.Step3.TheVariants.{Put, Copy, Op, Load, Store, Exit, Go, Stop}
 use Rattle.ft_lower.specs.Size.{pairs_of}
 use Rattle.ft_lower.specs.Well.{Known, forget, known_after, known_first, is_last, IsBlock, KeepsVariables, IsTarget, StepFits, ReadsKnown, RowIsWell}
-use Rattle.ft_dup.specs.Images.{green, blue, code_one, ref_int}
+use Rattle.ft_dup.specs.Images.{green, blue}
 use Rattle.ft_compile.specs.Emitted.{Noted, node, with_jump, jump_subst, step_noted, row_noted, first_pairs, scope_of_block, variable_node, at_first, green_row, blue_row}
 use Rattle.ft_compile.proofs.Lists.{Starts, starts_trans, get_starts}
 use Rattle.ft_compile.proofs.Named.{IsNamed, IsLawful, step_lawful}
@@ -179,22 +180,22 @@ module _ (o : Object) (vars : ℕ) (T : HasTypes o vars) (scope : ℕ) (pairs : 
 -- JUMPS
 
 -- the row of a green branch, where d is 0
-branch_green_row : (o : Object) (c : Context) (rz rd : Reg) (z a : Polynomial) → typed c rz.number ≡ Some (ty Green int z) → typed c rd.number ≡ Some (ty Green code_one a) → c.d ≡ d_zero → row o c (instr.BzG rz rd) ≡ Goes (record c { d = d_conditional z 1 a })
+branch_green_row : (o : Object) (c : Context) (rz rd : Reg) (z a : Polynomial) → typed c rz.number ≡ Some (ty Green int z) → typed c rd.number ≡ Some (ty Green (code 1) a) → c.d ≡ d_zero → row o c (instr.BzG rz rd) ≡ Goes (record c { d = d_conditional z 1 a })
 unfolding need for_typed for_code_over for_zero same_colour
 branch_green_row o c rz rd z a hz hd d = rw (hz, hd, d) refl
 
 -- that of a blue one after it
-branch_blue_row : (o : Object) (c : Context) (rz rd : Reg) (u : Subst) (z a : Polynomial) → typed c rz.number ≡ Some (ty Blue int z) → typed c rd.number ≡ Some (ty Blue code_one a) → leads o u 1 (record c { d = d_conditional z 1 a }) (Goes (record c { d = d_zero })) ≡ Goes (record c { d = d_zero }) → row o (record c { d = d_conditional z 1 a }) (instr.BzB rz rd u) ≡ Goes (record c { d = d_zero })
+branch_blue_row : (o : Object) (c : Context) (rz rd : Reg) (u : Subst) (z a : Polynomial) → typed c rz.number ≡ Some (ty Blue int z) → typed c rd.number ≡ Some (ty Blue (code 1) a) → leads o u 1 (record c { d = d_conditional z 1 a }) (Goes (record c { d = d_zero })) ≡ Goes (record c { d = d_zero }) → row o (record c { d = d_conditional z 1 a }) (instr.BzB rz rd u) ≡ Goes (record c { d = d_zero })
 unfolding need for_typed for_code_over for_conditional same_colour
 branch_blue_row o c rz rd u z a hz hd l = rw (hz, hd) (rw (same_itself z) (rw (same_itself a) l))
 
 -- the row of a green jump, where d is 0
-jump_green_row : (o : Object) (c : Context) (rd : Reg) (a : Polynomial) → typed c rd.number ≡ Some (ty Green code_one a) → c.d ≡ d_zero → row o c (instr.JmpG rd) ≡ Goes (record c { d = d_code 1 a })
+jump_green_row : (o : Object) (c : Context) (rd : Reg) (a : Polynomial) → typed c rd.number ≡ Some (ty Green (code 1) a) → c.d ≡ d_zero → row o c (instr.JmpG rd) ≡ Goes (record c { d = d_code 1 a })
 unfolding need for_typed for_code_over for_zero same_colour
 jump_green_row o c rd a hd d = rw (hd, d) refl
 
 -- that of a blue one after it
-jump_blue_row : (o : Object) (c : Context) (rd : Reg) (u : Subst) (a : Polynomial) → typed c rd.number ≡ Some (ty Blue code_one a) → leads o u 1 (record c { d = d_code 1 a }) Ends ≡ Ends → row o (record c { d = d_code 1 a }) (instr.JmpB rd u) ≡ Ends
+jump_blue_row : (o : Object) (c : Context) (rd : Reg) (u : Subst) (a : Polynomial) → typed c rd.number ≡ Some (ty Blue (code 1) a) → leads o u 1 (record c { d = d_code 1 a }) Ends ≡ Ends → row o (record c { d = d_code 1 a }) (instr.JmpB rd u) ≡ Ends
 unfolding need for_typed for_code_over for_target same_colour
 jump_blue_row o c rd u a hd l = rw hd (rw (same_itself a) l)
 
@@ -209,8 +210,8 @@ passes_applies o c d [] js p a = subst (λ e. Applies o e js) (sym p) a
 passes_applies o c d (i ∷ is) js p a = next_row p.0 p.1 (passes_applies o p.0 d is js p.2 a)
 
 module _ (o : Object) (vars : ℕ) (T : HasTypes o vars) (cells blocks : ℕ) (start : ℕ → ℕ) (small : cells ≤ 1024)
-    (refs : (c : ℕ) → c < cells → has_type o (cell_address c) ref_int ≡ true)
-    (targets : (b : ℕ) → IsTarget blocks b → has_type o (code_address (start b)) code_one ≡ true) where
+    (refs : (c : ℕ) → c < cells → has_type o (cell_address c) (ref int) ≡ true)
+    (targets : (b : ℕ) → IsTarget blocks b → has_type o (code_address (start b)) (code 1) ≡ true) where
   -- what a jump's substitution puts, where its rows are among all
   puts_these : (scope : ℕ) (w : Noted) → length w.pairs ≡ 32 → Starts (with_jump vars w).rows o.substs → PutsThese o vars T scope w.pairs w.memory (jump_subst vars w)
   puts_these scope w many s =
@@ -239,27 +240,27 @@ module _ (o : Object) (vars : ℕ) (T : HasTypes o vars) (cells blocks : ℕ) (s
       let u = jump_subst vars w in
       let keeps = reads.2 in
       let t = targets to fits in
-      let c2 = both spare code_one a c in
+      let c2 = both spare (code 1) a c in
       let c3 = record c2 { d = d_conditional y 1 a } in
       let c4 = record c3 { d = d_zero } in
-      let g2 = good_forget o scope k w.pairs w.memory c spare code_one a ls G in
+      let g2 = good_forget o scope k w.pairs w.memory c spare (code 1) a ls G in
       let free : (x : ℕ) → x < vars → x ≢ spare = λ x lt e. let f = keeps.free in omega arith in
       let holds : (x : ℕ) → x < vars → (typed c3 (green x).number ≡ Some (ty Green int (integer_form_of o (slice_index w.pairs x)))) × (typed c3 (blue x).number ≡ Some (ty Blue int (integer_form_of o (slice_index w.pairs x)))) = λ x lt.
-      (other_green spare x code_one a c ls (G.small x (keeps.known x lt)) (free x lt) ∙ G.green_pair x (keeps.known x lt), other_blue spare x code_one a c ls (G.small x (keeps.known x lt)) (free x lt) ∙ G.blue_pair x (keeps.known x lt)) in
+      (other_green spare x (code 1) a c ls (G.small x (keeps.known x lt)) (free x lt) ∙ G.green_pair x (keeps.known x lt), other_blue spare x (code 1) a c ls (G.small x (keeps.known x lt)) (free x lt) ∙ G.blue_pair x (keeps.known x lt)) in
       record {
         after = c4;
         passes = (
           _,
-          mov_row o c (green spare) v Green code_one t,
+          mov_row o c (green spare) v Green (code 1) t,
           (
             _,
-            mov_row o (with_type (green spare).number (ty Green code_one a) c) (blue spare) v Blue code_one t,
+            mov_row o (with_type (green spare).number (ty Green (code 1) a) c) (blue spare) v Blue (code 1) t,
             (
               c3,
-              branch_green_row o c2 (green q) (green spare) y a (other_green spare q code_one a c ls lq reads.1 ∙ G.green_pair q reads.0) (both_green spare code_one a c ls) G.zero,
+              branch_green_row o c2 (green q) (green spare) y a (other_green spare q (code 1) a c ls lq reads.1 ∙ G.green_pair q reads.0) (both_green spare (code 1) a c ls) G.zero,
               (
                 c4,
-                branch_blue_row o c2 (blue q) (blue spare) u y a (other_blue spare q code_one a c ls lq reads.1 ∙ G.blue_pair q reads.0) (both_blue spare code_one a c)
+                branch_blue_row o c2 (blue q) (blue spare) u y a (other_blue spare q (code 1) a c ls lq reads.1 ∙ G.blue_pair q reads.0) (both_blue spare (code 1) a c)
                     (leads_on o vars T scope w.pairs w.memory u (puts_these scope w G.many s) k (length w.nodes) spare c3 (Goes c4) h keeps holds G.ints G.queue G.memory_is),
                 refl,
               ),
@@ -285,16 +286,16 @@ module _ (o : Object) (vars : ℕ) (T : HasTypes o vars) (cells blocks : ℕ) (s
       let a = constant v in
       let u = jump_subst vars w in
       let t = targets to fits in
-      let c1 = with_type (green spare).number (ty Green code_one a) c in
-      let c2 = both spare code_one a c in
+      let c1 = with_type (green spare).number (ty Green (code 1) a) c in
+      let c2 = both spare (code 1) a c in
       let c3 = record c2 { d = d_code 1 a } in
       let free : (x : ℕ) → x < vars → x ≢ spare = λ x lt e. let f = keeps.free in omega arith in
       let holds : (x : ℕ) → x < vars → (typed c3 (green x).number ≡ Some (ty Green int (integer_form_of o (slice_index w.pairs x)))) × (typed c3 (blue x).number ≡ Some (ty Blue int (integer_form_of o (slice_index w.pairs x)))) = λ x lt.
-      (other_green spare x code_one a c ls (G.small x (keeps.known x lt)) (free x lt) ∙ G.green_pair x (keeps.known x lt), other_blue spare x code_one a c ls (G.small x (keeps.known x lt)) (free x lt) ∙ G.blue_pair x (keeps.known x lt)) in
-      next_row c1 (mov_row o c (green spare) v Green code_one t)
-      (next_row c2 (mov_row o c1 (blue spare) v Blue code_one t)
-      (next_row c3 (jump_green_row o c2 (green spare) a (both_green spare code_one a c ls) G.zero)
-      (last_row (jump_blue_row o c2 (blue spare) u a (both_blue spare code_one a c)
+      (other_green spare x (code 1) a c ls (G.small x (keeps.known x lt)) (free x lt) ∙ G.green_pair x (keeps.known x lt), other_blue spare x (code 1) a c ls (G.small x (keeps.known x lt)) (free x lt) ∙ G.blue_pair x (keeps.known x lt)) in
+      next_row c1 (mov_row o c (green spare) v Green (code 1) t)
+      (next_row c2 (mov_row o c1 (blue spare) v Blue (code 1) t)
+      (next_row c3 (jump_green_row o c2 (green spare) a (both_green spare (code 1) a c ls) G.zero)
+      (last_row (jump_blue_row o c2 (blue spare) u a (both_blue spare (code 1) a c)
       (leads_on o vars T scope w.pairs w.memory u (puts_these scope w G.many s) k (length w.nodes) spare c3 Ends h keeps holds G.ints G.queue G.memory_is)))))
 
   -- STEPS AND ROWS

@@ -2,11 +2,11 @@
 use Rattle.std.proofs.Common.{◌≡◌, ◌≢◌, ℕ, zero, suc, ◌+◌, ◌-◌, ◌*◌, ◌≤◌, Bool, true, false, cond, [], ◌++◌, Option, Some, None, inl, inr, refl, sym, ap, ◌∙◌, subst, arith}
 use Rattle.std.specs.Option.{option_to_list}
 use Rattle.std.proofs.lemmas.Bool.{cases_lt}
-use Rattle.ft_types.specs.declared.status.Status.{Status}
-use Rattle.ft_types.specs.declared.status.Status.TheVariants.{Running, Done, Detected}
+use Rattle.ft_semantics.specs.declared.status.Status.{Status}
+use Rattle.ft_semantics.specs.declared.status.Status.TheVariants.{Running, Done, Detected}
 use Rattle.ft_types.specs.declared.object.Object.{Object}
-use Rattle.ft_types.specs.Step.{step, step_at}
-use Rattle.ft_types.specs.Run.{Ran, extended, run}
+use Rattle.ft_semantics.specs.Step.{step, step_at}
+use Rattle.ft_semantics.specs.Run.{Ran, extended, run}
 use Rattle.ft_scope.specs.Resolved.{Program}
 use Rattle.ft_meaning.specs.Meaning.{State, Outcome, Ended, outputs, meaning}
 use Rattle.ft_meaning.specs.Begins.{Begins}

@@ -15,18 +15,19 @@ use Rattle.ft_static.specs.NodeRules.{AreNodes}
 use Rattle.ft_types.specs.declared.object.Object.{Object}
 use Rattle.ft_types.specs.declared.object.Cell.{Cell}
 use Rattle.ft_types.specs.declared.object.Block.{Block}
-use Rattle.ft_types.specs.Accepted.{Applies, IsEntryType}
-use Rattle.ft_types.specs.Context.{start_context}
+use Rattle.ft_typing.specs.Accepted.{Applies, IsEntryType}
+use Rattle.ft_typing.specs.Context.{start_context}
 use Rattle.ft_types.specs.Objects.{name_of, basic_of, start_of as start_of_block, code_type_of, block_type, block_instrs}
 use Rattle.ft_types.specs.Spellable.{IsCell, IsSpellable, Cover, substs_of, IsNodeIn, IsInstr}
-use Rattle.ft_types.specs.TypedWord.{int, cell_of, cell_type, block_at, HasType, has_type}
-use Rattle.ft_types.proofs.TypedWords.{has_type_decides}
+use Rattle.ft_isa.specs.BasicTypes.{code, int, ref}
+use Rattle.ft_typing.specs.TypedWord.{cell_of, cell_type, block_at, HasType, has_type}
+use Rattle.ft_typing.proofs.TypedWords.{has_type_decides}
 use Rattle.ft_lower.specs.Flow.{Blocks}
 use Rattle.ft_lower.specs.Size.{blocks_size}
 use Rattle.ft_lower.specs.Well.{IsTarget, IsWell, known_first}
 use Rattle.ft_dup.specs.Doubles.{bare, init_of_cell, words_of}
 use Rattle.ft_dup.proofs.Places.{starts_length}
-use Rattle.ft_dup.specs.Images.{starts, start_of, doubled, ref_int, code_one}
+use Rattle.ft_dup.specs.Images.{starts, start_of, doubled}
 use Rattle.ft_compile.specs.StandsFor.{IsIntCell}
 use Rattle.ft_compile.specs.Cells.{IsCellName, AreCells}
 use Rattle.ft_compile.specs.Emitted.{Noted, with_subst, substs_left, placed, blocks_at, block_from, cell_from, begun, scope_of_block, blocks_noted, at_first, noted, emitted}
@@ -254,7 +255,7 @@ module _ (names : List (List ℕ)) (inits : List ℕ) (vars : ℕ) (bs : Blocks)
   -- ACCEPTED
 
   -- a cell's address has the type of one
-  refs : (c : ℕ) → c < length inits → has_type o (cell_address c) ref_int ≡ true
+  refs : (c : ℕ) → c < length inits → has_type o (cell_address c) (ref int) ≡ true
   unfolding cell_of
   refs c lt =
       let z : cell_address c - cell_address 0 ≡ c = omega arith in
@@ -262,12 +263,12 @@ module _ (names : List (List ℕ)) (inits : List ℕ) (vars : ℕ) (bs : Blocks)
       ap (λ b. option_map basic_of (if b then slice_get o.cells (cell_address c - cell_address 0) else None)) (le-leb (cell_address 0) (cell_address c) (omega arith))
       ∙ ap (λ k. option_map basic_of (slice_get o.cells k)) z
       ∙ cell_there names inits c C.as_many lt in
-      (has_type_decides o (cell_address c) ref_int).1 e
+      (has_type_decides o (cell_address c) (ref int)).1 e
 
   -- the code address of a jump's target has that of a block of code type 1
-  targets : (b : ℕ) → IsTarget (length bs) b → has_type o (code_address (start b)) code_one ≡ true
+  targets : (b : ℕ) → IsTarget (length bs) b → has_type o (code_address (start b)) (code 1) ≡ true
   unfolding block_at
-  targets b t = (has_type_decides o (code_address (start b)) code_one).1 (target_found bs b some t)
+  targets b t = (has_type_decides o (code_address (start b)) (code 1)).1 (target_found bs b some t)
 
   -- the rows of each block's instructions apply
   rows_apply : (b : ℕ) (w : Noted) (xs : Blocks) → RowsAreFine vars (length inits) (length bs) b xs → Starts (at_first vars).nodes w.nodes → Starts (blocks_noted vars b w xs).nodes o.nodes → Starts (blocks_noted vars b w xs).rows o.substs → IsSound o.nodes o.substs w → (j : ℕ) (r : List Instr) → slice_get (rows_coded vars start b w xs) j ≡ Some r → Applies o (start_context o (type_of_block o vars types (b + j))) r

@@ -10,13 +10,13 @@ use Rattle.ft_isa.specs.declared.instr.Instr.{Instr}
 use Rattle.ft_static.specs.declared.node.Node.{Node}
 use Rattle.ft_static.specs.declared.node.Shape.TheVariants as shape
 use Rattle.ft_types.specs.Spellable.{IsBasic, IsNodeIn, IsRegRow, AreRising, IsQueueRow, IsCodeType, HasCodeType, AreBlocks, BeginAtZero, IsInstr, substs_of, reg_row_count, queue_row_count}
-use Rattle.ft_types.specs.TypedWord.{int}
+use Rattle.ft_isa.specs.BasicTypes.{code, int, ref}
 use Rattle.ft_lower.specs.declared.step3.Step3.{Step3}
 use Rattle.ft_lower.specs.declared.step3.Step3.TheVariants.{Put, Copy, Op, Load, Store, Exit, Go, Stop}
 use Rattle.ft_lower.specs.Flow.{Blocks}
 use Rattle.ft_lower.specs.Size.{row_size, blocks_size}
 use Rattle.ft_lower.specs.Well.{Known, known_after, StepFits, RowIsWell}
-use Rattle.ft_dup.specs.Images.{green, blue, ref_int, code_one, starts_from}
+use Rattle.ft_dup.specs.Images.{green, blue, starts_from}
 use Rattle.ft_compile.specs.Emitted.{Noted, node, jump_subst, step_noted, begun, scope_of_block, variable_node, at_first, green_row, blue_row, entry_type, variables_type, block_from, blocks_at}
 use Rattle.ft_compile.proofs.Lists.{Starts, starts_length, get_starts}
 use Rattle.ft_compile.proofs.Named.{address_is_word}
@@ -32,11 +32,11 @@ int_is_basic : IsBasic 2 int
 int_is_basic = record { refs = omega arith; base = tt }
 
 -- the type of addresses of cells
-ref_int_is_basic : IsBasic 2 ref_int
+ref_int_is_basic : IsBasic 2 (ref int)
 ref_int_is_basic = record { refs = omega arith; base = tt }
 
 -- the type of addresses of blocks
-code_one_is_basic : IsBasic 2 code_one
+code_one_is_basic : IsBasic 2 (code 1)
 code_one_is_basic = record { refs = omega arith; base = omega arith }
 
 module _ (vars : ℕ) (start : ℕ → ℕ) (cells blocks : ℕ) (small : cells ≤ 1024) (words : (b : ℕ) → IsWord (code_address (start b))) where

@@ -8,7 +8,7 @@ use Rattle.ft_isa.specs.declared.reg.Reg.{Reg}
 use Rattle.ft_static.specs.declared.node.Node.{Node}
 use Rattle.ft_types.specs.declared.object.Block.{Block}
 use Rattle.ft_types.specs.declared.object.RegType.{RegType}
-use Rattle.ft_types.specs.TypedWord.{int}
+use Rattle.ft_isa.specs.BasicTypes.{int}
 use Rattle.ft_dup.specs.Images.{green, blue}
 use Rattle.ft_lower.specs.declared.step3.Step3.{Step3}
 use Rattle.ft_lower.specs.declared.step3.Step3.TheVariants.{Put, Copy, Op, Load, Store, Exit, Go, Stop}

@@ -21,15 +21,16 @@ use Rattle.ft_static.specs.NormalForm.{constant, norm_op, norm_sel, norm_upd}
 use Rattle.ft_static.specs.NodeRules.{AreNodes}
 use Rattle.ft_static.proofs.Equal.{equal_polynomials}
 use Rattle.ft_types.specs.declared.object.Object.{Object}
-use Rattle.ft_types.specs.Context.{Typed, d_zero, Context, typed, with_type, integer_form_of, memory_form_of}
-use Rattle.ft_types.specs.TypedWord.{int, has_type, is_seen_as, same_basic}
-use Rattle.ft_types.specs.TypingRow.{Goes, same_colour, need, for_typed, for_ref_over, for_oldest, pending_memory, row}
+use Rattle.ft_typing.specs.Context.{Typed, d_zero, Context, typed, with_type, integer_form_of, memory_form_of}
+use Rattle.ft_isa.specs.BasicTypes.{int, ref}
+use Rattle.ft_typing.specs.TypedWord.{has_type, is_seen_as, same_basic}
+use Rattle.ft_typing.specs.TypingRow.{Goes, same_colour, need, for_typed, for_ref_over, for_oldest, pending_memory, row}
 use Rattle.ft_types.proofs.Maps.{get-insert}
 use Rattle.ft_lower.specs.declared.step3.Step3.{Step3}
 use Rattle.ft_lower.specs.declared.step3.Step3.TheVariants.{Put, Copy, Op, Load, Store, Exit, Go, Stop}
 use Rattle.ft_lower.specs.Size.{pairs_of}
 use Rattle.ft_lower.specs.Well.{Known, learn, forget, known_after, StepFits, ReadsKnown}
-use Rattle.ft_dup.specs.Images.{green, blue, ref_int}
+use Rattle.ft_dup.specs.Images.{green, blue}
 use Rattle.ft_compile.specs.Emitted.{Noted, node, pair_node, step_noted}
 use Rattle.ft_compile.proofs.Lists.{Starts, starts_trans, get_starts, get_last}
 use Rattle.ft_compile.proofs.Named.{learned, kept}
@@ -86,22 +87,22 @@ module _ (o : Object) where
   op_word_row c p rd rs v k a x hs = rw (hs, same_colours k) refl
 
   -- a green load, where nothing waits
-  load_green_row : (c : Context) (rd rs : Reg) (x : Polynomial) → c.queue ≡ [] → typed c rs.number ≡ Some (ty Green ref_int x) → row o c (instr.Ld Green rd rs) ≡ Goes (with_type rd.number (ty Green int (norm_sel c.memory x)) c)
+  load_green_row : (c : Context) (rd rs : Reg) (x : Polynomial) → c.queue ≡ [] → typed c rs.number ≡ Some (ty Green (ref int) x) → row o c (instr.Ld Green rd rs) ≡ Goes (with_type rd.number (ty Green int (norm_sel c.memory x)) c)
   unfolding need for_typed for_ref_over same_colour pending_memory
   load_green_row c rd rs x q hs = rw (hs, q) refl
 
   -- a blue load
-  load_blue_row : (c : Context) (rd rs : Reg) (x : Polynomial) → typed c rs.number ≡ Some (ty Blue ref_int x) → row o c (instr.Ld Blue rd rs) ≡ Goes (with_type rd.number (ty Blue int (norm_sel c.memory x)) c)
+  load_blue_row : (c : Context) (rd rs : Reg) (x : Polynomial) → typed c rs.number ≡ Some (ty Blue (ref int) x) → row o c (instr.Ld Blue rd rs) ≡ Goes (with_type rd.number (ty Blue int (norm_sel c.memory x)) c)
   unfolding need for_typed for_ref_over same_colour
   load_blue_row c rd rs x hs = rw hs refl
 
   -- a green store, where nothing waits
-  store_green_row : (c : Context) (rd rs : Reg) (a x : Polynomial) → c.queue ≡ [] → typed c rd.number ≡ Some (ty Green ref_int a) → typed c rs.number ≡ Some (ty Green int x) → row o c (instr.St Green rd rs) ≡ Goes (record c { queue = (a, x) ∷ [] })
+  store_green_row : (c : Context) (rd rs : Reg) (a x : Polynomial) → c.queue ≡ [] → typed c rd.number ≡ Some (ty Green (ref int) a) → typed c rs.number ≡ Some (ty Green int x) → row o c (instr.St Green rd rs) ≡ Goes (record c { queue = (a, x) ∷ [] })
   unfolding need for_typed for_ref_over is_seen_as same_basic same_colour
   store_green_row c rd rs a x q hd hs = rw (hd, hs, q) refl
 
   -- a blue store, where the same waits
-  store_blue_row : (c : Context) (rd rs : Reg) (a x : Polynomial) → c.queue ≡ (a, x) ∷ [] → typed c rd.number ≡ Some (ty Blue ref_int a) → typed c rs.number ≡ Some (ty Blue int x) → row o c (instr.St Blue rd rs) ≡ Goes (record c { queue = []; memory = norm_upd c.memory a x })
+  store_blue_row : (c : Context) (rd rs : Reg) (a x : Polynomial) → c.queue ≡ (a, x) ∷ [] → typed c rd.number ≡ Some (ty Blue (ref int) a) → typed c rs.number ≡ Some (ty Blue int x) → row o c (instr.St Blue rd rs) ≡ Goes (record c { queue = []; memory = norm_upd c.memory a x })
   unfolding need for_typed for_ref_over is_seen_as same_basic same_colour for_oldest
   store_blue_row c rd rs a x q hd hs = rw (hd, hs, q) (rw (same_itself a) (rw (same_itself x) refl))
 
@@ -226,7 +227,7 @@ pub record Leads (o : Object) (c : Context) (is : List Instr) (scope : ℕ) (k :
   pub passes : Passes o c is after
   pub good : IsGood o scope k w.pairs w.memory after
 
-module _ (o : Object) (N : AreNodes o.nodes) (cells : ℕ) (refs : (c : ℕ) → c < cells → has_type o (cell_address c) ref_int ≡ true) where
+module _ (o : Object) (N : AreNodes o.nodes) (cells : ℕ) (refs : (c : ℕ) → c < cells → has_type o (cell_address c) (ref int) ≡ true) where
   -- the newest of two nodes, and the one before it
   newest : (w : Noted) (scope : ℕ) (x y : Shape) → Starts ((w.nodes ++ node scope x ∷ []) ++ node scope y ∷ []) o.nodes → (slice_get o.nodes (length w.nodes) ≡ Some (node scope x)) × (slice_get o.nodes (length (w.nodes ++ node scope x ∷ [])) ≡ Some (node scope y))
   newest w scope x y s = (
@@ -294,22 +295,22 @@ module _ (o : Object) (N : AreNodes o.nodes) (cells : ℕ) (refs : (c : ℕ) →
       let h = refs cl fits in
       let n = newest w scope (shape.Word v) (shape.Sel w.memory (length w.nodes)) s in
       let f : integer_form_of o m ≡ x = sel_form o N m scope w.memory (length w.nodes) n.1 ∙ ap (norm_sel (memory_form_of o w.memory)) (word_form o N (length w.nodes) scope v n.0) ∙ ap (λ y. norm_sel y a) (sym G.memory_is) in
-      let c2 = both p ref_int a c in
+      let c2 = both p (ref int) a c in
       let c3 = with_type (green p).number (ty Green int x) c2 in
       let old : Others o k w.pairs p c2 = λ q ne known.
-      (other_green p q ref_int a c lt (G.small q known) ne ∙ G.green_pair q known, other_blue p q ref_int a c lt (G.small q known) ne ∙ G.blue_pair q known, G.small q known) in
+      (other_green p q (ref int) a c lt (G.small q known) ne ∙ G.green_pair q known, other_blue p q (ref int) a c lt (G.small q known) ne ∙ G.blue_pair q known, G.small q known) in
       record {
         after = both p int x c2;
         passes = (
           _,
-          mov_row o c (green p) v Green ref_int h,
+          mov_row o c (green p) v Green (ref int) h,
           (
             _,
-            mov_row o (with_type (green p).number (ty Green ref_int a) c) (blue p) v Blue ref_int h,
+            mov_row o (with_type (green p).number (ty Green (ref int) a) c) (blue p) v Blue (ref int) h,
             (
               _,
-              load_green_row o c2 (green p) (green p) a G.queue (both_green p ref_int a c lt),
-              (_, load_blue_row o c3 (blue p) (blue p) a (typed_other c2 (green p).number (ty Green int x) (blue p).number (blue_is_not_green p p lt lt) ∙ both_blue p ref_int a c), refl),
+              load_green_row o c2 (green p) (green p) a G.queue (both_green p (ref int) a c lt),
+              (_, load_blue_row o c3 (blue p) (blue p) a (typed_other c2 (green p).number (ty Green int x) (blue p).number (blue_is_not_green p p lt lt) ∙ both_blue p (ref int) a c), refl),
             ),
           ),
         );
@@ -325,21 +326,21 @@ module _ (o : Object) (N : AreNodes o.nodes) (cells : ℕ) (refs : (c : ℕ) →
       let h = refs cl fits in
       let n = newest w scope (shape.Word v) (shape.Upd w.memory (length w.nodes) (pair_node w q)) s in
       let f : memory_form_of o m ≡ norm_upd c.memory a y = upd_form o N m scope w.memory (length w.nodes) (pair_node w q) n.1 ∙ ap (λ b. norm_upd (memory_form_of o w.memory) b y) (word_form o N (length w.nodes) scope v n.0) ∙ ap (λ z. norm_upd z a y) (sym G.memory_is) in
-      let c2 = both spare ref_int a c in
+      let c2 = both spare (ref int) a c in
       let c3 = record c2 { queue = (a, y) ∷ [] } in
-      let g2 = good_forget o scope k w.pairs w.memory c spare ref_int a lt G in
+      let g2 = good_forget o scope k w.pairs w.memory c spare (ref int) a lt G in
       record {
         after = record c3 { queue = []; memory = norm_upd c.memory a y };
         passes = (
           _,
-          mov_row o c (green spare) v Green ref_int h,
+          mov_row o c (green spare) v Green (ref int) h,
           (
             _,
-            mov_row o (with_type (green spare).number (ty Green ref_int a) c) (blue spare) v Blue ref_int h,
+            mov_row o (with_type (green spare).number (ty Green (ref int) a) c) (blue spare) v Blue (ref int) h,
             (
               _,
-              store_green_row o c2 (green spare) (green q) a y G.queue (both_green spare ref_int a c lt) (other_green spare q ref_int a c lt lq reads.1 ∙ G.green_pair q reads.0),
-              (_, store_blue_row o c3 (blue spare) (blue q) a y refl (both_blue spare ref_int a c) (other_blue spare q ref_int a c lt lq reads.1 ∙ G.blue_pair q reads.0), refl),
+              store_green_row o c2 (green spare) (green q) a y G.queue (both_green spare (ref int) a c lt) (other_green spare q (ref int) a c lt lq reads.1 ∙ G.green_pair q reads.0),
+              (_, store_blue_row o c3 (blue spare) (blue q) a y refl (both_blue spare (ref int) a c) (other_blue spare q (ref int) a c lt lq reads.1 ∙ G.blue_pair q reads.0), refl),
             ),
           ),
         );

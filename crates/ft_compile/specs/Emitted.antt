@@ -15,7 +15,7 @@ use Rattle.ft_types.specs.declared.object.Cell.{Cell}
 use Rattle.ft_types.specs.declared.object.Block.{Block}
 use Rattle.ft_types.specs.declared.object.CodeType.{CodeType}
 use Rattle.ft_types.specs.declared.object.RegType.{RegType}
-use Rattle.ft_types.specs.TypedWord.{int}
+use Rattle.ft_isa.specs.BasicTypes.{int}
 use Rattle.ft_scope.specs.Resolved.{Program, program_need, program_weight}
 use Rattle.ft_lower.specs.declared.step3.Step3.{Step3}
 use Rattle.ft_lower.specs.declared.step3.Step3.TheVariants.{Put, Copy, Op, Load, Store, Exit, Go, Stop}

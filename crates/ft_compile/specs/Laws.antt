@@ -1,17 +1,17 @@
 -- The laws of compiled objects.
-use Rattle.std.specs.Prelude.{◌≡◌, ℕ, ◌+◌, ◌*◌, ◌≤◌, List, [], length, map, None, All}
+use Rattle.std.specs.Prelude.{◌≡◌, ℕ, ◌+◌, ◌*◌, ◌≤◌, List, [], ◌++◌, length, map, None, All}
 use Rattle.ft_isa.specs.declared.output.Output.{Output}
-use Rattle.ft_types.specs.declared.status.Status.TheVariants.{Done}
+use Rattle.ft_semantics.specs.declared.status.Status.TheVariants.{Running, Done}
 use Rattle.ft_types.specs.declared.object.Object.{Object}
-use Rattle.ft_types.specs.Accepted.{IsAccepted}
+use Rattle.ft_typing.specs.Accepted.{IsAccepted}
 use Rattle.ft_types.specs.Objects.{name_of}
-use Rattle.ft_types.specs.Run.{outputs_after, status_after}
+use Rattle.ft_semantics.specs.Run.{outputs_after, status_after}
 use Rattle.ft_types.specs.Spellable.{IsSpellable}
-use Rattle.ft_types.specs.Texts.{lines as object_lines}
+use Rattle.ft_types.specs.Texts.{line_at}
 use Rattle.ft_scope.specs.Outcome.{IsProgramOf}
 use Rattle.ft_scope.specs.Resolved.{Program}
-use Rattle.ft_meaning.specs.Lines.{lines}
-use Rattle.ft_meaning.specs.Meaning.{State, Ended, meaning}
+use Rattle.ft_meaning.specs.Lines.{output_lines}
+use Rattle.ft_meaning.specs.Meaning.{State, Ended, Cut, outputs, meaning}
 use Rattle.ft_lower.specs.Flow.{Blocks}
 use Rattle.ft_lower.specs.Lowers.{Lowers}
 use Rattle.ft_lower.specs.Size.{blocks_size}
@@ -44,14 +44,30 @@ EmittedObjectsAreAccepted = (names : List (List ℕ)) (inits : List ℕ) (vars :
 abbrev pub ProgramsHaveCells : Type 0
 ProgramsHaveCells = (text : List ℕ) (p : Program) → IsProgramOf text p → AreCells p.names p.inits
 
+-- the lines of outputs by the names of an object's cells, one for each
+abbrev pub object_lines : Object → List Output → List (List ℕ)
+object_lines o xs = map (line_at o) xs
+
+-- the one list of lines begins the other
+abbrev pub LinesBegin : List (List ℕ) → List (List ℕ) → Type 0
+LinesBegin front all = (rest : List (List ℕ)) × (front ++ rest ≡ all)
+
 -- where an object stands for a program, outputs have the same lines by the object's cells as by the program's names
 abbrev pub LinesAreByTheProgramsNames : Type 0
-LinesAreByTheProgramsNames = (p : Program) (o : Object) → StandsFor p o → (xs : List Output) → object_lines o xs ≡ lines p.names xs
+LinesAreByTheProgramsNames = (p : Program) (o : Object) → StandsFor p o → (xs : List Output) → object_lines o xs ≡ output_lines p.names xs
 
 -- where its run is done after n steps, its lines are those of the meaning with n turns, which has ended
 abbrev pub DoneRunsWriteTheMeaning : Type 0
-DoneRunsWriteTheMeaning = (p : Program) (o : Object) → StandsFor p o → (n : ℕ) → status_after o None [] n ≡ Done → (s : State) × (meaning p n ≡ Ended s) × (object_lines o (outputs_after o None [] n) ≡ lines p.names s.out)
+DoneRunsWriteTheMeaning = (p : Program) (o : Object) → StandsFor p o → (n : ℕ) → status_after o None [] n ≡ Done → (s : State) × (meaning p n ≡ Ended s) × (object_lines o (outputs_after o None [] n) ≡ output_lines p.names s.out)
+
+-- where its run is running after n steps, its lines begin those of the meaning with n turns
+abbrev pub RunningRunsBeginTheMeaning : Type 0
+RunningRunsBeginTheMeaning = (p : Program) (o : Object) → StandsFor p o → (n : ℕ) → status_after o None [] n ≡ Running → LinesBegin (object_lines o (outputs_after o None [] n)) (output_lines p.names (outputs (meaning p n)))
 
 -- where the meaning has ended, the run is done with its lines after 16 times the work and 320 steps more
 abbrev pub EndedMeaningsAreWritten : Type 0
-EndedMeaningsAreWritten = (p : Program) (o : Object) → StandsFor p o → (n t : ℕ) (s : State) → meaning p t ≡ Ended s → 16 * s.work + 320 ≤ n → (status_after o None [] n ≡ Done) × (object_lines o (outputs_after o None [] n) ≡ lines p.names s.out)
+EndedMeaningsAreWritten = (p : Program) (o : Object) → StandsFor p o → (n t : ℕ) (s : State) → meaning p t ≡ Ended s → 16 * s.work + 320 ≤ n → (status_after o None [] n ≡ Done) × (object_lines o (outputs_after o None [] n) ≡ output_lines p.names s.out)
+
+-- where the meaning is cut, its lines begin those of the run after so many steps
+abbrev pub CutMeaningsBeginTheRun : Type 0
+CutMeaningsBeginTheRun = (p : Program) (o : Object) → StandsFor p o → (n t : ℕ) (s : State) → meaning p t ≡ Cut s → 16 * s.work + 320 ≤ n → LinesBegin (output_lines p.names s.out) (object_lines o (outputs_after o None [] n))

@@ -1,13 +1,13 @@
 -- When an object stands for a program.
 use Rattle.std.specs.Prelude.{◌≡◌, ◌≢◌, ℕ, ◌+◌, ◌*◌, ◌≤◌, [], length, map, None, All}
-use Rattle.ft_types.specs.declared.status.Status.TheVariants.{Running, Done, Detected}
+use Rattle.ft_semantics.specs.declared.status.Status.TheVariants.{Running, Done, Detected}
 use Rattle.ft_types.specs.declared.object.Object.{Object}
 use Rattle.ft_types.specs.declared.object.Cell.{Cell}
-use Rattle.ft_types.specs.Accepted.{IsAccepted}
+use Rattle.ft_typing.specs.Accepted.{IsAccepted}
 use Rattle.ft_types.specs.Objects.{name_of}
-use Rattle.ft_types.specs.Run.{outputs_after, status_after}
+use Rattle.ft_semantics.specs.Run.{outputs_after, status_after}
 use Rattle.ft_types.specs.Spellable.{IsSpellable}
-use Rattle.ft_types.specs.TypedWord.{int}
+use Rattle.ft_isa.specs.BasicTypes.{int}
 use Rattle.ft_scope.specs.Resolved.{Program, program_weight}
 use Rattle.ft_meaning.specs.Meaning.{State, Ended, Cut, outputs, meaning}
 use Rattle.ft_meaning.specs.Begins.{Begins}

@@ -3,15 +3,9 @@ ghost use Rattle.std.specs.Prelude.{◌≡◌, length, map, IfOk};
 ghost use Rattle.std.specs.List.{zip};
 ghost use Rattle.ft_compile.specs.Emitted.{cell_from};
 
-use ft_isa::{Base, Basic};
+use ft_isa::INT;
 use ft_types::{Cell, Table};
 use std::alloc::{AllocError, Global};
-
-/// The basic type of all words.
-pub const INT: Basic = Basic {
-    refs: 0,
-    base: Base::Int,
-};
 
 /// A cell of type `int` with this name and initial word.
 fn cell_of(alloc: Global, name: &[u8], init: u64) -> Result<Cell, AllocError>

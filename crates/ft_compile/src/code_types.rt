@@ -1,29 +1,12 @@
 //! The two code types of a compiled object.
 ghost use Rattle.std.specs.Prelude.{◌≡◌, ◌≤◌, ◌<◌, ◌++◌, ◌∷◌, [], map, IfOk, OnOk};
 ghost use Rattle.std.specs.List.{range_with_len};
-ghost use Rattle.ft_dup.specs.Images.{blue, green};
 ghost use Rattle.ft_compile.specs.Emitted.{blue_row, entry_type, green_row, variables_type};
 
-use crate::cells::INT;
-use ft_isa::{Colour, Reg};
+use ft_dup::{blue_register, green_register};
+use ft_isa::{Colour, INT};
 use ft_types::{CodeType, RegType, Table};
 use std::alloc::{AllocError, Global};
-
-/// The green register of a pair below 32.
-fn green_register(pair: u8) -> Reg
-    requires { pair < 32 }
-    ensures { result ≡ green pair }
-{
-    Reg::new(pair).unwrap()
-}
-
-/// The blue register of a pair below 32.
-fn blue_register(pair: u8) -> Reg
-    requires { pair < 32 }
-    ensures { result ≡ blue pair }
-{
-    Reg::new(32 + pair).unwrap()
-}
 
 /// Adds the rows of the variables in green.
 fn put_green(regs: &mut Vec<RegType>, vars: u8) -> Result<(), AllocError>

@@ -1,5 +1,5 @@
 //! Laws of the definitions, each the contract of a function that does nothing.
-ghost use Rattle.ft_compile.specs.Laws.{CarriedBlocksRunAsMeant, DoneRunsWriteTheMeaning, EmittedObjectsAreAccepted, EndedMeaningsAreWritten, LinesAreByTheProgramsNames, ProgramsHaveCells};
+ghost use Rattle.ft_compile.specs.Laws.{CarriedBlocksRunAsMeant, CutMeaningsBeginTheRun, DoneRunsWriteTheMeaning, EmittedObjectsAreAccepted, EndedMeaningsAreWritten, LinesAreByTheProgramsNames, ProgramsHaveCells, RunningRunsBeginTheMeaning};
 
 /// An object that carries the blocks to which a program was lowered, with the program's initial words,
 /// runs as the program means.
@@ -22,8 +22,13 @@ pub fn programs_have_cells()
 /// they are written for a run, as by the program's names, as they are written for a meaning. So the run and
 /// the meaning write the same where both end: a run that is done after n steps has the lines of the meaning
 /// with n turns, and one of at least 16 times the work and 320 steps is done, with the lines of the meaning.
+/// Where one of them is cut short, what it writes begins what the other writes: the lines of a run that is
+/// running after n steps begin those of the meaning with n turns, and the lines of a meaning that is cut
+/// begin those of a run of so many steps.
 pub fn runs_and_meanings_write_the_same_lines()
     ensures lines { LinesAreByTheProgramsNames }
     ensures done { DoneRunsWriteTheMeaning }
+    ensures running { RunningRunsBeginTheMeaning }
     ensures ended { EndedMeaningsAreWritten }
+    ensures cut { CutMeaningsBeginTheRun }
 {}

@@ -7,13 +7,10 @@ ghost use Rattle.ft_compile.specs.Emitted.{noted, row_noted, step_noted};
 ghost use Rattle.ft_compile.specs.Viewed.{HasRoom, noted_of};
 
 use crate::notes::Notes;
-use ft_isa::Op;
+use ft_isa::{FIRST_CELL, Op};
 use ft_lower::{Flow, Step3};
 use ft_static::Shape;
 use std::alloc::{AllocError, Global};
-
-/// The address of the first cell.
-const FIRST_CELL: u64 = 1_048_576;
 
 /// Notes a copy of pair `q` to pair `p`.
 fn note_copy(notes: &mut Notes, scope: u8, p: u8, q: u8) -> Result<(), AllocError>

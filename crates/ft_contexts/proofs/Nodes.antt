@@ -14,7 +14,7 @@ use Rattle.ft_static.proofs.Under.{norm_under_itself, norm_memory_under_itself}
 use Rattle.ft_norm.specs.declared.form.Form.{Form}
 use Rattle.ft_norm.specs.Held.{held, polynomials}
 use Rattle.ft_types.specs.declared.object.Object.{Object}
-use Rattle.ft_types.specs.Context.{Replacement, integer_form_of, memory_form_of, integer_form_after, memory_form_after}
+use Rattle.ft_typing.specs.Context.{Replacement, integer_form_of, memory_form_of, integer_form_after, memory_form_after}
 use Rattle.ft_types.specs.Spellable.{IsNodeIn}
 use Rattle.ft_contexts.specs.declared.variables.Variables.{Variables}
 use Rattle.ft_contexts.specs.Contexts.{replacement_in, AreOwn}

@@ -8,7 +8,7 @@ use Rattle.std.proofs.Math.ListN.{set}
 use Rattle.std.proofs.lemmas.List.{get_or-set_same, get_or-set_other}
 use Rattle.ft_static.specs.Form.{Form as Normal}
 use Rattle.ft_norm.specs.Held.{IsInteger}
-use Rattle.ft_types.specs.Context.{Typed, TypedRegisters}
+use Rattle.ft_typing.specs.Context.{Typed, TypedRegisters}
 use Rattle.ft_types.specs.Spellable.{IsBase}
 use Rattle.ft_contexts.specs.declared.register.RegForm.{RegForm}
 use Rattle.ft_contexts.specs.Contexts.{typed_in, with_known, registers_in, HoldsRegisters, RegistersNameTypes}

@@ -14,9 +14,9 @@ use Rattle.ft_types.specs.declared.object.CodeType.{CodeType}
 use Rattle.ft_types.specs.declared.object.TypeHead.{TypeHead}
 use Rattle.ft_types.specs.declared.object.RegType.{RegType}
 use Rattle.ft_types.specs.Objects.{reg_rows, queue_rows, ints_of, memory_of, regs_of, queue_of, ints_of_type, memory_of_type, type_head_of}
-use Rattle.ft_types.specs.Context.{Typed, TypedRegisters, FormPair, Replacement, typed_row, registers_after, integer_form_of, integer_form_after}
-use Rattle.ft_types.specs.TypingRow.{pending_memory, same_colour, is_like, is_queue_like}
-use Rattle.ft_types.specs.TypedWord.{is_seen_as}
+use Rattle.ft_typing.specs.Context.{Typed, TypedRegisters, FormPair, Replacement, typed_row, registers_after, integer_form_of, integer_form_after}
+use Rattle.ft_typing.specs.TypingRow.{pending_memory, same_colour, is_like, is_queue_like}
+use Rattle.ft_typing.specs.TypedWord.{is_seen_as}
 use Rattle.ft_contexts.specs.declared.register.RegForm.{RegForm}
 use Rattle.ft_contexts.specs.Contexts.{typed_in, pair_in, registers_in, HoldsRegisters}
 use Rattle.ft_contexts.proofs.Lists.{drop_there, drop_all, map_there}

@@ -8,8 +8,8 @@ use Rattle.ft_norm.specs.declared.form.Form.{Form}
 use Rattle.ft_norm.specs.Held.{held, polynomial, polynomials, updates_held, IsInteger, IsMemory, AreIntegers}
 use Rattle.ft_types.specs.declared.object.Object.{Object}
 use Rattle.ft_types.specs.Spellable.{IsBase}
-use Rattle.ft_types.specs.Context as defined
-use Rattle.ft_types.specs.Context.{Typed, TypedRegisters, StateOfD, d_zero, d_code, d_conditional, FormPair, Replacement}
+use Rattle.ft_typing.specs.Context as defined
+use Rattle.ft_typing.specs.Context.{Typed, TypedRegisters, StateOfD, d_zero, d_code, d_conditional, FormPair, Replacement}
 use Rattle.ft_contexts.specs.declared.register.RegForm.{RegForm}
 use Rattle.ft_contexts.specs.declared.destination.StateD.{StateD}
 use Rattle.ft_contexts.specs.declared.destination.StateD.TheVariants.{Zero, Code, Conditional}

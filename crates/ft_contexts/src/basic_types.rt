@@ -1,12 +1,12 @@
 //! Comparisons of colours and of basic types.
 ghost use Rattle.std.specs.Prelude.{◌≡◌};
-ghost use Rattle.ft_types.specs.TypedWord.{same_base, same_basic, is_seen_as};
-ghost use Rattle.ft_types.specs.TypingRow.{same_colour};
+ghost use Rattle.ft_typing.specs.TypedWord.{same_base, same_basic, is_seen_as};
+ghost use Rattle.ft_typing.specs.TypingRow.{same_colour};
 
-use ft_isa::{Base, Basic, Colour};
+use ft_isa::{Base, Basic, Colour, INT};
 
 /// Whether two colours are equal.
-#[tactic(auto, unfolding(ft_types::specs::TypingRow::same_colour))]
+#[tactic(auto, unfolding(ft_typing::specs::TypingRow::same_colour))]
 pub fn same_colour(a: Colour, b: Colour) -> bool
     ensures { result ≡ same_colour a b }
 {
@@ -31,7 +31,7 @@ fn same_base(a: Base, b: Base) -> bool
 }
 
 /// Whether two basic types are equal.
-#[tactic(auto, unfolding(ft_types::specs::TypedWord::same_basic))]
+#[tactic(auto, unfolding(ft_typing::specs::TypedWord::same_basic))]
 pub fn same_basic(a: Basic, b: Basic) -> bool
     ensures { result ≡ same_basic a b }
 {
@@ -39,13 +39,9 @@ pub fn same_basic(a: Basic, b: Basic) -> bool
 }
 
 /// Whether the first basic type is seen as the second: they are equal, or the second is `int`.
-#[tactic(auto, unfolding(ft_types::specs::TypedWord::is_seen_as))]
+#[tactic(auto, unfolding(ft_typing::specs::TypedWord::is_seen_as))]
 pub fn is_seen_as(a: Basic, b: Basic) -> bool
     ensures { result ≡ is_seen_as a b }
 {
-    let int = Basic {
-        refs: 0,
-        base: Base::Int,
-    };
-    same_basic(a, b) || same_basic(b, int)
+    same_basic(a, b) || same_basic(b, INT)
 }

@@ -4,11 +4,11 @@ ghost use Rattle.std.specs.List.{list_all};
 ghost use Rattle.ft_static.specs.Form.{updates};
 ghost use Rattle.ft_static.specs.FormOrder.{same_polynomial};
 ghost use Rattle.ft_norm.specs.Held.{IsInteger, Keeps, polynomial, updates_held};
-ghost use Rattle.ft_types.specs.Context.{integer_form_after, rows_of};
+ghost use Rattle.ft_typing.specs.Context.{integer_form_after, rows_of};
 ghost use Rattle.ft_types.specs.Objects.{scope_of};
 ghost use Rattle.ft_types.specs.Spellable.{IsQueueRow, IsSpellable, IsSubst};
-ghost use Rattle.ft_types.specs.TypedWord.{is_seen_as};
-ghost use Rattle.ft_types.specs.TypingRow.{same_colour};
+ghost use Rattle.ft_typing.specs.TypedWord.{is_seen_as};
+ghost use Rattle.ft_typing.specs.TypingRow.{same_colour};
 ghost use Rattle.ft_contexts.specs.Contexts.{HoldsVariables, RemembersUnder, replacement_in};
 ghost use Rattle.ft_contexts.specs.Costs.{tree_cost};
 
@@ -85,15 +85,15 @@ fn pair_is_like<P: Program, L: Ledger>(
 impl Context {
     ghost use Rattle.std.specs.Prelude.{◌==◌};
     ghost use Rattle.ft_static.specs.FormOrder.{same_updates};
-    ghost use Rattle.ft_types.specs.Context.{memory_form_after, typed};
+    ghost use Rattle.ft_typing.specs.Context.{memory_form_after, typed};
     ghost use Rattle.ft_types.specs.Objects.{ints_of, memory_of, queue_rows, reg_rows};
     ghost use Rattle.ft_types.specs.Spellable.{IsRegRow};
-    ghost use Rattle.ft_types.specs.TypingRow.{are_like, is_annotated, is_like, is_queue_like};
+    ghost use Rattle.ft_typing.specs.TypingRow.{are_like, is_annotated, is_like, is_queue_like};
     ghost use Rattle.ft_contexts.specs.Contexts.{HoldsForms, context_in, variable_count};
 
     /// Whether a substitution has a row for each variable of code type `t`, and stays within the scope
     /// of the block's own variables.
-    #[tactic(auto, unfolding(ft_types::specs::TypingRow::is_annotated))]
+    #[tactic(auto, unfolding(ft_typing::specs::TypingRow::is_annotated))]
     pub fn is_annotated<P: Program>(&self, program: &P, subst: Subst, t: u32) -> bool
         requires spellable { IsSpellable (P.object program.now) }
         requires there { t < length (P.object program.now).types }
@@ -107,7 +107,7 @@ impl Context {
     }
 
     /// Whether a register is as a row of the target wants it.
-    #[tactic(auto, unfolding(ft_types::specs::TypingRow::is_like))]
+    #[tactic(auto, unfolding(ft_typing::specs::TypingRow::is_like))]
     fn register_is_like<P: Program, L: Ledger>(
         &self,
         put: &Variables,

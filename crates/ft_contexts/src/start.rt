@@ -2,7 +2,7 @@
 ghost use Rattle.std.specs.Prelude.{◌≡◌, ◌+◌, ◌*◌, ◌<◌, ◌≤◌, IfOk, length, map, []};
 ghost use Rattle.std.specs.FinMap as finite;
 ghost use Rattle.ft_norm.specs.Held.{Keeps};
-ghost use Rattle.ft_types.specs.Context.{queue_pair, registers_after};
+ghost use Rattle.ft_typing.specs.Context.{queue_pair, registers_after};
 ghost use Rattle.ft_types.specs.Objects.{queue_rows, reg_rows};
 ghost use Rattle.ft_types.specs.Spellable.{IsSpellable};
 ghost use Rattle.ft_contexts.specs.Contexts.{HoldsOwn, HoldsQueue, HoldsRegisters, RegistersNameTypes, pair_in, registers_in};

@@ -2,7 +2,7 @@
 ghost use Rattle.std.specs.Prelude.{◌≡◌, ◌+◌, ◌*◌, ◌≤◌, IfOk, OnOk, length};
 ghost use Rattle.ft_static.specs.Form.{updates};
 ghost use Rattle.ft_norm.specs.Held.{Keeps, updates_held};
-ghost use Rattle.ft_types.specs.Context.{replacement};
+ghost use Rattle.ft_typing.specs.Context.{replacement};
 ghost use Rattle.ft_types.specs.Spellable.{IsSpellable, IsSubst};
 ghost use Rattle.ft_contexts.specs.Costs.{tree_cost};
 

@@ -2,7 +2,7 @@
 ghost use Rattle.std.specs.Prelude.{◌≡◌, ◌+◌, ◌≤◌, IfOk, Some, false, true, length, []};
 ghost use Rattle.ft_static.specs.Form.{integer_form, memory_form, updates};
 ghost use Rattle.ft_norm.specs.Held.{Keeps, held, updates_held};
-ghost use Rattle.ft_types.specs.Context.{integer_form_after, integer_form_of, memory_form_after, memory_form_of};
+ghost use Rattle.ft_typing.specs.Context.{integer_form_after, integer_form_of, memory_form_after, memory_form_of};
 ghost use Rattle.ft_types.specs.Spellable.{IsNodeIn, IsSpellable};
 ghost use Rattle.ft_contexts.specs.Costs.{tree_cost};
 

@@ -13,10 +13,10 @@ use Rattle.ft_isa.specs.Words.{IsWord, apply, cell_address, code_address}
 use Rattle.ft_isa.specs.declared.plan.Wild.{Wild}
 use Rattle.ft_isa.specs.declared.instr.Instr.TheVariants as instr
 use Rattle.ft_types.specs.declared.object.Object.{Object}
-use Rattle.ft_types.specs.declared.status.Status.TheVariants.{Running, Done}
+use Rattle.ft_semantics.specs.declared.status.Status.TheVariants.{Running, Done}
 use Rattle.ft_types.specs.Objects.{start_of as start_of_block, block_start, entry_address, cell_head_of, init_or_zero, init_of}
-use Rattle.ft_types.specs.State.{Registers, Cells, cell_at, tabulate, green_zero}
-use Rattle.ft_types.specs.Run.{Ran, run}
+use Rattle.ft_semantics.specs.State.{Registers, Cells, cell_at, tabulate, green_zero}
+use Rattle.ft_semantics.specs.Run.{Ran, run}
 use Rattle.ft_types.proofs.Maps.{get-insert}
 use Rattle.ft_lower.specs.declared.step3.Step3.{Step3}
 use Rattle.ft_lower.specs.declared.step3.Step3.TheVariants.{Put, Copy, Op, Load, Store, Exit, Go, Stop}

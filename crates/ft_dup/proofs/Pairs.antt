@@ -11,7 +11,7 @@ use Rattle.ft_isa.specs.declared.reg.Reg.{Reg}
 use Rattle.ft_isa.specs.declared.op.Op.{Op as Operation}
 use Rattle.ft_isa.specs.declared.op.Op.TheVariants as op
 use Rattle.ft_isa.proofs.Registers.{some_reg}
-use Rattle.ft_types.specs.State.{Registers, Cells, held, with_held, cell_at, with_cell}
+use Rattle.ft_semantics.specs.State.{Registers, Cells, held, with_held, cell_at, with_cell}
 use Rattle.ft_types.proofs.Maps.{get-insert}
 use Rattle.ft_lower.specs.Flow.{FlowState, with_pair}
 use Rattle.ft_lower.specs.Well.{Known, learn, forget}

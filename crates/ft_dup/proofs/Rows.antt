@@ -2,6 +2,7 @@
 use Rattle.std.proofs.Common.{◌≡◌, ◌≢◌, ℕ, suc, ◌+◌, ◌<◌, true, List, [], ◌∷◌, length, map, Some, refl, ap, ◌∙◌, subst, arith, slice_get, slice_index}
 use Rattle.std.specs.List.{All}
 use Rattle.std.proofs.lemmas.List.Elements.{All-head, All-tail}
+use Rattle.ft_isa.specs.BasicTypes.{int}
 use Rattle.ft_isa.specs.Words.{IsWord, apply, cell_address, code_address}
 use Rattle.ft_isa.specs.declared.colour.Colour.TheVariants.{Green, Blue}
 use Rattle.ft_isa.specs.declared.op.Op.{Op as Operation}
@@ -11,13 +12,13 @@ use Rattle.ft_isa.specs.declared.plan.Wild.{Wild}
 use Rattle.ft_isa.specs.declared.instr.Instr.{Instr}
 use Rattle.ft_isa.specs.declared.instr.Instr.TheVariants as instr
 use Rattle.ft_types.specs.declared.object.Object.{Object}
-use Rattle.ft_types.specs.State.{Registers, Cells, with_held, with_cell}
+use Rattle.ft_semantics.specs.State.{Registers, Cells, with_held, with_cell}
 use Rattle.ft_lower.specs.declared.step3.Step3.TheVariants.{Put, Copy, Op, Load, Store, Exit, Go}
 use Rattle.ft_lower.specs.Flow.{FlowState, goes_on, goes_to, with_pair}
 use Rattle.ft_lower.specs.Flow as flow
 use Rattle.ft_lower.specs.Size.{pairs_of}
 use Rattle.ft_lower.specs.Well.{Known, learn, forget}
-use Rattle.ft_dup.specs.Images.{green, blue, int, image}
+use Rattle.ft_dup.specs.Images.{green, blue, image}
 use Rattle.ft_dup.specs.Doubles.{bare}
 use Rattle.ft_dup.proofs.Stretches.{Leads, lead_on, spot, col, mov, op_reg, op_word, load, store_green, store_blue, jump_green, jump_blue, branch_green_zero, branch_green_other, branch_blue_zero, branch_blue_other}
 use Rattle.ft_dup.proofs.Pairs.{apply_word, add_nothing, PairsHeld, two_held, green_read, blue_read, blue_left, pair_kept, holds_learn, holds_forget, CellsHold, cell_there, cells_set}

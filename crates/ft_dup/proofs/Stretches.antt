@@ -2,6 +2,7 @@
 use Rattle.std.proofs.Common.{◌≡◌, ◌≢◌, ℕ, zero, suc, ◌+◌, ◌<◌, cond, List, [], ◌∷◌, ◌++◌, map, ◌==◌, ◌&&◌, not, Some, None, is_some, refl, sym, ap, ◌∙◌, subst, arith, slice_get}
 use Rattle.std.proofs.lemmas.Bool.{ne_eqb, eq-eqb}
 use Rattle.std.proofs.lemmas.List.{append-nil}
+use Rattle.ft_isa.specs.BasicTypes.{int}
 use Rattle.ft_isa.specs.Words.{apply}
 use Rattle.ft_isa.specs.Pending.{Pending, newest_at}
 use Rattle.ft_isa.specs.declared.colour.Colour.{Colour}
@@ -14,13 +15,13 @@ use Rattle.ft_isa.specs.declared.reg.Reg.{Reg}
 use Rattle.ft_isa.specs.declared.instr.Instr.{Instr}
 use Rattle.ft_isa.specs.declared.instr.Instr.TheVariants as instr
 use Rattle.ft_types.specs.declared.object.Object.{Object}
-use Rattle.ft_types.specs.declared.status.Status.TheVariants.{Running}
-use Rattle.ft_types.specs.State.{Registers, Cells, held, with_held, cell_at, with_cell, State}
-use Rattle.ft_types.specs.Step.{Stepping, quiet, detected, next, fetch, execute, step}
-use Rattle.ft_types.specs.Step as machine
-use Rattle.ft_types.specs.Run.{Ran, extended, run}
-use Rattle.ft_types.proofs.Maps.{held-with_held}
-use Rattle.ft_dup.specs.Images.{int, empty}
+use Rattle.ft_semantics.specs.declared.status.Status.TheVariants.{Running}
+use Rattle.ft_semantics.specs.State.{Registers, Cells, held, with_held, cell_at, with_cell, State}
+use Rattle.ft_semantics.specs.Step.{Stepping, quiet, detected, next, fetch, execute, step}
+use Rattle.ft_semantics.specs.Step as machine
+use Rattle.ft_semantics.specs.Run.{Ran, extended, run}
+use Rattle.ft_semantics.proofs.Held.{held-with_held}
+use Rattle.ft_dup.specs.Images.{empty}
 use Rattle.ft_dup.specs.Doubles.{bare}
 
 -- STRETCHES

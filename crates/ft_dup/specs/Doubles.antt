@@ -1,20 +1,21 @@
 -- What carries the instructions of a flow, and what its run does.
 use Rattle.std.specs.Prelude.{◌≡◌, ℕ, zero, suc, ◌+◌, ◌*◌, ◌≤◌, Bool, true, false, cond, List, [], map, length, slice_get, Option, Some, None, All}
+use Rattle.ft_isa.specs.BasicTypes.{int}
 use Rattle.ft_isa.specs.Words.{IsWord, cell_address}
 use Rattle.ft_isa.specs.declared.plan.Wild.{Wild}
 use Rattle.ft_isa.specs.declared.instr.Instr.{Instr}
 use Rattle.ft_isa.specs.declared.instr.Instr.TheVariants as instr
 use Rattle.ft_types.specs.declared.object.Object.{Object}
 use Rattle.ft_types.specs.declared.object.Cell.{Cell}
-use Rattle.ft_types.specs.declared.status.Status.TheVariants.{Running, Done}
+use Rattle.ft_semantics.specs.declared.status.Status.TheVariants.{Running, Done}
 use Rattle.ft_types.specs.Objects.{start_of as start_of_block}
-use Rattle.ft_types.specs.State.{State, register, cell_at}
-use Rattle.ft_types.specs.Run.{state_after, outputs_after, status_after}
+use Rattle.ft_semantics.specs.State.{State, register, cell_at}
+use Rattle.ft_semantics.specs.Run.{state_after, outputs_after, status_after}
 use Rattle.ft_lower.specs.declared.step3.Step3.{Step3}
 use Rattle.ft_lower.specs.Flow.{Blocks, FlowState, step_at, flow_step, flow_run, flow_start}
 use Rattle.ft_lower.specs.Size.{size}
 use Rattle.ft_lower.specs.Well.{Known, known_at}
-use Rattle.ft_dup.specs.Images.{green, blue, green_word, blue_word, int, empty, starts, doubled}
+use Rattle.ft_dup.specs.Images.{green, blue, green_word, blue_word, empty, starts, doubled}
 
 -- the same instruction with no claim and no substitution
 abbrev pub bare : Instr → Instr

@@ -5,10 +5,10 @@ use Rattle.std.proofs.Common.{refl}
 use borrow.Author.Tests.{ltb-true}
 use Rattle.ft_isa.specs.Words.{code_address, cell_address}
 use Rattle.ft_isa.specs.Registers.{reg_of}
+use Rattle.ft_isa.specs.BasicTypes.{int, code, ref}
 use Rattle.ft_isa.specs.declared.colour.Colour.TheVariants.{Green, Blue}
 use Rattle.ft_isa.specs.declared.colour.Coloured.{Coloured}
 use Rattle.ft_isa.specs.declared.reg.Reg.{Reg}
-use Rattle.ft_isa.specs.declared.basic.Base.TheVariants.{Int, Code}
 use Rattle.ft_isa.specs.declared.basic.Basic.{Basic}
 use Rattle.ft_isa.specs.declared.instr.Subst.{Subst}
 use Rattle.ft_isa.specs.declared.op.Op.TheVariants.{Add}
@@ -37,16 +37,6 @@ green_word w = record { colour = Green; word = w }
 abbrev pub blue_word : ℕ → Coloured
 blue_word w = record { colour = Blue; word = w }
 
--- what a move claims: a word, a cell's address, or the address of a block of code type 1
-abbrev pub int : Basic
-int = record { refs = 0; base = Int }
-
-abbrev pub ref_int : Basic
-ref_int = record { refs = 1; base = Int }
-
-abbrev pub code_one : Basic
-code_one = record { refs = 0; base = Code 1 }
-
 -- the empty substitution
 abbrev pub empty : Subst
 empty = record { first = 0; past = 0; memory = 0 }
@@ -60,10 +50,10 @@ abbrev pub image : (ℕ → ℕ) → Step3 → List Instr
 image start (Put p w) = moves p w int []
 image start (Copy p q) = instr.OpWord Add (green p) (green q) (green_word 0) ∷ instr.OpWord Add (blue p) (blue q) (blue_word 0) ∷ []
 image start (Op o p q s) = instr.OpReg o (green p) (green q) (green s) ∷ instr.OpReg o (blue p) (blue q) (blue s) ∷ []
-image start (Load p c) = moves p (cell_address c) ref_int (instr.Ld Green (green p) (green p) ∷ instr.Ld Blue (blue p) (blue p) ∷ [])
-image start (Store c q spare) = moves spare (cell_address c) ref_int (instr.St Green (green spare) (green q) ∷ instr.St Blue (blue spare) (blue q) ∷ [])
-image start (Exit q spare to) = moves spare (code_address (start to)) code_one (instr.BzG (green q) (green spare) ∷ instr.BzB (blue q) (blue spare) empty ∷ [])
-image start (Go spare to) = moves spare (code_address (start to)) code_one (instr.JmpG (green spare) ∷ instr.JmpB (blue spare) empty ∷ [])
+image start (Load p c) = moves p (cell_address c) (ref int) (instr.Ld Green (green p) (green p) ∷ instr.Ld Blue (blue p) (blue p) ∷ [])
+image start (Store c q spare) = moves spare (cell_address c) (ref int) (instr.St Green (green spare) (green q) ∷ instr.St Blue (blue spare) (blue q) ∷ [])
+image start (Exit q spare to) = moves spare (code_address (start to)) (code 1) (instr.BzG (green q) (green spare) ∷ instr.BzB (blue q) (blue spare) empty ∷ [])
+image start (Go spare to) = moves spare (code_address (start to)) (code 1) (instr.JmpG (green spare) ∷ instr.JmpB (blue spare) empty ∷ [])
 image start Stop = instr.Halt ∷ []
 
 -- the instructions of the steps of a row

@@ -6,24 +6,9 @@ ghost use Rattle.ft_dup.specs.Shape.{HasTarget};
 ghost use Rattle.ft_dup.specs.Images.{blue_word, green_word, image, moves};
 
 use crate::registers::{blue_register, green_register};
-use ft_isa::{Base, Basic, Colour, Coloured, Instr, Op, Subst};
+use ft_isa::{Base, Basic, Colour, Coloured, FIRST_CELL, INT, Instr, Op, REF_INT, Subst};
 use ft_lower::Step3;
 use std::alloc::AllocError;
-
-/// The address of the first cell.
-const FIRST_CELL: u64 = 1_048_576;
-
-/// What a move of a word claims.
-const INT: Basic = Basic {
-    refs: 0,
-    base: Base::Int,
-};
-
-/// What a move of a cell's address claims.
-const REF_INT: Basic = Basic {
-    refs: 1,
-    base: Base::Int,
-};
 
 /// What a move of a block's address claims.
 const CODE_ONE: Basic = Basic {

@@ -15,6 +15,7 @@ mod whole;
 
 pub use doubled::Doubled;
 pub use laws::fibonacci_program_is_doubled;
+pub use registers::{blue_register, green_register};
 pub use whole::duplicate;
 
 #[cfg(test)]

@@ -5,7 +5,7 @@ ghost use Rattle.ft_dup.specs.Images.{blue, green};
 use ft_isa::Reg;
 
 /// The green register of a pair below 32.
-pub(crate) fn green_register(pair: u8) -> Reg
+pub fn green_register(pair: u8) -> Reg
     requires { pair < 32 }
     ensures { result ≡ green pair }
 {
@@ -13,7 +13,7 @@ pub(crate) fn green_register(pair: u8) -> Reg
 }
 
 /// The blue register of a pair below 32.
-pub(crate) fn blue_register(pair: u8) -> Reg
+pub fn blue_register(pair: u8) -> Reg
     requires { pair < 32 }
     ensures { result ≡ blue pair }
 {

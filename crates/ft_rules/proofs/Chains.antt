@@ -6,12 +6,12 @@ use Rattle.std.proofs.lemmas.Bool.{ltb-true}
 use Rattle.std.proofs.Math.Dec.{ltb}
 use Rattle.ft_static.specs.Form.{Form as Normal, integer_form, memory_form, updates, Polynomial, Updates}
 use Rattle.ft_norm.specs.Held.{held, held as Found, Keeps, IsInteger, IsMemory, updates_held}
-use Rattle.ft_types.specs.Context.{Context as Defined, Typed, FormPair, with_type}
+use Rattle.ft_typing.specs.Context.{Context as Defined, Typed, FormPair, with_type}
 use Rattle.ft_isa.specs.declared.instr.Instr.{Instr}
 use Rattle.ft_types.specs.Spellable.{IsBase}
 use Rattle.ft_contexts.specs.declared.register.RegForm.{RegForm}
 use Rattle.ft_types.specs.declared.object.Object.{Object}
-use Rattle.ft_types.specs.TypingRow.{Outcome, Goes, Ends, is_empty, row}
+use Rattle.ft_typing.specs.TypingRow.{Outcome, Goes, Ends, is_empty, row}
 use Rattle.ft_rules.specs.declared.why.RuleError.{RuleError}
 use Rattle.ft_rules.specs.declared.why.RuleError.TheVariants.{NoMemory}
 use Rattle.ft_rules.specs.declared.why.Next.{Next}

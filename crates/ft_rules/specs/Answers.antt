@@ -3,11 +3,7 @@ use Rattle.std.specs.Prelude.{◌≡◌, ◌+◌, ◌*◌, ◌≤◌, ℕ, List,
 use Rattle.ft_isa.specs.declared.instr.Instr.{Instr}
 use Rattle.ft_static.specs.Form.{Form as Normal, updates}
 use Rattle.ft_types.specs.declared.object.Object.{Object}
-use Rattle.ft_types.specs.Premise as premise
-use Rattle.ft_types.specs.Premise.{Premise}
-use Rattle.ft_types.specs.TypingRow.{Outcome, Goes, Ends, Fails}
-use Rattle.ft_rules.specs.declared.why.Why.{Why}
-use Rattle.ft_rules.specs.declared.why.Why.TheVariants.{Untyped, Colour, BasicType, NotRef, NotCode, StateOfD, QueueFull, QueueEmpty, Addresses, Values, Conditions, Targets, RegisterUnlike, QueueUnlike, MemoryUnlike, Annotation, BlockEnd}
+use Rattle.ft_typing.specs.TypingRow.{Outcome, Goes, Ends, Fails}
 use Rattle.ft_rules.specs.declared.why.RuleError.{RuleError}
 use Rattle.ft_rules.specs.declared.why.RuleError.TheVariants.{Refused, NoMemory}
 use Rattle.ft_rules.specs.declared.why.Next.{Next}
@@ -15,33 +11,13 @@ use Rattle.ft_rules.specs.declared.why.Next.TheVariants as next
 use Rattle.ft_contexts.specs.declared.context.Context.{Context}
 use Rattle.ft_norm.specs.Held.{Keeps}
 use Rattle.ft_isa.specs.declared.instr.Instr.TheVariants.{Ld, JmpB, BzB}
-use Rattle.ft_types.specs.Context.{Context as Defined}
+use Rattle.ft_typing.specs.Context.{Context as Defined}
 use Rattle.ft_contexts.specs.Costs.{tree_cost}
 use Rattle.ft_contexts.specs.Contexts.{context_in, HoldsForms, NamesTypes}
 
--- the premise of a refusal
-abbrev pub premise_of : Why → Premise
-premise_of Untyped = premise.Untyped
-premise_of Colour = premise.Colour
-premise_of BasicType = premise.BasicType
-premise_of NotRef = premise.NotRef
-premise_of NotCode = premise.NotCode
-premise_of StateOfD = premise.StateOfD
-premise_of QueueFull = premise.QueueFull
-premise_of QueueEmpty = premise.QueueEmpty
-premise_of Addresses = premise.Addresses
-premise_of Values = premise.Values
-premise_of Conditions = premise.Conditions
-premise_of Targets = premise.Targets
-premise_of RegisterUnlike = premise.RegisterUnlike
-premise_of QueueUnlike = premise.QueueUnlike
-premise_of MemoryUnlike = premise.MemoryUnlike
-premise_of Annotation = premise.Annotation
-premise_of BlockEnd = premise.BlockEnd
-
 -- what an error says of what a row gives: a refusal names the first failing premise; out of memory says nothing
 abbrev pub IsRefusal : Outcome → RuleError → Type 0
-IsRefusal x (Refused why) = x ≡ Fails (premise_of why)
+IsRefusal x (Refused why) = x ≡ Fails why
 IsRefusal x NoMemory = Unit {0}
 
 -- what an answer of one premise says of what a row gives: what comes after it, or a refusal

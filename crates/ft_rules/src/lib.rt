@@ -13,6 +13,7 @@ mod typed_words;
 mod why;
 
 pub use ft_contexts::{Context, RegForm, Shared, StateD};
+pub use ft_typing::Why;
 pub use rows::{apply_rule, apply_rule_over};
 pub use typed_words::has_type;
-pub use why::{Next, RuleError, Why};
+pub use why::{Next, RuleError};

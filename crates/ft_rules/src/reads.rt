@@ -3,20 +3,21 @@ ghost use Rattle.std.specs.Prelude.{◌≡◌, ◌<◌, ◌==◌, ◌&&◌, IfOk
 ghost use Rattle.ft_static.specs.Form.{Form as Normal, Polynomial};
 ghost use Rattle.ft_static.specs.FormOrder.{same_polynomial};
 ghost use Rattle.ft_norm.specs.Held.{IsInteger, polynomial};
-ghost use Rattle.ft_types.specs.Context.{Typed, typed};
-ghost use Rattle.ft_types.specs.Premise as premise;
+ghost use Rattle.ft_typing.specs.Context.{Typed, typed};
+ghost use Rattle.ft_typing.specs.declared.why.Why.TheVariants as premise;
 ghost use Rattle.ft_types.specs.Spellable.{IsBase};
-ghost use Rattle.ft_types.specs.TypedWord.{is_seen_as};
-ghost use Rattle.ft_types.specs.TypingRow.{Outcome, for_code, for_ref, for_typed, need, same_colour};
+ghost use Rattle.ft_typing.specs.TypedWord.{is_seen_as};
+ghost use Rattle.ft_typing.specs.TypingRow.{Outcome, for_code, for_ref, for_typed, need, same_colour};
 ghost use Rattle.ft_types.specs.declared.object.Object.{Object};
 ghost use Rattle.ft_rules.specs.Answers.{Passes};
 ghost use Rattle.ft_contexts.specs.Contexts.{HoldsForms, NamesTypes, context_in, typed_in};
 
 use crate::premises::{code_type, need, referred, typed};
-use crate::why::{RuleError, Why};
+use crate::why::RuleError;
 use ft_contexts::{Context, RegForm, is_seen_as, same_colour, same_integers};
 use ft_isa::{Colour, Reg};
 use ft_norm::{Form, Interner};
+use ft_typing::Why;
 
 /// A register of this colour.
 pub fn one(context: &Context, r: Reg, colour: Colour) -> Result<RegForm, RuleError>

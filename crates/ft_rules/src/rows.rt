@@ -3,7 +3,7 @@ ghost use Rattle.std.specs.Prelude.{◌≡◌, ◌+◌, ◌*◌, ◌≤◌, OnEr
 ghost use Rattle.ft_static.specs.Form.{updates};
 ghost use Rattle.ft_norm.specs.Held.{Keeps};
 ghost use Rattle.ft_types.specs.Spellable.{IsBase, IsSpellable, IsSubst};
-ghost use Rattle.ft_types.specs.TypingRow.{row};
+ghost use Rattle.ft_typing.specs.TypingRow.{row};
 ghost use Rattle.ft_types.specs.declared.object.Object.{Object};
 ghost use Rattle.ft_contexts.specs.Contexts.{HoldsForms, HoldsOwn, NamesTypes, context_in};
 ghost use Rattle.ft_contexts.specs.Costs.{tree_cost};
@@ -13,19 +13,14 @@ use crate::premises::{conditional, need, oldest, referred, target, typed, zero};
 use crate::reads::{branched, jumped, one, same_target, stored};
 use crate::transfer::leads;
 use crate::typed_words::has_type;
-use crate::why::{Next, RuleError, Why};
+use crate::why::{Next, RuleError};
 use ft_contexts::{Context, QUEUE_ROOM, RegForm, Shared, StateD, same_colour, same_integers};
-use ft_isa::{Base, Basic, Colour, Coloured, Instr, Op, Reg, Subst};
+use ft_isa::{Basic, Colour, Coloured, INT, Instr, Op, Reg, Subst};
 use ft_norm::Interner;
 use ft_steps::Steps;
 use ft_types::Program;
+use ft_typing::Why;
 use std::sync::ledger::Ledger;
-
-/// The basic type of every word.
-const INT: Basic = Basic {
-    refs: 0,
-    base: Base::Int,
-};
 
 /// An operation on two registers.
 fn operate(
@@ -296,7 +291,7 @@ fn branch_blue<P: Program, L: Ledger>(
 }
 
 /// The end of a run, which ends the block.
-#[tactic(auto, unfolding(ft_types::specs::TypingRow::is_empty))]
+#[tactic(auto, unfolding(ft_typing::specs::TypingRow::is_empty))]
 fn halt(context: &Context, forms: &Interner) -> Result<Next, RuleError>
     requires { HoldsForms forms.now context.now }
     ensures { (o : Object) → NamesTypes o context.now → Does (row o (context_in forms.now context.now) Instr.Halt) o forms.now forms.now context.now context.now result }

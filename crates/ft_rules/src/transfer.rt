@@ -3,22 +3,23 @@
 ghost use Rattle.std.specs.Prelude.{◌+◌, ◌*◌, ◌<◌, ◌≤◌, length};
 ghost use Rattle.ft_norm.specs.Held.{Keeps};
 ghost use Rattle.ft_types.specs.Spellable.{IsSpellable, IsSubst};
-ghost use Rattle.ft_types.specs.TypingRow.{Outcome, leads};
+ghost use Rattle.ft_typing.specs.TypingRow.{Outcome, leads};
 ghost use Rattle.ft_contexts.specs.Contexts.{HoldsForms, HoldsOwn, context_in};
 ghost use Rattle.ft_contexts.specs.Costs.{tree_cost};
 ghost use Rattle.ft_rules.specs.Answers.{Passes};
 
 use crate::premises::need;
-use crate::why::{RuleError, Why};
+use crate::why::RuleError;
 use ft_contexts::{Context, Shared};
 use ft_isa::Subst;
 use ft_norm::Interner;
 use ft_steps::Steps;
 use ft_types::Program;
+use ft_typing::Why;
 use std::sync::ledger::Ledger;
 
 /// The premises of a transfer to code type `t` by a substitution.
-#[tactic(auto, unfolding(ft_types::specs::TypingRow::leads))]
+#[tactic(auto, unfolding(ft_typing::specs::TypingRow::leads))]
 pub fn leads<P: Program, L: Ledger>(
     context: &Context,
     shared: &mut Shared,

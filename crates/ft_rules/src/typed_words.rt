@@ -1,18 +1,15 @@
 //! The types of words.
 ghost use Rattle.std.specs.Prelude.{◌≡◌, ◌<◌, length};
 ghost use Rattle.ft_types.specs.Spellable.{IsSpellable};
-ghost use Rattle.ft_types.specs.TypedWord.{block_at, cell_type, has_type, has_type_over};
+ghost use Rattle.ft_typing.specs.TypedWord.{block_at, cell_type, has_type, has_type_over};
 
 use ft_contexts::same_basic;
-use ft_isa::{Base, Basic};
+use ft_isa::{Base, Basic, FIRST_CELL};
 use ft_types::{Block, Program};
-
-/// The address of the first cell.
-const CELL_BASE: u64 = 1_048_576;
 
 /// Whether a word has a basic type: every word has `int`, the code address of a block's first
 /// instruction has that block's code type, and the address of a cell has `ref` of the cell's type.
-#[tactic(auto, unfolding(ft_types::specs::TypedWord::has_type))]
+#[tactic(auto, unfolding(ft_typing::specs::TypedWord::has_type))]
 pub fn has_type<P: Program>(program: &P, word: u64, basic: Basic) -> bool
     requires { IsSpellable (P.object program.now) }
     ensures { result ≡ has_type (P.object program.now) word basic }
@@ -45,15 +42,15 @@ fn has_base<P: Program>(program: &P, word: u64, base: Base) -> bool
 }
 
 /// The basic type of the cell at an address; `None` exactly when no cell is there.
-#[tactic(auto, unfolding(ft_types::specs::TypedWord::cell_of))]
+#[tactic(auto, unfolding(ft_typing::specs::TypedWord::cell_of))]
 fn cell_type<P: Program>(program: &P, address: u64) -> Option<Basic>
     requires { IsSpellable (P.object program.now) }
     ensures { result ≡ cell_type (P.object program.now) address }
 {
-    if address < CELL_BASE {
+    if address < FIRST_CELL {
         return None;
     }
-    let k = address - CELL_BASE;
+    let k = address - FIRST_CELL;
     if k >= program.counts().cells as u64 {
         return None;
     }

@@ -15,10 +15,11 @@ use Rattle.ft_types.specs.declared.object.Object.{Object}
 use Rattle.ft_types.specs.declared.object.Block.{Block}
 use Rattle.ft_types.specs.declared.object.Cell.{Cell}
 use Rattle.ft_types.specs.Objects.{block_instrs}
-use Rattle.ft_types.specs.TypedWord.{HasType, int, ref, has_type, is_seen_as, same_basic, cell_of}
-use Rattle.ft_types.specs.Context.{Typed, Context, typed, with_type, d_zero, start_context, registers_after, memory_form_of}
-use Rattle.ft_types.specs.TypingRow.{same_colour, need, for_typed, for_ref_over, for_zero, for_oldest, is_empty}
-use Rattle.ft_types.specs.Accepted.{Applies, IsAccepted, last_row, next_row}
+use Rattle.ft_isa.specs.BasicTypes.{int, ref}
+use Rattle.ft_typing.specs.TypedWord.{HasType, has_type, is_seen_as, same_basic, cell_of}
+use Rattle.ft_typing.specs.Context.{Typed, Context, typed, with_type, d_zero, start_context, registers_after, memory_form_of}
+use Rattle.ft_typing.specs.TypingRow.{same_colour, need, for_typed, for_ref_over, for_zero, for_oldest, is_empty}
+use Rattle.ft_typing.specs.Accepted.{Applies, IsAccepted, last_row, next_row}
 use Rattle.ft_types.proofs.Maps.{get-insert}
 use Rattle.ft_sample.specs.Sample.{opening, turn, turns_from, sample_object}
 

@@ -1,3 +1,3 @@
 mod Turns
-mod Applies
-mod Spelled
+pub mod Applies
+pub mod Spelled

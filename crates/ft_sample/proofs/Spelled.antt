@@ -9,9 +9,9 @@ use Rattle.ft_static.specs.declared.node.Node.{Node}
 use Rattle.ft_static.specs.declared.node.Shape.TheVariants as shape
 use Rattle.ft_static.specs.NodeRules.{IsNode}
 use Rattle.ft_types.specs.declared.object.Object.{Object}
-use Rattle.ft_types.specs.Examples.{int_cell, nothing_known}
+use Rattle.ft_typing.specs.Examples.{int_cell, nothing_known}
 use Rattle.ft_types.specs.Spellable.{IsSpellable, IsBasic, IsCell, IsCodeType, IsInstr, HasCodeType, Cover, IsRegRow, IsQueueRow, IsNodeIn, substs_of}
-use Rattle.ft_types.specs.TypedWord.{int, ref}
+use Rattle.ft_isa.specs.BasicTypes.{int, ref}
 use Rattle.ft_sample.specs.Sample.{opening, turns_from, sample_object}
 
 -- the one node

@@ -4,8 +4,8 @@ use Rattle.ft_isa.specs.declared.colour.Colour.TheVariants.{Green, Blue}
 use Rattle.ft_isa.specs.declared.instr.Instr.{Instr}
 use Rattle.ft_isa.specs.declared.instr.Instr.TheVariants.{OpWord, Mov, St, Halt}
 use Rattle.ft_isa.specs.declared.op.Op.TheVariants.{Add, Mul}
-use Rattle.ft_types.specs.TypedWord.{int, ref}
-use Rattle.ft_types.specs.Examples.{r0, r1, r32, r33, green, blue, out, one_block}
+use Rattle.ft_isa.specs.BasicTypes.{int, ref}
+use Rattle.ft_typing.specs.Examples.{r0, r1, r32, r33, green, blue, out, one_block}
 use Rattle.ft_types.specs.declared.object.Object.{Object}
 
 -- the address of `out` and the value 0, in both colours

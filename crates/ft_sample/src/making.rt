@@ -1,32 +1,17 @@
 //! The object of so many turns.
 ghost use Rattle.std.specs.Prelude.{◌≡◌, ◌≤◌, ◌++◌, ◌∷◌, [], IfOk, OnOk};
 ghost use Rattle.ft_sample.specs.Sample.{opening, sample_object, turn, turns_from};
-ghost use Rattle.ft_types.specs.Accepted.{IsAccepted};
-ghost use Rattle.ft_types.specs.Examples as example;
+ghost use Rattle.ft_typing.specs.Accepted.{IsAccepted};
+ghost use Rattle.ft_typing.specs.Examples as example;
 ghost use Rattle.ft_types.specs.Spellable.{IsSpellable};
 
-use ft_isa::{Base, Basic, Colour, Coloured, Instr, NoMemory, Op, Reg};
+use ft_isa::{Colour, Coloured, FIRST_CELL, INT, Instr, NoMemory, Op, REF_INT, Reg};
 use ft_static::{Node, Shape};
 use ft_types::{Block, Cell, CodeType, Object, Table};
 use std::alloc::{AllocError, Global};
 
 /// The greatest number of turns: the object then has 65,531 instructions.
 pub const MOST_TURNS: u32 = 10_921;
-
-/// The address of the cell `out`.
-const OUT: u64 = 1_048_576;
-
-/// What a move of a word claims.
-const INT: Basic = Basic {
-    refs: 0,
-    base: Base::Int,
-};
-
-/// What a move of the cell's address claims.
-const REF_INT: Basic = Basic {
-    refs: 1,
-    base: Base::Int,
-};
 
 /// The green register of the address.
 fn green_address() -> Reg
@@ -93,12 +78,12 @@ fn put_opening(code: &mut Vec<Instr>) -> Result<(), AllocError>
         code,
         Instr::Mov {
             rd: green_address(),
-            value: green(OUT),
+            value: green(FIRST_CELL),
             basic: REF_INT,
         },
         Instr::Mov {
             rd: blue_address(),
-            value: blue(OUT),
+            value: blue(FIRST_CELL),
             basic: REF_INT,
         },
     )?;

@@ -1,9 +1,9 @@
 use Rattle.std.proofs.Common.{◌≡◌, ◌≤◌, ◌-◌, ◌+◌, ℕ, suc, length, slice_range, Option, sym, subst, ap, ◌∙◌, arith, Some, take}
 use Rattle.std.specs.Option.{option_map}
-use Rattle.ft_types.specs.Accepted.{walk, Refusal, Refused as refused_at}
-use Rattle.ft_types.specs.Premise.{Premise}
+use Rattle.ft_typing.specs.Accepted.{walk, Refusal, Refused as refused_at}
+use Rattle.ft_typing.specs.Premise.{Premise}
 use Rattle.ft_static.specs.Form.{updates}
-use Rattle.ft_types.specs.Context.{start_context}
+use Rattle.ft_typing.specs.Context.{start_context}
 use Rattle.ft_contexts.specs.declared.context.Context.{Context}
 use Rattle.ft_contexts.specs.Contexts.{context_in, pair_in}
 use Rattle.ft_contexts.proofs.Kept.{keeps_itself, keeps_on}

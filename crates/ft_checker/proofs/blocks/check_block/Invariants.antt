@@ -2,8 +2,8 @@ use Rattle.std.proofs.Common.{◌≡◌, ◌+◌, ◌-◌, ◌≤◌, length, ta
 use Rattle.ft_static.specs.Form.{updates}
 use Rattle.ft_norm.specs.Held.{Keeps}
 use Rattle.ft_checker.specs.Costs.{instrs_cost}
-use Rattle.ft_types.specs.Accepted.{walk}
-use Rattle.ft_types.specs.Context.{start_context}
+use Rattle.ft_typing.specs.Accepted.{walk}
+use Rattle.ft_typing.specs.Context.{start_context}
 use Rattle.ft_types.specs.Objects.{block_instrs}
 use Rattle.ft_contexts.specs.Contexts.{HoldsForms, HoldsOwn, NamesTypes, context_in}
 use Rattle.ft_checker.proofs.blocks.check_block.Given as goal

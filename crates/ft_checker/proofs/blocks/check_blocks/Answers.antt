@@ -1,5 +1,5 @@
 use Rattle.std.proofs.Common.{ℕ, suc, ◌≡◌, ◌+◌, ◌*◌, ◌≤◌, length, take, ap, sym, ◌∙◌, arith, refl, subst, Some}
-use Rattle.ft_types.specs.Accepted.{block_refusal}
+use Rattle.ft_typing.specs.Accepted.{block_refusal}
 use Rattle.std.proofs.Math.Nat.{mul-le-mul_right}
 use Rattle.ft_types.specs.Objects.{block_end}
 use Rattle.ft_checker.specs.Costs.{instrs_cost, visit_cost}

@@ -4,7 +4,7 @@ use Rattle.ft_contexts.specs.Contexts.{HoldsOwn}
 use Rattle.ft_checker.specs.Judges.{IsStart}
 use Rattle.ft_checker.specs.Costs.{instrs_cost, visit_cost}
 use Rattle.ft_checker.proofs.Costs.{begins}
-use Rattle.ft_types.specs.Accepted.{block_refusal, first_refusal}
+use Rattle.ft_typing.specs.Accepted.{block_refusal, first_refusal}
 use Rattle.ft_checker.proofs.blocks.check_blocks.Given as goal
 
 abbrev pub invariant-loop-b : goal.invariant-loop-b

@@ -1,5 +1,5 @@
 use Rattle.std.proofs.Common.{◌≡◌, drop}
-use Rattle.ft_types.specs.Accepted.{cell_refusal, first_refusal}
+use Rattle.ft_typing.specs.Accepted.{cell_refusal, first_refusal}
 use Rattle.ft_checker.proofs.cells.check_cells.Given as goal
 
 abbrev pub invariant-loop-k : goal.invariant-loop-k

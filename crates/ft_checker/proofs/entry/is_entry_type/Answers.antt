@@ -1,7 +1,7 @@
 use Rattle.std.proofs.Common.{◌≡◌, ◌&&◌, ◌==◌, ℕ, Bool, List, [], ◌∷◌, length, slice_get, refl, sym, ◌∙◌, arith}
 use Rattle.ft_types.specs.declared.object.Object.{Object}
 use Rattle.ft_types.specs.declared.object.TypeHead.{TypeHead}
-use Rattle.ft_types.specs.Accepted.{has_none, is_entry_type, is_memory_variable}
+use Rattle.ft_typing.specs.Accepted.{has_none, is_entry_type, is_memory_variable}
 use Rattle.ft_types.specs.Objects.{ints_of, reg_rows, queue_rows, memory_of}
 use Rattle.ft_contexts.proofs.Registers.{apart}
 use Rattle.ft_contexts.proofs.Turns.{head_says}

@@ -1,4 +1,4 @@
-use Rattle.ft_types.proofs.Acceptance.{accepted_is_unrefused}
+use Rattle.ft_typing.proofs.Acceptance.{accepted_is_unrefused}
 use Rattle.ft_checker.proofs.judge.check.Goals as goal
 
 pub invariant_of-result : goal.invariant_of-result

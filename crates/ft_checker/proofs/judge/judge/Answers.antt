@@ -1,6 +1,6 @@
 use Rattle.std.proofs.Common.{Option, arith, length, sym, subst, ap, ◌∙◌}
 use Rattle.std.specs.Option.{option_or}
-use Rattle.ft_types.specs.Accepted.{Refusal, first_refusal, block_refusal}
+use Rattle.ft_typing.specs.Accepted.{Refusal, first_refusal, block_refusal}
 use Rattle.ft_types.specs.Spellable.{HasCodeType}
 use Rattle.ft_contexts.proofs.Spelled.{all_at}
 use Rattle.ft_checker.specs.Judges.{Judges}

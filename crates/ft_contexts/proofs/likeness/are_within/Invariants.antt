@@ -1,7 +1,7 @@
 use Rattle.std.proofs.Common.{◌≡◌, slice_range, nat_le}
 use Rattle.std.specs.List.{list_all}
 use Rattle.ft_types.specs.Objects.{scope_of}
-use Rattle.ft_types.specs.Context.{rows_of}
+use Rattle.ft_typing.specs.Context.{rows_of}
 use Rattle.ft_contexts.proofs.likeness.are_within.Given as goal
 
 abbrev pub invariant-loop-n : goal.invariant-loop-n

@@ -2,7 +2,7 @@ use Rattle.std.proofs.Common.{◌≡◌, ◌+◌, ◌*◌, List, ◌∷◌, ◌+
 use Rattle.ft_static.specs.Form.{integer_form}
 use Rattle.ft_norm.specs.Held.{held, IsInteger}
 use Rattle.ft_types.specs.Objects.{queue_rows}
-use Rattle.ft_types.specs.Context.{FormPair, integer_form_of, queue_pair}
+use Rattle.ft_typing.specs.Context.{FormPair, integer_form_of, queue_pair}
 use Rattle.ft_contexts.specs.Contexts.{pair_in}
 use Rattle.ft_contexts.specs.Costs.{tree_cost}
 use Rattle.ft_contexts.proofs.Costs.{some_trees, two_trees}

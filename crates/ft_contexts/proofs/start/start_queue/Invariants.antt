@@ -2,7 +2,7 @@ use Rattle.std.proofs.Common.{◌≡◌, ◌+◌, ◌*◌, ◌≤◌, ◌++◌, 
 use Rattle.ft_contexts.specs.Costs.{tree_cost}
 use Rattle.ft_norm.specs.Held.{Keeps}
 use Rattle.ft_types.specs.Objects.{queue_rows}
-use Rattle.ft_types.specs.Context.{queue_pair}
+use Rattle.ft_typing.specs.Context.{queue_pair}
 use Rattle.ft_contexts.specs.Contexts.{pair_in, HoldsOwn, HoldsQueue}
 use Rattle.ft_contexts.proofs.start.start_queue.Given as goal
 

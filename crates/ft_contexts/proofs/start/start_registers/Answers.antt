@@ -3,7 +3,7 @@ use Rattle.std.proofs.lemmas.List.{length-set, length-replicate}
 use Rattle.ft_static.specs.Form.{integer_form}
 use Rattle.ft_norm.specs.Held.{held}
 use Rattle.ft_types.specs.Objects.{reg_rows}
-use Rattle.ft_types.specs.Context.{TypedRegisters, registers_after, integer_form_of}
+use Rattle.ft_typing.specs.Context.{TypedRegisters, registers_after, integer_form_of}
 use Rattle.ft_contexts.specs.declared.register.RegForm.{RegForm}
 use Rattle.ft_contexts.specs.Contexts.{registers_in}
 use Rattle.ft_contexts.specs.Costs.{tree_cost}

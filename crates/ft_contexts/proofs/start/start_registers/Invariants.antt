@@ -3,7 +3,7 @@ use Rattle.std.specs.FinMap as finite
 use Rattle.ft_contexts.specs.Costs.{tree_cost}
 use Rattle.ft_norm.specs.Held.{Keeps}
 use Rattle.ft_types.specs.Objects.{reg_rows}
-use Rattle.ft_types.specs.Context.{registers_after}
+use Rattle.ft_typing.specs.Context.{registers_after}
 use Rattle.ft_contexts.specs.Contexts.{registers_in, HoldsOwn, HoldsRegisters, RegistersNameTypes}
 use Rattle.ft_contexts.proofs.start.start_registers.Given as goal
 

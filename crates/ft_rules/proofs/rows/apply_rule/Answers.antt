@@ -1,5 +1,5 @@
 use Rattle.std.proofs.Common.{arith}
-use Rattle.ft_types.specs.TypingRow.{row}
+use Rattle.ft_typing.specs.TypingRow.{row}
 use Rattle.ft_contexts.specs.Contexts.{context_in}
 use Rattle.ft_contexts.proofs.Kept.{forms_kept, keeps_on}
 use Rattle.ft_rules.proofs.Chains.{does_stop, grows_on, row_on, steps_on}

@@ -3,8 +3,8 @@ use Rattle.ft_rules.proofs.Chains.{grows_same, does_exit, does_go}
 use Rattle.ft_contexts.proofs.Kept.{keeps_itself}
 use Rattle.std.proofs.Common.{ap, length, sym}
 use Rattle.ft_static.specs.Form.{updates}
-use Rattle.ft_types.specs.Context.{Context as Defined, d_zero}
-use Rattle.ft_types.specs.TypingRow.{Goes}
+use Rattle.ft_typing.specs.Context.{Context as Defined, d_zero}
+use Rattle.ft_typing.specs.TypingRow.{Goes}
 use Rattle.ft_contexts.proofs.Kept.{forms_kept, context_stays}
 use Rattle.ft_rules.proofs.rows.branch_blue.Goals as goal
 

@@ -1,7 +1,7 @@
 use Rattle.std.proofs.Common.{sym, subst}
 use Rattle.ft_isa.specs.declared.colour.Colour.{Colour}
 use Rattle.ft_isa.specs.declared.instr.Instr.TheVariants.{St}
-use Rattle.ft_types.specs.TypingRow.{row}
+use Rattle.ft_typing.specs.TypingRow.{row}
 use Rattle.ft_rules.specs.Answers.{Does}
 use Rattle.ft_contexts.specs.Contexts.{context_in}
 use Rattle.ft_rules.proofs.rows.store.Goals as goal

@@ -3,7 +3,7 @@ use Rattle.std.proofs.lemmas.Bool.{cases_lt}
 use Rattle.ft_types.specs.declared.object.Object.{Object}
 use Rattle.ft_types.specs.declared.object.Block.{Block}
 use Rattle.ft_types.specs.Spellable.{IsSpellable}
-use Rattle.ft_types.specs.TypedWord.{block_at}
+use Rattle.ft_typing.specs.TypedWord.{block_at}
 use Rattle.ft_contexts.proofs.Registers.{apart}
 use Rattle.ft_rules.proofs.Blocks.{starts_rise, find_first, find_none}
 use Rattle.ft_rules.proofs.typed_words.block_at.Goals as goal

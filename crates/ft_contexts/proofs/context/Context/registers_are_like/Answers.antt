@@ -2,9 +2,9 @@ use Rattle.std.proofs.Common.{◌≡◌, sym, ap, ◌∙◌, arith, ◌+◌, ref
 use Rattle.std.specs.List.{list_all}
 use Rattle.ft_types.specs.declared.object.RegType.{RegType}
 use Rattle.ft_types.specs.Objects.{reg_rows}
-use Rattle.ft_types.specs.Context.{typed, Replacement}
-use Rattle.ft_types.specs.Context.{Context as Defined}
-use Rattle.ft_types.specs.TypingRow.{is_like}
+use Rattle.ft_typing.specs.Context.{typed, Replacement}
+use Rattle.ft_typing.specs.Context.{Context as Defined}
+use Rattle.ft_typing.specs.TypingRow.{is_like}
 use Rattle.ft_contexts.specs.Contexts.{context_in, replacement_in}
 use Rattle.ft_static.specs.Form.{updates}
 use Rattle.ft_norm.specs.Held.{updates_held}

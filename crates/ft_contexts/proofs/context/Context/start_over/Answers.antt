@@ -4,7 +4,7 @@ use Rattle.std.proofs.lemmas.List.{length-map}
 use Rattle.ft_static.specs.Form.{updates}
 use Rattle.ft_norm.specs.Held.{updates_held}
 use Rattle.ft_types.specs.Objects.{memory_of, reg_rows, queue_rows}
-use Rattle.ft_types.specs.Context.{d_zero, registers_after, queue_pair, memory_form_of}
+use Rattle.ft_typing.specs.Context.{d_zero, registers_after, queue_pair, memory_form_of}
 use Rattle.ft_contexts.specs.Contexts.{registers_in, pair_in}
 use Rattle.ft_contexts.specs.Costs.{tree_cost}
 use Rattle.ft_contexts.proofs.Costs.{few_queue_rows, few_reg_rows, some_trees}

@@ -3,7 +3,7 @@ use Rattle.ft_static.specs.Form.{integer_form, Polynomial}
 use Rattle.ft_norm.specs.Held.{held, IsInteger, polynomial, polynomials}
 use Rattle.ft_norm.proofs.Memos.{remembers_none}
 use Rattle.ft_types.specs.Spellable.{IsNodeIn}
-use Rattle.ft_types.specs.Context.{replacement, rows_of, integer_form_of}
+use Rattle.ft_typing.specs.Context.{replacement, rows_of, integer_form_of}
 use Rattle.ft_contexts.specs.Costs.{tree_cost}
 use Rattle.ft_contexts.proofs.Costs.{one_tree, some_trees}
 use Rattle.ft_contexts.proofs.Kept.{keeps_itself, keeps_on, none_held, integer_found, integer_kept, polynomial_found, polynomials_stay, memory_found, updates_found}

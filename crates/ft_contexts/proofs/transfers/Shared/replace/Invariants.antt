@@ -2,7 +2,7 @@ use Rattle.std.proofs.Common.{◌≡◌, ◌+◌, ◌-◌, ◌*◌, ◌≤◌, �
 use Rattle.ft_contexts.specs.Costs.{tree_cost}
 use Rattle.ft_norm.specs.Held.{Keeps, AreIntegers, polynomials}
 use Rattle.ft_norm.specs.Memos.{IsFresh}
-use Rattle.ft_types.specs.Context.{rows_of, integer_form_of}
+use Rattle.ft_typing.specs.Context.{rows_of, integer_form_of}
 use Rattle.ft_contexts.specs.Contexts.{HoldsOwn}
 use Rattle.ft_contexts.proofs.transfers.Shared.replace.Given as goal
 
