@@ -1,39 +1,41 @@
 -- What the parts of a command conclude.
-use Rattle.std.proofs.Common.{◌≡◌, false, nat_le, ℕ, zero, suc, ◌<◌, List, [], ◌∷◌, length, Option, Some, None, Ok, Err, inl, inr, refl, sym, ap, ◌∙◌, subst, arith}
-use Rattle.std.specs.Prelude.{IfSome}
+use Rattle.std.proofs.Common.{◌≡◌, false, nat_le, ℕ, ◌<◌, List, [], ◌∷◌, length, Option, Some, None, Ok, Err, inl, inr, refl, sym, ap, ◌∙◌, subst}
 use Rattle.std.proofs.lemmas.Bool.{lt-leb}
 use Rattle.ft_edge.specs.Puts.{PutsLines, BreaksOff as LinesBreakOff}
-use Rattle.ft_edge.specs.Loads.{Files, IsLonger}
+use Rattle.ft_edge.specs.Causes.{Rose}
+use Rattle.ft_edge.specs.Loads.{Files}
 use Rattle.ft_isa.specs.declared.plan.Wild.{Wild}
 use Rattle.ft_types.specs.declared.object.Object as objects
-use Rattle.ft_types.specs.declared.status.Status.{Status}
-use Rattle.ft_types.specs.Run.{run, status_after, outputs_after}
+use Rattle.ft_semantics.specs.declared.status.Status.{Status}
+use Rattle.ft_semantics.specs.Run.{run, status_after, outputs_after}
 use Rattle.ft_types.specs.Spellable.{IsSpellable}
-use Rattle.ft_types.proofs.Acceptance.{accepted_is_unrefused}
-use Rattle.ft_inject.specs.Soundness.{IsNeverDetected}
-use Rattle.ft_inject.proofs.Whole.{never_detected}
-use Rattle.ft_inject.proofs.Masking.{tolerant}
+use Rattle.ft_typing.proofs.Acceptance.{accepted_is_unrefused}
+use Rattle.ft_tolerance.specs.Soundness.{IsNeverDetected}
+use Rattle.ft_tolerance.proofs.Whole.{never_detected}
+use Rattle.ft_tolerance.proofs.Masking.{tolerant}
 use Rattle.ft_isa.specs.declared.plan.Strike.{Strike}
 use Rattle.ft_machine.specs.Drives.{output_lines}
 use Rattle.ft_format.specs.Broken.{broken, object_of}
 use Rattle.ft_format.specs.declared.object_error.ObjectError.TheVariants.{Length}
 use Rattle.ft_command.specs.Options.{Word}
-use Rattle.ft_command.specs.Commands.{Run}
+use Rattle.ft_command.specs.Commands.{Run, Request}
 use Rattle.ft_tool.specs.declared.load.ObjectFault.{ObjectFault}
 use Rattle.ft_tool.specs.declared.load.ObjectFault.TheVariants.{Refused, Failed, NoMemory as no_memory}
 use Rattle.ft_tool.specs.declared.ending.Ending.{Ending}
 use Rattle.ft_tool.specs.declared.ending.Ending.TheVariants.{Done, Detected, Usage, LoadFault, WriteFault, NoMemory, Source, Object, NotAccepted, OutOfSteps, Corrupt, FaultList}
-use Rattle.ft_types.specs.Accepted.{Refusal, refusal}
+use Rattle.ft_typing.specs.Accepted.{refusal}
 use Rattle.ft_checker.specs.declared.error.CheckError.{CheckError}
 use Rattle.ft_checker.specs.declared.error.CheckError.TheVariants as checks
 use Rattle.ft_checker.specs.Judges.{IsRefusalOf}
 use Rattle.ft_tool.specs.Replies.{Answer, one_piece, ran, status_of_run}
-use Rattle.ft_tool.specs.Answers.{tried, judged, checked, Withstands, RunsUnless, RunsObject, TriesObject, OverFile, Concludes, BreaksOff}
-use Rattle.ft_tool.specs.Files.{LoadsObject, IsRefusedBy, IsNotAccepted}
+use Rattle.ft_tool.specs.Answers.{tried, judged, checked, Withstands, RunsUnless, RunsObject, TriesObject, OverFile, ComesTo, FailsIn, Concludes, BreaksOff}
+use Rattle.ft_tool.specs.Told.{OfFiles}
+use Rattle.ft_tool.specs.Files.{LoadsObject, LoadCause, IsRefusedBy, IsNotAccepted}
 use Rattle.ft_tool.specs.Endings.{Ends}
+use Rattle.ft_tool.proofs.Mapped.{some_files, files_with}
 
 -- an ending says the same of an answer that is known less well
-pub Ends-map : (e : Ending) (P Q : Answer → Type 0) (old new : Option (List ℕ)) (puts puts' : Option ℕ) (before now : ℕ) (L M : Type 0) → ((a : Answer) → P a → Q a) → (L → M) → Ends e P old new puts puts' before now L → Ends e Q old new puts puts' before now M
+pub Ends-map : (e : Ending) (P Q : Answer → Type 0) (old new : Option (List ℕ)) (puts puts' : Option (List (List ℕ))) (before now : ℕ) (L M : Type 0) → ((a : Answer) → P a → Q a) → (L → M) → Ends e P old new puts puts' before now L → Ends e Q old new puts puts' before now M
 Ends-map Done P Q old new puts puts' before now L M f g h = record { answer = h.answer; is = f h.answer h.is; put = h.put; status_is = h.status_is }
 Ends-map Detected P Q old new puts puts' before now L M f g h = record { answer = h.answer; is = f h.answer h.is; put = h.put; status_is = h.status_is }
 Ends-map Usage P Q old new puts puts' before now L M f g h = record { answer = h.answer; is = f h.answer h.is; put = h.put; status_is = h.status_is }
@@ -48,7 +50,7 @@ Ends-map Corrupt P Q old new puts puts' before now L M f g h = record { answer =
 Ends-map FaultList P Q old new puts puts' before now L M f g h = record { answer = h.answer; is = f h.answer h.is; put = h.put; status_is = h.status_is }
 
 -- a run whose lines were put
-pub concludes : (r : Run) (o : objects.Object) (w : List Wild) (v : Status) (old new : Option (List ℕ)) (before now : Option ℕ) → w ≡ r.wild → status_after o r.strike w r.steps ≡ v
+pub concludes : (r : Run) (o : objects.Object) (w : List Wild) (v : Status) (old new : Option (List ℕ)) (before now : Option (List (List ℕ))) → w ≡ r.wild → status_after o r.strike w r.steps ≡ v
     → PutsLines (output_lines o (outputs_after o r.strike w r.steps)) old new before now → Concludes (TriesObject r o) (status_of_run v) old new before now
 concludes r o w v old new before now is status put = record {
   answer = ran o (run o r.strike r.wild r.steps);
@@ -58,7 +60,7 @@ concludes r o w v old new before now is status put = record {
 }
 
 -- a run of whose lines a put failed
-pub breaks_off : (r : Run) (o : objects.Object) (w : List Wild) (old new : Option (List ℕ)) (before now : Option ℕ) → w ≡ r.wild
+pub breaks_off : (r : Run) (o : objects.Object) (w : List Wild) (old new : Option (List ℕ)) (before now : Option (List (List ℕ))) → w ≡ r.wild
     → LinesBreakOff (output_lines o (outputs_after o r.strike w r.steps)) old new before now → BreaksOff (TriesObject r o) old new before now
 breaks_off r o w old new before now is broken = record {
   answer = ran o (run o r.strike r.wild r.steps);
@@ -67,11 +69,11 @@ breaks_off r o w old new before now is broken = record {
 }
 
 -- an answer of one piece, which was put, or whose put failed
-pub piece_concludes : (Is : Answer → Type 0) (line piece : List ℕ) (status : ℕ) (old new : Option (List ℕ)) (before now : Option ℕ) → Is (one_piece line status) → piece ≡ line → PutsLines (piece ∷ []) old new before now
+pub piece_concludes : (Is : Answer → Type 0) (line piece : List ℕ) (status : ℕ) (old new : Option (List ℕ)) (before now : Option (List (List ℕ))) → Is (one_piece line status) → piece ≡ line → PutsLines (piece ∷ []) old new before now
     → Concludes Is status old new before now
 piece_concludes Is line piece status old new before now is e put = record { answer = one_piece line status; is = is; put = subst (λ p. PutsLines (p ∷ []) old new before now) e put; status_is = refl }
 
-pub piece_breaks_off : (Is : Answer → Type 0) (line piece : List ℕ) (status : ℕ) (old new : Option (List ℕ)) (before now : Option ℕ) → Is (one_piece line status) → piece ≡ line → LinesBreakOff (piece ∷ []) old new before now
+pub piece_breaks_off : (Is : Answer → Type 0) (line piece : List ℕ) (status : ℕ) (old new : Option (List ℕ)) (before now : Option (List (List ℕ))) → Is (one_piece line status) → piece ≡ line → LinesBreakOff (piece ∷ []) old new before now
     → BreaksOff Is old new before now
 piece_breaks_off Is line piece status old new before now is e broken = record { answer = one_piece line status; is = is; broken = subst (λ p. LinesBreakOff (p ∷ []) old new before now) e broken }
 
@@ -91,14 +93,14 @@ pub run_accepted : (r : Run) (o : objects.Object) → IsSpellable o → refusal 
 run_accepted r o spellable h a is = subst (λ x. RunsUnless x r o a) (sym h) (is, withstands o r.strike r.wild spellable h)
 
 -- a run of an accepted object whose lines were put
-pub run_concludes : (r : Run) (o x : objects.Object) (w : List Wild) (v : Status) (old new : Option (List ℕ)) (before now : Option ℕ) → IsSpellable o → refusal o ≡ None → x ≡ o → w ≡ r.wild
+pub run_concludes : (r : Run) (o x : objects.Object) (w : List Wild) (v : Status) (old new : Option (List ℕ)) (before now : Option (List (List ℕ))) → IsSpellable o → refusal o ≡ None → x ≡ o → w ≡ r.wild
     → status_after x r.strike w r.steps ≡ v → PutsLines (output_lines x (outputs_after x r.strike w r.steps)) old new before now → Concludes (RunsObject r o) (status_of_run v) old new before now
 run_concludes r o x w v old new before now spelled unrefused same is status put =
     let h = concludes r o w v old new before now is (subst (λ y. status_after y r.strike w r.steps ≡ v) same status) (subst (λ y. PutsLines (output_lines y (outputs_after y r.strike w r.steps)) old new before now) same put) in
     record { answer = h.answer; is = run_accepted r o spelled unrefused h.answer h.is; put = h.put; status_is = h.status_is }
 
 -- a run of an accepted object of whose lines a put failed
-pub run_breaks_off : (r : Run) (o x : objects.Object) (w : List Wild) (old new : Option (List ℕ)) (before now : Option ℕ) → IsSpellable o → refusal o ≡ None → x ≡ o → w ≡ r.wild
+pub run_breaks_off : (r : Run) (o x : objects.Object) (w : List Wild) (old new : Option (List ℕ)) (before now : Option (List (List ℕ))) → IsSpellable o → refusal o ≡ None → x ≡ o → w ≡ r.wild
     → LinesBreakOff (output_lines x (outputs_after x r.strike w r.steps)) old new before now → BreaksOff (RunsObject r o) old new before now
 run_breaks_off r o x w old new before now spelled unrefused same is broken =
     let h = breaks_off r o w old new before now is (subst (λ y. LinesBreakOff (output_lines y (outputs_after y r.strike w r.steps)) old new before now) same broken) in
@@ -118,27 +120,26 @@ run_refused (checks.CellType k) r o h a is = subst (λ x. RunsUnless x r o a) (s
 run_refused (checks.Refused b i why) r o h a is = subst (λ x. RunsUnless x r o a) (sym h) is
 run_refused checks.NoMemory r o h a is = absurd is
 
--- there are lists longer than any number
-pub longer_bytes : (n : ℕ) → (bytes : List ℕ) × (n < length bytes)
-longer_bytes zero = (0 ∷ [], omega arith)
-longer_bytes (suc n) = let h = longer_bytes n in (0 ∷ h.0, omega (arith, h.1))
-
 -- bytes beyond the limit are refused by their length
 pub too_long : (bytes : List ℕ) → 67108864 < length bytes → broken bytes ≡ Some (Length 67108864)
 unfolding broken
 too_long bytes long = let beyond : nat_le (length bytes) 67108864 ≡ false = lt-leb (length bytes) 67108864 long in rw beyond refl
 
--- a file beyond the limit is refused by its length; where the shelf does not tell it, its bytes may be any such
-pub too_long_file : (files : Option Files) (name : Word) → IfSome files (λ fs. IsLonger fs name 67108864) → LoadsObject files name (Err (Refused (Length 67108864)))
-too_long_file None name told = let h = longer_bytes 67108864 in (h.0, (tt, too_long h.0 h.1))
-too_long_file (Some files) name told = (told.bytes, (told.found, too_long told.bytes told.longer))
-
 -- the answer over the object that a file's bytes spell is one over the file
-pub over_object : (Over : objects.Object → Answer → Type 0) (files : Option Files) (name : Word) (bytes : List ℕ) → LoadsObject files name (Ok bytes) → (a : Answer) → Over (object_of bytes) a → OverFile Over name files a
-over_object Over files name bytes h a is = (bytes, (h.0, inl (object_of bytes, (h.1, is))))
+pub over_object : (Over : objects.Object → Answer → Type 0) (told : Option Files) (name : Word) (bytes : List ℕ) → LoadsObject told name (Ok bytes) → (a : Answer) → Over (object_of bytes) a → OfFiles told (λ files. OverFile Over name files a)
+over_object Over told name bytes h a is = let m = files_with told name bytes h.0 in (m.0, (m.1.0, (bytes, (m.1.1, inl (object_of bytes, (h.1, is))))))
 
 -- the answer to a file's bytes that are refused is one over the file
-pub over_fault : (Over : objects.Object → Answer → Type 0) (files : Option Files) (name : Word) (e : ObjectFault) → LoadsObject files name (Err e) → (a : Answer) → IsRefusedBy e a → OverFile Over name files a
-over_fault Over files name (Refused e) h a is = (h.0, (h.1.0, inr (e, (h.1.1, is))))
-over_fault Over files name Failed h a is = absurd is
-over_fault Over files name no_memory h a is = absurd is
+pub over_fault : (Over : objects.Object → Answer → Type 0) (told : Option Files) (name : Word) (e : ObjectFault) → LoadsObject told name (Err e) → (a : Answer) → IsRefusedBy e a → OfFiles told (λ files. OverFile Over name files a)
+over_fault Over told name (Refused e) h a is = let m = files_with told name h.0 h.1.0 in (m.0, (m.1.0, (h.0, (m.1.1, inr (e, (h.1.1, is))))))
+over_fault Over told name Failed h a is = absurd is
+over_fault Over told name no_memory h a is = absurd is
+
+-- a load of an object that failed
+pub object_failed : (before now : ℕ) (failed failed' : Option (List ℕ)) (name : Word) (e : ObjectFault) → LoadCause before now failed failed' name (Err e) → e ≡ Failed → Rose before now × (failed' ≡ Some name)
+object_failed before now failed failed' name e h is = subst (λ f. LoadCause before now failed failed' name (Err f)) is h
+
+-- a request that came to load a file, where files play no part in that
+pub failed_in : (request : Request) (told : Option Files) (before now : ℕ) (failed' : Option (List ℕ)) (name : Word) → ((files : Files) → ComesTo request files name) → Rose before now × (failed' ≡ Some name)
+    → OfFiles told (λ files. FailsIn request files before now failed')
+failed_in request told before now failed' name comes h = let m = some_files told in (m.0, (m.1.0, record { rose = h.0; file = name; comes = comes m.0; name = h.1 }))

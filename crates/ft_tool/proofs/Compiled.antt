@@ -23,12 +23,12 @@ is_compiled text o h bytes spelled = inl (h.0, (h.1, record { object = o; stands
 
 -- an object whose bytes were put
 pub object_concludes : (text : List ℕ) (o : Object) → (p : Program) × IsProgramOf text p × StandsFor p o → (bytes put : List ℕ) → Spells bytes o → put ≡ bytes
-    → (old new : Option (List ℕ)) (before now : Option ℕ) → PutsLines (put ∷ []) old new before now → Concludes (OverText CompilesProgram text) 0 old new before now
+    → (old new : Option (List ℕ)) (before now : Option (List (List ℕ))) → PutsLines (put ∷ []) old new before now → Concludes (OverText CompilesProgram text) 0 old new before now
 object_concludes text o h bytes put spelled same old new before now done =
     piece_concludes (OverText CompilesProgram text) bytes put 0 old new before now (is_compiled text o h bytes spelled) same done
 
 -- an object whose put failed
 pub object_breaks_off : (text : List ℕ) (o : Object) → (p : Program) × IsProgramOf text p × StandsFor p o → (bytes put : List ℕ) → Spells bytes o → put ≡ bytes
-    → (old new : Option (List ℕ)) (before now : Option ℕ) → LinesBreakOff (put ∷ []) old new before now → BreaksOff (OverText CompilesProgram text) old new before now
+    → (old new : Option (List ℕ)) (before now : Option (List (List ℕ))) → LinesBreakOff (put ∷ []) old new before now → BreaksOff (OverText CompilesProgram text) old new before now
 object_breaks_off text o h bytes put spelled same old new before now broken =
     piece_breaks_off (OverText CompilesProgram text) bytes put 0 old new before now (is_compiled text o h bytes spelled) same broken

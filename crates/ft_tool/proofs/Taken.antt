@@ -1,28 +1,59 @@
 -- What was taken of a script, and what a session over it concludes.
-use Rattle.std.proofs.Common.{◌≡◌, ℕ, ◌<◌, ◌≤◌, List, ◌++◌, length, Option, Some, None, Ok, Err, refl, ap, subst, arith, length-append}
-use Rattle.std.specs.Io.KnownBytes.{Consumes}
+use Rattle.std.proofs.Common.{◌≡◌, ℕ, ◌<◌, ◌≤◌, List, [], ◌++◌, length, take, append-nil, Option, Some, None, Ok, Err, inl, inr, refl, sym, ap, ◌∙◌, subst, arith, length-append}
+use Rattle.std.specs.Prelude.{◌⊎◌, IfSome}
+use Rattle.std.specs.Io.KnownBytes.{Consumes, Keeps, IsAtEnd}
 use Rattle.ft_edge.specs.Causes.{Rose}
+use Rattle.ft_edge.specs.Loads.{Files}
 use Rattle.ft_edge.specs.Puts.{PutsLines, BreaksOff as LinesBreakOff}
 use Rattle.ft_isa.specs.declared.plan.Wild.{Wild}
 use Rattle.ft_types.specs.declared.object.Object.{Object}
 use Rattle.ft_debug.specs.Ends.{Finishes, Stops}
 use Rattle.ft_debug.specs.Sessions.{session_lines}
-use Rattle.ft_command.specs.Commands.{Debugging}
+use Rattle.ft_format.specs.Format.{AreBytes}
+use Rattle.ft_format.specs.Broken.{object_of}
+use Rattle.ft_command.specs.Commands.{Debugging, Debugs}
+use Rattle.ft_tool.specs.declared.load.ObjectFault.{ObjectFault}
+use Rattle.ft_tool.specs.declared.load.ObjectFault.TheVariants.{Refused, Failed, NoMemory}
 use Rattle.ft_tool.specs.declared.script.ScriptFault.{ScriptFault}
 use Rattle.ft_tool.specs.declared.script.ScriptFault.TheVariants as faults
-use Rattle.ft_tool.specs.Replies.{Answer}
-use Rattle.ft_tool.specs.Scripts.{IsScript, DebugsText, debugged, too_long, DebugsObject, TakesScript, TakeCause, IsScriptRefusedBy}
-use Rattle.ft_tool.specs.Answers.{Concludes, BreaksOff}
+use Rattle.ft_tool.specs.Replies.{Answer, IsScript}
+use Rattle.ft_tool.specs.Scripts.{DebugsObject, debugged, too_long, TakesScript, TakeCause, IsScriptRefusedBy}
+use Rattle.ft_tool.specs.Answers.{Concludes, BreaksOff, OverFile, FailsIn, FailsAtScript}
+use Rattle.ft_tool.specs.Told.{OfFiles, OfScript}
+use Rattle.ft_tool.specs.Files.{LoadsObject, IsRefusedBy}
+use Rattle.ft_tool.proofs.Mapped.{longer_bytes, some_files, files_with, some_script}
+use Rattle.ft_tool.proofs.Tried.{spells_file}
 
--- a script of which more was taken than the limit is longer; where the source does not tell it, it may be what was taken
+-- the script was taken to its end
+pub whole_script : (old between new : Option (List ℕ)) (text : List ℕ) (n : ℕ) (buf : List ℕ) → Consumes old between text → n ≡ 0 → Consumes between new (take n buf) → IsAtEnd new → IfSome old (λ told. text ≡ told)
+whole_script None between new text n buf taken none more end = tt
+whole_script (Some old) None new text n buf taken none more end = absurd taken
+whole_script (Some old) (Some between) None text n buf taken none more end = absurd more
+whole_script (Some old) (Some between) (Some new) text n buf taken none more end =
+    let rest : between ≡ [] = more ∙ ap (λ k. take k buf ++ new) none ∙ end in
+    sym (taken ∙ ap (λ l. text ++ l) rest ∙ append-nil text)
+
+-- a text of bytes that is what is told is the script
+is_script : (left : Option (List ℕ)) (text : List ℕ) → AreBytes text → IfSome left (λ told. text ≡ told) → IsScript left text
+is_script None text bytes h = bytes
+is_script (Some told) text bytes h = h
+
+-- a script of which more was taken than the limit is longer
 pub longer_script : (old new : Option (List ℕ)) (taken : List ℕ) → Consumes old new taken → 1048576 < length taken → (text : List ℕ) × (IsScript old text × (1048576 < length text))
-longer_script None new taken h long = (taken, (tt, long))
+longer_script None new taken h long = longer_bytes 1048576
 longer_script (Some text) None taken h long = absurd h
 longer_script (Some text) (Some rest) taken h long = let e : length text ≡ length (taken ++ rest) = ap length h in (text, (refl, omega (arith, e, length-append {A = ℕ}, long)))
 
+-- a take that failed took nothing
+pub failed_take : (old between new : Option (List ℕ)) (text : List ℕ) → Consumes old between text → Keeps between new → Consumes old new text
+failed_take None between new text taken kept = tt
+failed_take (Some old) None new text taken kept = absurd taken
+failed_take (Some old) (Some between) None text taken kept = absurd kept
+failed_take (Some old) (Some between) (Some new) text taken kept = taken ∙ ap (λ l. text ++ l) (sym kept)
+
 -- a session whose lines were put
-pub session_concludes : (d : Debugging) (o : Object) (w : List Wild) (text : List ℕ) (old new : Option (List ℕ)) (before now : Option ℕ) → length text ≤ 1048576 → w ≡ d.wild
-    → Finishes o w text old new before now → Concludes (DebugsText d o text) 0 old new before now
+pub session_concludes : (d : Debugging) (o : Object) (w : List Wild) (text : List ℕ) (old new : Option (List ℕ)) (before now : Option (List (List ℕ))) → length text ≤ 1048576 → w ≡ d.wild
+    → Finishes o w text old new before now → Concludes (DebugsObject d text o) 0 old new before now
 session_concludes d o w text old new before now short is h = record {
   answer = record { pieces = session_lines o d.wild h.commands; status = 0 };
   is = debugged short h.commands h.given refl;
@@ -31,8 +62,8 @@ session_concludes d o w text old new before now short is h = record {
 }
 
 -- a session of whose lines a put failed
-pub session_breaks_off : (d : Debugging) (o : Object) (w : List Wild) (text : List ℕ) (old new : Option (List ℕ)) (before now : Option ℕ) → length text ≤ 1048576 → w ≡ d.wild
-    → Stops o w text old new before now → BreaksOff (DebugsText d o text) old new before now
+pub session_breaks_off : (d : Debugging) (o : Object) (w : List Wild) (text : List ℕ) (old new : Option (List ℕ)) (before now : Option (List (List ℕ))) → length text ≤ 1048576 → w ≡ d.wild
+    → Stops o w text old new before now → BreaksOff (DebugsObject d text o) old new before now
 session_breaks_off d o w text old new before now short is h = record {
   answer = record { pieces = session_lines o d.wild h.commands; status = 0 };
   is = debugged short h.commands h.given refl;
@@ -40,16 +71,47 @@ session_breaks_off d o w text old new before now short is h = record {
 }
 
 -- the answer over the text of a script is one over the script
-pub over_script : {V : Type 0} (bytes_of : V → List ℕ) (d : Debugging) (script : Option (List ℕ)) (o : Object) (v : V)
-    → TakesScript bytes_of script (Ok v) → (a : Answer) → DebugsText d o (bytes_of v) a → DebugsObject d script o a
-over_script bytes_of d script o v h a is = (bytes_of v, (h.1, is))
+pub over_script : {V : Type 0} (bytes_of : V → List ℕ) (d : Debugging) (left : Option (List ℕ)) (o : Object) (v : V)
+    → TakesScript bytes_of left (Ok v) → AreBytes (bytes_of v) → (a : Answer) → DebugsObject d (bytes_of v) o a → OfScript left (λ text. DebugsObject d text o a)
+over_script bytes_of d left o v h bytes a is = (bytes_of v, (is_script left (bytes_of v) bytes h.1, is))
 
 -- the answer to a script that is too long is one over the script
-pub over_long_script : {V : Type 0} (bytes_of : V → List ℕ) (d : Debugging) (script : Option (List ℕ)) (o : Object) (e : ScriptFault)
-    → TakesScript bytes_of script (Err e) → (a : Answer) → IsScriptRefusedBy e a → DebugsObject d script o a
-over_long_script bytes_of d script o faults.TooLong h a is = (h.0, (h.1.0, too_long h.1.1 is))
-over_long_script bytes_of d script o faults.Failed h a is = absurd is
-over_long_script bytes_of d script o faults.NoMemory h a is = absurd is
+pub over_long_script : {V : Type 0} (bytes_of : V → List ℕ) (d : Debugging) (left : Option (List ℕ)) (o : Object) (e : ScriptFault)
+    → TakesScript bytes_of left (Err e) → (a : Answer) → IsScriptRefusedBy e a → OfScript left (λ text. DebugsObject d text o a)
+over_long_script bytes_of d left o faults.TooLong h a is = (h.0, (h.1.0, too_long h.1.1 is))
+over_long_script bytes_of d left o faults.Failed h a is = absurd is
+over_long_script bytes_of d left o faults.NoMemory h a is = absurd is
+
+-- the answer of a session over the object that a file's bytes spell is one over the file
+pub over_debugged : (d : Debugging) (told : Option Files) (left : Option (List ℕ)) (bytes : List ℕ) → LoadsObject told d.object (Ok bytes) → (a : Answer) → OfScript left (λ text. DebugsObject d text (object_of bytes) a)
+    → OfFiles told (λ files. OfScript left (λ text. OverFile (DebugsObject d text) d.object files a))
+over_debugged d told left bytes h a is =
+    let m = files_with told d.object bytes h.0 in
+    (m.0, (m.1.0, (is.0, (is.1.0, (bytes, (m.1.1, inl (object_of bytes, (h.1, is.1.1))))))))
+
+-- so is the answer to an object's bytes that are refused
+pub over_undebugged : (d : Debugging) (told : Option Files) (left : Option (List ℕ)) (e : ObjectFault) → LoadsObject told d.object (Err e) → (a : Answer) → IsRefusedBy e a
+    → OfFiles told (λ files. OfScript left (λ text. OverFile (DebugsObject d text) d.object files a))
+over_undebugged d told left (Refused e) h a is =
+    let m = files_with told d.object h.0 h.1.0 in
+    let s = some_script left in
+    (m.0, (m.1.0, (s.0, (s.1.0, (h.0, (m.1.1, inr (e, (h.1.1, is))))))))
+over_undebugged d told left Failed h a is = absurd is
+over_undebugged d told left NoMemory h a is = absurd is
+
+-- a session came to its script, and a take of it failed
+pub script_failed : (d : Debugging) (told : Option Files) (bytes : List ℕ) (before now x y : ℕ) (failed' : Option (List ℕ)) → LoadsObject told d.object (Ok bytes) → Rose before now
+    → OfFiles told (λ files. FailsIn (Debugs d) files x y failed' ⊎ FailsAtScript d files before now)
+script_failed d told bytes before now x y failed' h rose =
+    let m = spells_file told d.object bytes h in
+    (m.0, (m.1.0, inr (record { rose = rose; comes = m.1.1 })))
+
+-- a session's load of its object failed
+pub session_failed : (d : Debugging) (told : Option Files) (before now x y : ℕ) (failed' : Option (List ℕ)) → Rose x y × (failed' ≡ Some d.object)
+    → OfFiles told (λ files. FailsIn (Debugs d) files x y failed' ⊎ FailsAtScript d files before now)
+session_failed d told before now x y failed' h =
+    let m = some_files told in
+    (m.0, (m.1.0, inl (record { rose = h.0; file = d.object; comes = refl; name = h.1 })))
 
 -- a take that failed
 pub take_failed : (V : Type 0) (before now : ℕ) (e : ScriptFault) → TakeCause {V = V} before now (Err e) → e ≡ faults.Failed → Rose before now

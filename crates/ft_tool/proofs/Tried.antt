@@ -1,11 +1,18 @@
 -- What the parts of a campaign conclude.
-use Rattle.std.proofs.Common.{◌≡◌, ℕ, suc, ◌*◌, ◌<◌, ◌≤◌, List, length, Option, Some, None, Ok, Err, inl, refl, sym, ap, ◌∙◌, subst, arith, if◌then◌else◌, eq-eqb, ne_eqb}
-use Rattle.std.specs.Prelude.{IfSome, count_by}
+use Rattle.std.proofs.Common.{◌≡◌, ℕ, suc, ◌*◌, ◌<◌, ◌≤◌, List, [], ◌∷◌, length, Option, Some, None, Result, Ok, Err, inl, inr, refl, sym, ap, ◌∙◌, subst, arith, if◌then◌else◌, eq-eqb, ne_eqb}
+use Rattle.std.specs.Prelude.{◌⊎◌, count_by}
 use Rattle.std.proofs.Math.Nat.{lt_of_not-le}
 use Rattle.ft_edge.specs.Causes.{Rose}
-use Rattle.ft_edge.specs.Loads.{Files, IsLonger}
+use Rattle.ft_edge.specs.Loads.{Files}
 use Rattle.ft_isa.specs.declared.plan.Strike.{Strike}
 use Rattle.ft_types.specs.declared.object.Object.{Object}
+use Rattle.ft_typing.specs.Accepted.{Refusal, refusal}
+use Rattle.ft_format.specs.Broken.{object_of}
+use Rattle.ft_tolerance.specs.Soundness.{IsNeverDetected}
+use Rattle.ft_tolerance.proofs.Whole.{never_detected}
+use Rattle.ft_sample.specs.Sample.{sample_object}
+use Rattle.ft_sample.proofs.Spelled.{sample_is_spellable}
+use Rattle.ft_sample.proofs.Applies.{sample_is_accepted}
 use Rattle.ft_campaign.specs.declared.totals.Totals.{Totals}
 use Rattle.ft_campaign.specs.declared.verdict.Verdict.{Verdict}
 use Rattle.ft_campaign.specs.declared.fault_list.ListError.TheVariants as lists
@@ -13,21 +20,25 @@ use Rattle.ft_campaign.specs.Campaigns.{Finishes, Stops}
 use Rattle.ft_campaign.specs.Texts.{is_corrupt, totals_of, campaign_lines}
 use Rattle.ft_campaign.specs.Verdicts.{AreVerdicts}
 use Rattle.ft_command.specs.Options.{Word}
-use Rattle.ft_command.specs.Commands.{Campaign}
+use Rattle.ft_command.specs.Commands.{Campaign, Strikes, Surveys}
 use Rattle.ft_tool.specs.declared.load.ListFault.{ListFault}
 use Rattle.ft_tool.specs.declared.load.ListFault.TheVariants as list_faults
-use Rattle.ft_tool.specs.Replies.{Answer}
-use Rattle.ft_tool.specs.Answers.{Concludes, BreaksOff, OverListFile}
-use Rattle.ft_tool.specs.Lists.{status_of, OverFaults, tried, refused_list, listed}
-use Rattle.ft_tool.specs.Files.{LoadsList, ListCause, IsListRefusedBy}
-use Rattle.ft_tool.proofs.Answered.{longer_bytes}
+use Rattle.ft_tool.specs.declared.load.ObjectFault.{ObjectFault}
+use Rattle.ft_tool.specs.declared.load.ObjectFault.TheVariants.{Refused, Failed, NoMemory as no_memory}
+use Rattle.ft_tool.specs.Replies.{Answer, IsFile}
+use Rattle.ft_tool.specs.Answers.{Concludes, BreaksOff, OverFile, OverListFile, SurveysObject, StrikesAccepted, StrikesUnless, StrikesObject, SpellsFile, SpellsAccepted, FailsIn}
+use Rattle.ft_tool.specs.Calls.{LoadList, asked_after, HasMade, object_load, list_load, LoadsCampaign, LoadsFor}
+use Rattle.ft_tool.specs.Lists.{status_of, AnyVerdicts, NoneCorrupt, OverFaults, tried, refused_list, listed}
+use Rattle.ft_tool.specs.Told.{IsToldFile, OfFiles, IsListOf, OverListOf, StrikesListOf, MayLoadList}
+use Rattle.ft_tool.specs.Files.{LoadsObject, ReadsList, GetsList, ListCause, IsRefusedBy, IsListRefusedBy}
+use Rattle.ft_tool.proofs.Mapped.{some_files, files_with, files_with_both}
 
 -- a number that is not above another is at most it
 pub at_most : (n m : ℕ) → (n < m → ⊥) → m ≤ n
 at_most n m h = omega (arith, lt_of_not-le {n = suc n} {m = m} h)
 
 -- a campaign that came to its end
-pub tried_concludes : (Promised : List Verdict → Type 0) (c : Campaign) (o : Object) (faults : List Strike) (totals : Totals) (status : ℕ) (old new : Option (List ℕ)) (before now : Option ℕ)
+pub tried_concludes : (Promised : List Verdict → Type 0) (c : Campaign) (o : Object) (faults : List Strike) (totals : Totals) (status : ℕ) (old new : Option (List ℕ)) (before now : Option (List (List ℕ)))
     → Finishes totals o faults c.wild c.steps old new before now → length faults * c.steps ≤ 1000000000 → ((vs : List Verdict) → AreVerdicts o faults c.wild c.steps vs → Promised vs)
     → ((vs : List Verdict) → totals ≡ totals_of vs → status ≡ status_of vs) → Concludes (OverFaults Promised c o faults) status old new before now
 tried_concludes Promised c o faults totals status old new before now h few keeps is = record {
@@ -38,13 +49,17 @@ tried_concludes Promised c o faults totals status old new before now h few keeps
 }
 
 -- a campaign of whose lines a front was written
-pub tried_breaks_off : (Promised : List Verdict → Type 0) (c : Campaign) (o : Object) (faults : List Strike) (old new : Option (List ℕ)) (before now : Option ℕ)
+pub tried_breaks_off : (Promised : List Verdict → Type 0) (c : Campaign) (o : Object) (faults : List Strike) (old new : Option (List ℕ)) (before now : Option (List (List ℕ)))
     → Stops o faults c.wild c.steps old new before now → length faults * c.steps ≤ 1000000000 → ((vs : List Verdict) → AreVerdicts o faults c.wild c.steps vs → Promised vs) → BreaksOff (OverFaults Promised c o faults) old new before now
 tried_breaks_off Promised c o faults old new before now h few keeps = record {
   answer = record { pieces = campaign_lines faults h.found; status = status_of h.found };
   is = tried few h.found h.verdicts (keeps h.found h.verdicts) refl;
   broken = h.lines;
 }
+
+-- the run of the object of a demonstration is never detected without a fault
+pub sample_undetected : (turns : ℕ) → 1 ≤ turns → turns ≤ 10921 → IsNeverDetected (sample_object turns) []
+sample_undetected turns some few = never_detected (sample_object turns) [] (sample_is_spellable (sample_object turns) turns refl some few) (sample_is_accepted (sample_object turns) turns refl)
 
 -- the status of a survey by its totals
 pub none_corrupt : (totals : Totals) (vs : List Verdict) → totals.corrupt ≡ 0 → totals ≡ totals_of vs → 0 ≡ status_of vs
@@ -53,23 +68,130 @@ none_corrupt totals vs none is = sym (ap (λ b. if b then 0 else 10) (eq-eqb (co
 pub some_corrupt : (totals : Totals) (vs : List Verdict) → (totals.corrupt ≡ 0 → ⊥) → totals ≡ totals_of vs → 10 ≡ status_of vs
 some_corrupt totals vs some is = sym (ap (λ b. if b then 0 else 10) (ne_eqb (count_by is_corrupt vs) 0 (λ e. some (ap (λ (t : Totals). t.corrupt) is ∙ e))))
 
--- a file beyond the limit is no fault list; where the shelf does not tell it, its bytes may be any such
-pub too_long_list : {V : Type 0} (faults_of : V → List Strike) (files : Option Files) (name : Word) → IfSome files (λ fs. IsLonger fs name 4194304) → LoadsList faults_of files name (Err list_faults.TooMany)
-too_long_list faults_of None name told = let h = longer_bytes 4194304 in (h.0, (tt, inl h.1))
-too_long_list faults_of (Some files) name told = (told.bytes, (told.found, inl told.longer))
+-- a list that was read is one of the texts that it may be
+pub gets_read : {V : Type 0} (faults_of : V → List Strike) (Is : List ℕ → Type 0) (list : List ℕ) (r : Result V ListFault) → Is list → ReadsList faults_of list r → GetsList faults_of Is r
+gets_read faults_of Is list (Ok v) is h = (list, (is, h))
+gets_read faults_of Is list (Err (list_faults.Line number)) is h = (list, (is, h))
+gets_read faults_of Is list (Err list_faults.TooMany) is h = (list, (is, h))
+gets_read faults_of Is list (Err list_faults.Failed) is h = tt
+gets_read faults_of Is list (Err list_faults.NoMemory) is h = tt
 
--- the answer over the faults of a list is one over its file
-pub over_listed : {V : Type 0} (faults_of : V → List Strike) (Promised : List Verdict → Type 0) (c : Campaign) (files : Option Files) (o : Object) (v : V)
-    → LoadsList faults_of files c.faults (Ok v) → (a : Answer) → OverFaults Promised c o (faults_of v) a → OverListFile Promised c files o a
-over_listed faults_of Promised c files o v h a is = (h.0, (h.1.0, listed (faults_of v) h.1.1 is))
+-- a list is one of more texts
+pub gets_more : {V : Type 0} (faults_of : V → List Strike) (Is More : List ℕ → Type 0) (r : Result V ListFault) → ((list : List ℕ) → Is list → More list) → GetsList faults_of Is r → GetsList faults_of More r
+gets_more faults_of Is More (Ok v) f h = (h.0, (f h.0 h.1.0, h.1.1))
+gets_more faults_of Is More (Err (list_faults.Line number)) f h = (h.0, (f h.0 h.1.0, h.1.1))
+gets_more faults_of Is More (Err list_faults.TooMany) f h = (h.0, (f h.0 h.1.0, h.1.1))
+gets_more faults_of Is More (Err list_faults.Failed) f h = tt
+gets_more faults_of Is More (Err list_faults.NoMemory) f h = tt
 
--- the answer to a list that is refused is one over its file
-pub over_refused_list : {V : Type 0} (faults_of : V → List Strike) (Promised : List Verdict → Type 0) (c : Campaign) (files : Option Files) (o : Object) (e : ListFault)
-    → LoadsList faults_of files c.faults (Err e) → (a : Answer) → IsListRefusedBy e a → OverListFile Promised c files o a
-over_refused_list faults_of Promised c files o (list_faults.Line number) h a is = (h.0, (h.1.0, refused_list (record { error = lists.Line number; refused = h.1.1; answer = is })))
-over_refused_list faults_of Promised c files o list_faults.TooMany h a is = (h.0, (h.1.0, refused_list (record { error = lists.TooMany; refused = h.1.1; answer = is })))
-over_refused_list faults_of Promised c files o list_faults.Failed h a is = absurd is
-over_refused_list faults_of Promised c files o list_faults.NoMemory h a is = absurd is
+-- no load of a list that was read failed
+pub read_cause : {V : Type 0} (faults_of : V → List Strike) (list : List ℕ) (before now : ℕ) (failed failed' : Option (List ℕ)) (name : Word) (r : Result V ListFault) → now ≡ before → failed' ≡ failed
+    → ReadsList faults_of list r → ListCause before now failed failed' name r
+read_cause faults_of list before now failed failed' name (Ok v) e f h = (e, f)
+read_cause faults_of list before now failed failed' name (Err (list_faults.Line number)) e f h = (e, f)
+read_cause faults_of list before now failed failed' name (Err list_faults.TooMany) e f h = (e, f)
+read_cause faults_of list before now failed failed' name (Err list_faults.Failed) e f h = absurd h
+read_cause faults_of list before now failed failed' name (Err list_faults.NoMemory) e f h = (e, f)
+
+-- the answer over the faults of a list is one over the list
+pub over_listed : {V : Type 0} (faults_of : V → List Strike) (Promised : List Verdict → Type 0) (c : Campaign) (told : Option Files) (bytes : List ℕ) (o : Object) (v : V)
+    → GetsList faults_of (IsListOf c told bytes) (Ok v) → (a : Answer) → OverFaults Promised c o (faults_of v) a → OverListOf Promised c told bytes o a
+over_listed faults_of Promised c told bytes o v h a is = (h.0, (h.1.0, listed (faults_of v) h.1.1 is))
+
+-- the answer to a list that is refused is one over the list
+pub over_refused_list : {V : Type 0} (faults_of : V → List Strike) (Promised : List Verdict → Type 0) (c : Campaign) (told : Option Files) (bytes : List ℕ) (o : Object) (e : ListFault)
+    → GetsList faults_of (IsListOf c told bytes) (Err e) → (a : Answer) → IsListRefusedBy e a → OverListOf Promised c told bytes o a
+over_refused_list faults_of Promised c told bytes o (list_faults.Line number) h a is = (h.0, (h.1.0, refused_list (record { error = lists.Line number; refused = h.1.1; answer = is })))
+over_refused_list faults_of Promised c told bytes o list_faults.TooMany h a is = (h.0, (h.1.0, refused_list (record { error = lists.TooMany; refused = h.1.1; answer = is })))
+over_refused_list faults_of Promised c told bytes o list_faults.Failed h a is = absurd is
+over_refused_list faults_of Promised c told bytes o list_faults.NoMemory h a is = absurd is
+
+-- the answer over the list is one over its file, where the object's file has these bytes
+with_list : (Promised : List Verdict → Type 0) (c : Campaign) (told : Option Files) (bytes : List ℕ) (o : Object) (a : Answer) → IsToldFile told c.object bytes → OverListOf Promised c told bytes o a
+    → OfFiles told (λ files. IsFile files c.object bytes × OverListFile Promised c files o a)
+with_list Promised c told bytes o a file is =
+    let m = files_with_both told c.object bytes c.faults is.0 file is.1.0.file is.1.0.own in
+    (m.0, (m.1.0, (m.1.1.0, (is.0, (m.1.1.1, is.1.1)))))
+
+-- so is that of a campaign, unless its object is refused
+with_strikes : (x : Option Refusal) (c : Campaign) (told : Option Files) (bytes : List ℕ) (o : Object) (a : Answer) → IsToldFile told c.object bytes → StrikesUnless x (StrikesListOf c told bytes o) a
+    → OfFiles told (λ files. IsFile files c.object bytes × StrikesUnless x (StrikesAccepted c files o) a)
+with_strikes None c told bytes o a file is = let m = with_list NoneCorrupt c told bytes o a file is.0 in (m.0, (m.1.0, (m.1.1.0, (m.1.1.1, is.1))))
+with_strikes (Some r) c told bytes o a file is = let m = files_with told c.object bytes file in (m.0, (m.1.0, (m.1.1, is)))
+
+-- the answer of a survey over the object that a file's bytes spell, and of a campaign, is one over the file
+pub over_surveyed : (c : Campaign) (told : Option Files) (bytes : List ℕ) → LoadsObject told c.object (Ok bytes) → (a : Answer) → OverListOf AnyVerdicts c told bytes (object_of bytes) a
+    → OfFiles told (λ files. OverFile (SurveysObject c files) c.object files a)
+over_surveyed c told bytes h a is =
+    let m = with_list AnyVerdicts c told bytes (object_of bytes) a h.0 is in
+    (m.0, (m.1.0, (bytes, (m.1.1.0, inl (object_of bytes, (h.1, m.1.1.1))))))
+
+pub over_struck : (c : Campaign) (told : Option Files) (bytes : List ℕ) → LoadsObject told c.object (Ok bytes) → (a : Answer) → StrikesUnless (refusal (object_of bytes)) (StrikesListOf c told bytes (object_of bytes)) a
+    → OfFiles told (λ files. OverFile (StrikesObject c files) c.object files a)
+over_struck c told bytes h a is =
+    let m = with_strikes (refusal (object_of bytes)) c told bytes (object_of bytes) a h.0 is in
+    (m.0, (m.1.0, (bytes, (m.1.1.0, inl (object_of bytes, (h.1, m.1.1.1))))))
+
+-- the same where the files are told, and the bytes lent, after the load
+pub own_bytes : (told between : Option Files) (name : Word) (bytes lent : List ℕ) → between ≡ told → lent ≡ bytes → LoadsObject told name (Ok bytes) → IsToldFile between name lent
+own_bytes told between name bytes lent e f h = subst (λ t. IsToldFile t name lent) (sym e) (subst (IsToldFile told name) (sym f) h.0)
+
+pub over_surveyed_between : (c : Campaign) (told between : Option Files) (bytes lent : List ℕ) → between ≡ told → lent ≡ bytes → LoadsObject told c.object (Ok bytes)
+    → (a : Answer) → OverListOf AnyVerdicts c between lent (object_of bytes) a → OfFiles told (λ files. OverFile (SurveysObject c files) c.object files a)
+over_surveyed_between c told between bytes lent e f h a is =
+    over_surveyed c told bytes h a (subst (λ t. OverListOf AnyVerdicts c t bytes (object_of bytes) a) e (subst (λ b. OverListOf AnyVerdicts c between b (object_of bytes) a) f is))
+
+pub over_struck_between : (c : Campaign) (told between : Option Files) (bytes lent : List ℕ) → between ≡ told → lent ≡ bytes → LoadsObject told c.object (Ok bytes)
+    → (a : Answer) → StrikesUnless (refusal (object_of bytes)) (StrikesListOf c between lent (object_of bytes)) a → OfFiles told (λ files. OverFile (StrikesObject c files) c.object files a)
+over_struck_between c told between bytes lent e f h a is =
+    over_struck c told bytes h a
+    (subst (λ t. StrikesUnless (refusal (object_of bytes)) (StrikesListOf c t bytes (object_of bytes)) a) e
+    (subst (λ b. StrikesUnless (refusal (object_of bytes)) (StrikesListOf c between b (object_of bytes)) a) f is))
+
+-- the answer to an object's bytes that are refused is one of a campaign over the file
+pub over_unstruck : (Over : Files → Object → Answer → Type 0) (told : Option Files) (name : Word) (e : ObjectFault) → LoadsObject told name (Err e) → (a : Answer) → IsRefusedBy e a
+    → OfFiles told (λ files. OverFile (Over files) name files a)
+over_unstruck Over told name (Refused e) h a is = let m = files_with told name h.0 h.1.0 in (m.0, (m.1.0, (h.0, (m.1.1, inr (e, (h.1.1, is))))))
+over_unstruck Over told name Failed h a is = absurd is
+over_unstruck Over told name no_memory h a is = absurd is
+
+-- the file of an object that was loaded spells it, and one that is accepted
+pub spells_file : (told : Option Files) (name : Word) (bytes : List ℕ) → LoadsObject told name (Ok bytes) → OfFiles told (λ files. SpellsFile files name)
+spells_file told name bytes h = let m = files_with told name bytes h.0 in (m.0, (m.1.0, (bytes, (m.1.1, (object_of bytes, h.1)))))
+
+pub spells_accepted : (told : Option Files) (name : Word) (bytes : List ℕ) → LoadsObject told name (Ok bytes) → refusal (object_of bytes) ≡ None → OfFiles told (λ files. SpellsAccepted files name)
+spells_accepted told name bytes h unrefused = let m = files_with told name bytes h.0 in (m.0, (m.1.0, (bytes, (m.1.1, (object_of bytes, (h.1, unrefused))))))
+
+-- a load of the fault list failed
+pub survey_failed : (c : Campaign) (told : Option Files) (bytes : List ℕ) (before now : ℕ) (failed' : Option (List ℕ)) → LoadsObject told c.object (Ok bytes) → Rose before now × (failed' ≡ Some c.faults)
+    → OfFiles told (λ files. FailsIn (Surveys c) files before now failed')
+survey_failed c told bytes before now failed' h f =
+    let m = spells_file told c.object bytes h in
+    (m.0, (m.1.0, record { rose = f.0; file = c.faults; comes = inr (refl, m.1.1); name = f.1 }))
+
+pub campaign_failed : (c : Campaign) (told : Option Files) (bytes : List ℕ) (before now : ℕ) (failed' : Option (List ℕ)) → LoadsObject told c.object (Ok bytes)
+    → Rose before now × (failed' ≡ Some c.faults) × (refusal (object_of bytes) ≡ None) → OfFiles told (λ files. FailsIn (Strikes c) files before now failed')
+campaign_failed c told bytes before now failed' h f =
+    let m = spells_accepted told c.object bytes h f.2 in
+    (m.0, (m.1.0, record { rose = f.0; file = c.faults; comes = inr (refl, m.1.1); name = f.1 }))
+
+-- the loads of a campaign: that of its object alone, and then perhaps that of its list
+pub object_alone : (c : Campaign) (told : Option Files) (Comes : Files → Type 0) (asked asked' : Option LoadList) → HasMade (object_load c.object ∷ []) asked asked' → OfFiles told (λ files. LoadsCampaign c (Comes files) asked asked')
+object_alone c told Comes asked asked' h = let m = some_files told in (m.0, (m.1.0, inl h))
+
+pub list_loaded : (c : Campaign) (told : Option Files) (Comes : Files → Type 0) (asked between asked' : Option LoadList) → OfFiles told Comes → HasMade (object_load c.object ∷ []) asked between → MayLoadList c between asked'
+    → OfFiles told (λ files. LoadsCampaign c (Comes files) asked asked')
+list_loaded c told Comes asked between asked' m h (inl none) = (m.0, (m.1.0, inl (none ∙ h)))
+list_loaded c told Comes asked between asked' m h (inr more) = (m.0, (m.1.0, inr (record { comes = m.1.1; other = more.0; made = more.1 ∙ ap (asked_after (list_load c.faults ∷ [])) h })))
+
+pub surveys_loaded : (c : Campaign) (told : Option Files) (bytes : List ℕ) (asked between asked' : Option LoadList) → LoadsObject told c.object (Ok bytes) → HasMade (object_load c.object ∷ []) asked between
+    → MayLoadList c between asked' → OfFiles told (λ files. LoadsFor (Surveys c) files asked asked')
+surveys_loaded c told bytes asked between asked' h first more = list_loaded c told (λ files. SpellsFile files c.object) asked between asked' (spells_file told c.object bytes h) first more
+
+pub strikes_loaded : (c : Campaign) (told : Option Files) (bytes : List ℕ) (asked between asked' : Option LoadList) → LoadsObject told c.object (Ok bytes) → HasMade (object_load c.object ∷ []) asked between
+    → HasMade [] between asked' ⊎ ((refusal (object_of bytes) ≡ None) × MayLoadList c between asked') → OfFiles told (λ files. LoadsFor (Strikes c) files asked asked')
+strikes_loaded c told bytes asked between asked' h first (inl none) = object_alone c told (λ files. SpellsAccepted files c.object) asked asked' (none ∙ first)
+strikes_loaded c told bytes asked between asked' h first (inr more) = list_loaded c told (λ files. SpellsAccepted files c.object) asked between asked' (spells_accepted told c.object bytes h more.0) first more.1
 
 -- a load of a list that failed
 pub list_failed : (V : Type 0) (before now : ℕ) (failed failed' : Option (List ℕ)) (name : Word) (e : ListFault) → ListCause {V = V} before now failed failed' name (Err e) → e ≡ list_faults.Failed → Rose before now × (failed' ≡ Some name)

@@ -7,18 +7,18 @@ use Rattle.ft_edge.specs.Loads.{Files}
 use Rattle.ft_isa.specs.declared.plan.Strike.{Strike}
 use Rattle.ft_isa.specs.declared.plan.Wild.{Wild}
 use Rattle.ft_types.specs.declared.object.Object.{Object}
-use Rattle.ft_types.specs.Agrees.{Agrees}
-use Rattle.ft_types.specs.Run.{run, outputs_after, status_after}
-use Rattle.ft_types.specs.Accepted.{Refusal, refusal}
+use Rattle.ft_semantics.specs.Agrees.{Agrees}
+use Rattle.ft_semantics.specs.Run.{run, outputs_after, status_after}
+use Rattle.ft_typing.specs.Accepted.{Refusal, refusal}
 use Rattle.ft_format.specs.declared.object_error.ObjectError.{ObjectError}
 use Rattle.ft_format.specs.Format.{Spells}
 use Rattle.ft_format.specs.Broken.{broken}
 use Rattle.ft_command.specs.Options.{Word}
 use Rattle.ft_command.specs.Commands.{Run, Campaign, Debugging, Request, Usage, Checks, Runs, Tries, Strikes, Surveys, Compiles, Executes, Means, Debugs, Demonstrates, Asks}
-use Rattle.ft_inject.specs.Soundness.{IsNeverDetected}
+use Rattle.ft_tolerance.specs.Soundness.{IsNeverDetected}
 use Rattle.ft_campaign.specs.declared.verdict.Verdict.{Verdict}
 use Rattle.ft_tool.specs.Texts.{object_line, accepted_line, check_line}
-use Rattle.ft_tool.specs.Replies.{Answer, one_piece, ran, IsFile}
+use Rattle.ft_tool.specs.Replies.{Answer, one_piece, ran, AreFiles, IsFile, IsScript}
 use Rattle.ft_scope.specs.Resolved.{Program}
 use Rattle.ft_tool.specs.Sources.{OverText, CompilesProgram, ExecutesProgram, MeansProgram}
 use Rattle.ft_tool.specs.Lists.{AnyVerdicts, NoneCorrupt, OverList}
@@ -64,7 +64,7 @@ OverBytes Over bytes a =
     ⊎ ((e : ObjectError) × ((broken bytes ≡ Some e) × (a ≡ refused e)))
 
 -- the answer over the file of a name
-abbrev pub OverFile : (Object → Answer → Type 0) → Word → Option Files → Answer → Type 0
+abbrev pub OverFile : (Object → Answer → Type 0) → Word → Files → Answer → Type 0
 OverFile Over name files a = (bytes : List ℕ) × (IsFile files name bytes × OverBytes Over bytes a)
 
 -- the answer of a check, of a run and of a trial over an object
@@ -78,32 +78,33 @@ abbrev pub TriesObject : Run → Object → Answer → Type 0
 TriesObject r o a = a ≡ tried r o
 
 -- the answer over an object and the file of a fault list
-abbrev pub OverListFile : (List Verdict → Type 0) → Campaign → Option Files → Object → Answer → Type 0
+abbrev pub OverListFile : (List Verdict → Type 0) → Campaign → Files → Object → Answer → Type 0
 OverListFile Promised c files o a = (list : List ℕ) × (IsFile files c.faults list × OverList Promised c o list a)
 
 -- the answer of a survey over an object
-abbrev pub SurveysObject : Campaign → Option Files → Object → Answer → Type 0
+abbrev pub SurveysObject : Campaign → Files → Object → Answer → Type 0
 SurveysObject c files o a = OverListFile AnyVerdicts c files o a
 
 -- the answer of a campaign over an object that is accepted: no verdict is corrupt, and the run without a fault is detected
 -- after no number of steps
-abbrev pub StrikesAccepted : Campaign → Option Files → Object → Answer → Type 0
+abbrev pub StrikesAccepted : Campaign → Files → Object → Answer → Type 0
 StrikesAccepted c files o a = OverListFile NoneCorrupt c files o a × IsNeverDetected o c.wild
 
--- the answer of a campaign over an object, which is refused before the list is loaded where it is not accepted
-abbrev pub StrikesUnless : Option Refusal → Campaign → Option Files → Object → Answer → Type 0
-StrikesUnless None c files o a = StrikesAccepted c files o a
-StrikesUnless (Some r) c files o a = a ≡ judged (Some r)
+-- the answer of a campaign, which is the refusal of an object that is not accepted
+abbrev pub StrikesUnless : Option Refusal → (Answer → Type 0) → Answer → Type 0
+StrikesUnless None Accepted a = Accepted a
+StrikesUnless (Some r) Accepted a = a ≡ judged (Some r)
 
-abbrev pub StrikesObject : Campaign → Option Files → Object → Answer → Type 0
-StrikesObject c files o a = StrikesUnless (refusal o) c files o a
+-- the answer of a campaign over an object
+abbrev pub StrikesObject : Campaign → Files → Object → Answer → Type 0
+StrikesObject c files o a = StrikesUnless (refusal o) (StrikesAccepted c files o) a
 
 -- the answer over the source in the file of a name
-abbrev pub OverSource : (Program → Answer → Type 0) → Word → Option Files → Answer → Type 0
+abbrev pub OverSource : (Program → Answer → Type 0) → Word → Files → Answer → Type 0
 OverSource Over name files a = (text : List ℕ) × (IsFile files name text × OverText Over text a)
 
 -- the answer of a command over files and a script
-abbrev pub Answers : Request → Option Files → Option (List ℕ) → Answer → Type 0
+abbrev pub Answers : Request → Files → List ℕ → Answer → Type 0
 Answers Usage files script a = a ≡ usage
 Answers (Checks name) files script a = OverFile ChecksObject name files a
 Answers (Runs r) files script a = OverFile (RunsObject r) r.object files a
@@ -116,35 +117,40 @@ Answers (Means m) files script a = OverSource (MeansProgram m.turns) m.source fi
 Answers (Debugs d) files script a = OverFile (DebugsObject d script) d.object files a
 Answers (Demonstrates turns) files script a = ShowsSample turns a
 
--- the answer of the command that the words ask for
-pub record IsAnswer (words : List Word) (files : Option Files) (script : Option (List ℕ)) (a : Answer) : Type 0 where
+-- the answer of the command that the words ask for, over the files and the script that are told; of what is not told, over
+-- some files of bytes, and some script of bytes. One map of files serves all loads, so a name has one content
+pub record IsAnswer (words : List Word) (told : Option Files) (left : Option (List ℕ)) (a : Answer) : Type 0 where
   pub request : Request
   pub asks : Asks words request
+  pub files : Files
+  pub are_files : AreFiles told files
+  pub script : List ℕ
+  pub is_script : IsScript left script
   pub answers : Answers request files script a
 
 -- all pieces of an answer were put, by one put each, and this is its status
-pub record Concludes (Is : Answer → Type 0) (status : ℕ) (old new : Option (List ℕ)) (before now : Option ℕ) : Type 0 where
+pub record Concludes (Is : Answer → Type 0) (status : ℕ) (old new : Option (List ℕ)) (before now : Option (List (List ℕ))) : Type 0 where
   pub answer : Answer
   pub is : Is answer
   pub put : PutsLines answer.pieces old new before now
   pub status_is : status ≡ answer.status
 
 -- the put of a piece of an answer failed, and it was the last put
-pub record BreaksOff (Is : Answer → Type 0) (old new : Option (List ℕ)) (before now : Option ℕ) : Type 0 where
+pub record BreaksOff (Is : Answer → Type 0) (old new : Option (List ℕ)) (before now : Option (List (List ℕ))) : Type 0 where
   pub answer : Answer
   pub is : Is answer
   pub broken : LinesBreakOff answer.pieces old new before now
 
 -- the file of a name spells an object
-abbrev pub SpellsFile : Option Files → Word → Type 0
+abbrev pub SpellsFile : Files → Word → Type 0
 SpellsFile files name = (bytes : List ℕ) × (IsFile files name bytes × ((o : Object) × Spells bytes o))
 
 -- the file of a name spells an object that is accepted
-abbrev pub SpellsAccepted : Option Files → Word → Type 0
+abbrev pub SpellsAccepted : Files → Word → Type 0
 SpellsAccepted files name = (bytes : List ℕ) × (IsFile files name bytes × ((o : Object) × (Spells bytes o × (refusal o ≡ None))))
 
 -- a request comes to load this file: no earlier step of it refuses
-abbrev pub ComesTo : Request → Option Files → Word → Type 0
+abbrev pub ComesTo : Request → Files → Word → Type 0
 ComesTo Usage files file = ⊥
 ComesTo (Checks object) files file = file ≡ object
 ComesTo (Runs r) files file = file ≡ r.object
@@ -158,28 +164,34 @@ ComesTo (Debugs d) files file = file ≡ d.object
 ComesTo (Demonstrates turns) files file = ⊥
 
 -- a request came to load a file; that load was the last that failed, and the count of failed loads rose
-pub record FailsIn (request : Request) (files : Option Files) (before now : ℕ) (failed : Option (List ℕ)) : Type 0 where
+pub record FailsIn (request : Request) (files : Files) (before now : ℕ) (failed : Option (List ℕ)) : Type 0 where
   pub rose : Rose before now
   pub file : Word
   pub comes : ComesTo request files file
   pub name : failed ≡ Some file
 
--- the words ask for a command that came to load a file, and that load failed
-pub record FailedToLoad (words : List Word) (files : Option Files) (before now : ℕ) (failed : Option (List ℕ)) : Type 0 where
+-- the words ask for a command that came to load a file, by the files that are told or by some files of bytes, and that load
+-- failed
+pub record FailedToLoad (words : List Word) (told : Option Files) (before now : ℕ) (failed : Option (List ℕ)) : Type 0 where
   pub request : Request
   pub asks : Asks words request
+  pub files : Files
+  pub are_files : AreFiles told files
   pub fails : FailsIn request files before now failed
 
 -- a request came to its script: no earlier step of it refuses; a take of the script failed, and the count of failed
 -- takes rose
-pub record FailsAtScript (d : Debugging) (files : Option Files) (before now : ℕ) : Type 0 where
+pub record FailsAtScript (d : Debugging) (files : Files) (before now : ℕ) : Type 0 where
   pub rose : Rose before now
   pub comes : SpellsFile files d.object
 
--- the words ask for a session that came to its script, and a take of the script failed
-pub record FailedToTake (words : List Word) (files : Option Files) (before now : ℕ) : Type 0 where
+-- the words ask for a session that came to its script, by the files that are told or by some files of bytes, and a take of
+-- the script failed
+pub record FailedToTake (words : List Word) (told : Option Files) (before now : ℕ) : Type 0 where
   pub debugging : Debugging
   pub asks : Asks words (Debugs debugging)
+  pub files : Files
+  pub are_files : AreFiles told files
   pub fails : FailsAtScript debugging files before now
 
 -- the statuses that there are

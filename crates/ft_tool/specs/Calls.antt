@@ -1,56 +1,76 @@
 -- Which loads a command makes, and what it takes of its script.
-use Rattle.std.specs.Prelude.{◌≡◌, ◌⊎◌, ℕ, List, [], ◌∷◌, Option}
-use Rattle.ft_edge.specs.Loads.{Files, asked_more}
-use Rattle.ft_edge.specs.Puts.{one_more}
-use Rattle.ft_edge.specs.Streams.{ConsumesAtMost}
+use Rattle.std.specs.Prelude.{◌≡◌, ◌≢◌, ◌⊎◌, ℕ, List, [], ◌∷◌, Option}
+use Rattle.ft_edge.specs.Loads.{Files}
+use Rattle.ft_edge.specs.Told.{append_told}
+use Rattle.ft_edge.specs.Streams.{ConsumesAtMost, IsFrugal}
 use Rattle.ft_command.specs.Options.{Word}
-use Rattle.ft_command.specs.Commands.{Debugging, Request, Usage, Checks, Runs, Tries, Strikes, Surveys, Compiles, Executes, Means, Debugs, Demonstrates, Asks}
-use Rattle.ft_tool.specs.Answers.{SpellsFile}
+use Rattle.ft_command.specs.Commands.{Campaign, Debugging, Request, Usage, Checks, Runs, Tries, Strikes, Surveys, Compiles, Executes, Means, Debugs, Demonstrates, Asks}
+use Rattle.ft_tool.specs.Replies.{AreFiles}
+use Rattle.ft_tool.specs.Answers.{SpellsFile, SpellsAccepted}
 
--- the number of loads after one load with each of these limits
-abbrev pub loads_after : List ℕ → Option ℕ → Option ℕ
-loads_after [] loads = loads
-loads_after (limit ∷ limits) loads = loads_after limits (one_more loads)
+-- loads, each by its name and its limit
+abbrev pub LoadList : Type 0
+LoadList = List (Word × ℕ)
 
--- the sum of the limits of loads after one load with each of these limits
-abbrev pub asked_after : List ℕ → Option ℕ → Option ℕ
+-- what was asked of a shelf after these loads
+abbrev pub asked_after : LoadList → Option LoadList → Option LoadList
 asked_after [] asked = asked
-asked_after (limit ∷ limits) asked = asked_after limits (asked_more limit asked)
+asked_after (load ∷ loads) asked = asked_after loads (append_told asked (load ∷ []))
 
--- one load was made with each of these limits, and no other
-pub record HasMade (limits : List ℕ) (loads loads' asked asked' : Option ℕ) : Type 0 where
-  pub count : loads' ≡ loads_after limits loads
-  pub sum : asked' ≡ asked_after limits asked
+-- these loads were made, in their order, and no other
+abbrev pub HasMade : LoadList → Option LoadList → Option LoadList → Type 0
+HasMade loads asked asked' = asked' ≡ asked_after loads asked
 
--- a load was made with the first limit, and perhaps one with the second
-abbrev pub MakesTwo : ℕ → ℕ → Option ℕ → Option ℕ → Option ℕ → Option ℕ → Type 0
-MakesTwo first second loads loads' asked asked' =
-    HasMade (first ∷ []) loads loads' asked asked' ⊎ HasMade (first ∷ second ∷ []) loads loads' asked asked'
+-- the load of an object, of a fault list and of a source, each with its limit
+abbrev pub object_load : Word → Word × ℕ
+object_load name = (name, 67108864)
 
--- the loads of a request: one of each file that it names, in their order, up to the limits of an object, a fault list and
--- a source; that of a fault list only where the command comes to it
-abbrev pub LoadsFor : Request → Option ℕ → Option ℕ → Option ℕ → Option ℕ → Type 0
-LoadsFor Usage loads loads' asked asked' = HasMade [] loads loads' asked asked'
-LoadsFor (Checks object) loads loads' asked asked' = HasMade (67108864 ∷ []) loads loads' asked asked'
-LoadsFor (Runs r) loads loads' asked asked' = HasMade (67108864 ∷ []) loads loads' asked asked'
-LoadsFor (Tries r) loads loads' asked asked' = HasMade (67108864 ∷ []) loads loads' asked asked'
-LoadsFor (Strikes c) loads loads' asked asked' = MakesTwo 67108864 4194304 loads loads' asked asked'
-LoadsFor (Surveys c) loads loads' asked asked' = MakesTwo 67108864 4194304 loads loads' asked asked'
-LoadsFor (Compiles source) loads loads' asked asked' = HasMade (1048576 ∷ []) loads loads' asked asked'
-LoadsFor (Executes e) loads loads' asked asked' = HasMade (1048576 ∷ []) loads loads' asked asked'
-LoadsFor (Means m) loads loads' asked asked' = HasMade (1048576 ∷ []) loads loads' asked asked'
-LoadsFor (Debugs d) loads loads' asked asked' = HasMade (67108864 ∷ []) loads loads' asked asked'
-LoadsFor (Demonstrates turns) loads loads' asked asked' = HasMade [] loads loads' asked asked'
+abbrev pub list_load : Word → Word × ℕ
+list_load name = (name, 4194304)
 
--- the loads of the request that words ask for
-pub record Loads (words : List Word) (loads loads' asked asked' : Option ℕ) : Type 0 where
+abbrev pub source_load : Word → Word × ℕ
+source_load name = (name, 1048576)
+
+-- the fault list of a campaign was loaded, where the campaign came to it, and its name is not the object's own
+pub record LoadsList (c : Campaign) (Comes : Type 0) (asked asked' : Option LoadList) : Type 0 where
+  pub comes : Comes
+  pub other : c.faults ≢ c.object
+  pub made : HasMade (object_load c.object ∷ list_load c.faults ∷ []) asked asked'
+
+-- the object of a campaign was loaded, and perhaps then the fault list
+abbrev pub LoadsCampaign : Campaign → Type 0 → Option LoadList → Option LoadList → Type 0
+LoadsCampaign c Comes asked asked' = HasMade (object_load c.object ∷ []) asked asked' ⊎ LoadsList c Comes asked asked'
+
+-- the loads of a request: one of each file that it names, in their order. The fault list of a campaign is loaded only where
+-- its object is accepted, that of a survey only where its object's bytes spell one
+abbrev pub LoadsFor : Request → Files → Option LoadList → Option LoadList → Type 0
+LoadsFor Usage files asked asked' = HasMade [] asked asked'
+LoadsFor (Checks object) files asked asked' = HasMade (object_load object ∷ []) asked asked'
+LoadsFor (Runs r) files asked asked' = HasMade (object_load r.object ∷ []) asked asked'
+LoadsFor (Tries r) files asked asked' = HasMade (object_load r.object ∷ []) asked asked'
+LoadsFor (Strikes c) files asked asked' = LoadsCampaign c (SpellsAccepted files c.object) asked asked'
+LoadsFor (Surveys c) files asked asked' = LoadsCampaign c (SpellsFile files c.object) asked asked'
+LoadsFor (Compiles source) files asked asked' = HasMade (source_load source ∷ []) asked asked'
+LoadsFor (Executes e) files asked asked' = HasMade (source_load e.source ∷ []) asked asked'
+LoadsFor (Means m) files asked asked' = HasMade (source_load m.source ∷ []) asked asked'
+LoadsFor (Debugs d) files asked asked' = HasMade (object_load d.object ∷ []) asked asked'
+LoadsFor (Demonstrates turns) files asked asked' = HasMade [] asked asked'
+
+-- the loads of the request that words ask for, by the files that are told or by some files of bytes
+pub record Loads (words : List Word) (told : Option Files) (asked asked' : Option LoadList) : Type 0 where
   pub request : Request
   pub asks : Asks words request
-  pub made : LoadsFor request loads loads' asked asked'
+  pub files : Files
+  pub are_files : AreFiles told files
+  pub made : LoadsFor request files asked asked'
 
--- the words ask for a session, the file of its object spells one, and at most 1,048,577 bytes of the script were taken
-pub record TakesFrom (words : List Word) (files : Option Files) (left left' : Option (List ℕ)) : Type 0 where
+-- the words ask for a session, and the file of its object spells one, by the files that are told or by some files of bytes;
+-- at most 1,048,577 bytes of the script were taken, by no more takes than bytes and one more, so none after the end
+pub record TakesFrom (words : List Word) (told : Option Files) (takes takes' : Option ℕ) (left left' : Option (List ℕ)) : Type 0 where
   pub debugging : Debugging
   pub asks : Asks words (Debugs debugging)
+  pub files : Files
+  pub are_files : AreFiles told files
   pub comes : SpellsFile files debugging.object
   pub taken : ConsumesAtMost left left' 1048577
+  pub frugal : IsFrugal takes takes' left left'

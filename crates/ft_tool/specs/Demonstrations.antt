@@ -1,5 +1,6 @@
 -- What a demonstration answers.
-use Rattle.std.specs.Prelude.{◌≡◌, ℕ, List}
+use Rattle.std.specs.Prelude.{◌≡◌, ℕ, List, []}
+use Rattle.ft_tolerance.specs.Soundness.{IsNeverDetected}
 use Rattle.ft_campaign.specs.declared.verdict.Verdict.{Verdict}
 use Rattle.ft_sample.specs.Sample.{sample_object}
 use Rattle.ft_demo.specs.Demonstrations.{AreDemoVerdicts, demo_lines}
@@ -7,9 +8,10 @@ use Rattle.ft_tool.specs.Lists.{NoneCorrupt}
 use Rattle.ft_tool.specs.Replies.{Answer}
 
 -- the answer of a demonstration of so many turns: the line of the outputs, and the last line of the campaign, of whose
--- verdicts none is corrupt
+-- verdicts none is corrupt; the run without a fault is detected after no number of steps
 pub record ShowsSample (turns : ℕ) (a : Answer) : Type 0 where
   pub found : List Verdict
   pub verdicts : AreDemoVerdicts (sample_object turns) found
   pub none_corrupt : NoneCorrupt found
+  pub undetected : IsNeverDetected (sample_object turns) []
   pub answer : a ≡ record { pieces = demo_lines (sample_object turns) found; status = 0 }

@@ -1,15 +1,18 @@
 -- What loading a command's file gives.
-use Rattle.std.specs.Prelude.{◌≡◌, ℕ, ◌<◌, List, length, Option, Some, Result, Ok, Err}
+use Rattle.std.specs.Prelude.{◌≡◌, ℕ, ◌<◌, ◌≤◌, List, length, Option, Some, Result, Ok, Err}
+use Rattle.ft_edge.specs.declared.shelf.Load.{Load}
+use Rattle.ft_edge.specs.declared.shelf.Load.TheVariants.{Whole, TooLong}
+use Rattle.ft_edge.specs.declared.shelf.LoadFault.{LoadFault}
 use Rattle.ft_edge.specs.Causes.{Rose}
 use Rattle.ft_edge.specs.Loads.{Files}
 use Rattle.ft_format.specs.Format.{Spells}
 use Rattle.ft_format.specs.Broken.{broken, object_of}
 use Rattle.ft_command.specs.Options.{Word}
-use Rattle.ft_types.specs.Accepted as accepted
-use Rattle.ft_rules.specs.Answers.{premise_of}
+use Rattle.ft_typing.specs.Accepted as accepted
 use Rattle.ft_checker.specs.declared.error.CheckError.{CheckError}
 use Rattle.ft_checker.specs.declared.error.CheckError.TheVariants as checks
-use Rattle.ft_tool.specs.Replies.{Answer, IsFile}
+use Rattle.ft_tool.specs.Replies.{Answer}
+use Rattle.ft_tool.specs.Told.{IsToldFile}
 use Rattle.ft_tool.specs.Answers.{refused, judged}
 use Rattle.ft_isa.specs.declared.plan.Strike.{Strike}
 use Rattle.ft_campaign.specs.declared.fault_list.ListError.TheVariants as lists
@@ -24,10 +27,16 @@ use Rattle.ft_tool.specs.declared.load.ListFault.TheVariants as list_faults
 use Rattle.ft_tool.specs.declared.load.ObjectFault.{ObjectFault}
 use Rattle.ft_tool.specs.declared.load.ObjectFault.TheVariants.{Refused, Failed, NoMemory}
 
+-- what a load gave: the file's bytes, or that they are more than the limit
+abbrev pub Gives : Option Files → Word → ℕ → List ℕ → Result Load LoadFault → Type 0
+Gives files name limit into (Ok Whole) = (length into ≤ limit) × IsToldFile files name into
+Gives files name limit into (Ok TooLong) = (bytes : List ℕ) × (IsToldFile files name bytes × (limit < length bytes))
+Gives files name limit into (Err e) = Unit {0}
+
 -- the file's bytes, and that they spell an object, or the first rule of the format that they break
 abbrev pub LoadsObject : Option Files → Word → Result (List ℕ) ObjectFault → Type 0
-LoadsObject files name (Ok bytes) = IsFile files name bytes × Spells bytes (object_of bytes)
-LoadsObject files name (Err (Refused e)) = (bytes : List ℕ) × (IsFile files name bytes × (broken bytes ≡ Some e))
+LoadsObject files name (Ok bytes) = IsToldFile files name bytes × Spells bytes (object_of bytes)
+LoadsObject files name (Err (Refused e)) = (bytes : List ℕ) × (IsToldFile files name bytes × (broken bytes ≡ Some e))
 LoadsObject files name (Err Failed) = Unit {0}
 LoadsObject files name (Err NoMemory) = Unit {0}
 
@@ -48,16 +57,24 @@ IsRefusedBy NoMemory a = ⊥
 abbrev pub IsNotAccepted : CheckError → Answer → Type 0
 IsNotAccepted checks.EntryType a = a ≡ judged (Some accepted.EntryType)
 IsNotAccepted (checks.CellType k) a = a ≡ judged (Some (accepted.CellType k))
-IsNotAccepted (checks.Refused b i why) a = a ≡ judged (Some (accepted.Refused b i (premise_of why)))
+IsNotAccepted (checks.Refused b i why) a = a ≡ judged (Some (accepted.Refused b i why))
 IsNotAccepted checks.NoMemory a = ⊥
 
--- the file's bytes are the text of these faults, or are no fault list
-abbrev pub LoadsList : {V : Type 0} → (V → List Strike) → Option Files → Word → Result V ListFault → Type 0
-LoadsList faults_of files name (Ok v) = (list : List ℕ) × (IsFile files name list × IsFaultList list (faults_of v))
-LoadsList faults_of files name (Err (list_faults.Line number)) = (list : List ℕ) × (IsFile files name list × IsListError list (lists.Line number))
-LoadsList faults_of files name (Err list_faults.TooMany) = (list : List ℕ) × (IsFile files name list × IsListError list lists.TooMany)
-LoadsList faults_of files name (Err list_faults.Failed) = Unit {0}
-LoadsList faults_of files name (Err list_faults.NoMemory) = Unit {0}
+-- the text is that of these faults, or is no fault list
+abbrev pub ReadsList : {V : Type 0} → (V → List Strike) → List ℕ → Result V ListFault → Type 0
+ReadsList faults_of list (Ok v) = IsFaultList list (faults_of v)
+ReadsList faults_of list (Err (list_faults.Line number)) = IsListError list (lists.Line number)
+ReadsList faults_of list (Err list_faults.TooMany) = IsListError list lists.TooMany
+ReadsList faults_of list (Err list_faults.Failed) = ⊥
+ReadsList faults_of list (Err list_faults.NoMemory) = Unit {0}
+
+-- a fault list that is one of these texts is that of these faults, or is none
+abbrev pub GetsList : {V : Type 0} → (V → List Strike) → (List ℕ → Type 0) → Result V ListFault → Type 0
+GetsList faults_of Is (Ok v) = (list : List ℕ) × (Is list × IsFaultList list (faults_of v))
+GetsList faults_of Is (Err (list_faults.Line number)) = (list : List ℕ) × (Is list × IsListError list (lists.Line number))
+GetsList faults_of Is (Err list_faults.TooMany) = (list : List ℕ) × (Is list × IsListError list lists.TooMany)
+GetsList faults_of Is (Err list_faults.Failed) = Unit {0}
+GetsList faults_of Is (Err list_faults.NoMemory) = Unit {0}
 
 -- a load of a list that failed shows in the count and left its name; any other answer leaves both as they were
 abbrev pub ListCause : {V : Type 0} → ℕ → ℕ → Option (List ℕ) → Option (List ℕ) → Word → Result V ListFault → Type 0
@@ -76,8 +93,8 @@ IsListRefusedBy list_faults.NoMemory a = ⊥
 
 -- the file's bytes, or a file that is longer than a source may be
 abbrev pub LoadsSource : {V : Type 0} → (V → List ℕ) → Option Files → Word → Result V SourceFault → Type 0
-LoadsSource bytes_of files name (Ok v) = IsFile files name (bytes_of v)
-LoadsSource bytes_of files name (Err source_faults.TooLong) = (text : List ℕ) × (IsFile files name text × (1048576 < length text))
+LoadsSource bytes_of files name (Ok v) = IsToldFile files name (bytes_of v)
+LoadsSource bytes_of files name (Err source_faults.TooLong) = (text : List ℕ) × (IsToldFile files name text × (1048576 < length text))
 LoadsSource bytes_of files name (Err source_faults.Failed) = Unit {0}
 LoadsSource bytes_of files name (Err source_faults.NoMemory) = Unit {0}
 

@@ -6,5 +6,7 @@ pub mod Scripts
 pub mod Demonstrations
 pub mod Answers
 pub mod Calls
+pub mod OneAnswer
+pub mod Told
 pub mod Files
 pub mod Endings

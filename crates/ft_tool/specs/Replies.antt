@@ -2,10 +2,11 @@
 use Rattle.std.specs.Prelude.{◌≡◌, ℕ, List, [], ◌∷◌, Option, Some, None}
 use Rattle.std.specs.FinMap.{get}
 use Rattle.ft_edge.specs.Loads.{Files}
+use Rattle.ft_format.specs.Format.{AreBytes}
 use Rattle.ft_types.specs.declared.object.Object.{Object}
-use Rattle.ft_types.specs.declared.status.Status.{Status}
-use Rattle.ft_types.specs.declared.status.Status.TheVariants as machine
-use Rattle.ft_types.specs.Run.{Ran}
+use Rattle.ft_semantics.specs.declared.status.Status.{Status}
+use Rattle.ft_semantics.specs.declared.status.Status.TheVariants as machine
+use Rattle.ft_semantics.specs.Run.{Ran}
 use Rattle.ft_machine.specs.Drives.{output_lines}
 use Rattle.ft_command.specs.Options.{Word}
 
@@ -28,7 +29,16 @@ status_of_run machine.Running = 9
 abbrev pub ran : Object → Ran → Answer
 ran o r = record { pieces = output_lines o r.outputs; status = status_of_run r.state.status }
 
--- the bytes of the file of a name, where the shelf tells its files; else they may be any
-abbrev pub IsFile : Option Files → Word → List ℕ → Type 0
-IsFile (Some files) name bytes = get files name ≡ Some bytes
-IsFile None name bytes = Unit {0}
+-- the files of a call: those that the shelf tells; where it tells none, any whose contents are bytes
+abbrev pub AreFiles : Option Files → Files → Type 0
+AreFiles (Some told) files = files ≡ told
+AreFiles None files = (name bytes : List ℕ) → get files name ≡ Some bytes → AreBytes bytes
+
+-- the script of a call: what the source tells is left in it; where it tells nothing, any bytes
+abbrev pub IsScript : Option (List ℕ) → List ℕ → Type 0
+IsScript (Some told) script = script ≡ told
+IsScript None script = AreBytes script
+
+-- the content of the file of a name
+abbrev pub IsFile : Files → Word → List ℕ → Type 0
+IsFile files name bytes = get files name ≡ Some bytes

@@ -1,7 +1,7 @@
 -- What a command answers over the text of a source.
 use Rattle.std.specs.Prelude.{◌≡◌, ◌≢◌, ◌⊎◌, ℕ, List, [], None}
 use Rattle.ft_types.specs.declared.object.Object.{Object}
-use Rattle.ft_types.specs.Run.{run}
+use Rattle.ft_semantics.specs.Run.{run}
 use Rattle.ft_format.specs.Format.{Spells}
 use Rattle.ft_compile.specs.StandsFor.{StandsFor}
 use Rattle.ft_syntax.specs.declared.source_error.SourceError.{SourceError}

@@ -1,7 +1,7 @@
 -- The lines of refusals.
 use Rattle.std.specs.Prelude.{ℕ, List, ◌++◌, codes, decimal}
-use Rattle.ft_types.specs.Premise.{number_of}
-use Rattle.ft_types.specs.Accepted.{Refusal, EntryType, CellType, Refused}
+use Rattle.ft_typing.specs.Premise.{number_of}
+use Rattle.ft_typing.specs.Accepted.{Refusal, EntryType, CellType, Refused}
 use Rattle.ft_syntax.specs.declared.source_error.SourceError.{SourceError}
 use Rattle.ft_syntax.specs.declared.source_error.SourceError.TheVariants as source
 use Rattle.ft_format.specs.declared.object_error.ObjectError.{ObjectError}

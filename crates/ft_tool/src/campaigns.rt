@@ -2,17 +2,18 @@
 ghost use Rattle.std.specs.Prelude.{◌≡◌, ◌≢◌, ◌≤◌, ◌<◌, ◌*◌, ◌⊎◌, [], ◌∷◌, length, Some, None};
 ghost use Rattle.ft_edge.specs.Causes.{Rose};
 ghost use Rattle.ft_command.specs.Asked.{campaign_view};
-ghost use Rattle.ft_types.specs.Accepted.{refusal};
+ghost use Rattle.ft_typing.specs.Accepted.{refusal};
 ghost use Rattle.ft_types.specs.Spellable.{IsSpellable};
 ghost use Rattle.ft_campaign.specs.Campaigns.{EndsAs as CampaignEnds, IsExcused, IsUncorrupted};
-ghost use Rattle.ft_tool.specs.Answers.{SurveysObject, StrikesAccepted, StrikesObject};
+ghost use Rattle.ft_tool.specs.Answers.{StrikesUnless};
 ghost use Rattle.ft_tool.specs.Calls.{HasMade};
+ghost use Rattle.ft_tool.specs.Told.{IsToldFile, OverListOf, StrikesListOf, MayLoadList};
 ghost use Rattle.ft_tool.specs.Lists.{AnyVerdicts, NoneCorrupt, OverFaults};
 ghost use Rattle.ft_tool.specs.Endings.{Ends};
 
 use crate::checking::check;
 use crate::ending::{Ending, put_list_line, refuse_check, refuse_list};
-use crate::load::load_list;
+use crate::load::list_of;
 use ft_campaign::{CampaignEnd, campaign, survey};
 use ft_checker::Checked;
 use ft_command::Campaign;
@@ -39,9 +40,9 @@ fn survey_counted<P: Program, K: Sink, L: Ledger>(
     requires spellable { IsSpellable (P.object program.now) }
     requires faults { length faults.now ≤ 65536 }
     requires steps { asked.now.steps ≤ 1000000 }
-    ensures ends { CampaignEnds result (P.object program.now) faults.now asked.now.wild.items asked.now.steps (K.written out.old) (K.written out.new) (K.puts out.old) (K.puts out.new) }
+    ensures ends { CampaignEnds result (P.object program.now) faults.now asked.now.wild.items asked.now.steps (K.written out.old) (K.written out.new) (K.pieces out.old) (K.pieces out.new) }
     ensures too_much { 1000000000 < length faults.now * asked.now.steps → result ≡ CampaignEnd.TooMuch (length faults.now * asked.now.steps) }
-    ensures cause { IsExcused result (K.faults out.old) (K.faults out.new) }
+    ensures cause { IsExcused result (K.failures out.old) (K.failures out.new) }
 {
     let mut steps = Steps::<L>::new(blank);
     survey(
@@ -69,9 +70,9 @@ fn campaign_counted<P: Program, K: Sink, L: Ledger>(
     requires some { 0 < L.parts }
     requires faults { length faults.now ≤ 65536 }
     requires steps { asked.now.steps ≤ 1000000 }
-    ensures ends { CampaignEnds result (P.object checked.now) faults.now asked.now.wild.items asked.now.steps (K.written out.old) (K.written out.new) (K.puts out.old) (K.puts out.new) }
+    ensures ends { CampaignEnds result (P.object checked.now) faults.now asked.now.wild.items asked.now.steps (K.written out.old) (K.written out.new) (K.pieces out.old) (K.pieces out.new) }
     ensures too_much { 1000000000 < length faults.now * asked.now.steps → result ≡ CampaignEnd.TooMuch (length faults.now * asked.now.steps) }
-    ensures cause { IsExcused result (K.faults out.old) (K.faults out.new) }
+    ensures cause { IsExcused result (K.failures out.old) (K.failures out.new) }
     ensures uncorrupted { IsUncorrupted result }
 {
     let mut steps = Steps::<L>::new(blank);
@@ -98,8 +99,8 @@ fn survey_faults<P: Program, K: Sink>(
     requires faults { length faults.now ≤ 65536 }
     requires steps { asked.now.steps ≤ 1000000 }
     ensures ends { Ends result (OverFaults AnyVerdicts (campaign_view asked.now) (P.object program.now) faults.now)
-        (K.written out.old) (K.written out.new) (K.puts out.old) (K.puts out.new) (K.faults out.old) (K.faults out.new) ⊥ }
-    ensures faults { result ≢ Ending.WriteFault → K.faults out.new ≡ K.faults out.old }
+        (K.written out.old) (K.written out.new) (K.pieces out.old) (K.pieces out.new) (K.failures out.old) (K.failures out.new) ⊥ }
+    ensures failures { result ≢ Ending.WriteFault → K.failures out.new ≡ K.failures out.old }
 {
     match survey_counted::<P, K, Brand>(alloc, program, faults, asked, out, Blank::new(1)) {
         CampaignEnd::Finished(totals) => {
@@ -128,8 +129,8 @@ fn campaign_faults<P: Program, K: Sink>(
     requires faults { length faults.now ≤ 65536 }
     requires steps { asked.now.steps ≤ 1000000 }
     ensures ends { Ends result (OverFaults NoneCorrupt (campaign_view asked.now) (P.object checked.now) faults.now)
-        (K.written out.old) (K.written out.new) (K.puts out.old) (K.puts out.new) (K.faults out.old) (K.faults out.new) ⊥ }
-    ensures faults { result ≢ Ending.WriteFault → K.faults out.new ≡ K.faults out.old }
+        (K.written out.old) (K.written out.new) (K.pieces out.old) (K.pieces out.new) (K.failures out.old) (K.failures out.new) ⊥ }
+    ensures failures { result ≢ Ending.WriteFault → K.failures out.new ≡ K.failures out.old }
 {
     match campaign_counted::<P, K, Brand>(alloc, checked, faults, asked, out, Blank::new(1)) {
         CampaignEnd::Finished(_) => Ending::Done,
@@ -143,20 +144,22 @@ fn campaign_faults<P: Program, K: Sink>(
 pub(crate) fn survey_object<P: Program, F: Shelf, K: Sink>(
     alloc: Global,
     program: &P,
+    bytes: &[u8],
     asked: &Campaign,
     shelf: &mut F,
     out: &mut K,
 ) -> Ending
     requires spellable { IsSpellable (P.object program.now) }
     requires steps { asked.now.steps ≤ 1000000 }
-    ensures ends { Ends result (SurveysObject (campaign_view asked.now) (F.files shelf.old) (P.object program.now))
-        (K.written out.old) (K.written out.new) (K.puts out.old) (K.puts out.new) (K.faults out.old) (K.faults out.new)
-        (Rose (F.faults shelf.old) (F.faults shelf.new) × (F.failed_name shelf.new ≡ Some asked.now.faults.now)) }
-    ensures faults { result ≢ Ending.WriteFault → K.faults out.new ≡ K.faults out.old }
-    ensures load_faults { result ≢ Ending.LoadFault → (F.faults shelf.new ≡ F.faults shelf.old) × (F.failed_name shelf.new ≡ F.failed_name shelf.old) }
-    ensures made { HasMade (4194304 ∷ []) (F.loads shelf.old) (F.loads shelf.new) (F.asked shelf.old) (F.asked shelf.new) }
+    requires own { IsToldFile (F.files shelf.old) asked.now.object.now bytes.now }
+    ensures ends { Ends result (OverListOf AnyVerdicts (campaign_view asked.now) (F.files shelf.old) bytes.now (P.object program.now))
+        (K.written out.old) (K.written out.new) (K.pieces out.old) (K.pieces out.new) (K.failures out.old) (K.failures out.new)
+        (Rose (F.failures shelf.old) (F.failures shelf.new) × (F.failed_name shelf.new ≡ Some asked.now.faults.now)) }
+    ensures failures { result ≢ Ending.WriteFault → K.failures out.new ≡ K.failures out.old }
+    ensures load_failures { result ≢ Ending.LoadFault → (F.failures shelf.new ≡ F.failures shelf.old) × (F.failed_name shelf.new ≡ F.failed_name shelf.old) }
+    ensures made { MayLoadList (campaign_view asked.now) (F.asked shelf.old) (F.asked shelf.new) }
 {
-    match load_list(alloc, asked.faults, shelf) {
+    match list_of(alloc, asked, bytes, shelf) {
         Ok(faults) => survey_faults(alloc, program, faults.as_slice(), asked, out),
         Err(fault) => refuse_list(fault, out),
     }
@@ -166,6 +169,7 @@ pub(crate) fn survey_object<P: Program, F: Shelf, K: Sink>(
 fn strike_checked<P: Program, F: Shelf, K: Sink>(
     alloc: Global,
     checked: &Checked<P>,
+    bytes: &[u8],
     asked: &Campaign,
     shelf: &mut F,
     out: &mut K,
@@ -173,14 +177,15 @@ fn strike_checked<P: Program, F: Shelf, K: Sink>(
     requires spellable { IsSpellable (P.object checked.now) }
     requires accepted { refusal (P.object checked.now) ≡ None }
     requires steps { asked.now.steps ≤ 1000000 }
-    ensures ends { Ends result (StrikesAccepted (campaign_view asked.now) (F.files shelf.old) (P.object checked.now))
-        (K.written out.old) (K.written out.new) (K.puts out.old) (K.puts out.new) (K.faults out.old) (K.faults out.new)
-        (Rose (F.faults shelf.old) (F.faults shelf.new) × (F.failed_name shelf.new ≡ Some asked.now.faults.now)) }
-    ensures faults { result ≢ Ending.WriteFault → K.faults out.new ≡ K.faults out.old }
-    ensures load_faults { result ≢ Ending.LoadFault → (F.faults shelf.new ≡ F.faults shelf.old) × (F.failed_name shelf.new ≡ F.failed_name shelf.old) }
-    ensures made { HasMade (4194304 ∷ []) (F.loads shelf.old) (F.loads shelf.new) (F.asked shelf.old) (F.asked shelf.new) }
+    requires own { IsToldFile (F.files shelf.old) asked.now.object.now bytes.now }
+    ensures ends { Ends result (StrikesListOf (campaign_view asked.now) (F.files shelf.old) bytes.now (P.object checked.now))
+        (K.written out.old) (K.written out.new) (K.pieces out.old) (K.pieces out.new) (K.failures out.old) (K.failures out.new)
+        (Rose (F.failures shelf.old) (F.failures shelf.new) × (F.failed_name shelf.new ≡ Some asked.now.faults.now)) }
+    ensures failures { result ≢ Ending.WriteFault → K.failures out.new ≡ K.failures out.old }
+    ensures load_failures { result ≢ Ending.LoadFault → (F.failures shelf.new ≡ F.failures shelf.old) × (F.failed_name shelf.new ≡ F.failed_name shelf.old) }
+    ensures made { MayLoadList (campaign_view asked.now) (F.asked shelf.old) (F.asked shelf.new) }
 {
-    match load_list(alloc, asked.faults, shelf) {
+    match list_of(alloc, asked, bytes, shelf) {
         Ok(faults) => campaign_faults(alloc, checked, faults.as_slice(), asked, out),
         Err(fault) => refuse_list(fault, out),
     }
@@ -190,22 +195,24 @@ fn strike_checked<P: Program, F: Shelf, K: Sink>(
 pub(crate) fn strike_object<P: Program, F: Shelf, K: Sink>(
     alloc: Global,
     program: &P,
+    bytes: &[u8],
     asked: &Campaign,
     shelf: &mut F,
     out: &mut K,
 ) -> Ending
     requires spellable { IsSpellable (P.object program.now) }
     requires steps { asked.now.steps ≤ 1000000 }
-    ensures ends { Ends result (StrikesObject (campaign_view asked.now) (F.files shelf.old) (P.object program.now))
-        (K.written out.old) (K.written out.new) (K.puts out.old) (K.puts out.new) (K.faults out.old) (K.faults out.new)
-        (Rose (F.faults shelf.old) (F.faults shelf.new) × (F.failed_name shelf.new ≡ Some asked.now.faults.now) × (refusal (P.object program.now) ≡ None)) }
-    ensures faults { result ≢ Ending.WriteFault → K.faults out.new ≡ K.faults out.old }
-    ensures load_faults { result ≢ Ending.LoadFault → (F.faults shelf.new ≡ F.faults shelf.old) × (F.failed_name shelf.new ≡ F.failed_name shelf.old) }
-    ensures made { HasMade [] (F.loads shelf.old) (F.loads shelf.new) (F.asked shelf.old) (F.asked shelf.new)
-        ⊎ HasMade (4194304 ∷ []) (F.loads shelf.old) (F.loads shelf.new) (F.asked shelf.old) (F.asked shelf.new) }
+    requires own { IsToldFile (F.files shelf.old) asked.now.object.now bytes.now }
+    ensures ends { Ends result (StrikesUnless (refusal (P.object program.now)) (StrikesListOf (campaign_view asked.now) (F.files shelf.old) bytes.now (P.object program.now)))
+        (K.written out.old) (K.written out.new) (K.pieces out.old) (K.pieces out.new) (K.failures out.old) (K.failures out.new)
+        (Rose (F.failures shelf.old) (F.failures shelf.new) × (F.failed_name shelf.new ≡ Some asked.now.faults.now) × (refusal (P.object program.now) ≡ None)) }
+    ensures failures { result ≢ Ending.WriteFault → K.failures out.new ≡ K.failures out.old }
+    ensures load_failures { result ≢ Ending.LoadFault → (F.failures shelf.new ≡ F.failures shelf.old) × (F.failed_name shelf.new ≡ F.failed_name shelf.old) }
+    ensures made { HasMade [] (F.asked shelf.old) (F.asked shelf.new)
+        ⊎ ((refusal (P.object program.now) ≡ None) × MayLoadList (campaign_view asked.now) (F.asked shelf.old) (F.asked shelf.new)) }
 {
     match check(alloc, program) {
-        Ok(checked) => strike_checked(alloc, &checked, asked, shelf, out),
+        Ok(checked) => strike_checked(alloc, &checked, bytes, asked, shelf, out),
         Err(error) => refuse_check(error, out),
     }
 }

@@ -1,13 +1,15 @@
 //! What commands do with an object and a script.
 ghost use Rattle.std.specs.Prelude.{◌≡◌, ◌≢◌, ◌≤◌, ◌⊎◌, [], ◌∷◌, length};
 ghost use Rattle.ft_edge.specs.Causes.{Rose};
-ghost use Rattle.ft_edge.specs.Streams.{ConsumesAtMost};
+ghost use Rattle.ft_edge.specs.Streams.{ConsumesAtMost, IsFrugal};
 ghost use Rattle.ft_types.specs.Spellable.{IsSpellable};
+ghost use Rattle.ft_format.specs.Format.{AreBytes};
 ghost use Rattle.ft_command.specs.Commands.{Debugs};
 ghost use Rattle.ft_command.specs.Asked.{debugging_view};
-ghost use Rattle.ft_tool.specs.Scripts.{DebugsText, DebugsObject};
+ghost use Rattle.ft_tool.specs.Scripts.{DebugsObject};
 ghost use Rattle.ft_tool.specs.Answers.{OverFile, SpellsFile, FailsIn, FailsAtScript};
-ghost use Rattle.ft_tool.specs.Calls.{HasMade};
+ghost use Rattle.ft_tool.specs.Calls.{HasMade, object_load};
+ghost use Rattle.ft_tool.specs.Told.{OfFiles, OfScript};
 ghost use Rattle.ft_tool.specs.Endings.{Ends};
 
 use crate::ending::{Ending, refuse_object, refuse_script};
@@ -29,9 +31,10 @@ fn debug_text<P: Program, K: Sink>(
 ) -> Ending
     requires spellable { IsSpellable (P.object program.now) }
     requires short { length text.now ≤ 1048576 }
-    ensures ends { Ends result (DebugsText (debugging_view asked.now) (P.object program.now) text.now)
-        (K.written out.old) (K.written out.new) (K.puts out.old) (K.puts out.new) (K.faults out.old) (K.faults out.new) ⊥ }
-    ensures faults { result ≢ Ending.WriteFault → K.faults out.new ≡ K.faults out.old }
+    ensures bytes { AreBytes text.now }
+    ensures ends { Ends result (DebugsObject (debugging_view asked.now) text.now (P.object program.now))
+        (K.written out.old) (K.written out.new) (K.pieces out.old) (K.pieces out.new) (K.failures out.old) (K.failures out.new) ⊥ }
+    ensures failures { result ≢ Ending.WriteFault → K.failures out.new ≡ K.failures out.old }
 {
     match session(alloc, program, asked.wild.as_slice(), text, out) {
         DebugEnd::Ended => Ending::Done,
@@ -49,12 +52,13 @@ fn debug_object<P: Program, I: Source, K: Sink>(
     out: &mut K,
 ) -> Ending
     requires spellable { IsSpellable (P.object program.now) }
-    ensures ends { Ends result (DebugsObject (debugging_view asked.now) (I.left script.old) (P.object program.now))
-        (K.written out.old) (K.written out.new) (K.puts out.old) (K.puts out.new) (K.faults out.old) (K.faults out.new)
-        (Rose (I.faults script.old) (I.faults script.new)) }
-    ensures faults { result ≢ Ending.WriteFault → K.faults out.new ≡ K.faults out.old }
-    ensures script_faults { result ≢ Ending.LoadFault → I.faults script.new ≡ I.faults script.old }
+    ensures ends { Ends result (λ a. OfScript (I.left script.old) (λ text. DebugsObject (debugging_view asked.now) text (P.object program.now) a))
+        (K.written out.old) (K.written out.new) (K.pieces out.old) (K.pieces out.new) (K.failures out.old) (K.failures out.new)
+        (Rose (I.failures script.old) (I.failures script.new)) }
+    ensures failures { result ≢ Ending.WriteFault → K.failures out.new ≡ K.failures out.old }
+    ensures script_failures { result ≢ Ending.LoadFault → I.failures script.new ≡ I.failures script.old }
     ensures taken { ConsumesAtMost (I.left script.old) (I.left script.new) 1048577 }
+    ensures frugal { IsFrugal (I.takes script.old) (I.takes script.new) (I.left script.old) (I.left script.new) }
 {
     match take_script(alloc, script) {
         Ok(text) => debug_text(alloc, program, asked, text.as_slice(), out),
@@ -70,15 +74,17 @@ pub(crate) fn debug_file<F: Shelf, I: Source, K: Sink>(
     script: &mut I,
     out: &mut K,
 ) -> Ending
-    ensures ends { Ends result (OverFile (DebugsObject (debugging_view asked.now) (I.left script.old)) asked.now.object.now (F.files shelf.old))
-        (K.written out.old) (K.written out.new) (K.puts out.old) (K.puts out.new) (K.faults out.old) (K.faults out.new)
-        (FailsIn (Debugs (debugging_view asked.now)) (F.files shelf.old) (F.faults shelf.old) (F.faults shelf.new) (F.failed_name shelf.new)
-        ⊎ FailsAtScript (debugging_view asked.now) (F.files shelf.old) (I.faults script.old) (I.faults script.new)) }
-    ensures faults { result ≢ Ending.WriteFault → K.faults out.new ≡ K.faults out.old }
-    ensures load_faults { result ≢ Ending.LoadFault → (F.faults shelf.new ≡ F.faults shelf.old) × (F.failed_name shelf.new ≡ F.failed_name shelf.old) }
-    ensures script_faults { result ≢ Ending.LoadFault → I.faults script.new ≡ I.faults script.old }
-    ensures made { HasMade (67108864 ∷ []) (F.loads shelf.old) (F.loads shelf.new) (F.asked shelf.old) (F.asked shelf.new) }
-    ensures script { (SpellsFile (F.files shelf.old) asked.now.object.now × ConsumesAtMost (I.left script.old) (I.left script.new) 1048577)
+    ensures ends { Ends result (λ a. OfFiles (F.files shelf.old) (λ files. OfScript (I.left script.old) (λ text. OverFile (DebugsObject (debugging_view asked.now) text) asked.now.object.now files a)))
+        (K.written out.old) (K.written out.new) (K.pieces out.old) (K.pieces out.new) (K.failures out.old) (K.failures out.new)
+        (OfFiles (F.files shelf.old) (λ files. FailsIn (Debugs (debugging_view asked.now)) files (F.failures shelf.old) (F.failures shelf.new) (F.failed_name shelf.new)
+        ⊎ FailsAtScript (debugging_view asked.now) files (I.failures script.old) (I.failures script.new))) }
+    ensures failures { result ≢ Ending.WriteFault → K.failures out.new ≡ K.failures out.old }
+    ensures load_failures { result ≢ Ending.LoadFault → (F.failures shelf.new ≡ F.failures shelf.old) × (F.failed_name shelf.new ≡ F.failed_name shelf.old) }
+    ensures script_failures { result ≢ Ending.LoadFault → I.failures script.new ≡ I.failures script.old }
+    ensures made { HasMade (object_load asked.now.object.now ∷ []) (F.asked shelf.old) (F.asked shelf.new) }
+    ensures script { (OfFiles (F.files shelf.old) (λ files. SpellsFile files asked.now.object.now)
+        × ConsumesAtMost (I.left script.old) (I.left script.new) 1048577
+        × IsFrugal (I.takes script.old) (I.takes script.new) (I.left script.old) (I.left script.new))
         ⊎ (script.new ≡ script.old) }
 {
     let mut bytes = Vec::new(alloc);

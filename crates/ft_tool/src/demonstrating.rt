@@ -13,8 +13,8 @@ pub(crate) fn demonstrate<K: Sink>(alloc: Global, turns: u32, out: &mut K) -> En
     requires some { 1 ≤ turns }
     requires few { turns ≤ 10921 }
     ensures ends { Ends result (ShowsSample turns)
-        (K.written out.old) (K.written out.new) (K.puts out.old) (K.puts out.new) (K.faults out.old) (K.faults out.new) ⊥ }
-    ensures faults { result ≢ Ending.WriteFault → K.faults out.new ≡ K.faults out.old }
+        (K.written out.old) (K.written out.new) (K.pieces out.old) (K.pieces out.new) (K.failures out.old) (K.failures out.new) ⊥ }
+    ensures failures { result ≢ Ending.WriteFault → K.failures out.new ≡ K.failures out.old }
 {
     match demo(alloc, turns, out) {
         DemoEnd::Finished => Ending::Done,

@@ -49,10 +49,10 @@ pub(crate) enum Ending {
 /// Puts a piece of the answer's text, in one put.
 #[tactic(auto, using(ft_edge::proofs::PutLines::breaks_one))]
 pub(crate) fn put_piece<K: Sink>(piece: &[u8], out: &mut K) -> Result<(), Failed>
-    ensures ok { OnOk result (PutsLines (piece.now ∷ []) (K.written out.old) (K.written out.new) (K.puts out.old) (K.puts out.new)) }
-    ensures err { OnErr result (BreaksOff (piece.now ∷ []) (K.written out.old) (K.written out.new) (K.puts out.old) (K.puts out.new)) }
-    ensures same_count { OnOk result (K.faults out.new ≡ K.faults out.old) }
-    ensures cause { OnErr result (Rose (K.faults out.old) (K.faults out.new)) }
+    ensures ok { OnOk result (PutsLines (piece.now ∷ []) (K.written out.old) (K.written out.new) (K.pieces out.old) (K.pieces out.new)) }
+    ensures err { OnErr result (BreaksOff (piece.now ∷ []) (K.written out.old) (K.written out.new) (K.pieces out.old) (K.pieces out.new)) }
+    ensures same_count { OnOk result (K.failures out.new ≡ K.failures out.old) }
+    ensures cause { OnErr result (Rose (K.failures out.old) (K.failures out.new)) }
 {
     match out.put(piece) {
         Ok(()) => Ok(()),
@@ -62,8 +62,8 @@ pub(crate) fn put_piece<K: Sink>(piece: &[u8], out: &mut K) -> Result<(), Failed
 
 /// Puts the line of words that are no command.
 pub(crate) fn put_usage<K: Sink>(out: &mut K) -> Ending
-    ensures ends { Ends result (λ a. a ≡ usage) (K.written out.old) (K.written out.new) (K.puts out.old) (K.puts out.new) (K.faults out.old) (K.faults out.new) ⊥ }
-    ensures faults { result ≢ Ending.WriteFault → K.faults out.new ≡ K.faults out.old }
+    ensures ends { Ends result (λ a. a ≡ usage) (K.written out.old) (K.written out.new) (K.pieces out.old) (K.pieces out.new) (K.failures out.old) (K.failures out.new) ⊥ }
+    ensures failures { result ≢ Ending.WriteFault → K.failures out.new ≡ K.failures out.old }
 {
     match put_piece(b"usage\n", out) {
         Ok(()) => Ending::Usage,
@@ -73,8 +73,8 @@ pub(crate) fn put_usage<K: Sink>(out: &mut K) -> Ending
 
 /// Ends a command that has no object, with the line of the refusal where its bytes are refused.
 pub(crate) fn refuse_object<K: Sink>(fault: ObjectFault, out: &mut K) -> Ending
-    ensures ends { Ends result (IsRefusedBy fault) (K.written out.old) (K.written out.new) (K.puts out.old) (K.puts out.new) (K.faults out.old) (K.faults out.new) (fault ≡ ObjectFault.Failed) }
-    ensures faults { result ≢ Ending.WriteFault → K.faults out.new ≡ K.faults out.old }
+    ensures ends { Ends result (IsRefusedBy fault) (K.written out.old) (K.written out.new) (K.pieces out.old) (K.pieces out.new) (K.failures out.old) (K.failures out.new) (fault ≡ ObjectFault.Failed) }
+    ensures failures { result ≢ Ending.WriteFault → K.failures out.new ≡ K.failures out.old }
     ensures failed { result ≢ Ending.LoadFault → fault ≢ ObjectFault.Failed }
 {
     match fault {
@@ -89,8 +89,8 @@ pub(crate) fn refuse_object<K: Sink>(fault: ObjectFault, out: &mut K) -> Ending
 
 /// Ends a command whose object is not accepted, with the line of the refusal.
 pub(crate) fn refuse_check<K: Sink>(error: CheckError, out: &mut K) -> Ending
-    ensures ends { Ends result (IsNotAccepted error) (K.written out.old) (K.written out.new) (K.puts out.old) (K.puts out.new) (K.faults out.old) (K.faults out.new) ⊥ }
-    ensures faults { result ≢ Ending.WriteFault → K.faults out.new ≡ K.faults out.old }
+    ensures ends { Ends result (IsNotAccepted error) (K.written out.old) (K.written out.new) (K.pieces out.old) (K.pieces out.new) (K.failures out.old) (K.failures out.new) ⊥ }
+    ensures failures { result ≢ Ending.WriteFault → K.failures out.new ≡ K.failures out.old }
 {
     let line = match error {
         CheckError::EntryType => entry_line(),
@@ -106,8 +106,8 @@ pub(crate) fn refuse_check<K: Sink>(error: CheckError, out: &mut K) -> Ending
 
 /// Puts the line of a list or of a campaign that is refused.
 pub(crate) fn put_list_line<K: Sink>(number: u64, told: u64, out: &mut K) -> Ending
-    ensures ends { Ends result (λ a. a ≡ one_piece (list_line number told) 11) (K.written out.old) (K.written out.new) (K.puts out.old) (K.puts out.new) (K.faults out.old) (K.faults out.new) ⊥ }
-    ensures faults { result ≢ Ending.WriteFault → K.faults out.new ≡ K.faults out.old }
+    ensures ends { Ends result (λ a. a ≡ one_piece (list_line number told) 11) (K.written out.old) (K.written out.new) (K.pieces out.old) (K.pieces out.new) (K.failures out.old) (K.failures out.new) ⊥ }
+    ensures failures { result ≢ Ending.WriteFault → K.failures out.new ≡ K.failures out.old }
 {
     match put_piece(list_line(number, told).as_bytes(), out) {
         Ok(()) => Ending::FaultList,
@@ -117,8 +117,8 @@ pub(crate) fn put_list_line<K: Sink>(number: u64, told: u64, out: &mut K) -> End
 
 /// Ends a command that has no fault list, with the line of the refusal where its text is refused.
 pub(crate) fn refuse_list<K: Sink>(fault: ListFault, out: &mut K) -> Ending
-    ensures ends { Ends result (IsListRefusedBy fault) (K.written out.old) (K.written out.new) (K.puts out.old) (K.puts out.new) (K.faults out.old) (K.faults out.new) (fault ≡ ListFault.Failed) }
-    ensures faults { result ≢ Ending.WriteFault → K.faults out.new ≡ K.faults out.old }
+    ensures ends { Ends result (IsListRefusedBy fault) (K.written out.old) (K.written out.new) (K.pieces out.old) (K.pieces out.new) (K.failures out.old) (K.failures out.new) (fault ≡ ListFault.Failed) }
+    ensures failures { result ≢ Ending.WriteFault → K.failures out.new ≡ K.failures out.old }
     ensures failed { result ≢ Ending.LoadFault → fault ≢ ListFault.Failed }
 {
     match fault {
@@ -131,8 +131,8 @@ pub(crate) fn refuse_list<K: Sink>(fault: ListFault, out: &mut K) -> Ending
 
 /// Ends a command that has no script, with the line of the refusal where it is too long.
 pub(crate) fn refuse_script<K: Sink>(fault: ScriptFault, out: &mut K) -> Ending
-    ensures ends { Ends result (IsScriptRefusedBy fault) (K.written out.old) (K.written out.new) (K.puts out.old) (K.puts out.new) (K.faults out.old) (K.faults out.new) (fault ≡ ScriptFault.Failed) }
-    ensures faults { result ≢ Ending.WriteFault → K.faults out.new ≡ K.faults out.old }
+    ensures ends { Ends result (IsScriptRefusedBy fault) (K.written out.old) (K.written out.new) (K.pieces out.old) (K.pieces out.new) (K.failures out.old) (K.failures out.new) (fault ≡ ScriptFault.Failed) }
+    ensures failures { result ≢ Ending.WriteFault → K.failures out.new ≡ K.failures out.old }
     ensures failed { result ≢ Ending.LoadFault → fault ≢ ScriptFault.Failed }
 {
     match fault {
@@ -144,8 +144,8 @@ pub(crate) fn refuse_script<K: Sink>(fault: ScriptFault, out: &mut K) -> Ending
 
 /// Ends a command whose source is refused, with the line of the refusal.
 pub(crate) fn refuse_source<K: Sink>(error: SourceError, out: &mut K) -> Ending
-    ensures ends { Ends result (IsSourceRefused error) (K.written out.old) (K.written out.new) (K.puts out.old) (K.puts out.new) (K.faults out.old) (K.faults out.new) ⊥ }
-    ensures faults { result ≢ Ending.WriteFault → K.faults out.new ≡ K.faults out.old }
+    ensures ends { Ends result (IsSourceRefused error) (K.written out.old) (K.written out.new) (K.pieces out.old) (K.pieces out.new) (K.failures out.old) (K.failures out.new) ⊥ }
+    ensures failures { result ≢ Ending.WriteFault → K.failures out.new ≡ K.failures out.old }
 {
     if let SourceError::NoMemory = error {
         return Ending::NoMemory;
@@ -158,8 +158,8 @@ pub(crate) fn refuse_source<K: Sink>(error: SourceError, out: &mut K) -> Ending
 
 /// Ends a command that has no source, with the line of the refusal where it is too long.
 pub(crate) fn refuse_long_source<K: Sink>(fault: SourceFault, out: &mut K) -> Ending
-    ensures ends { Ends result (IsTooLongBy fault) (K.written out.old) (K.written out.new) (K.puts out.old) (K.puts out.new) (K.faults out.old) (K.faults out.new) (fault ≡ SourceFault.Failed) }
-    ensures faults { result ≢ Ending.WriteFault → K.faults out.new ≡ K.faults out.old }
+    ensures ends { Ends result (IsTooLongBy fault) (K.written out.old) (K.written out.new) (K.pieces out.old) (K.pieces out.new) (K.failures out.old) (K.failures out.new) (fault ≡ SourceFault.Failed) }
+    ensures failures { result ≢ Ending.WriteFault → K.failures out.new ≡ K.failures out.old }
     ensures failed { result ≢ Ending.LoadFault → fault ≢ SourceFault.Failed }
 {
     match fault {

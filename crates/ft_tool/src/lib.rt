@@ -1,7 +1,7 @@
 //! The tool: what a command line does over files, a script and an output.
 //!
 //! The crate promises that `tool` writes and answers what the words ask for, a row for each command in
-//! `specs/Answers.antt`; the words' table stands in `ft_command`. The lines of refusals stand in
+//! `specs/Answers.antt`. The words' table is in `ft_command`. The lines of refusals are in
 //! `specs/Texts.antt`.
 #![tactic(auto)]
 
@@ -10,6 +10,7 @@ mod checking;
 mod debugging;
 mod demonstrating;
 mod ending;
+mod laws;
 mod load;
 mod objects;
 mod refused;
@@ -18,4 +19,5 @@ mod sources;
 mod top;
 
 pub use ft_sample::sample;
+pub use laws::{answers_matter_after_a_strike_alone, words_have_one_answer};
 pub use top::tool;

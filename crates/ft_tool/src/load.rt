@@ -1,9 +1,13 @@
 //! What a command's files hold.
 ghost use Rattle.std.specs.Prelude.{◌≡◌, [], ◌∷◌};
-ghost use Rattle.ft_tool.specs.Calls.{HasMade};
-ghost use Rattle.ft_tool.specs.Files.{LoadsObject, LoadCause, LoadsList, ListCause, LoadsSource, SourceCause};
+ghost use Rattle.ft_edge.specs.Loads.{LoadCause as EdgeCause};
+ghost use Rattle.ft_command.specs.Asked.{campaign_view};
+ghost use Rattle.ft_tool.specs.Calls.{HasMade, object_load, list_load, source_load};
+ghost use Rattle.ft_tool.specs.Told.{IsToldFile, IsListOf, MayLoadList};
+ghost use Rattle.ft_tool.specs.Files.{Gives, LoadsObject, LoadCause, ReadsList, GetsList, ListCause, LoadsSource, SourceCause};
 
 use ft_campaign::{ListError, read_faults};
+use ft_command::Campaign;
 use ft_edge::{Load, LoadFault, Shelf};
 use ft_isa::Strike;
 use ft_object::ObjectError;
@@ -19,6 +23,22 @@ const SOURCE_LIMIT: usize = 1_048_576;
 
 /// The most bytes of a file that are read as a fault list.
 const LIST_LIMIT: usize = 4_194_304;
+
+/// Loads the file of a name into an empty vector, up to a limit.
+fn load_bytes<F: Shelf>(
+    name: &str,
+    limit: usize,
+    shelf: &mut F,
+    bytes: &mut Vec<u8>,
+) -> Result<Load, LoadFault>
+    requires { bytes.old.items ≡ [] }
+    ensures gives { Gives (F.files shelf.old) name.now limit bytes.new.items result }
+    ensures files { F.files shelf.new ≡ F.files shelf.old }
+    ensures cause { EdgeCause (F.failures shelf.old) (F.failures shelf.new) (F.failed_name shelf.old) (F.failed_name shelf.new) name.now result }
+    ensures made { HasMade ((name.now, limit) ∷ []) (F.asked shelf.old) (F.asked shelf.new) }
+{
+    shelf.load(name, limit, bytes)
+}
 
 /// Why there is no object.
 #[derive(Clone, Copy, Debug, PartialEq, Eq, Error)]
@@ -43,10 +63,10 @@ pub(crate) fn load_object<'a, F: Shelf>(
     requires empty { bytes.old.items ≡ [] }
     ensures loads { LoadsObject (F.files shelf.old) name.now result }
     ensures files { F.files shelf.new ≡ F.files shelf.old }
-    ensures cause { LoadCause (F.faults shelf.old) (F.faults shelf.new) (F.failed_name shelf.old) (F.failed_name shelf.new) name.now result }
-    ensures made { HasMade (67108864 ∷ []) (F.loads shelf.old) (F.loads shelf.new) (F.asked shelf.old) (F.asked shelf.new) }
+    ensures cause { LoadCause (F.failures shelf.old) (F.failures shelf.new) (F.failed_name shelf.old) (F.failed_name shelf.new) name.now result }
+    ensures made { HasMade (object_load name.now ∷ []) (F.asked shelf.old) (F.asked shelf.new) }
 {
-    match shelf.load(name, OBJECT_LIMIT, bytes) {
+    match load_bytes(name, OBJECT_LIMIT, shelf, bytes) {
         Ok(Load::Whole) => match View::over(bytes.as_slice()) {
             Ok(view) => Ok(view),
             Err(error) => Err(ObjectFault::Refused(error)),
@@ -74,29 +94,52 @@ pub(crate) enum ListFault {
     NoMemory,
 }
 
+/// Reads bytes as a fault list.
+fn read_list(alloc: Global, bytes: &[u8]) -> Result<Vec<Strike>, ListFault>
+    ensures { ReadsList (λ v. v.items) bytes.now result }
+{
+    match read_faults(alloc, bytes) {
+        Ok(faults) => Ok(faults),
+        Err(ListError::Line { number }) => Err(ListFault::Line(number)),
+        Err(ListError::TooMany) => Err(ListFault::TooMany),
+        Err(ListError::NoMemory) => Err(ListFault::NoMemory),
+    }
+}
+
 /// Loads the file of a name and reads it as a fault list.
-pub(crate) fn load_list<F: Shelf>(
-    alloc: Global,
-    name: &str,
-    shelf: &mut F,
-) -> Result<Vec<Strike>, ListFault>
-    ensures loads { LoadsList (λ v. v.items) (F.files shelf.old) name.now result }
-    ensures cause { ListCause (F.faults shelf.old) (F.faults shelf.new) (F.failed_name shelf.old) (F.failed_name shelf.new) name.now result }
+fn load_list<F: Shelf>(alloc: Global, name: &str, shelf: &mut F) -> Result<Vec<Strike>, ListFault>
+    ensures gets { GetsList (λ v. v.items) (IsToldFile (F.files shelf.old) name.now) result }
+    ensures cause { ListCause (F.failures shelf.old) (F.failures shelf.new) (F.failed_name shelf.old) (F.failed_name shelf.new) name.now result }
     ensures files { F.files shelf.new ≡ F.files shelf.old }
-    ensures made { HasMade (4194304 ∷ []) (F.loads shelf.old) (F.loads shelf.new) (F.asked shelf.old) (F.asked shelf.new) }
+    ensures made { HasMade (list_load name.now ∷ []) (F.asked shelf.old) (F.asked shelf.new) }
 {
     let mut bytes = Vec::new(alloc);
-    match shelf.load(name, LIST_LIMIT, &mut bytes) {
-        Ok(Load::Whole) => match read_faults(alloc, bytes.as_slice()) {
-            Ok(faults) => Ok(faults),
-            Err(ListError::Line { number }) => Err(ListFault::Line(number)),
-            Err(ListError::TooMany) => Err(ListFault::TooMany),
-            Err(ListError::NoMemory) => Err(ListFault::NoMemory),
-        },
+    match load_bytes(name, LIST_LIMIT, shelf, &mut bytes) {
+        Ok(Load::Whole) => read_list(alloc, bytes.as_slice()),
         Ok(Load::TooLong) => Err(ListFault::TooMany),
         Err(LoadFault::Failed) => Err(ListFault::Failed),
         Err(LoadFault::NoMemory) => Err(ListFault::NoMemory),
     }
+}
+
+/// The fault list of a campaign, whose object's file has these bytes. Where the list has the object's
+/// own name, it is read from these bytes, and no file is loaded.
+pub(crate) fn list_of<F: Shelf>(
+    alloc: Global,
+    asked: &Campaign,
+    bytes: &[u8],
+    shelf: &mut F,
+) -> Result<Vec<Strike>, ListFault>
+    requires { IsToldFile (F.files shelf.old) asked.now.object.now bytes.now }
+    ensures gets { GetsList (λ v. v.items) (IsListOf (campaign_view asked.now) (F.files shelf.old) bytes.now) result }
+    ensures cause { ListCause (F.failures shelf.old) (F.failures shelf.new) (F.failed_name shelf.old) (F.failed_name shelf.new) asked.now.faults.now result }
+    ensures files { F.files shelf.new ≡ F.files shelf.old }
+    ensures made { MayLoadList (campaign_view asked.now) (F.asked shelf.old) (F.asked shelf.new) }
+{
+    if asked.faults == asked.object {
+        return read_list(alloc, bytes);
+    }
+    load_list(alloc, asked.faults, shelf)
 }
 
 /// Why there is no source.
@@ -120,11 +163,11 @@ pub(crate) fn load_source<F: Shelf>(
     shelf: &mut F,
 ) -> Result<Vec<u8>, SourceFault>
     ensures loads { LoadsSource (λ v. v.items) (F.files shelf.old) name.now result }
-    ensures cause { SourceCause (F.faults shelf.old) (F.faults shelf.new) (F.failed_name shelf.old) (F.failed_name shelf.new) name.now result }
-    ensures made { HasMade (1048576 ∷ []) (F.loads shelf.old) (F.loads shelf.new) (F.asked shelf.old) (F.asked shelf.new) }
+    ensures cause { SourceCause (F.failures shelf.old) (F.failures shelf.new) (F.failed_name shelf.old) (F.failed_name shelf.new) name.now result }
+    ensures made { HasMade (source_load name.now ∷ []) (F.asked shelf.old) (F.asked shelf.new) }
 {
     let mut bytes = Vec::new(alloc);
-    match shelf.load(name, SOURCE_LIMIT, &mut bytes) {
+    match load_bytes(name, SOURCE_LIMIT, shelf, &mut bytes) {
         Ok(Load::Whole) => Ok(bytes),
         Ok(Load::TooLong) => Err(SourceFault::TooLong),
         Err(LoadFault::Failed) => Err(SourceFault::Failed),

@@ -19,8 +19,8 @@ use std::alloc::Global;
 pub(crate) fn check_object<P: Program, K: Sink>(alloc: Global, program: &P, out: &mut K) -> Ending
     requires { IsSpellable (P.object program.now) }
     ensures ends { Ends result (ChecksObject (P.object program.now))
-        (K.written out.old) (K.written out.new) (K.puts out.old) (K.puts out.new) (K.faults out.old) (K.faults out.new) ⊥ }
-    ensures faults { result ≢ Ending.WriteFault → K.faults out.new ≡ K.faults out.old }
+        (K.written out.old) (K.written out.new) (K.pieces out.old) (K.pieces out.new) (K.failures out.old) (K.failures out.new) ⊥ }
+    ensures failures { result ≢ Ending.WriteFault → K.failures out.new ≡ K.failures out.old }
 {
     match check(alloc, program) {
         Ok(_) => match put_piece(b"accepted\n", out) {
@@ -40,8 +40,8 @@ pub(crate) fn run_object<P: Program, K: Sink>(
 ) -> Ending
     requires { IsSpellable (P.object program.now) }
     ensures ends { Ends result (RunsObject (run_view run.now) (P.object program.now))
-        (K.written out.old) (K.written out.new) (K.puts out.old) (K.puts out.new) (K.faults out.old) (K.faults out.new) ⊥ }
-    ensures faults { result ≢ Ending.WriteFault → K.faults out.new ≡ K.faults out.old }
+        (K.written out.old) (K.written out.new) (K.pieces out.old) (K.pieces out.new) (K.failures out.old) (K.failures out.new) ⊥ }
+    ensures failures { result ≢ Ending.WriteFault → K.failures out.new ≡ K.failures out.old }
 {
     let checked = match check(alloc, program) {
         Ok(checked) => checked,
@@ -71,8 +71,8 @@ pub(crate) fn try_object<P: Program, K: Sink>(
 ) -> Ending
     requires { IsSpellable (P.object program.now) }
     ensures ends { Ends result (TriesObject (run_view run.now) (P.object program.now))
-        (K.written out.old) (K.written out.new) (K.puts out.old) (K.puts out.new) (K.faults out.old) (K.faults out.new) ⊥ }
-    ensures faults { result ≢ Ending.WriteFault → K.faults out.new ≡ K.faults out.old }
+        (K.written out.old) (K.written out.new) (K.pieces out.old) (K.pieces out.new) (K.failures out.old) (K.failures out.new) ⊥ }
+    ensures failures { result ≢ Ending.WriteFault → K.failures out.new ≡ K.failures out.old }
 {
     let mut machine = match Machine::new(alloc, program) {
         Ok(machine) => machine,

@@ -1,8 +1,7 @@
 //! The lines of refusals.
 ghost use Rattle.std.specs.Prelude.{◌≡◌, ◌≤◌, ◌+◌, length};
-ghost use Rattle.ft_types.specs.Accepted as accepted;
-ghost use Rattle.ft_types.specs.Premise.{number_of};
-ghost use Rattle.ft_rules.specs.Answers.{premise_of};
+ghost use Rattle.ft_typing.specs.Accepted as accepted;
+ghost use Rattle.ft_typing.specs.Premise.{number_of};
 ghost use Rattle.ft_tool.specs.Texts.{error_number, error_place, object_line, check_line, list_line, source_number, source_told, source_line};
 
 use ft_object::ObjectError;
@@ -59,7 +58,7 @@ pub(crate) fn object_line(error: ObjectError) -> Line
 
 /// The number of a premise, from 1.
 fn premise_number(why: Why) -> u64
-    ensures { result ≡ number_of (premise_of why) }
+    ensures { result ≡ number_of why }
 {
     match why {
         Why::Untyped => 1,
@@ -104,7 +103,7 @@ pub(crate) fn cell_line(cell: u32) -> Line
 
 /// The line of an instruction whose row does not apply.
 pub(crate) fn place_line(block: u32, index: u32, why: Why) -> Line
-    ensures { result ≡ check_line (accepted.Refused block index (premise_of why)) }
+    ensures { result ≡ check_line (accepted.Refused block index why) }
 {
     let mut line = Line::new();
     line.piece(b"check block ");

@@ -1,12 +1,13 @@
 //! What commands do with the text of a source.
 ghost use Rattle.std.specs.Prelude.{◌≡◌, ◌≢◌, [], ◌∷◌, None};
-ghost use Rattle.ft_types.specs.Run.{run};
-ghost use Rattle.ft_types.specs.Accepted.{IsAccepted};
+ghost use Rattle.ft_semantics.specs.Run.{run};
+ghost use Rattle.ft_typing.specs.Accepted.{IsAccepted};
 ghost use Rattle.ft_types.specs.Spellable.{IsSpellable};
 ghost use Rattle.ft_command.specs.Commands.{Compiles, Executes, Means};
 ghost use Rattle.ft_command.specs.Asked.{execution_view, meaning_view};
 ghost use Rattle.ft_tool.specs.Answers.{OverSource, FailsIn};
-ghost use Rattle.ft_tool.specs.Calls.{HasMade};
+ghost use Rattle.ft_tool.specs.Calls.{HasMade, source_load};
+ghost use Rattle.ft_tool.specs.Told.{OfFiles};
 ghost use Rattle.ft_tool.specs.Endings.{Ends};
 ghost use Rattle.ft_tool.specs.Replies.{ran};
 ghost use Rattle.ft_tool.specs.Sources.{OverText, CompilesProgram, ExecutesProgram, MeansProgram};
@@ -30,8 +31,8 @@ use std::alloc::Global;
 /// Compiles a source and puts its object.
 fn compile_text<K: Sink>(alloc: Global, text: &[u8], out: &mut K) -> Ending
     ensures ends { Ends result (OverText CompilesProgram text.now)
-        (K.written out.old) (K.written out.new) (K.puts out.old) (K.puts out.new) (K.faults out.old) (K.faults out.new) ⊥ }
-    ensures faults { result ≢ Ending.WriteFault → K.faults out.new ≡ K.faults out.old }
+        (K.written out.old) (K.written out.new) (K.pieces out.old) (K.pieces out.new) (K.failures out.old) (K.failures out.new) ⊥ }
+    ensures failures { result ≢ Ending.WriteFault → K.failures out.new ≡ K.failures out.old }
 {
     let object = match compile(alloc, text) {
         Ok(object) => object,
@@ -51,8 +52,8 @@ fn run_accepted<K: Sink>(alloc: Global, object: &Object, steps: u64, out: &mut K
     requires spellable { IsSpellable object.now }
     requires accepted { IsAccepted object.now }
     ensures ends { Ends result (λ a. a ≡ ran object.now (run object.now None [] steps))
-        (K.written out.old) (K.written out.new) (K.puts out.old) (K.puts out.new) (K.faults out.old) (K.faults out.new) ⊥ }
-    ensures faults { result ≢ Ending.WriteFault → K.faults out.new ≡ K.faults out.old }
+        (K.written out.old) (K.written out.new) (K.pieces out.old) (K.pieces out.new) (K.failures out.old) (K.failures out.new) ⊥ }
+    ensures failures { result ≢ Ending.WriteFault → K.failures out.new ≡ K.failures out.old }
 {
     let checked = Checked::of_accepted(object);
     let Ok(clean) = Clean::start(alloc, &checked) else {
@@ -73,8 +74,8 @@ fn run_accepted<K: Sink>(alloc: Global, object: &Object, steps: u64, out: &mut K
 /// Compiles a source and runs its object.
 fn execute_text<K: Sink>(alloc: Global, text: &[u8], steps: u64, out: &mut K) -> Ending
     ensures ends { Ends result (OverText (ExecutesProgram steps) text.now)
-        (K.written out.old) (K.written out.new) (K.puts out.old) (K.puts out.new) (K.faults out.old) (K.faults out.new) ⊥ }
-    ensures faults { result ≢ Ending.WriteFault → K.faults out.new ≡ K.faults out.old }
+        (K.written out.old) (K.written out.new) (K.pieces out.old) (K.pieces out.new) (K.failures out.old) (K.failures out.new) ⊥ }
+    ensures failures { result ≢ Ending.WriteFault → K.failures out.new ≡ K.failures out.old }
 {
     match compile(alloc, text) {
         Ok(object) => run_accepted(alloc, &object, steps, out),
@@ -85,8 +86,8 @@ fn execute_text<K: Sink>(alloc: Global, text: &[u8], steps: u64, out: &mut K) ->
 /// Gives the meaning of a source.
 fn mean_text<K: Sink>(alloc: Global, text: &[u8], turns: u64, out: &mut K) -> Ending
     ensures ends { Ends result (OverText (MeansProgram turns) text.now)
-        (K.written out.old) (K.written out.new) (K.puts out.old) (K.puts out.new) (K.faults out.old) (K.faults out.new) ⊥ }
-    ensures faults { result ≢ Ending.WriteFault → K.faults out.new ≡ K.faults out.old }
+        (K.written out.old) (K.written out.new) (K.pieces out.old) (K.pieces out.new) (K.failures out.old) (K.failures out.new) ⊥ }
+    ensures failures { result ≢ Ending.WriteFault → K.failures out.new ≡ K.failures out.old }
 {
     let tree = match parse(alloc, text) {
         Ok(tree) => tree,
@@ -111,12 +112,12 @@ pub(crate) fn compile_file<F: Shelf, K: Sink>(
     shelf: &mut F,
     out: &mut K,
 ) -> Ending
-    ensures ends { Ends result (OverSource CompilesProgram name.now (F.files shelf.old))
-        (K.written out.old) (K.written out.new) (K.puts out.old) (K.puts out.new) (K.faults out.old) (K.faults out.new)
-        (FailsIn (Compiles name.now) (F.files shelf.old) (F.faults shelf.old) (F.faults shelf.new) (F.failed_name shelf.new)) }
-    ensures faults { result ≢ Ending.WriteFault → K.faults out.new ≡ K.faults out.old }
-    ensures load_faults { result ≢ Ending.LoadFault → (F.faults shelf.new ≡ F.faults shelf.old) × (F.failed_name shelf.new ≡ F.failed_name shelf.old) }
-    ensures made { HasMade (1048576 ∷ []) (F.loads shelf.old) (F.loads shelf.new) (F.asked shelf.old) (F.asked shelf.new) }
+    ensures ends { Ends result (λ a. OfFiles (F.files shelf.old) (λ files. OverSource CompilesProgram name.now files a))
+        (K.written out.old) (K.written out.new) (K.pieces out.old) (K.pieces out.new) (K.failures out.old) (K.failures out.new)
+        (OfFiles (F.files shelf.old) (λ files. FailsIn (Compiles name.now) files (F.failures shelf.old) (F.failures shelf.new) (F.failed_name shelf.new))) }
+    ensures failures { result ≢ Ending.WriteFault → K.failures out.new ≡ K.failures out.old }
+    ensures load_failures { result ≢ Ending.LoadFault → (F.failures shelf.new ≡ F.failures shelf.old) × (F.failed_name shelf.new ≡ F.failed_name shelf.old) }
+    ensures made { HasMade (source_load name.now ∷ []) (F.asked shelf.old) (F.asked shelf.new) }
 {
     match load_source(alloc, name, shelf) {
         Ok(text) => compile_text(alloc, text.as_slice(), out),
@@ -131,12 +132,12 @@ pub(crate) fn execute_file<F: Shelf, K: Sink>(
     shelf: &mut F,
     out: &mut K,
 ) -> Ending
-    ensures ends { Ends result (OverSource (ExecutesProgram asked.now.steps) asked.now.source.now (F.files shelf.old))
-        (K.written out.old) (K.written out.new) (K.puts out.old) (K.puts out.new) (K.faults out.old) (K.faults out.new)
-        (FailsIn (Executes (execution_view asked.now)) (F.files shelf.old) (F.faults shelf.old) (F.faults shelf.new) (F.failed_name shelf.new)) }
-    ensures faults { result ≢ Ending.WriteFault → K.faults out.new ≡ K.faults out.old }
-    ensures load_faults { result ≢ Ending.LoadFault → (F.faults shelf.new ≡ F.faults shelf.old) × (F.failed_name shelf.new ≡ F.failed_name shelf.old) }
-    ensures made { HasMade (1048576 ∷ []) (F.loads shelf.old) (F.loads shelf.new) (F.asked shelf.old) (F.asked shelf.new) }
+    ensures ends { Ends result (λ a. OfFiles (F.files shelf.old) (λ files. OverSource (ExecutesProgram asked.now.steps) asked.now.source.now files a))
+        (K.written out.old) (K.written out.new) (K.pieces out.old) (K.pieces out.new) (K.failures out.old) (K.failures out.new)
+        (OfFiles (F.files shelf.old) (λ files. FailsIn (Executes (execution_view asked.now)) files (F.failures shelf.old) (F.failures shelf.new) (F.failed_name shelf.new))) }
+    ensures failures { result ≢ Ending.WriteFault → K.failures out.new ≡ K.failures out.old }
+    ensures load_failures { result ≢ Ending.LoadFault → (F.failures shelf.new ≡ F.failures shelf.old) × (F.failed_name shelf.new ≡ F.failed_name shelf.old) }
+    ensures made { HasMade (source_load asked.now.source.now ∷ []) (F.asked shelf.old) (F.asked shelf.new) }
 {
     match load_source(alloc, asked.source, shelf) {
         Ok(text) => execute_text(alloc, text.as_slice(), asked.steps, out),
@@ -151,12 +152,12 @@ pub(crate) fn mean_file<F: Shelf, K: Sink>(
     shelf: &mut F,
     out: &mut K,
 ) -> Ending
-    ensures ends { Ends result (OverSource (MeansProgram asked.now.turns) asked.now.source.now (F.files shelf.old))
-        (K.written out.old) (K.written out.new) (K.puts out.old) (K.puts out.new) (K.faults out.old) (K.faults out.new)
-        (FailsIn (Means (meaning_view asked.now)) (F.files shelf.old) (F.faults shelf.old) (F.faults shelf.new) (F.failed_name shelf.new)) }
-    ensures faults { result ≢ Ending.WriteFault → K.faults out.new ≡ K.faults out.old }
-    ensures load_faults { result ≢ Ending.LoadFault → (F.faults shelf.new ≡ F.faults shelf.old) × (F.failed_name shelf.new ≡ F.failed_name shelf.old) }
-    ensures made { HasMade (1048576 ∷ []) (F.loads shelf.old) (F.loads shelf.new) (F.asked shelf.old) (F.asked shelf.new) }
+    ensures ends { Ends result (λ a. OfFiles (F.files shelf.old) (λ files. OverSource (MeansProgram asked.now.turns) asked.now.source.now files a))
+        (K.written out.old) (K.written out.new) (K.pieces out.old) (K.pieces out.new) (K.failures out.old) (K.failures out.new)
+        (OfFiles (F.files shelf.old) (λ files. FailsIn (Means (meaning_view asked.now)) files (F.failures shelf.old) (F.failures shelf.new) (F.failed_name shelf.new))) }
+    ensures failures { result ≢ Ending.WriteFault → K.failures out.new ≡ K.failures out.old }
+    ensures load_failures { result ≢ Ending.LoadFault → (F.failures shelf.new ≡ F.failures shelf.old) × (F.failed_name shelf.new ≡ F.failed_name shelf.old) }
+    ensures made { HasMade (source_load asked.now.source.now ∷ []) (F.asked shelf.old) (F.asked shelf.new) }
 {
     match load_source(alloc, asked.source, shelf) {
         Ok(text) => mean_text(alloc, text.as_slice(), asked.turns, out),

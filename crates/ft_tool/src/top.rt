@@ -2,10 +2,11 @@
 ghost use Rattle.std.specs.Prelude.{◌≡◌, ◌≢◌, ◌≤◌, ◌⊎◌, [], ◌∷◌, map, string_bytes, IsTrue};
 ghost use Rattle.ft_edge.specs.Causes.{Rose};
 ghost use Rattle.ft_edge.specs.Puts.{PutsNothing};
-ghost use Rattle.ft_tool.specs.Calls.{HasMade, MakesTwo, Loads, TakesFrom};
+ghost use Rattle.ft_tool.specs.Calls.{HasMade, object_load, LoadsFor, Loads, TakesFrom};
 ghost use Rattle.ft_command.specs.Commands.{Asks, Usage, Checks, Runs, Tries, Strikes, Surveys};
 ghost use Rattle.ft_command.specs.Asked.{run_view, campaign_view};
 ghost use Rattle.ft_tool.specs.Answers.{ChecksObject, RunsObject, TriesObject, StrikesObject, SurveysObject, OverFile, IsAnswer, Concludes, BreaksOff, FailsIn, FailedToLoad, FailedToTake, is_status};
+ghost use Rattle.ft_tool.specs.Told.{OfFiles};
 ghost use Rattle.ft_tool.specs.Endings.{Ends};
 
 use crate::campaigns::{strike_object, survey_object};
@@ -21,12 +22,12 @@ use std::alloc::Global;
 
 /// Loads an object and checks it.
 fn check_file<F: Shelf, K: Sink>(alloc: Global, name: &str, shelf: &mut F, out: &mut K) -> Ending
-    ensures ends { Ends result (OverFile ChecksObject name.now (F.files shelf.old))
-        (K.written out.old) (K.written out.new) (K.puts out.old) (K.puts out.new) (K.faults out.old) (K.faults out.new)
-        (FailsIn (Checks name.now) (F.files shelf.old) (F.faults shelf.old) (F.faults shelf.new) (F.failed_name shelf.new)) }
-    ensures faults { result ≢ Ending.WriteFault → K.faults out.new ≡ K.faults out.old }
-    ensures load_faults { result ≢ Ending.LoadFault → (F.faults shelf.new ≡ F.faults shelf.old) × (F.failed_name shelf.new ≡ F.failed_name shelf.old) }
-    ensures made { HasMade (67108864 ∷ []) (F.loads shelf.old) (F.loads shelf.new) (F.asked shelf.old) (F.asked shelf.new) }
+    ensures ends { Ends result (λ a. OfFiles (F.files shelf.old) (λ files. OverFile ChecksObject name.now files a))
+        (K.written out.old) (K.written out.new) (K.pieces out.old) (K.pieces out.new) (K.failures out.old) (K.failures out.new)
+        (OfFiles (F.files shelf.old) (λ files. FailsIn (Checks name.now) files (F.failures shelf.old) (F.failures shelf.new) (F.failed_name shelf.new))) }
+    ensures failures { result ≢ Ending.WriteFault → K.failures out.new ≡ K.failures out.old }
+    ensures load_failures { result ≢ Ending.LoadFault → (F.failures shelf.new ≡ F.failures shelf.old) × (F.failed_name shelf.new ≡ F.failed_name shelf.old) }
+    ensures made { HasMade (object_load name.now ∷ []) (F.asked shelf.old) (F.asked shelf.new) }
 {
     let mut bytes = Vec::new(alloc);
     match load_object(name, shelf, &mut bytes) {
@@ -37,12 +38,12 @@ fn check_file<F: Shelf, K: Sink>(alloc: Global, name: &str, shelf: &mut F, out: 
 
 /// Loads an object and runs it, if it is accepted.
 fn run_file<F: Shelf, K: Sink>(alloc: Global, run: &Run, shelf: &mut F, out: &mut K) -> Ending
-    ensures ends { Ends result (OverFile (RunsObject (run_view run.now)) run.now.object.now (F.files shelf.old))
-        (K.written out.old) (K.written out.new) (K.puts out.old) (K.puts out.new) (K.faults out.old) (K.faults out.new)
-        (FailsIn (Runs (run_view run.now)) (F.files shelf.old) (F.faults shelf.old) (F.faults shelf.new) (F.failed_name shelf.new)) }
-    ensures faults { result ≢ Ending.WriteFault → K.faults out.new ≡ K.faults out.old }
-    ensures load_faults { result ≢ Ending.LoadFault → (F.faults shelf.new ≡ F.faults shelf.old) × (F.failed_name shelf.new ≡ F.failed_name shelf.old) }
-    ensures made { HasMade (67108864 ∷ []) (F.loads shelf.old) (F.loads shelf.new) (F.asked shelf.old) (F.asked shelf.new) }
+    ensures ends { Ends result (λ a. OfFiles (F.files shelf.old) (λ files. OverFile (RunsObject (run_view run.now)) run.now.object.now files a))
+        (K.written out.old) (K.written out.new) (K.pieces out.old) (K.pieces out.new) (K.failures out.old) (K.failures out.new)
+        (OfFiles (F.files shelf.old) (λ files. FailsIn (Runs (run_view run.now)) files (F.failures shelf.old) (F.failures shelf.new) (F.failed_name shelf.new))) }
+    ensures failures { result ≢ Ending.WriteFault → K.failures out.new ≡ K.failures out.old }
+    ensures load_failures { result ≢ Ending.LoadFault → (F.failures shelf.new ≡ F.failures shelf.old) × (F.failed_name shelf.new ≡ F.failed_name shelf.old) }
+    ensures made { HasMade (object_load run.now.object.now ∷ []) (F.asked shelf.old) (F.asked shelf.new) }
 {
     let mut bytes = Vec::new(alloc);
     match load_object(run.object, shelf, &mut bytes) {
@@ -53,12 +54,12 @@ fn run_file<F: Shelf, K: Sink>(alloc: Global, run: &Run, shelf: &mut F, out: &mu
 
 /// Loads an object and runs it without checking it.
 fn try_file<F: Shelf, K: Sink>(alloc: Global, run: &Run, shelf: &mut F, out: &mut K) -> Ending
-    ensures ends { Ends result (OverFile (TriesObject (run_view run.now)) run.now.object.now (F.files shelf.old))
-        (K.written out.old) (K.written out.new) (K.puts out.old) (K.puts out.new) (K.faults out.old) (K.faults out.new)
-        (FailsIn (Tries (run_view run.now)) (F.files shelf.old) (F.faults shelf.old) (F.faults shelf.new) (F.failed_name shelf.new)) }
-    ensures faults { result ≢ Ending.WriteFault → K.faults out.new ≡ K.faults out.old }
-    ensures load_faults { result ≢ Ending.LoadFault → (F.faults shelf.new ≡ F.faults shelf.old) × (F.failed_name shelf.new ≡ F.failed_name shelf.old) }
-    ensures made { HasMade (67108864 ∷ []) (F.loads shelf.old) (F.loads shelf.new) (F.asked shelf.old) (F.asked shelf.new) }
+    ensures ends { Ends result (λ a. OfFiles (F.files shelf.old) (λ files. OverFile (TriesObject (run_view run.now)) run.now.object.now files a))
+        (K.written out.old) (K.written out.new) (K.pieces out.old) (K.pieces out.new) (K.failures out.old) (K.failures out.new)
+        (OfFiles (F.files shelf.old) (λ files. FailsIn (Tries (run_view run.now)) files (F.failures shelf.old) (F.failures shelf.new) (F.failed_name shelf.new))) }
+    ensures failures { result ≢ Ending.WriteFault → K.failures out.new ≡ K.failures out.old }
+    ensures load_failures { result ≢ Ending.LoadFault → (F.failures shelf.new ≡ F.failures shelf.old) × (F.failed_name shelf.new ≡ F.failed_name shelf.old) }
+    ensures made { HasMade (object_load run.now.object.now ∷ []) (F.asked shelf.old) (F.asked shelf.new) }
 {
     let mut bytes = Vec::new(alloc);
     match load_object(run.object, shelf, &mut bytes) {
@@ -75,16 +76,16 @@ fn strike_file<F: Shelf, K: Sink>(
     out: &mut K,
 ) -> Ending
     requires { asked.now.steps ≤ 1000000 }
-    ensures ends { Ends result (OverFile (StrikesObject (campaign_view asked.now) (F.files shelf.old)) asked.now.object.now (F.files shelf.old))
-        (K.written out.old) (K.written out.new) (K.puts out.old) (K.puts out.new) (K.faults out.old) (K.faults out.new)
-        (FailsIn (Strikes (campaign_view asked.now)) (F.files shelf.old) (F.faults shelf.old) (F.faults shelf.new) (F.failed_name shelf.new)) }
-    ensures faults { result ≢ Ending.WriteFault → K.faults out.new ≡ K.faults out.old }
-    ensures load_faults { result ≢ Ending.LoadFault → (F.faults shelf.new ≡ F.faults shelf.old) × (F.failed_name shelf.new ≡ F.failed_name shelf.old) }
-    ensures made { MakesTwo 67108864 4194304 (F.loads shelf.old) (F.loads shelf.new) (F.asked shelf.old) (F.asked shelf.new) }
+    ensures ends { Ends result (λ a. OfFiles (F.files shelf.old) (λ files. OverFile (StrikesObject (campaign_view asked.now) files) asked.now.object.now files a))
+        (K.written out.old) (K.written out.new) (K.pieces out.old) (K.pieces out.new) (K.failures out.old) (K.failures out.new)
+        (OfFiles (F.files shelf.old) (λ files. FailsIn (Strikes (campaign_view asked.now)) files (F.failures shelf.old) (F.failures shelf.new) (F.failed_name shelf.new))) }
+    ensures failures { result ≢ Ending.WriteFault → K.failures out.new ≡ K.failures out.old }
+    ensures load_failures { result ≢ Ending.LoadFault → (F.failures shelf.new ≡ F.failures shelf.old) × (F.failed_name shelf.new ≡ F.failed_name shelf.old) }
+    ensures made { OfFiles (F.files shelf.old) (λ files. LoadsFor (Strikes (campaign_view asked.now)) files (F.asked shelf.old) (F.asked shelf.new)) }
 {
     let mut bytes = Vec::new(alloc);
     match load_object(asked.object, shelf, &mut bytes) {
-        Ok(view) => strike_object(alloc, &view, asked, shelf, out),
+        Ok(view) => strike_object(alloc, &view, view.bytes(), asked, shelf, out),
         Err(fault) => refuse_object(fault, out),
     }
 }
@@ -97,16 +98,16 @@ fn survey_file<F: Shelf, K: Sink>(
     out: &mut K,
 ) -> Ending
     requires { asked.now.steps ≤ 1000000 }
-    ensures ends { Ends result (OverFile (SurveysObject (campaign_view asked.now) (F.files shelf.old)) asked.now.object.now (F.files shelf.old))
-        (K.written out.old) (K.written out.new) (K.puts out.old) (K.puts out.new) (K.faults out.old) (K.faults out.new)
-        (FailsIn (Surveys (campaign_view asked.now)) (F.files shelf.old) (F.faults shelf.old) (F.faults shelf.new) (F.failed_name shelf.new)) }
-    ensures faults { result ≢ Ending.WriteFault → K.faults out.new ≡ K.faults out.old }
-    ensures load_faults { result ≢ Ending.LoadFault → (F.faults shelf.new ≡ F.faults shelf.old) × (F.failed_name shelf.new ≡ F.failed_name shelf.old) }
-    ensures made { MakesTwo 67108864 4194304 (F.loads shelf.old) (F.loads shelf.new) (F.asked shelf.old) (F.asked shelf.new) }
+    ensures ends { Ends result (λ a. OfFiles (F.files shelf.old) (λ files. OverFile (SurveysObject (campaign_view asked.now) files) asked.now.object.now files a))
+        (K.written out.old) (K.written out.new) (K.pieces out.old) (K.pieces out.new) (K.failures out.old) (K.failures out.new)
+        (OfFiles (F.files shelf.old) (λ files. FailsIn (Surveys (campaign_view asked.now)) files (F.failures shelf.old) (F.failures shelf.new) (F.failed_name shelf.new))) }
+    ensures failures { result ≢ Ending.WriteFault → K.failures out.new ≡ K.failures out.old }
+    ensures load_failures { result ≢ Ending.LoadFault → (F.failures shelf.new ≡ F.failures shelf.old) × (F.failed_name shelf.new ≡ F.failed_name shelf.old) }
+    ensures made { OfFiles (F.files shelf.old) (λ files. LoadsFor (Surveys (campaign_view asked.now)) files (F.asked shelf.old) (F.asked shelf.new)) }
 {
     let mut bytes = Vec::new(alloc);
     match load_object(asked.object, shelf, &mut bytes) {
-        Ok(view) => survey_object(alloc, &view, asked, shelf, out),
+        Ok(view) => survey_object(alloc, &view, view.bytes(), asked, shelf, out),
         Err(fault) => refuse_object(fault, out),
     }
 }
@@ -120,16 +121,16 @@ fn carry_out<F: Shelf, I: Source, K: Sink>(
     out: &mut K,
 ) -> Ending
     ensures ends { Ends result (IsAnswer (map string_bytes words.now) (F.files shelf.old) (I.left script.old))
-        (K.written out.old) (K.written out.new) (K.puts out.old) (K.puts out.new) (K.faults out.old) (K.faults out.new)
-        (FailedToLoad (map string_bytes words.now) (F.files shelf.old) (F.faults shelf.old) (F.faults shelf.new) (F.failed_name shelf.new)
-        ⊎ FailedToTake (map string_bytes words.now) (F.files shelf.old) (I.faults script.old) (I.faults script.new)) }
+        (K.written out.old) (K.written out.new) (K.pieces out.old) (K.pieces out.new) (K.failures out.old) (K.failures out.new)
+        (FailedToLoad (map string_bytes words.now) (F.files shelf.old) (F.failures shelf.old) (F.failures shelf.new) (F.failed_name shelf.new)
+        ⊎ FailedToTake (map string_bytes words.now) (F.files shelf.old) (I.failures script.old) (I.failures script.new)) }
     ensures usage { result ≡ Ending.Usage → Asks (map string_bytes words.now) Usage }
-    ensures faults { result ≢ Ending.WriteFault → K.faults out.new ≡ K.faults out.old }
-    ensures load_faults { result ≢ Ending.LoadFault → (F.faults shelf.new ≡ F.faults shelf.old) × (F.failed_name shelf.new ≡ F.failed_name shelf.old) }
-    ensures script { TakesFrom (map string_bytes words.now) (F.files shelf.old) (I.left script.old) (I.left script.new) ⊎ (script.new ≡ script.old) }
-    ensures loads { Loads (map string_bytes words.now) (F.loads shelf.old) (F.loads shelf.new) (F.asked shelf.old) (F.asked shelf.new)
-        ⊎ ((result ≡ Ending.NoMemory) × HasMade [] (F.loads shelf.old) (F.loads shelf.new) (F.asked shelf.old) (F.asked shelf.new)) }
-    ensures script_faults { result ≢ Ending.LoadFault → I.faults script.new ≡ I.faults script.old }
+    ensures failures { result ≢ Ending.WriteFault → K.failures out.new ≡ K.failures out.old }
+    ensures load_failures { result ≢ Ending.LoadFault → (F.failures shelf.new ≡ F.failures shelf.old) × (F.failed_name shelf.new ≡ F.failed_name shelf.old) }
+    ensures script { TakesFrom (map string_bytes words.now) (F.files shelf.old) (I.takes script.old) (I.takes script.new) (I.left script.old) (I.left script.new) ⊎ (script.new ≡ script.old) }
+    ensures loads { Loads (map string_bytes words.now) (F.files shelf.old) (F.asked shelf.old) (F.asked shelf.new)
+        ⊎ ((result ≡ Ending.NoMemory) × HasMade [] (F.asked shelf.old) (F.asked shelf.new)) }
+    ensures script_failures { result ≢ Ending.LoadFault → I.failures script.new ≡ I.failures script.old }
 {
     match command_of(alloc, words) {
         Ok(Command::Usage) => put_usage(out),
@@ -163,34 +164,35 @@ pub fn tool<F: Shelf, I: Source, K: Sink>(
     // the program means and ends when it ends. And the run of an accepted object has under its plan after each number of
     // steps exactly what the run without the strike has, or it is detected and has a prefix of that.
     ensures headline { result ≢ 3 → result ≢ 4 → result ≢ 5 →
-        Concludes (IsAnswer (map string_bytes words.now) (F.files shelf.old) (I.left script.old)) result (K.written out.old) (K.written out.new) (K.puts out.old) (K.puts out.new) }
+        Concludes (IsAnswer (map string_bytes words.now) (F.files shelf.old) (I.left script.old)) result (K.written out.old) (K.written out.new) (K.pieces out.old) (K.pieces out.new) }
     ensures usage { result ≡ 2 → Asks (map string_bytes words.now) Usage }
 
     // A load of the command's own file failed, or a take of its script, and nothing was put.
-    ensures load_fault { result ≡ 3 →
-        FailedToLoad (map string_bytes words.now) (F.files shelf.old) (F.faults shelf.old) (F.faults shelf.new) (F.failed_name shelf.new)
-        ⊎ FailedToTake (map string_bytes words.now) (F.files shelf.old) (I.faults script.old) (I.faults script.new) }
-    ensures load_fault_puts_nothing { result ≡ 3 → PutsNothing (K.written out.old) (K.written out.new) (K.puts out.old) (K.puts out.new) }
+    ensures load_failure { result ≡ 3 →
+        FailedToLoad (map string_bytes words.now) (F.files shelf.old) (F.failures shelf.old) (F.failures shelf.new) (F.failed_name shelf.new)
+        ⊎ FailedToTake (map string_bytes words.now) (F.files shelf.old) (I.failures script.old) (I.failures script.new) }
+    ensures load_failure_puts_nothing { result ≡ 3 → PutsNothing (K.written out.old) (K.written out.new) (K.pieces out.old) (K.pieces out.new) }
 
     // A put failed, and it was the last: the pieces before it were put, and a prefix of its own.
-    ensures write_fault { result ≡ 4 → Rose (K.faults out.old) (K.faults out.new) }
-    ensures write_fault_breaks_off { result ≡ 4 →
-        BreaksOff (IsAnswer (map string_bytes words.now) (F.files shelf.old) (I.left script.old)) (K.written out.old) (K.written out.new) (K.puts out.old) (K.puts out.new) }
+    ensures write_failure { result ≡ 4 → Rose (K.failures out.old) (K.failures out.new) }
+    ensures write_failure_breaks_off { result ≡ 4 →
+        BreaksOff (IsAnswer (map string_bytes words.now) (F.files shelf.old) (I.left script.old)) (K.written out.old) (K.written out.new) (K.pieces out.old) (K.pieces out.new) }
 
     // There was no memory left, and nothing was put.
-    ensures no_memory_puts_nothing { result ≡ 5 → PutsNothing (K.written out.old) (K.written out.new) (K.puts out.old) (K.puts out.new) }
+    ensures no_memory_puts_nothing { result ≡ 5 → PutsNothing (K.written out.old) (K.written out.new) (K.pieces out.old) (K.pieces out.new) }
 
     // The count of failed puts stays where the answer is another.
-    ensures write_faults { result ≢ 4 → K.faults out.new ≡ K.faults out.old }
+    ensures write_failures { result ≢ 4 → K.failures out.new ≡ K.failures out.old }
 
     // The counts of failed loads and takes stay where the answer is another. The script is taken only in a session over
-    // an object, and at most 1,048,577 bytes of it. Each file is loaded once, in the order of the request and up to its
-    // limit; none is, where memory runs out before the words are read.
-    ensures load_faults { result ≢ 3 → (F.faults shelf.new ≡ F.faults shelf.old) × (F.failed_name shelf.new ≡ F.failed_name shelf.old) }
-    ensures script { TakesFrom (map string_bytes words.now) (F.files shelf.old) (I.left script.old) (I.left script.new) ⊎ (script.new ≡ script.old) }
-    ensures loads { Loads (map string_bytes words.now) (F.loads shelf.old) (F.loads shelf.new) (F.asked shelf.old) (F.asked shelf.new)
-        ⊎ ((result ≡ 5) × HasMade [] (F.loads shelf.old) (F.loads shelf.new) (F.asked shelf.old) (F.asked shelf.new)) }
-    ensures script_faults { result ≢ 3 → I.faults script.new ≡ I.faults script.old }
+    // an object, at most 1,048,577 bytes of it, and nothing after its end. Each file is loaded once, in the order of the
+    // request and up to its limit, and a fault list only where the command comes to it; none is, where memory runs out
+    // before the words are read.
+    ensures load_failures { result ≢ 3 → (F.failures shelf.new ≡ F.failures shelf.old) × (F.failed_name shelf.new ≡ F.failed_name shelf.old) }
+    ensures script { TakesFrom (map string_bytes words.now) (F.files shelf.old) (I.takes script.old) (I.takes script.new) (I.left script.old) (I.left script.new) ⊎ (script.new ≡ script.old) }
+    ensures loads { Loads (map string_bytes words.now) (F.files shelf.old) (F.asked shelf.old) (F.asked shelf.new)
+        ⊎ ((result ≡ 5) × HasMade [] (F.asked shelf.old) (F.asked shelf.new)) }
+    ensures script_failures { result ≢ 3 → I.failures script.new ≡ I.failures script.old }
 {
     match carry_out(alloc, words, shelf, script, out) {
         Ending::Done => 0,

@@ -1,6 +1,5 @@
 use Rattle.std.proofs.Common.{refl, sym, ◌∙◌, subst}
-use Rattle.ft_types.specs.Accepted.{EntryType, CellType, Refused}
-use Rattle.ft_rules.specs.Answers.{premise_of}
+use Rattle.ft_typing.specs.Accepted.{EntryType, CellType, Refused}
 use Rattle.ft_tool.specs.Files.{IsNotAccepted}
 use Rattle.ft_tool.specs.Answers.{judged}
 use Rattle.std.proofs.Common.{Some}
@@ -21,8 +20,8 @@ returns-in-Ok-clause-ends g c =
           (subst (λ e. IsNotAccepted e (judged (Some (CellType w.in-CellType.cell)))) (sym w.in-CellType.is) refl)
           (c.as_bytes.ensures ∙ w.line-is ∙ w.cell_line-line.ensures) c.in-Ok.ensures.ok
       | in-Refused w ↦
-          piece_concludes (IsNotAccepted c.args.error) (check_line (Refused w.in-Refused.block w.in-Refused.index (premise_of w.in-Refused.why))) c.as_bytes.result.now 8 _ _ _ _
-          (subst (λ e. IsNotAccepted e (judged (Some (Refused w.in-Refused.block w.in-Refused.index (premise_of w.in-Refused.why))))) (sym w.in-Refused.is) refl)
+          piece_concludes (IsNotAccepted c.args.error) (check_line (Refused w.in-Refused.block w.in-Refused.index w.in-Refused.why)) c.as_bytes.result.now 8 _ _ _ _
+          (subst (λ e. IsNotAccepted e (judged (Some (Refused w.in-Refused.block w.in-Refused.index w.in-Refused.why)))) (sym w.in-Refused.is) refl)
           (c.as_bytes.ensures ∙ w.line-is ∙ w.place_line-line.ensures) c.in-Ok.ensures.ok
     ]
 
@@ -39,8 +38,8 @@ returns-in-Err-clause-ends g c = (
         (subst (λ e. IsNotAccepted e (judged (Some (CellType w.in-CellType.cell)))) (sym w.in-CellType.is) refl)
         (c.as_bytes.ensures ∙ w.line-is ∙ w.cell_line-line.ensures) c.in-Err.ensures.err
     | in-Refused w ↦
-        piece_breaks_off (IsNotAccepted c.args.error) (check_line (Refused w.in-Refused.block w.in-Refused.index (premise_of w.in-Refused.why))) c.as_bytes.result.now 8 _ _ _ _
-        (subst (λ e. IsNotAccepted e (judged (Some (Refused w.in-Refused.block w.in-Refused.index (premise_of w.in-Refused.why))))) (sym w.in-Refused.is) refl)
+        piece_breaks_off (IsNotAccepted c.args.error) (check_line (Refused w.in-Refused.block w.in-Refused.index w.in-Refused.why)) c.as_bytes.result.now 8 _ _ _ _
+        (subst (λ e. IsNotAccepted e (judged (Some (Refused w.in-Refused.block w.in-Refused.index w.in-Refused.why)))) (sym w.in-Refused.is) refl)
         (c.as_bytes.ensures ∙ w.line-is ∙ w.place_line-line.ensures) c.in-Err.ensures.err
   ],
 )

@@ -1,16 +1,16 @@
-use Rattle.ft_types.specs.declared.status.Status.TheVariants as status
+use Rattle.ft_semantics.specs.declared.status.Status.TheVariants as status
 use Rattle.ft_command.specs.Asked.{run_view}
 use Rattle.ft_tool.proofs.Answered.{concludes, breaks_off}
 use Rattle.ft_tool.proofs.objects.try_object.Goals as goal
 
 pub returns-in-Done-clause-ends : goal.returns-in-Done-clause-ends
-returns-in-Done-clause-ends g c = concludes (run_view c.args.run.now) (g.P.Program.object c.args.program.now) c.as_slice.result.now status.Done (g.K.Sink.written c.args.out.now) (g.K.Sink.written c.drive.new.out) (g.K.Sink.puts c.args.out.now) (g.K.Sink.puts c.drive.new.out) c.as_slice.ensures.value c.in-Done.ensures.ends c.in-Done.ensures.lines
+returns-in-Done-clause-ends g c = concludes (run_view c.args.run.now) (g.P.Program.object c.args.program.now) c.as_slice.result.now status.Done (g.K.Sink.written c.args.out.now) (g.K.Sink.written c.drive.new.out) (g.K.Sink.pieces c.args.out.now) (g.K.Sink.pieces c.drive.new.out) c.as_slice.ensures.value c.in-Done.ensures.ends c.in-Done.ensures.lines
 
 pub returns-in-Detected-clause-ends : goal.returns-in-Detected-clause-ends
-returns-in-Detected-clause-ends g c = concludes (run_view c.args.run.now) (g.P.Program.object c.args.program.now) c.as_slice.result.now status.Detected (g.K.Sink.written c.args.out.now) (g.K.Sink.written c.drive.new.out) (g.K.Sink.puts c.args.out.now) (g.K.Sink.puts c.drive.new.out) c.as_slice.ensures.value c.in-Detected.ensures.ends c.in-Detected.ensures.lines
+returns-in-Detected-clause-ends g c = concludes (run_view c.args.run.now) (g.P.Program.object c.args.program.now) c.as_slice.result.now status.Detected (g.K.Sink.written c.args.out.now) (g.K.Sink.written c.drive.new.out) (g.K.Sink.pieces c.args.out.now) (g.K.Sink.pieces c.drive.new.out) c.as_slice.ensures.value c.in-Detected.ensures.ends c.in-Detected.ensures.lines
 
 pub returns-in-OutOfSteps-clause-ends : goal.returns-in-OutOfSteps-clause-ends
-returns-in-OutOfSteps-clause-ends g c = concludes (run_view c.args.run.now) (g.P.Program.object c.args.program.now) c.as_slice.result.now status.Running (g.K.Sink.written c.args.out.now) (g.K.Sink.written c.drive.new.out) (g.K.Sink.puts c.args.out.now) (g.K.Sink.puts c.drive.new.out) c.as_slice.ensures.value c.in-OutOfSteps.ensures.ends c.in-OutOfSteps.ensures.lines
+returns-in-OutOfSteps-clause-ends g c = concludes (run_view c.args.run.now) (g.P.Program.object c.args.program.now) c.as_slice.result.now status.Running (g.K.Sink.written c.args.out.now) (g.K.Sink.written c.drive.new.out) (g.K.Sink.pieces c.args.out.now) (g.K.Sink.pieces c.drive.new.out) c.as_slice.ensures.value c.in-OutOfSteps.ensures.ends c.in-OutOfSteps.ensures.lines
 
 pub returns-clause-ends : goal.returns-clause-ends
-returns-clause-ends g c = (c.in-WriteFault.ensures.cause, breaks_off (run_view c.args.run.now) (g.P.Program.object c.args.program.now) c.as_slice.result.now (g.K.Sink.written c.args.out.now) (g.K.Sink.written c.drive.new.out) (g.K.Sink.puts c.args.out.now) (g.K.Sink.puts c.drive.new.out) c.as_slice.ensures.value c.in-WriteFault.ensures.lines)
+returns-clause-ends g c = (c.in-WriteFault.ensures.cause, breaks_off (run_view c.args.run.now) (g.P.Program.object c.args.program.now) c.as_slice.result.now (g.K.Sink.written c.args.out.now) (g.K.Sink.written c.drive.new.out) (g.K.Sink.pieces c.args.out.now) (g.K.Sink.pieces c.drive.new.out) c.as_slice.ensures.value c.in-WriteFault.ensures.lines)

@@ -11,11 +11,11 @@ returns-in-Err-clause-ends g c =
 pub returns-in-Ok-put_piece-clause-ends : goal.returns-in-Ok-put_piece-clause-ends
 returns-in-Ok-put_piece-clause-ends g c =
     object_concludes c.args.text.now c.in-Ok.object c.in-Ok.ensures.ok c.in-Ok-encode.bytes.items c.as_slice.result.now c.in-Ok-encode.ensures.back.0 c.as_slice.ensures.value
-    (g.K.Sink.written c.args.out.now) (g.K.Sink.written c.put_piece.new.out) (g.K.Sink.puts c.args.out.now) (g.K.Sink.puts c.put_piece.new.out) c.in-Ok-put_piece.ensures.ok
+    (g.K.Sink.written c.args.out.now) (g.K.Sink.written c.put_piece.new.out) (g.K.Sink.pieces c.args.out.now) (g.K.Sink.pieces c.put_piece.new.out) c.in-Ok-put_piece.ensures.ok
 
 pub returns-clause-ends : goal.returns-clause-ends
 returns-clause-ends g c = (
   c.in-Err-put_piece.ensures.cause,
   object_breaks_off c.args.text.now c.in-Ok.object c.in-Ok.ensures.ok c.in-Ok-encode.bytes.items c.as_slice.result.now c.in-Ok-encode.ensures.back.0 c.as_slice.ensures.value
-      (g.K.Sink.written c.args.out.now) (g.K.Sink.written c.put_piece.new.out) (g.K.Sink.puts c.args.out.now) (g.K.Sink.puts c.put_piece.new.out) c.in-Err-put_piece.ensures.err,
+      (g.K.Sink.written c.args.out.now) (g.K.Sink.written c.put_piece.new.out) (g.K.Sink.pieces c.args.out.now) (g.K.Sink.pieces c.put_piece.new.out) c.in-Err-put_piece.ensures.err,
 )

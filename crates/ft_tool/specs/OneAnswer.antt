@@ -1,0 +1,28 @@
+-- How two answers to the same words over the same files and script agree.
+use Rattle.std.specs.Prelude.{◌≡◌, ◌⊎◌, ℕ, List, ◌++◌}
+use Rattle.ft_command.specs.Commands.{Request, Compiles, Executes}
+use Rattle.ft_tool.specs.Replies.{Answer}
+
+-- the one list of pieces begins the other
+abbrev pub Begins : List (List ℕ) → List (List ℕ) → Type 0
+Begins front all = (rest : List (List ℕ)) × (front ++ rest ≡ all)
+
+-- of a compilation: one refusal of the source, or an object each
+pub data AreCompilations (a b : Answer) : Type 0 where
+  refused_both : a.status ≡ 6 → a ≡ b → AreCompilations a b
+  compiled_both : a.status ≡ 0 → b.status ≡ 0 → AreCompilations a b
+
+-- of an execution: one refusal of the source, or runs of two objects that stand for one program. These may take different
+-- numbers of steps: where both are done, they put the same; the one that still runs has put what begins the other's
+pub data AreExecutions (a b : Answer) : Type 0 where
+  both_refused : a.status ≡ 6 → a ≡ b → AreExecutions a b
+  both_done : a.status ≡ 0 → a ≡ b → AreExecutions a b
+  first_done : a.status ≡ 0 → b.status ≡ 9 → Begins b.pieces a.pieces → AreExecutions a b
+  second_done : a.status ≡ 9 → b.status ≡ 0 → Begins a.pieces b.pieces → AreExecutions a b
+  none_done : a.status ≡ 9 → b.status ≡ 9 → Begins a.pieces b.pieces ⊎ Begins b.pieces a.pieces → AreExecutions a b
+
+-- of any other request both are one answer
+abbrev pub AreAnswers : Request → Answer → Answer → Type 0
+AreAnswers (Compiles source) a b = AreCompilations a b
+AreAnswers (Executes execution) a b = AreExecutions a b
+AreAnswers _ a b = a ≡ b

@@ -1,0 +1,43 @@
+-- What is known of the files and the script of a call part by part: private to the tool.
+use Rattle.std.specs.Prelude.{◌≡◌, ◌≢◌, ◌⊎◌, ℕ, List, [], ◌∷◌, Option, Some, None}
+use Rattle.std.specs.FinMap.{get}
+use Rattle.ft_edge.specs.Loads.{Files}
+use Rattle.ft_types.specs.declared.object.Object.{Object}
+use Rattle.ft_format.specs.Format.{AreBytes}
+use Rattle.ft_campaign.specs.declared.verdict.Verdict.{Verdict}
+use Rattle.ft_tolerance.specs.Soundness.{IsNeverDetected}
+use Rattle.ft_command.specs.Options.{Word}
+use Rattle.ft_command.specs.Commands.{Campaign}
+use Rattle.ft_tool.specs.Lists.{NoneCorrupt, OverList}
+use Rattle.ft_tool.specs.Replies.{Answer, AreFiles, IsScript}
+use Rattle.ft_tool.specs.Calls.{LoadList, HasMade, list_load}
+
+-- the content of the file of a name, where the shelf tells its files; else it may be any bytes
+abbrev pub IsToldFile : Option Files → Word → List ℕ → Type 0
+IsToldFile (Some told) name bytes = get told name ≡ Some bytes
+IsToldFile None name bytes = AreBytes bytes
+
+-- this holds of the files that are told, or of some files of bytes
+abbrev pub OfFiles : Option Files → (Files → Type 0) → Type 0
+OfFiles told Holds = (files : Files) × (AreFiles told files × Holds files)
+
+-- this holds of the script that is told, or of some script of bytes
+abbrev pub OfScript : Option (List ℕ) → (List ℕ → Type 0) → Type 0
+OfScript left Holds = (script : List ℕ) × (IsScript left script × Holds script)
+
+-- the fault list of a campaign whose object's file has these bytes
+pub record IsListOf (c : Campaign) (told : Option Files) (bytes list : List ℕ) : Type 0 where
+  pub file : IsToldFile told c.faults list
+  pub own : c.faults ≡ c.object → list ≡ bytes
+
+-- the answer over an object, whose file has these bytes, and the fault list
+abbrev pub OverListOf : (List Verdict → Type 0) → Campaign → Option Files → List ℕ → Object → Answer → Type 0
+OverListOf Promised c told bytes o a = (list : List ℕ) × (IsListOf c told bytes list × OverList Promised c o list a)
+
+-- the same of a campaign on an object that is accepted
+abbrev pub StrikesListOf : Campaign → Option Files → List ℕ → Object → Answer → Type 0
+StrikesListOf c told bytes o a = OverListOf NoneCorrupt c told bytes o a × IsNeverDetected o c.wild
+
+-- the fault list of a campaign was loaded, where its name is not the object's own; or nothing was
+abbrev pub MayLoadList : Campaign → Option LoadList → Option LoadList → Type 0
+MayLoadList c asked asked' = HasMade [] asked asked' ⊎ ((c.faults ≢ c.object) × HasMade (list_load c.faults ∷ []) asked asked')

@@ -1,0 +1,46 @@
+//! Laws of the tool's definitions, each the contract of a function that does nothing.
+ghost use Rattle.std.specs.Prelude.{◌≡◌, ℕ, List, [], None, Some};
+ghost use Rattle.ft_isa.specs.declared.plan.Wild.{Wild};
+ghost use Rattle.ft_types.specs.declared.object.Object.{Object};
+ghost use Rattle.ft_types.specs.Spellable.{IsSpellable};
+ghost use Rattle.ft_typing.specs.Accepted.{IsAccepted};
+ghost use Rattle.ft_semantics.specs.Run.{outputs_after, status_after};
+ghost use Rattle.ft_edge.specs.Loads.{Files};
+ghost use Rattle.ft_command.specs.Options.{Word};
+ghost use Rattle.ft_command.specs.Commands.{Request, Asks};
+ghost use Rattle.ft_tool.specs.Replies.{Answer};
+ghost use Rattle.ft_tool.specs.Answers.{IsAnswer};
+ghost use Rattle.ft_tool.specs.OneAnswer.{AreAnswers};
+
+use ft_campaign::{one_text_has_one_list, verdicts_are_one};
+use ft_command::words_ask_for_one_thing;
+use ft_compile::runs_and_meanings_write_the_same_lines;
+use ft_format::rules_are_exact;
+use ft_scope::one_text_has_one_outcome;
+use ft_script::commands_are_one;
+
+/// Where files and script are told, words have one answer, with its pieces and its status. Of `compile`
+/// and `exec` the definition leaves open which object stands for a source, so there more may be answered:
+/// two answers to `compile` are the same refusal, or an object each; two answers to `exec` are the same
+/// refusal, or the pieces of the one begin those of the other, each with status 0 or 9, and are the same
+/// where both have status 0. Neither has ever status 8.
+pub fn words_have_one_answer()
+    ensures { (words : List Word) (request : Request) (files : Files) (script : List ℕ) (a b : Answer) → Asks words request
+        → IsAnswer words (Some files) (Some script) a → IsAnswer words (Some files) (Some script) b → AreAnswers request a b }
+{
+    words_ask_for_one_thing();
+    rules_are_exact();
+    one_text_has_one_outcome();
+    one_text_has_one_list();
+    verdicts_are_one();
+    commands_are_one();
+    runs_and_meanings_write_the_same_lines();
+}
+
+/// The run of an accepted object without a strike is the same for all answers to wild loads. So the run
+/// that a compiled object's meaning speaks of, which has no answers, is the one with which a struck run
+/// is compared, whatever answers its plan has.
+pub fn answers_matter_after_a_strike_alone()
+    ensures outputs { (o : Object) (w : List Wild) (n : ℕ) → IsSpellable o → IsAccepted o → outputs_after o None w n ≡ outputs_after o None [] n }
+    ensures status { (o : Object) (w : List Wild) (n : ℕ) → IsSpellable o → IsAccepted o → status_after o None w n ≡ status_after o None [] n }
+{}
