@@ -1,0 +1,24 @@
+# Damage of an object's bytes: each of its prefixes, and each of its bytes with the lowest bit turned.
+
+object=$top/tests/objects/jump.obj
+size=$(wc -c <"$object")
+wrong=0
+for ((n = 0; n < size; n++)); do
+  head -c "$n" "$object" >prefix
+  got=$("$top/crates/talft/out/talft" trial prefix; printf '/%d' $?)
+  [ "$got" = "$(printf 'object 2 %d\n/7' "$n")" ] || wrong=$((wrong + 1))
+done
+report "each of $size prefixes is refused at its end" 0 "$wrong"
+
+mapfile -t bytes < <(od -An -v -tu1 -w1 "$object")
+wrong=0
+for ((n = 0; n < size; n++)); do
+  cp "$object" turned
+  printf "$(printf '\\%03o' $((bytes[n] ^ 1)))" | dd of=turned bs=1 seek="$n" conv=notrunc status=none
+  "$top/crates/talft/out/talft" trial turned --steps 1000 >out 2>errors
+  case $? in
+    0 | 1 | 7 | 9) [ ! -s errors ] || wrong=$((wrong + 1)) ;;
+    *) wrong=$((wrong + 1)) ;;
+  esac
+done
+report "each of $size bytes with a bit turned has a lawful answer" 0 "$wrong"
