@@ -1,0 +1,20 @@
+#!/usr/bin/env bash
+# Writes docs/CRATES.md from crates.txt and the head comment of each crate. `tests/cli.sh` checks that the file is so.
+set -eu
+cd "$(dirname "$0")/.."
+
+printf '%s\n' '# Crates' '' \
+  'Each crate, lowest first: what it is for, what its contract promises, and which crates of this repository it stands' \
+  'on. `docs/crates.sh` makes this list from `crates.txt` and the head comments of the crates.'
+while IFS=: read -r crate libraries; do
+  case $crate in '' | '#'*) continue ;; esac
+  root=crates/$crate/src/lib.rt
+  [ -f "$root" ] || root=crates/$crate/src/main.rt
+  printf '\n## `%s`\n\n' "$crate"
+  sed -n '/^\/\/!/!q; s/^\/\/! \{0,1\}//p' "$root"
+  below=
+  for library in $libraries; do
+    if [ -d "crates/$library" ]; then below="$below, \`$library\`"; fi
+  done
+  if [ -n "$below" ]; then printf '\nIt stands on %s.\n' "${below#, }"; fi
+done <crates.txt
