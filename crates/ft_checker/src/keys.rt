@@ -26,6 +26,7 @@ const FIRST_FACTOR: u64 = 0x9e37_79b9_7f4a_7c15;
 const SECOND_FACTOR: u64 = 0xd1b5_4a32_d192_ed03;
 
 /// The two halves of a product, joined.
+#[inline(always)]
 fn folded_multiply(a: u64, b: u64) -> u64 {
     let product = a as u128 * b as u128;
     (product & 0xFFFF_FFFF_FFFF_FFFF) as u64 ^ (product >> 64) as u64
@@ -33,23 +34,27 @@ fn folded_multiply(a: u64, b: u64) -> u64 {
 
 impl Lanes {
     /// Notes a word in each lane.
+    #[inline(always)]
     fn note(&mut self, first: u64, second: u64) {
         self.first = folded_multiply(self.first ^ first, FIRST_FACTOR);
         self.second = folded_multiply(self.second ^ second, SECOND_FACTOR);
     }
 
     /// Notes a record: four bytes, a number and a word.
+    #[inline(always)]
     fn note_record(&mut self, bytes: [u8; 4], number: u32, word: u64) {
         self.note(joined(u32::from_le_bytes(bytes), number), word);
     }
 }
 
 /// Two numbers as one word.
+#[inline(always)]
 fn joined(first: u32, second: u32) -> u64 {
     (first as u64) << 32 | second as u64
 }
 
 /// Notes a node.
+#[inline(always)]
 fn note_node(lanes: &mut Lanes, node: Node) {
     let scope = node.scope;
     match node.shape {
@@ -134,13 +139,16 @@ fn note_type<P: Program>(lanes: &mut Lanes, program: &P, t: u32)
     }
 }
 
-/// Notes the nodes.
-fn note_nodes<P: Program>(lanes: &mut Lanes, program: &P)
+/// Notes the nodes. A large object is mostly nodes, so the lanes are held in registers here.
+#[inline(never)]
+fn note_nodes<P: Program>(lanes: Lanes, program: &P) -> Lanes
     requires { IsSpellable (P.object program.now) }
 {
+    let mut lanes = lanes;
     for n in 0..program.node_count() {
-        note_node(lanes, program.node(n));
+        note_node(&mut lanes, program.node(n));
     }
+    lanes
 }
 
 /// Notes the substitution rows, two at a time.
@@ -170,7 +178,7 @@ pub fn keys_of<P: Program>(program: &P) -> (u64, u64)
         second: SECOND_KEY,
     };
     lanes.note(counts.types as u64, counts.instrs as u64);
-    note_nodes(&mut lanes, program);
+    lanes = note_nodes(lanes, program);
     for t in 0..counts.types {
         note_type(&mut lanes, program, t);
     }
