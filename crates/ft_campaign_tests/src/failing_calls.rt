@@ -66,3 +66,21 @@ fn puts_of_a_campaign_that_fail(rt: HostRuntime) -> Result<(), Fail> {
     }
     Ok(())
 }
+
+#[test]
+fn puts_of_other_commands_that_fail(rt: HostRuntime) -> Result<(), Fail> {
+    for (put, row) in [
+        (0, ("survey A --steps 14 --faults list", "", 4)),
+        (
+            1,
+            ("survey A2 --steps 14 --faults list", "4:r1:6 corrupt\n", 4),
+        ),
+        (0, ("campaign A2 --faults list", "", 4)),
+        (0, ("campaign A --steps 1000000 --faults A", "", 4)),
+        (0, ("demo 3", "", 4)),
+        (1, ("demo 3", "outputs 3 last 18\n", 4)),
+    ] {
+        check_failing_put(&rt, put, row)?;
+    }
+    Ok(())
+}

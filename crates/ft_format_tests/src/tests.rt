@@ -117,6 +117,26 @@ fn prefixes_are_refused_by_their_length(rt: HostRuntime) {
     }
 }
 
+/// Whether decoding gives what the view over the bytes gives: the object that is spelled so, or the same error.
+fn answers_are_the_same(rt: &impl AllocGlobal, bytes: &[u8]) -> bool {
+    match View::over(bytes) {
+        Ok(_) => is_written_again(rt, bytes),
+        Err(error) => is_refused(rt, bytes, error),
+    }
+}
+
+#[test]
+fn turned_bits_have_the_same_answer_in_place(rt: HostRuntime) -> Result<(), Fail> {
+    for n in 0..J.len() {
+        let bytes = altered(&rt, J, &[(n, J[n] ^ 1)])?;
+        assert!(&rt;
+            answers_are_the_same(&rt, bytes.as_slice()),
+            "byte {n}: the same answer"
+        );
+    }
+    Ok(())
+}
+
 #[test]
 fn a_byte_more_is_refused_by_the_length(rt: HostRuntime) -> Result<(), Fail> {
     let mut bytes = Vec::from_slice(rt.alloc(), J)?;

@@ -55,21 +55,23 @@ fn a_script_that_is_too_long(rt: HostRuntime) -> Result<(), Fail> {
     check_script(&rt, row, &mut SureSource::new(script.as_slice()))
 }
 
-/// Fails unless the row holds where the first take of the script fails.
-fn check_failing_take(rt: &impl AllocGlobal, row: Row) -> Result<(), Fail> {
+/// Fails unless the row holds where the take of this number fails. Take 1 would tell that no bytes are left.
+fn check_failing_take(rt: &impl AllocGlobal, take: u64, row: Row) -> Result<(), Fail> {
     let mut script = MemSource::new(rt.alloc(), b"step 1\n")?;
-    script.fail_at(0)?;
+    script.fail_at(take)?;
     check_script(rt, row, &mut script)
 }
 
 #[test]
 fn takes_of_the_script_that_fail(rt: HostRuntime) -> Result<(), Fail> {
-    for row in [
-        ("debug A", "", 3),
-        ("run A", "out 5\n", 0),
-        ("check A", "accepted\n", 0),
+    for (take, row) in [
+        (0, ("debug A", "", 3)),
+        (1, ("debug A", "", 3)),
+        (2, ("debug A", "at 1 running\n", 0)),
+        (0, ("run A", "out 5\n", 0)),
+        (0, ("check A", "accepted\n", 0)),
     ] {
-        check_failing_take(&rt, row)?;
+        check_failing_take(&rt, take, row)?;
     }
     Ok(())
 }
