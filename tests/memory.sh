@@ -1,6 +1,7 @@
 #!/usr/bin/env bash
-# Every command over its example, with each allocation failing in turn. Each such run ends with status 5 and nothing
-# written, or as without a failure. It needs a C compiler, and is no part of the gate.
+# Every command over its example, with each allocation failing in turn; and every command over a large input, under limits on
+# its memory that rise until it has enough. Each such run ends with status 5 and nothing written, or as without a failure.
+# It needs a C compiler and Python 3, and is no part of the gate.
 set -u
 top=$(cd "$(dirname "$0")/.." && pwd)
 work=$(mktemp -d)
@@ -46,6 +47,60 @@ each 'mean' /dev/null mean fibonacci.src
 each 'debug' five.script debug five.obj
 each 'demo' /dev/null demo 3
 each 'a missing file' /dev/null trial missing
+
+# The least memory in KB under which the program says `usage`.
+least=2048
+until [ "$(ulimit -v "$least" && "$program" 2>"$work/errors" </dev/null)" = usage ] || [ "$least" -gt 262144 ]; do
+  least=$((least + 512))
+done
+
+# `rising NAME INPUT WORDS..` runs the words under limits from the least on, in steps of 1 MB.
+rising() {
+  local name=$1 input=$2 limit wanted status wrong=0
+  shift 2
+  "$program" "$@" <"$input" >"$work/wanted" 2>"$work/errors"
+  wanted=$?
+  for ((limit = least; limit < 2000000; limit += 1024)); do
+    (ulimit -v "$limit" && exec "$program" "$@") <"$input" >"$work/got" 2>"$work/errors"
+    status=$?
+    if [ -s "$work/errors" ]; then
+      printf 'FAILED %s under %d KB: %s\n' "$name" "$limit" "$(head -n 1 "$work/errors")"
+      wrong=1
+    fi
+    if [ "$status" -eq 5 ] && [ ! -s "$work/got" ]; then continue; fi
+    if [ "$status" -eq "$wanted" ] && cmp -s "$work/got" "$work/wanted"; then break; fi
+    printf 'FAILED %s under %d KB: status %d\n' "$name" "$limit" "$status"
+    wrong=1
+  done
+  if [ "$wrong" -eq 0 ]; then passed=$((passed + 1)); else failed=$((failed + 1)); fi
+  printf '%s: enough with %d KB, %d more than the least, status %d\n' "$name" "$limit" $((limit - least)) "$wanted"
+}
+
+# Large inputs: a source of the greatest weight, its object, the most faults, and a script of 1 MiB.
+{
+  printf 'cell out = 0; var i; while (i < 3) { i = i + 1; '
+  for ((n = 0; n < 10914; n++)); do printf 'out = 7; '; done
+  printf '}\n'
+} >"$work/heavy.src"
+"$program" compile "$work/heavy.src" >"$work/heavy.obj" || failed=$((failed + 1))
+for ((n = 0; n < 65536; n++)); do echo '4:r1:6'; done >"$work/many.faults"
+for ((n = 0; n < 74898; n++)); do printf 'step 1\nback 1\n'; done >"$work/long.script"
+rising 'compile of a large source' /dev/null compile "$work/heavy.src"
+rising 'exec of a large source' /dev/null exec "$work/heavy.src"
+rising 'mean of a large source' /dev/null mean "$work/heavy.src"
+rising 'check of a large object' /dev/null check "$work/heavy.obj"
+rising 'run of a large object' /dev/null run "$work/heavy.obj"
+rising 'trial of a large object' /dev/null trial "$work/heavy.obj"
+rising 'campaign over a large object' /dev/null campaign "$work/heavy.obj" --faults "$work/many.faults" --steps 15000
+rising 'survey of many faults' /dev/null survey five.obj --faults "$work/many.faults" --steps 14
+rising 'debug with a long script' "$work/long.script" debug "$work/heavy.obj"
+rising 'a large demonstration' /dev/null demo 10921
+# Objects whose check wants much memory.
+cd "$work" || exit
+for row in 'fibonacci-check 20000' 'levels-check 40000' 'turned-check 2' 'updates-check 100000' 'largest-check 8192'; do
+  python3 "$top/tests/limits.py" ${row} >lines || failed=$((failed + 1))
+  rising "$row" /dev/null check object
+done
 
 echo "$passed passed, $failed failed"
 [ "$failed" -eq 0 ]
