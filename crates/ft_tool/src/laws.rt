@@ -19,7 +19,7 @@ use ft_format::rules_are_exact;
 use ft_scope::one_text_has_one_outcome;
 use ft_script::commands_are_one;
 
-/// Where files and script are told, words have one answer, with its pieces and its status. Of `compile`
+/// Where files and script are told, words have at most one answer, with its pieces and its status. Of `compile`
 /// and `exec` the definition leaves open which object stands for a source, so there more may be answered:
 /// two answers to `compile` are the same refusal, or an object each; two answers to `exec` are the same
 /// refusal, or the pieces of the one begin those of the other, each with status 0 or 9, and are the same

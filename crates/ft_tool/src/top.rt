@@ -178,14 +178,14 @@ pub fn tool<F: Shelf, I: Source, K: Sink>(
     ensures write_failure_breaks_off { result ≡ 4 →
         BreaksOff (IsAnswer (map string_bytes words.now) (F.files shelf.old) (I.left script.old)) (K.written out.old) (K.written out.new) (K.pieces out.old) (K.pieces out.new) }
 
-    // There was no memory left, and nothing was put.
+    // Nothing was put: memory had run out.
     ensures no_memory_puts_nothing { result ≡ 5 → PutsNothing (K.written out.old) (K.written out.new) (K.pieces out.old) (K.pieces out.new) }
 
     // The count of failed puts stays where the answer is another.
     ensures write_failures { result ≢ 4 → K.failures out.new ≡ K.failures out.old }
 
     // The counts of failed loads and takes stay where the answer is another. The script is taken only in a session over
-    // an object, at most 1,048,577 bytes of it, and nothing after its end. Each file is loaded once, in the order of the
+    // an object, at most 1,048,577 bytes of it, by at most one take more than bytes. Each file is loaded once, in the order of the
     // request and up to its limit, and a fault list only where the command comes to it; none is, where memory runs out
     // before the words are read.
     ensures load_failures { result ≢ 3 → (F.failures shelf.new ≡ F.failures shelf.old) × (F.failed_name shelf.new ≡ F.failed_name shelf.old) }
