@@ -146,7 +146,7 @@ def reached(modules):
         module, index = waiting.pop()
         here = modules[module]
         own_name = module
-        text = "\n".join(line for line in here.parts[index][1] if not line.startswith("--"))
+        text = "\n".join(line for line in here.parts[index][1] if not line.strip().startswith("--"))
         scan(text, here.names, here.modules, here)
     return found, rust
 
@@ -160,7 +160,7 @@ def main():
             continue
         parts = [here.parts[i] for i in sorted(found[module])]
         lines = sum(len(part) for _, part in parts)
-        total, count = total + lines, count + len(parts)
+        total, count = total + lines, count + sum(1 + name.count("`, `") for name, _ in parts)
         rows.append((here.crate, f"| `{here.path[7:]}` | {lines} | {', '.join('`' + name + '`' for name, _ in parts)} |"))
     print("# What the headline reaches\n")
     print("The clause `headline` of `tool` (`crates/ft_tool/src/top.rt`) says what the program does where its status is none of 3, 4 and 5.")
@@ -168,7 +168,8 @@ def main():
     print("`specs/Lib.antt`. Whoever believes this clause believes that they say what they should, and that the traits `Shelf`, `Source` and")
     print("`Sink` of `ft_edge` say what a call does to files, script and output. The other clauses of `tool` and the laws that")
     print("`PROMISES.md` names beside it reach a few more. Lines are counted with their comments. What the kit's library defines")
-    print("(numbers, lists, options, orders, finite maps, bytes of text) is not listed. `docs/reading.py` makes this list.\n")
+    print("(numbers, big-endian too, lists, options, orders, finite maps, bytes of text and bytes that are known) is believed too, and")
+    print("not listed. `docs/reading.py` makes this list.\n")
     print(f"In all {count} definitions, {total} lines.\n")
     done = None
     for crate in crates():

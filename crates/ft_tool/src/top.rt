@@ -178,7 +178,7 @@ pub fn tool<F: Shelf, I: Source, K: Sink>(
     ensures write_failure_breaks_off { result ≡ 4 →
         BreaksOff (IsAnswer (map string_bytes words.now) (F.files shelf.old) (I.left script.old)) (K.written out.old) (K.written out.new) (K.pieces out.old) (K.pieces out.new) }
 
-    // Nothing was put: memory had run out.
+    // Nothing was put. This status is meant for memory that ran out.
     ensures no_memory_puts_nothing { result ≡ 5 → PutsNothing (K.written out.old) (K.written out.new) (K.pieces out.old) (K.pieces out.new) }
 
     // The count of failed puts stays where the answer is another.
@@ -186,8 +186,8 @@ pub fn tool<F: Shelf, I: Source, K: Sink>(
 
     // The counts of failed loads and takes stay where the answer is another. The script is taken only in a session over
     // an object, at most 1,048,577 bytes of it, by at most one take more than bytes. Each file is loaded once, in the order of the
-    // request and up to its limit, and a fault list only where the command comes to it; none is, where memory runs out
-    // before the words are read.
+    // request and up to its limit, and a fault list only where the command comes to it. With status 5 it may be that none
+    // is.
     ensures load_failures { result ≢ 3 → (F.failures shelf.new ≡ F.failures shelf.old) × (F.failed_name shelf.new ≡ F.failed_name shelf.old) }
     ensures script { TakesFrom (map string_bytes words.now) (F.files shelf.old) (I.takes script.old) (I.takes script.new) (I.left script.old) (I.left script.new) ⊎ (script.new ≡ script.old) }
     ensures loads { Loads (map string_bytes words.now) (F.files shelf.old) (F.asked shelf.old) (F.asked shelf.new)
