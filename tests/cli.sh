@@ -25,6 +25,27 @@ expect() {
   report "$name" "$(printf '%b/%d' "$text" "$status")" "$got"
 }
 
+# What the program writes and its status, under a limit on its memory in KB.
+within() {
+  local limit=$1
+  shift
+  (ulimit -v "$limit" && "$top/crates/talft/out/talft" "$@" </dev/null 2>errors; printf '/%d' $?)
+}
+
+# `least_memory TEXT WORDS..` is the least limit, in steps of 512 KB, under which the words write the text and end with the
+# status after it, or `none` where there is no such limit up to 256 MB.
+least_memory() {
+  local text=$1 limit
+  shift
+  for ((limit = 2048; limit <= 262144; limit += 512)); do
+    if [ "$(within "$limit" "$@")" = "$text" ]; then
+      echo "$limit"
+      return
+    fi
+  done
+  echo none
+}
+
 "$top/talft" trial "$top/examples/five.obj" >"$work/out" || { cat "$work/out"; echo "the example does not run"; }
 
 for part in "$top"/tests/cli/*.sh; do

@@ -8,17 +8,8 @@
 head -c 17825864 /dev/zero >zeros
 echo '0:r1:6' >one.faults
 
-# What the program writes and its status, under a limit on its memory in KB.
-within() {
-  local limit=$1
-  shift
-  (ulimit -v "$limit" && "$top/crates/talft/out/talft" "$@" </dev/null 2>errors; printf '/%d' $?)
-}
-
-limit=16384
-until [ "$(within "$limit" trial zeros)" = "$(printf 'object 1 0\n/7')" ] || [ "$limit" -gt 262144 ]; do
-  limit=$((limit + 1024))
-done
+limit=$(least_memory "$(printf 'object 1 0\n/7')" trial zeros)
+report 'a limit under which a large file is loaded' found "${limit//[0-9]*/found}"
 in_place() {
   local name=$1 status=$2 text=$3
   shift 3

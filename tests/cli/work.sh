@@ -18,25 +18,22 @@ for words in 'right mean 31' 'right exec 31' 'left mean 101' 'left exec 101'; do
   report "$command of an expression that is deep on its $side" "$(printf 'out %d\n/0' "$value")" "$got"
 done
 
-# The least memory in KB under which the program says `usage`, and each command on a small input within 8 MB more.
-least=2048
-until [ "$(within "$least" usage)" = "$(printf 'usage\n/2')" ] || [ "$least" -gt 262144 ]; do
-  least=$((least + 512))
-done
+# The least memory under which the program says `usage`, and each command on a small input within 8 MB more.
+limit=$(least_memory "$(printf 'usage\n/2')" usage)
+report 'a limit under which the program says usage' found "${limit//[0-9]*/found}"
 small() {
-  local name=$1 status=$2 text=$3
-  shift 3
-  report "$name in little memory" "$(printf '%b/%d' "$text" "$status")" "$(within $((least + 8192)) "$@")"
+  report "$* in little memory" "$(within unlimited "$@" | tr '\0' 0)" "$(within $((limit + 8192)) "$@" | tr '\0' 0)"
 }
-small 'a trial' 0 'out 5\n' trial "$top/examples/five.obj"
-small 'a run' 0 'out 5\n' run "$top/examples/five.obj"
-small 'a check' 0 'accepted\n' check "$top/examples/five.obj"
-small 'a campaign' 0 '4:r1:6 detected 11\n10:r1:6 masked\n0:pcg:3 detected 0\n9:qv0:6 idle\nfaults 4 masked 1 detected 2 idle 1 corrupt 0\n' \
-  campaign "$top/examples/five.obj" --faults "$top/examples/five.faults" --steps 14
-small 'a survey' 10 '4:r1:6 corrupt\nfaults 1 masked 0 detected 0 idle 0 corrupt 1\n' \
-  survey "$top/examples/mixed.obj" --faults "$top/examples/mixed.faults" --steps 14
-small 'a meaning' 0 'out 15\n' mean "$top/examples/sum.src"
-small 'an execution' 0 'out 15\n' exec "$top/examples/sum.src"
-small 'a source that is refused' 6 'source 7 20\n' compile "$top/examples/unknown.src"
-small 'a session' 0 '' debug "$top/examples/five.obj"
-small 'a demonstration' 0 'outputs 3 last 18\nfaults 64 masked 3 detected 0 idle 61 corrupt 0\n' demo 3
+cd "$top/examples" || exit 2
+small trial five.obj
+small run five.obj
+small check five.obj
+small campaign five.obj --faults five.faults --steps 14
+small survey mixed.obj --faults mixed.faults --steps 14
+small mean sum.src
+small exec sum.src
+small compile sum.src
+small compile unknown.src
+small debug five.obj
+small demo 3
+cd "$work" || exit 2
