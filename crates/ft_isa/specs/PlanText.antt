@@ -88,7 +88,7 @@ pub record IsRefusedAt {V : Type 0} (Tells : List ℕ → V → Type 0) (text : 
   pub none : (value : V) → ¬ (Tells text value)
   pub place : IsLongestViable Tells text at
 
--- a refusal of the text of wild answers is at its place; want of memory says nothing
+-- a refusal of the text of wild answers is at its place; out of memory says nothing
 abbrev pub IsWildError : List ℕ → WildError → Type 0
 IsWildError text (Form at) = IsRefusedAt IsWildText text at
 IsWildError text NoMemory = Unit {0}

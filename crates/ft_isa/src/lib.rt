@@ -25,7 +25,7 @@ pub use instr::{Instr, Subst};
 pub use memory::NoMemory;
 pub use number_text::read_number;
 pub use op::{Op, apply};
-pub use output::{FIRST_CELL, LINE_ROOM, Output, write_line};
+pub use output::{FIRST_CELL, LINE_ROOM, Output, VALUE_ROOM, write_line};
 pub use plan::{Plan, Site, Strike, Wild};
 pub use reg::Reg;
 pub use site_text::read_site;

@@ -14,8 +14,10 @@ pub struct Output {
 /// The address of the first cell; the others follow one by one.
 pub const FIRST_CELL: u64 = 1_048_576;
 
-/// The most bytes that an output's line takes: a name of at most 32 bytes, a space, 20 digits and a
-/// line feed.
+/// The most bytes that a line has beside its name: a space, 20 digits and a line feed.
+pub const VALUE_ROOM: usize = 22;
+
+/// The most bytes that an output's line takes where the name has at most 32 bytes.
 pub const LINE_ROOM: usize = 54;
 
 /// Puts a piece into a buffer at a place, and tells the place after it.
@@ -23,6 +25,7 @@ fn put_at(buf: &mut [u8], at: usize, piece: &[u8]) -> usize
     requires { at + length piece.now ≤ length buf.old }
     ensures after { result ≡ at + length piece.now }
     ensures written { take result buf.new ≡ take at buf.old ++ piece.now }
+    ensures same { length buf.new ≡ length buf.old }
 {
     let end = at + piece.len();
     buf[at..end].copy_from_slice(piece);
@@ -31,10 +34,10 @@ fn put_at(buf: &mut [u8], at: usize, piece: &[u8]) -> usize
 
 /// Writes an output's line into a buffer, from its start on, and tells the line's length.
 pub fn write_line(buf: &mut [u8], name: &[u8], value: u64) -> usize
-    requires name { length name.now ≤ 32 }
-    requires room { LINE_ROOM ≤ length buf.old }
-    ensures within { result ≤ LINE_ROOM }
+    requires { length name.now + VALUE_ROOM ≤ length buf.old }
+    ensures within { result ≤ length name.now + VALUE_ROOM }
     ensures written { take result buf.new ≡ line name.now value }
+    ensures same { length buf.new ≡ length buf.old }
 {
     let mut digits = Buffer::new();
     let end = put_at(buf, 0, name);

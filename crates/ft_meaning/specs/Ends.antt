@@ -15,7 +15,7 @@ EndsAs ends.Cut (Cut s) = Unit {0}
 EndsAs ends.WriteFault r = Unit {0}
 EndsAs ends.NoMemory r = Unit {0}
 
--- all lines were put, by one put each, or a put failed, which was the last, or nothing was put for want of memory
+-- all lines were put, by one put each, or a put failed, which was the last, or nothing was put when out of memory
 abbrev pub Puts : MeanEnd → List (List ℕ) → Option (List ℕ) → Option (List ℕ) → Option (List (List ℕ)) → Option (List (List ℕ)) → Type 0
 Puts ends.Ended lines old new before now = PutsLines lines old new before now
 Puts ends.Cut lines old new before now = PutsLines lines old new before now

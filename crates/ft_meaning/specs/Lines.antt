@@ -1,6 +1,5 @@
 -- The lines of a program's outputs.
 use Rattle.std.specs.Prelude.{ℕ, ◌-◌, List, [], map, slice_get}
-use Rattle.std.specs.List.{flat_map}
 use Rattle.std.specs.Option.{unwrap_or}
 use Rattle.ft_isa.specs.Words.{cell_address, line}
 use Rattle.ft_isa.specs.declared.output.Output.{Output}
@@ -16,7 +15,3 @@ line_of names output = line (name_of names (output.addr - cell_address 0)) outpu
 -- the lines of outputs, one for each
 abbrev pub output_lines : List (List ℕ) → List Output → List (List ℕ)
 output_lines names outputs = map (line_of names) outputs
-
--- the text of these lines
-abbrev pub lines : List (List ℕ) → List Output → List ℕ
-lines names outputs = flat_map (line_of names) outputs

@@ -1,4 +1,4 @@
--- Room for names.
+-- Room for names: private to the code.
 use Rattle.std.specs.Prelude.{ℕ, ◌≤◌, List, [], ◌∷◌, length}
 
 -- each name is at most this long

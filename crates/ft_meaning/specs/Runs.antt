@@ -1,4 +1,4 @@
--- What running statements does to the code's words and to the sink.
+-- What running statements does to the code's words and to the sink: private to the code.
 use Rattle.std.specs.Prelude.{◌≡◌, ℕ, ◌-◌, ◌≤◌, List, length, Option, Result, Ok, Err}
 use Rattle.std.specs.List.{concat}
 use Rattle.std.specs.Io.KnownBytes.{append_known}

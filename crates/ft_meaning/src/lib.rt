@@ -1,7 +1,7 @@
 //! What a program means, with a budget of loop turns.
 //!
 //! The crate promises that `mean` puts one line for each output of the program's meaning and tells
-//! whether it ended or was cut for want of turns, and that more turns leave an ended meaning as it is
+//! whether it ended or was cut because no turn was left. More turns leave an ended meaning as it is,
 //! and only extend a cut one. Its definitions: `specs/Meaning.antt`, `specs/Lines.antt`,
 //! `specs/Ends.antt`.
 #![tactic(auto)]

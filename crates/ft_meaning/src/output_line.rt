@@ -7,10 +7,7 @@ ghost use Rattle.ft_edge.specs.Told.{append_told};
 ghost use Rattle.ft_meaning.specs.Room.{HasRoom};
 
 use ft_edge::{Failed, Sink};
-use itoa::Buffer;
-
-/// The most bytes that a line has beside the name: a space, 20 digits and a line feed.
-pub const VALUE_ROOM: usize = 22;
+use ft_isa::{VALUE_ROOM, write_line};
 
 /// The length of the longest name.
 pub fn longest(names: &[&[u8]]) -> usize
@@ -21,18 +18,6 @@ pub fn longest(names: &[&[u8]]) -> usize
         most = name.len().max(most);
     }
     most
-}
-
-/// Puts a piece into a buffer at a place, and tells the place after it.
-fn put_at(buf: &mut [u8], at: usize, piece: &[u8]) -> usize
-    requires { at + length piece.now ≤ length buf.old }
-    ensures after { result ≡ at + length piece.now }
-    ensures written { take result buf.new ≡ take at buf.old ++ piece.now }
-    ensures same { length buf.new ≡ length buf.old }
-{
-    let end = at + piece.len();
-    buf[at..end].copy_from_slice(piece);
-    end
 }
 
 /// Puts the line of an output. The buffer has room for it.
@@ -46,10 +31,6 @@ pub fn put_line<K: Sink>(name: &[u8], value: u64, buf: &mut [u8], out: &mut K) -
     ensures err { OnErr result (AddsPrefix (K.written out.old) (K.written out.new) (line name.now value)) }
     ensures cause { OnErr result (Rose (K.failures out.old) (K.failures out.new)) }
 {
-    let mut digits = Buffer::new();
-    let end = put_at(buf, 0, name);
-    let end = put_at(buf, end, b" ");
-    let end = put_at(buf, end, digits.format(value).as_bytes());
-    let end = put_at(buf, end, b"\n");
+    let end = write_line(buf, name, value);
     out.put(&buf[..end])
 }

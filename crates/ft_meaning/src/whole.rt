@@ -7,10 +7,10 @@ ghost use Rattle.ft_meaning.specs.Ends.{EndsAs, Puts, IsExcused};
 ghost use Rattle.ft_meaning.specs.Runs.{Ready};
 
 use crate::mean_end::MeanEnd;
-use crate::output_line::{VALUE_ROOM, longest};
+use crate::output_line::longest;
 use crate::run::{Run, Stop};
 use ft_edge::Sink;
-use ft_isa::NoMemory;
+use ft_isa::{NoMemory, VALUE_ROOM};
 use ft_scope::Prog;
 use std::alloc::Global;
 
@@ -32,9 +32,10 @@ fn start(alloc: Global, prog: &Prog<'_>, turns: u64) -> Result<Run, NoMemory>
     })
 }
 
-/// Gives a program's meaning with this many loop turns over the whole run: puts a line for each output,
-/// each in one put, and tells how the meaning ended. `Cut` comes exactly where a loop's test is not 0 with no turn left;
-/// `WriteFault` only where a put failed, after which nothing is put; `NoMemory` before the first put.
+/// Gives a program's meaning with this many loop turns over the whole run. It puts a line for each
+/// output, each in one put, and tells how the meaning ended. `Cut` comes exactly when a loop's test is
+/// not 0 with no turn left. `WriteFault` comes only where a put failed, after which nothing is put.
+/// `NoMemory` comes before the first put.
 ///
 /// It takes time in proportion to the work, and calls itself no deeper than statements and operators
 /// nest in the source.
