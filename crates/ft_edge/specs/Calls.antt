@@ -1,7 +1,6 @@
 -- Calls numbered from 0, those that are to fail, and the count of failures.
-use Rattle.std.specs.Prelude.{ℕ, refl, ◌+◌, ◌-◌, ◌^◌, ◌==◌, min, Bool, List, [], ◌∷◌, ◌++◌, Option}
+use Rattle.std.specs.Prelude.{ℕ, refl, ◌+◌, ◌-◌, ◌^◌, ◌==◌, min, Bool, List, [], ◌∷◌, ◌++◌}
 use Rattle.std.specs.List.{list_any}
-use Rattle.std.specs.Option.{option_map}
 use Rattle.std.specs.Coded.{Coded, code_by, coded×, coded_list, coded_ℕ}
 
 -- the numbers of the calls that are to fail, the number of the next call, and how many calls failed
@@ -23,10 +22,6 @@ no_calls = record { failing = []; next = 0; failures = 0 }
 -- one more, or 2^64 - 1 where the count stands there
 abbrev pub next_count : ℕ → ℕ
 next_count n = min (n + 1) (2 ^ 64 - 1)
-
--- one more, where the count is told
-abbrev pub one_more : Option ℕ → Option ℕ
-one_more count = option_map next_count count
 
 -- whether the number of the next call is one that is to fail
 abbrev pub is_to_fail : Calls → Bool

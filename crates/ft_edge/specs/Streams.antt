@@ -1,6 +1,7 @@
 -- What reading from and writing to a stream does, where the stream tells its bytes.
-use Rattle.std.specs.Prelude.{ℕ, ◌+◌, ◌≤◌, List, length, take, Option, IfSome}
+use Rattle.std.specs.Prelude.{◌≡◌, ℕ, ◌-◌, ◌<◌, ◌≤◌, List, length, take, sum, All, Option, Result, Ok, Err}
 use Rattle.std.specs.Io.KnownBytes.{Consumes, Appends}
+use Rattle.ft_edge.specs.Told.{append_told}
 
 -- at most this many bytes were read
 abbrev pub ConsumesAtMost : Option (List ℕ) → Option (List ℕ) → ℕ → Type 0
@@ -10,15 +11,21 @@ ConsumesAtMost old new most = (bytes : List ℕ) × Consumes old new bytes × (l
 abbrev pub AppendsFront : Option (List ℕ) → Option (List ℕ) → List ℕ → Type 0
 AppendsFront old new bytes = (count : ℕ) × Appends old new (take count bytes)
 
--- at most so many takes more were made than bytes were taken, where all is told
-abbrev pub TakesAtMost : ℕ → Option ℕ → Option ℕ → Option (List ℕ) → Option (List ℕ) → Type 0
-TakesAtMost more takes takes' left left' =
-    IfSome takes (λ n. IfSome takes' (λ m. IfSome left (λ xs. IfSome left' (λ ys. m + length ys ≤ n + length xs + more))))
+-- how many bytes a take gave: none where it failed
+abbrev pub given : {E : Type 0} → Result ℕ E → ℕ
+given (Ok count) = count
+given (Err e) = 0
 
--- each take gave a byte
-abbrev pub IsFruitful : Option ℕ → Option ℕ → Option (List ℕ) → Option (List ℕ) → Type 0
-IsFruitful takes takes' left left' = TakesAtMost 0 takes takes' left left'
+-- of takes that gave so many bytes each but the last gave some
+abbrev pub IsFrugal : List ℕ → Type 0
+IsFrugal sizes = All (λ count. 0 < count) (take (length sizes - 1) sizes)
 
--- each take but the last gave a byte
-abbrev pub IsFrugal : Option ℕ → Option ℕ → Option (List ℕ) → Option (List ℕ) → Type 0
-IsFrugal takes takes' left left' = TakesAtMost 1 takes takes' left left'
+-- at most so many bytes were taken, by takes of these sizes, and none after one that gave nothing
+pub record TakesAtMost (most : ℕ) (takes takes' left left' : Option (List ℕ)) : Type 0 where
+  pub bytes : List ℕ
+  pub sizes : List ℕ
+  pub taken : Consumes left left' bytes
+  pub few : length bytes ≤ most
+  pub made : takes' ≡ append_told takes sizes
+  pub together : sum sizes ≡ length bytes
+  pub frugal : IsFrugal sizes

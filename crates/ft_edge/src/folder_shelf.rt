@@ -12,8 +12,8 @@ use std::io::Read;
 use std::marker::Model;
 use std::rt::Files;
 
-/// How much room is made at least for a read.
-const LEAST: usize = 65_536;
+/// How many bytes are read at once at most.
+const PIECE: usize = 131_072;
 
 /// Files of the system, by path. It does not tell them. A file that is missing or cannot be read is a
 /// failure, and the count of failures stands still at 2^64 - 1.
@@ -34,8 +34,18 @@ impl<R: Files> Model for FolderShelf<R> {
     ghost view = { λ s. record { count = s.failures; failed_name = known_text s.failed } };
 }
 
-/// Makes the vector longer than what is filled of it, for so many bytes where they are known and else
-/// as long again, and up to one byte past the limit.
+/// Takes memory for so many bytes, or for the limit, and for one more, by which the end is found.
+fn reserve_whole(into: &mut Vec<u8>, limit: usize, size: usize) -> Result<(), LoadFault>
+    ensures { into.new.items ≡ into.old.items }
+{
+    match size.min(limit).checked_add(1) {
+        Some(room) => into.reserve_exact(room).map_err(|_| LoadFault::NoMemory),
+        None => Err(LoadFault::NoMemory),
+    }
+}
+
+/// Makes the vector longer than what is filled of it, by a piece: up to one byte past the size where
+/// less is filled, and up to one byte past the limit.
 fn make_room(into: &mut Vec<u8>, filled: usize, limit: usize, size: usize) -> Result<(), LoadFault>
     requires few { filled ≤ limit }
     requires part { filled ≤ length into.old.items }
@@ -48,8 +58,8 @@ fn make_room(into: &mut Vec<u8>, filled: usize, limit: usize, size: usize) -> Re
     if filled < into.len() {
         return Ok(());
     }
-    let more = size.max(filled).max(LEAST);
-    let last = (limit - filled).min(more) + filled;
+    let left = if filled < size { size - filled } else { PIECE };
+    let last = (limit - filled).min(left).min(PIECE - 1) + filled;
     match last.checked_add(1) {
         Some(end) => into.resize(end, 0).map_err(|_| LoadFault::NoMemory),
         None => Err(LoadFault::NoMemory),
@@ -82,8 +92,9 @@ fn read_more<F: Read>(
 }
 
 /// Reads a file to its end, or to one byte past the limit, in the room of the vector. The size is how
-/// many bytes the file is said to have. Where the file is too long or a read failed, the vector holds
-/// what was read and what is left of the room.
+/// many bytes the file is said to have. Memory for them is taken at once, and the room is made piece by
+/// piece. Where the file is too long or a read failed, the vector holds what was read and what is left
+/// of the room.
 fn fill<F: Read>(
     file: &mut F,
     limit: usize,
@@ -98,6 +109,7 @@ fn fill<F: Read>(
         IfSome (F.remaining file.old) (λ bytes. limit < length bytes) }
     ensures read { ConsumesAtMost (F.remaining file.old) (F.remaining file.new) (limit + 1) }
 {
+    reserve_whole(into, limit, size)?;
     let mut filled = 0;
     while filled <= limit {
         let count = read_more(file, filled, limit, size, into)?;

@@ -1,5 +1,5 @@
 //! Bytes in memory to be taken, with takes that are to fail.
-ghost use Rattle.std.specs.Prelude.{◌≡◌, ◌<◌, ◌≤◌, length, min, take, Some, is_err, IfOk, OnOk, OnErr};
+ghost use Rattle.std.specs.Prelude.{◌≡◌, ◌<◌, ◌≤◌, length, min, take, None, Some, is_err, IfOk, OnOk, OnErr};
 
 use crate::counter::Counter;
 use crate::{Failed, Source};
@@ -7,7 +7,8 @@ use ft_isa::NoMemory;
 use std::alloc::Global;
 use std::marker::Model;
 
-/// Bytes in memory to be taken, with takes that are to fail. It tells its bytes.
+/// Bytes in memory to be taken, with takes that are to fail. It tells its bytes, and not the sizes of
+/// its takes: to keep each of them, a take would have to take memory.
 #[derive(Drop)]
 pub struct MemSource {
     bytes: Vec<u8>,
@@ -59,7 +60,7 @@ impl Source for MemSource {
 
     ghost failures = { λ source. source.calls.failures };
 
-    ghost takes = { λ source. Some source.calls.next };
+    ghost takes = { λ _. None };
 
     /// Takes as many bytes as there are left, or as many as the buffer holds.
     fn take(&mut self, buf: &mut [u8]) -> Result<usize, Failed>
@@ -69,7 +70,7 @@ impl Source for MemSource {
         ensures many { IfOk result (λ count. count ≡ min (length self.old.left) (length buf.new)) }
         ensures bytes { IfOk result (λ count. take count buf.new ≡ take count self.old.left) }
         ensures after { self.new ≡ after_take self.old result }
-        ensures left { OnErr result (buf.new ≡ buf.old) }
+        ensures kept { OnErr result (buf.new ≡ buf.old) }
     {
         if self.calls.begin() {
             self.calls.count_failure();

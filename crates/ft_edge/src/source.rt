@@ -1,9 +1,10 @@
 //! Bytes to be taken.
-ghost use Rattle.std.specs.Prelude.{◌≡◌, ◌<◌, ◌≤◌, ℕ, List, Option, length, is_some, OnOk, OnErr};
+ghost use Rattle.std.specs.Prelude.{◌≡◌, ◌<◌, ◌≤◌, ℕ, List, [], ◌∷◌, Option, length, is_some, OnOk, OnErr};
 ghost use Rattle.std.specs.Io.{ReadsAtMost};
 ghost use Rattle.std.specs.Io.KnownBytes.{ReadConsumes};
 ghost use Rattle.ft_edge.specs.Causes.{Rose};
-ghost use Rattle.ft_edge.specs.Calls.{one_more};
+ghost use Rattle.ft_edge.specs.Streams.{given};
+ghost use Rattle.ft_edge.specs.Told.{append_told};
 
 use crate::Failed;
 
@@ -15,16 +16,17 @@ pub trait Source {
     // How many takes failed; a source may stop counting at 2^64 - 1.
     ghost failures: { Self → ℕ };
 
-    // How many takes were made, where the source tells it; the count stands still at 2^64 - 1.
-    ghost takes: { Self → Option ℕ };
+    // How many bytes each take gave, in order, where the source tells it; one that failed gave none.
+    ghost takes: { Self → Option (List ℕ) };
 
     /// Takes the next bytes into the front of a buffer that is not empty, and answers how many there
-    /// are: at least one where any are left, and 0 at the end. A take that fails takes nothing.
+    /// are: at least one where any are left, and 0 at the end. A take that fails takes nothing, and leaves the buffer as it was.
     fn take(&mut self, buf: &mut [u8]) -> Result<usize, Failed>
         requires { 0 < length buf.old }
-        ensures takes { takes self.new ≡ one_more (takes self.old) }
+        ensures takes { takes self.new ≡ append_told (takes self.old) (given result ∷ []) }
         ensures bound { ReadsAtMost result buf.new }
         ensures bytes { ReadConsumes (left self.old) (left self.new) result buf.new }
+        ensures kept { OnErr result (buf.new ≡ buf.old) }
         ensures told { is_some (left self.new) ≡ is_some (left self.old) }
         ensures count { failures self.old ≤ failures self.new }
         ensures same_count { OnOk result (failures self.new ≡ failures self.old) }

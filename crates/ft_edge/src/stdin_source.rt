@@ -9,6 +9,9 @@ use crate::{Failed, Source};
 use std::io::Read;
 use std::marker::Model;
 
+/// How many bytes are read at once at most.
+const PIECE: usize = 4096;
+
 /// Standard input. It does not tell its bytes, and its count of failures stands still at 2^64 - 1.
 #[derive(Drop)]
 pub struct StdinSource<R: Input> {
@@ -24,16 +27,23 @@ impl<R: Input> Model for StdinSource<R> {
     ghost view = { λ s. s.failures };
 }
 
-/// Reads once, and counts a read that failed.
+/// Reads once, and counts a read that failed. The bytes come over a piece apart, since a read that
+/// fails may leave anything in what it reads into.
 fn take_from<F: Read>(file: &mut F, buf: &mut [u8], failures: &mut u64) -> Result<usize, Failed>
     ensures bound { ReadsAtMost result buf.new }
     ensures bytes { ReadConsumes (F.remaining file.old) (F.remaining file.new) result buf.new }
+    ensures kept { OnErr result (buf.new ≡ buf.old) }
     ensures count { failures.old ≤ failures.new }
     ensures same_count { OnOk result (failures.new ≡ failures.old) }
     ensures counted { OnErr result (failures.new ≡ next_count failures.old) }
 {
-    match read_once(file, buf) {
-        Ok(count) => Ok(count),
+    let mut piece = [0u8; PIECE];
+    let room = buf.len().min(PIECE);
+    match read_once(file, &mut piece[..room]) {
+        Ok(count) => {
+            buf[..count].copy_from_slice(&piece[..count]);
+            Ok(count)
+        }
         Err(_) => {
             *failures = failures.saturating_add(1);
             Err(Failed)

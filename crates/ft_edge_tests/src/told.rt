@@ -1,9 +1,10 @@
-//! A sink and a shelf that tell all they were asked, and end the process where there is no memory for it.
+//! A sink, a shelf and a source that tell all they were asked, and end the process where there is no
+//! memory for it.
 //!
-//! They show that what the traits say of pieces and loads is met by code that runs.
+//! They show that what the traits say of pieces, loads and takes is met by code that runs.
 ghost use Rattle.std.specs.Prelude.{Some, map};
 
-use ft_edge::{Failed, Load, LoadFault, MemShelf, MemSink, Shelf, Sink};
+use ft_edge::{Failed, Load, LoadFault, MemShelf, MemSink, MemSource, Shelf, Sink, Source};
 use std::alloc::Global;
 use std::process::Abort;
 use std::test::Fail;
@@ -70,6 +71,34 @@ impl<R: Abort + Drop, F: Shelf + Drop> Shelf for KeepingShelf<R, F> {
     }
 }
 
+/// A source that hands each take on, and keeps how many bytes it gave.
+#[derive(Drop)]
+struct KeepingSource<R: Abort + Drop, I: Source + Drop> {
+    rt: R,
+    inner: I,
+    sizes: Vec<usize>,
+}
+
+impl<R: Abort + Drop, I: Source + Drop> Source for KeepingSource<R, I> {
+    ghost left = { λ source. I.left source.inner };
+
+    ghost failures = { λ source. I.failures source.inner };
+
+    ghost takes = { λ source. Some source.sizes.items };
+
+    fn take(&mut self, buf: &mut [u8]) -> Result<usize, Failed> {
+        let answer = self.inner.take(buf);
+        let size = match answer {
+            Ok(count) => count,
+            Err(_) => 0,
+        };
+        if self.sizes.push(size).is_err() {
+            self.rt.abort();
+        }
+        answer
+    }
+}
+
 #[test]
 fn a_sink_tells_also_the_piece_whose_put_failed(rt: HostRuntime) -> Result<(), Fail> {
     let mut sink = KeepingSink {
@@ -105,5 +134,24 @@ fn a_shelf_tells_each_name_and_limit(rt: HostRuntime) -> Result<(), Fail> {
     assert_eq!(rt; shelf.asked[0].limit, 7);
     assert_eq!(rt; shelf.asked[1].name.as_slice(), b"a".as_slice());
     assert_eq!(rt; shelf.asked[1].limit, 5);
+    Ok(())
+}
+
+#[test]
+fn a_source_tells_the_size_of_each_take(rt: HostRuntime) -> Result<(), Fail> {
+    let mut inner = MemSource::new(rt.alloc(), b"script")?;
+    inner.fail_at(1)?;
+    let mut source = KeepingSource {
+        rt: rt.clone()?,
+        inner,
+        sizes: Vec::new(rt.alloc()),
+    };
+    let mut buf = [b'.'; 4];
+    assert_eq!(rt; source.take(&mut buf), Ok(4));
+    assert_eq!(rt; source.take(&mut buf), Err(Failed));
+    assert_eq!(rt; buf, *b"scri");
+    assert_eq!(rt; source.take(&mut buf), Ok(2));
+    assert_eq!(rt; source.take(&mut buf), Ok(0));
+    assert_eq!(rt; source.sizes.as_slice(), [4usize, 0, 2, 0].as_slice());
     Ok(())
 }

@@ -8,6 +8,7 @@ take-tells g c = record {
   takes = refl;
   bound = c.ensures.bound;
   bytes = c.ensures.bytes;
+  kept = subst (λ r. OnErr r (c.new.buf.now ≡ c.args.buf.now)) (sym c.ensures.many) tt;
   told = refl;
   count = omega arith;
   same_count = subst (λ r. OnOk r (0 ≡ 0)) (sym c.ensures.many) refl;
