@@ -4,8 +4,7 @@ ghost use Rattle.ft_types.specs.Spellable.{IsSpellable};
 
 use core::hash::{Hasher, keyed_hasher};
 use ft_isa::{Base, Instr, Subst};
-use ft_static::{Node, Shape};
-use ft_types::{Program, RegType};
+use ft_types::{Program, RegType, joined};
 
 /// The hasher's own keys: any two numbers would do.
 const FIRST_KEY: u64 = 0x7461_6c66_745f_6b31;
@@ -44,28 +43,6 @@ impl Lanes {
     #[inline(always)]
     fn note_record(&mut self, bytes: [u8; 4], number: u32, word: u64) {
         self.note(joined(u32::from_le_bytes(bytes), number), word);
-    }
-}
-
-/// Two numbers as one word.
-#[inline(always)]
-fn joined(first: u32, second: u32) -> u64 {
-    (first as u64) << 32 | second as u64
-}
-
-/// Notes a node.
-#[inline(always)]
-fn note_node(lanes: &mut Lanes, node: Node) {
-    let scope = node.scope;
-    match node.shape {
-        Shape::Word(w) => lanes.note_record([0, scope, 0, 0], 0, w),
-        Shape::Var(i) => lanes.note_record([1, scope, i, 0], 0, 0),
-        Shape::Op { op, a, b } => lanes.note_record([2, scope, op as u8, 0], 0, joined(a, b)),
-        Shape::Sel { memory, at } => lanes.note_record([3, scope, 0, 0], 0, joined(memory, at)),
-        Shape::Memory => lanes.note_record([4, scope, 0, 0], 0, 0),
-        Shape::Upd { memory, at, value } => {
-            lanes.note_record([5, scope, 0, 0], memory, joined(at, value))
-        }
     }
 }
 
@@ -146,7 +123,8 @@ fn note_nodes<P: Program>(lanes: Lanes, program: &P) -> Lanes
 {
     let mut lanes = lanes;
     for n in 0..program.node_count() {
-        note_node(&mut lanes, program.node(n));
+        let (first, second) = program.node_words(n);
+        lanes.note(first, second);
     }
     lanes
 }

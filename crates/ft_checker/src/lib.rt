@@ -4,7 +4,7 @@
 //! exactly why the object is refused: the entry's code type, the lowest cell with a word of another
 //! type, or the first instruction that is refused, with its block, its index and the first failing
 //! premise. It takes no more steps than `specs/Costs.antt` says. A `Checked` keeps that its program is
-//! accepted. The definitions are `Accepted` in `ft_types/specs`; what the answers say of them is in
+//! accepted. The definitions are `Accepted` in `ft_typing/specs`. What the answers say of them is in
 //! `specs/Judges.antt`.
 #![tactic(auto)]
 

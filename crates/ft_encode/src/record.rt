@@ -1,15 +1,16 @@
 //! Records that are written one after the other.
 ghost use Rattle.std.specs.Prelude.{◌≡◌, ◌∷◌, [], OnOk};
 ghost use Rattle.std.specs.List.{flat_map};
+ghost use Rattle.ft_types.specs.NodeRows.{op_code, high_half, low_half, shape_row};
 ghost use Rattle.ft_format.specs.Layout.{written};
 ghost use Rattle.ft_format.specs.Fields.{code_numbers, node_numbers};
-ghost use Rattle.ft_format.specs.Rows.{colour_code, op_code, base_code, base_type, basic_number, high_half, low_half, shape_row, instr_row};
+ghost use Rattle.ft_format.specs.Rows.{colour_code, base_code, base_type, basic_number, instr_row};
 ghost use Rattle.ft_format.specs.Puts.{Puts};
 
 use ft_format::{CodeRow, NodeRow, PairRow, RegRow, SubstRow};
-use ft_isa::{Base, Basic, Colour, Coloured, Instr, NoMemory, Op, Reg, Subst};
+use ft_isa::{Base, Basic, Colour, Coloured, Instr, NoMemory, Reg, Subst};
 use ft_static::{Node, Shape};
-use ft_types::{Block, RegType};
+use ft_types::{Block, RegType, op_code};
 
 /// What is written in a record of its own.
 pub(crate) trait Record {
@@ -40,19 +41,6 @@ fn colour_code(colour: Colour) -> u8
     match colour {
         Colour::Green => 0,
         Colour::Blue => 1,
-    }
-}
-
-/// The code of an operation.
-fn op_code(op: Op) -> u8
-    ensures { result ≡ op_code op }
-{
-    match op {
-        Op::Add => 0,
-        Op::Sub => 1,
-        Op::Mul => 2,
-        Op::Ltu => 3,
-        Op::Eq => 4,
     }
 }
 

@@ -15,11 +15,12 @@ use Rattle.ft_isa.specs.declared.basic.Base.TheVariants.{Int, Code}
 use Rattle.ft_isa.specs.declared.basic.Basic.{Basic}
 use Rattle.ft_isa.specs.Registers.{reg_if}
 use Rattle.ft_types.specs.Spellable.{IsBase, IsBasic}
+use Rattle.ft_types.specs.NodeRows.{op_code, high_half, low_half, joined}
 use Rattle.ft_format.specs.declared.object_error.ObjectError.{ObjectError}
 use Rattle.ft_format.specs.declared.object_error.ObjectError.TheVariants as errors
 use Rattle.ft_format.specs.Rules.{must, ◌next◌, colour_broken, op_broken, register_broken, code_type_broken, basic_broken}
-use Rattle.ft_format.specs.Rows.{colour_code, op_code, base_code, base_type, high_half, low_half}
-use Rattle.ft_format.specs.Values.{or_first, register_of, colour_of, op_of, base_of, basic_type_of, joined}
+use Rattle.ft_format.specs.Rows.{colour_code, base_code, base_type}
+use Rattle.ft_format.specs.Values.{or_first, register_of, colour_of, op_of, base_of, basic_type_of}
 use Rattle.ft_format.proofs.Unbroken.{held, both}
 
 -- what a test that must hold says, and that it holds

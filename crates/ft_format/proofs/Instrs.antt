@@ -12,12 +12,13 @@ use Rattle.ft_isa.specs.declared.instr.Instr.{Instr}
 use Rattle.ft_isa.specs.declared.instr.Instr.TheVariants.{OpReg, OpWord, Mov, Ld, St, JmpG, JmpB, BzG, BzB, Halt}
 use Rattle.ft_static.specs.declared.node.Node.{Node}
 use Rattle.ft_types.specs.Spellable.{IsBase, IsInstr, IsSubst, subst_of, before, substs_of, Cover}
+use Rattle.ft_types.specs.NodeRows.{op_code, high_half, low_half, joined}
 use Rattle.ft_format.specs.declared.object_error.ObjectError.TheVariants as errors
 use Rattle.ft_format.specs.declared.header.Header.{Header}
 use Rattle.ft_format.specs.Layout.{code_layout}
 use Rattle.ft_format.specs.Rules.{must, ◌next◌, zero_broken, register_broken, colour_broken, op_broken, node_number_broken, basic_broken, substitution_broken, transfer_broken, fields_broken, instr_broken}
-use Rattle.ft_format.specs.Rows.{colour_code, op_code, base_code, base_type, basic_number, high_half, low_half, instr_row}
-use Rattle.ft_format.specs.Values.{joined, basic_type_of, instr_of, rows_past}
+use Rattle.ft_format.specs.Rows.{colour_code, base_code, base_type, basic_number, instr_row}
+use Rattle.ft_format.specs.Values.{basic_type_of, instr_of, rows_past}
 use Rattle.ft_format.specs.Broken.{instrs_broken, rows_taken}
 use Rattle.ft_format.proofs.Layouts.{Fit, AllFit}
 use Rattle.ft_format.proofs.Unbroken.{both}

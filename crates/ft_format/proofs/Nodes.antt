@@ -8,10 +8,10 @@ use Rattle.ft_static.specs.declared.node.Node.{Node}
 use Rattle.ft_static.specs.declared.node.Shape.{Shape}
 use Rattle.ft_static.specs.declared.node.Shape.TheVariants.{Word, Var, Op as OpNode, Sel, Memory, Upd}
 use Rattle.ft_static.specs.NodeRules.{IsShape, IsNode}
+use Rattle.ft_types.specs.NodeRows.{op_code, high_half, low_half, node_row}
 use Rattle.ft_format.specs.declared.object_error.ObjectError.TheVariants as errors
 use Rattle.ft_format.specs.Layout.{code_layout}
 use Rattle.ft_format.specs.Rules.{must, ◌next◌, zero_broken, count_broken, op_broken, named_broken, node_op_broken, parts_broken, node_broken}
-use Rattle.ft_format.specs.Rows.{op_code, high_half, low_half, node_row}
 use Rattle.ft_format.specs.Values.{node_of}
 use Rattle.ft_format.specs.Broken.{nodes_broken}
 use Rattle.ft_format.proofs.Layouts.{Fit, AllFit}

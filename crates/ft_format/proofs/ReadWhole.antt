@@ -9,13 +9,14 @@ use Rattle.ft_static.specs.declared.node.Node.{Node}
 use Rattle.ft_static.specs.NodeRules.{IsNode}
 use Rattle.ft_types.specs.Objects.{name_of, regs_of, queue_of}
 use Rattle.ft_types.specs.Spellable.{IsCell, IsCodeType, HasCodeType, IsInstr, IsNodeIn, IsSpellable}
+use Rattle.ft_types.specs.NodeRows.{node_row}
 use Rattle.ft_format.specs.declared.object_error.ObjectError.TheVariants as errors
 use Rattle.ft_format.specs.declared.header.Header.{Header}
 use Rattle.ft_format.specs.Fields.{header_numbers}
 use Rattle.ft_format.specs.Format.{AreBytes, Spells}
 use Rattle.ft_format.specs.Layout.{numbers, written, rows, spelled, header_layout, cell_layout, code_layout, type_layout, reg_layout, pair_layout, subst_layout}
 use Rattle.ft_format.specs.Rules.{must, ◌next◌, header_broken}
-use Rattle.ft_format.specs.Rows.{cell_rows, node_row, type_rows, reg_row, queue_row, block_row, instr_row, subst_row, header_row, spelling}
+use Rattle.ft_format.specs.Rows.{cell_rows, type_rows, reg_row, queue_row, block_row, instr_row, subst_row, header_row, spelling}
 use Rattle.ft_format.specs.Values.{node_of, reg_type_of, pair_of, block_of, instr_of, subst_node_of}
 use Rattle.ft_format.specs.Broken.{cells_broken, nodes_broken, blocks_broken, instrs_broken, rows_taken, subst_rows_broken, substs_broken, names_broken, nodes_at, types_at, regs_at, queue_at, blocks_at, instrs_at, substs_at, names_at, total, cells_part, nodes_part, types_part, regs_part, queue_part, blocks_part, instrs_part, substs_part, names_part, type_rows_of, instr_rows_of, cells_read, nodes_read, regs_read, queue_read, types_read, blocks_read, instrs_read, substs_read, tables_read, code_types_broken, tables_broken, header_at, front_broken, broken, object_of}
 use Rattle.ft_format.proofs.Layouts.{numbers_again, rows_fit, length_rows, bytes_after}

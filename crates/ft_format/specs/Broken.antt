@@ -42,7 +42,7 @@ unfoldable pub type_regs_broken : ℕ → List Node → ℕ → ℕ → ℕ → 
 type_regs_broken types nodes ints least at [] = None
 type_regs_broken types nodes ints least at (row ∷ rest) = reg_broken types nodes ints least at row next type_regs_broken types nodes ints (first_of_row row + 1) (at + 12) rest
 
--- the register rows of types, from row `start` on; a row that is left is nobody's
+-- the register rows of types, from row `start` on; a row that is left belongs to none
 unfoldable pub regs_broken : Header → List Node → ℕ → ℕ → List (List ℕ) → List ℕ → Option ObjectError
 regs_broken h nodes start at [] bytes = must (start == h.regs) (errors.Order at)
 regs_broken h nodes start at (row ∷ rest) bytes =
@@ -54,7 +54,7 @@ unfoldable pub type_queue_broken : List Node → ℕ → ℕ → List (List ℕ)
 type_queue_broken nodes ints at [] = None
 type_queue_broken nodes ints at (row ∷ rest) = queue_broken nodes ints at row next type_queue_broken nodes ints (at + 8) rest
 
--- the queue rows of types, from row `start` on; a row that is left is nobody's
+-- the queue rows of types, from row `start` on; a row that is left belongs to none
 unfoldable pub queues_broken : Header → List Node → ℕ → ℕ → List (List ℕ) → List ℕ → Option ObjectError
 queues_broken h nodes start at [] bytes = must (start == h.queue) (errors.Order at)
 queues_broken h nodes start at (row ∷ rest) bytes =
@@ -81,7 +81,7 @@ unfoldable pub subst_rows_broken : List Node → ℕ → List (List ℕ) → Opt
 subst_rows_broken nodes at [] = None
 subst_rows_broken nodes at (row ∷ rest) = subst_broken nodes at row next subst_rows_broken nodes (at + 4) rest
 
--- the substitution rows that substitutions take; a row that is left is nobody's
+-- the substitution rows that substitutions take; a row that is left belongs to none
 abbrev pub substs_broken : Header → List Node → ℕ → ℕ → List ℕ → Option ObjectError
 substs_broken h nodes taken at bytes =
     subst_rows_broken nodes at (rows subst_layout taken bytes)
@@ -101,7 +101,7 @@ name_bytes_broken at (b ∷ bs) = must (is_letter b) (errors.Name at) next name_
 abbrev pub name_broken : List Cell → ℕ → List ℕ → Option ObjectError
 name_broken earlier at name = name_bytes_broken at name next must (not (list_any (λ c. bytes_eq name c.name) earlier)) (errors.Name at)
 
--- the names of cells, after those of earlier ones, up to the end; a byte that is left is nobody's
+-- the names of cells, after those of earlier ones, up to the end; a byte that is left belongs to none
 unfoldable pub names_broken : ℕ → List Cell → ℕ → List Cell → Option ObjectError
 names_broken end earlier at [] = must (at == end) (errors.Order at)
 names_broken end earlier at (c ∷ cs) = name_broken earlier at c.name next names_broken end (earlier ++ c ∷ []) (at + length c.name) cs

@@ -1,38 +1,26 @@
 -- The numbers that stand for each part of an object, and the bytes that are written for an object.
-use Rattle.std.specs.Prelude.{ℕ, ◌+◌, ◌*◌, ◌/◌, ◌%◌, ◌^◌, List, [], ◌∷◌, ◌++◌, length, map}
+use Rattle.std.specs.Prelude.{ℕ, ◌+◌, ◌*◌, ◌^◌, List, [], ◌∷◌, ◌++◌, length, map}
 use Rattle.std.specs.List.{flat_map}
 use Rattle.ft_isa.specs.declared.colour.Colour.{Colour}
 use Rattle.ft_isa.specs.declared.colour.Colour.TheVariants.{Green, Blue}
-use Rattle.ft_isa.specs.declared.op.Op.{Op}
-use Rattle.ft_isa.specs.declared.op.Op.TheVariants.{Add, Sub, Mul, Ltu, Eq}
 use Rattle.ft_isa.specs.declared.basic.Base.{Base}
 use Rattle.ft_isa.specs.declared.basic.Base.TheVariants.{Int, Code}
 use Rattle.ft_isa.specs.declared.basic.Basic.{Basic}
 use Rattle.ft_isa.specs.declared.instr.Instr.{Instr}
 use Rattle.ft_isa.specs.declared.instr.Instr.TheVariants.{OpReg, OpWord, Mov, Ld, St, JmpG, JmpB, BzG, BzB, Halt}
-use Rattle.ft_static.specs.declared.node.Node.{Node}
-use Rattle.ft_static.specs.declared.node.Shape.{Shape}
-use Rattle.ft_static.specs.declared.node.Shape.TheVariants.{Word, Var, Op as OpNode, Sel, Memory, Upd}
 use Rattle.ft_types.specs.declared.object.Object.{Object}
 use Rattle.ft_types.specs.declared.object.Cell.{Cell}
 use Rattle.ft_types.specs.declared.object.Block.{Block}
 use Rattle.ft_types.specs.declared.object.CodeType.{CodeType}
 use Rattle.ft_types.specs.declared.object.RegType.{RegType}
 use Rattle.ft_types.specs.Objects.{name_of, regs_of, queue_of}
+use Rattle.ft_types.specs.NodeRows.{op_code, high_half, low_half, node_row}
 use Rattle.ft_format.specs.Layout.{written, spelled, header_layout, cell_layout, code_layout, type_layout, reg_layout, pair_layout, subst_layout}
 
 -- the code of a colour
 abbrev pub colour_code : Colour → ℕ
 colour_code Green = 0
 colour_code Blue = 1
-
--- the code of an operation
-abbrev pub op_code : Op → ℕ
-op_code Add = 0
-op_code Sub = 1
-op_code Mul = 2
-op_code Ltu = 3
-op_code Eq = 4
 
 -- the code of a base
 abbrev pub base_code : Base → ℕ
@@ -48,14 +36,6 @@ base_type (Code t) = t
 abbrev pub basic_number : Basic → ℕ
 basic_number b = b.refs * 2 ^ 24 + base_code b.base * 2 ^ 16 + base_type b.base
 
--- the upper four bytes of a word
-abbrev pub high_half : ℕ → ℕ
-high_half w = w / 2 ^ 32
-
--- the lower four bytes of a word
-abbrev pub low_half : ℕ → ℕ
-low_half w = w % 2 ^ 32
-
 -- a cell whose name ends at this place in the name bytes
 abbrev pub cell_row : ℕ → Cell → List ℕ
 cell_row past c = past ∷ c.basic.refs ∷ base_code c.basic.base ∷ base_type c.basic.base ∷ c.init ∷ []
@@ -64,19 +44,6 @@ cell_row past c = past ∷ c.basic.refs ∷ base_code c.basic.base ∷ base_type
 abbrev pub cell_rows : ℕ → List Cell → List (List ℕ)
 cell_rows start [] = []
 cell_rows start (c ∷ cs) = cell_row (start + length c.name) c ∷ cell_rows (start + length c.name) cs
-
--- a node, by its scope and its shape
-abbrev pub shape_row : ℕ → Shape → List ℕ
-shape_row scope (Word w) = 0 ∷ 0 ∷ scope ∷ 0 ∷ 0 ∷ high_half w ∷ low_half w ∷ []
-shape_row scope (Var i) = 1 ∷ 0 ∷ scope ∷ 0 ∷ i ∷ 0 ∷ 0 ∷ []
-shape_row scope (OpNode op a b) = 2 ∷ op_code op ∷ scope ∷ 0 ∷ a ∷ b ∷ 0 ∷ []
-shape_row scope (Sel memory at) = 3 ∷ 0 ∷ scope ∷ 0 ∷ memory ∷ at ∷ 0 ∷ []
-shape_row scope Memory = 4 ∷ 0 ∷ scope ∷ 0 ∷ 0 ∷ 0 ∷ 0 ∷ []
-shape_row scope (Upd memory at value) = 5 ∷ 0 ∷ scope ∷ 0 ∷ memory ∷ at ∷ value ∷ []
-
--- a node
-abbrev pub node_row : Node → List ℕ
-node_row n = shape_row n.scope n.shape
 
 -- a type whose rows end at these numbers
 abbrev pub type_row : ℕ → ℕ → CodeType → List ℕ

@@ -1,5 +1,5 @@
 -- The part of an object that the numbers of a record stand for, where they break no rule.
-use Rattle.std.specs.Prelude.{ℕ, ◌+◌, ◌-◌, ◌*◌, ◌/◌, ◌%◌, ◌^◌, ◌==◌, List, [], ◌∷◌, take, drop, Option, Some, None, if◌then◌else◌}
+use Rattle.std.specs.Prelude.{ℕ, ◌-◌, ◌/◌, ◌%◌, ◌^◌, ◌==◌, List, [], ◌∷◌, take, drop, Option, Some, None, if◌then◌else◌}
 use Rattle.std.proofs.Common.{refl}
 use borrow.Author.Tests.{ltb-true}
 use Rattle.ft_isa.specs.Registers.{reg_of}
@@ -22,6 +22,7 @@ use Rattle.ft_types.specs.declared.object.Cell.{Cell}
 use Rattle.ft_types.specs.declared.object.Block.{Block}
 use Rattle.ft_types.specs.declared.object.CodeType.{CodeType}
 use Rattle.ft_types.specs.declared.object.RegType.{RegType}
+use Rattle.ft_types.specs.NodeRows.{joined}
 use Rattle.ft_format.specs.declared.header.Header.{Header}
 
 -- register 0, which stands where no register is
@@ -52,10 +53,6 @@ base_of base code_type = if base == 0 then Int else Code code_type
 -- a basic type, by its refs, the code of its base and its code type
 abbrev pub basic_type_of : ℕ → ℕ → ℕ → Basic
 basic_type_of refs base code_type = record { refs = refs; base = base_of base code_type }
-
--- a word, by its two halves
-abbrev pub joined : ℕ → ℕ → ℕ
-joined high low = high * 2 ^ 32 + low
 
 -- a coloured word, by the code of its colour and the two halves of the word
 abbrev pub coloured : ℕ → ℕ → ℕ → Coloured

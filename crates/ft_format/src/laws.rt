@@ -5,7 +5,7 @@ ghost use Rattle.ft_types.specs.Spellable.{IsSpellable};
 ghost use Rattle.ft_format.specs.Broken.{broken, object_of};
 ghost use Rattle.ft_format.specs.Format.{AreBytes, Spells};
 
-/// Bytes break no rule exactly where they spell an object, and that object is one.
+/// Bytes break no rule exactly when they spell an object, and that object is one.
 pub fn rules_are_exact()
     // Where no rule is broken, an object is spelled.
     ensures spelled { (bytes : List ℕ) → AreBytes bytes → broken bytes ≡ None → Spells bytes (object_of bytes) }
@@ -15,7 +15,7 @@ pub fn rules_are_exact()
     ensures one { (bytes : List ℕ) (o : Object) → Spells bytes o → object_of bytes ≡ o }
 {}
 
-/// An object obeys the rules of its tables exactly where some bytes spell it, which are those that break no rule
+/// An object obeys the rules of its tables exactly when some bytes spell it, which are those that break no rule
 /// and stand for it; and those bytes are one list. In `exact` and `one` the bytes are judged by `broken` and
 /// read by `object_of`, and what is written for an object is not spoken of.
 pub fn spellings_are_one()

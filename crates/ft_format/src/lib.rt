@@ -1,10 +1,10 @@
 //! The object format: which bytes spell which object.
 //!
-//! `specs/Rows.antt` says how an object is written, `specs/Rules.antt` and `specs/Broken.antt` have the
-//! rules in their order, `specs/Format.antt` says which bytes spell which object. The crate promises
-//! that these agree (`src/laws.rt`): bytes break no rule exactly where they spell an object, they spell at
-//! most one, and an object has one spelling. Beside that it has the records as the numbers that stand in
-//! them, to be read and written.
+//! `specs/Rows.antt` says how an object is written. `specs/Rules.antt` and `specs/Broken.antt` have the
+//! rules in their order. `specs/Format.antt` says which bytes spell which object. The crate promises
+//! that these agree (`src/laws.rt`): bytes break no rule exactly when they spell an object, they spell
+//! at most one, and an object has one spelling. It also has the records as the numbers that are in them,
+//! to be read and written.
 #![tactic(auto)]
 
 mod header;

@@ -26,7 +26,7 @@ pub enum ObjectError {
     #[error("object 6 {at}")]
     Index { at: usize },
     /// Ends, beginnings or registers do not rise, or go beyond what there is; the rows of a substitution do not
-    /// follow those before; or rows or name bytes are nobody's.
+    /// follow those before; or rows or name bytes belong to none.
     #[error("object 7 {at}")]
     Order { at: usize },
     /// A name is too long, has a byte that may not stand there, or is another cell's too.

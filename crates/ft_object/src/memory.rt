@@ -1,4 +1,4 @@
-//! Vectors that grow within their room and tables that are copied, or want of memory.
+//! Vectors that grow within their room and tables that are copied, or out of memory.
 ghost use Rattle.std.specs.Prelude.{◌≡◌, ◌∷◌, ◌++◌, [], IfOk, OnOk};
 ghost use Rattle.ft_object.specs.Judged.{OnlyMemory};
 

@@ -26,7 +26,7 @@ fn read_object(alloc: Global, bytes: &[u8]) -> Result<Object, DecodeError>
 }
 
 /// The object that the bytes spell; or the first rule of the format that they break, with its place; or
-/// want of memory.
+/// out of memory.
 pub fn decode(alloc: Global, bytes: &[u8]) -> Result<Object, DecodeError>
     // What is given is the object that the bytes spell.
     ensures spelled { IfOk result (Spells bytes.now) }
@@ -34,7 +34,7 @@ pub fn decode(alloc: Global, bytes: &[u8]) -> Result<Object, DecodeError>
     ensures given { (o : Object) → Spells bytes.now o → Gives result o }
     // An error is the first rule broken, and none is broken where an object is given.
     ensures judged { Judges result (broken bytes.now) }
-    // No rule is broken exactly where some object is spelled, and that object is one.
+    // No rule is broken exactly when some object is spelled, and that object is one.
     ensures exact { (broken bytes.now ≡ None) ↔ ((o : Object) × Spells bytes.now o) }
     ensures one { (o other : Object) → Spells bytes.now o → Spells bytes.now other → o ≡ other }
     // A rule of the length, the header or the total that is broken is the answer, whatever memory there is.

@@ -3,9 +3,10 @@ ghost use Rattle.std.specs.Prelude.{◌≡◌, ◌<◌, ◌/◌, ◌%◌, ◌^�
 ghost use Rattle.ft_format.specs.Fields.{code_numbers};
 ghost use Rattle.ft_format.specs.Values.{basic_type_of, coloured, carried, jump_of, branch_of, instr_of};
 
-use crate::parts::{basic, colour, op, register, word};
+use crate::parts::{basic, colour, op, register};
 use ft_format::CodeRow;
 use ft_isa::{Basic, Coloured, Instr, Reg, Subst};
+use ft_types::joined;
 
 /// The numbers of the basic type that x spells: refs, base and code type.
 pub(crate) fn basic_numbers(x: u32) -> (u8, u8, u16)
@@ -33,7 +34,7 @@ fn coloured(row: CodeRow) -> Coloured
 {
     Coloured {
         colour: colour(row.c),
-        word: word(row.high, row.low),
+        word: joined(row.high, row.low),
     }
 }
 

@@ -1,8 +1,9 @@
 //! One record of an object at a time: its rules, and the part of an object that it stands for.
 //!
 //! Each check promises exactly the first of the record's rules that its numbers break, with its place
-//! (`specs/Found.antt`), and each reader the part that the numbers of a record stand for that breaks none; none
-//! takes memory. The rules are those of `ft_format`. A place is counted in bytes from the object's first one.
+//! (`specs/Found.antt`). Each reader promises the part that the numbers of a record stand for, when they
+//! break no rule. None takes memory. The rules are those of `ft_format`. A place is counted in bytes
+//! from the object's first one.
 #![tactic(auto)]
 
 mod block;

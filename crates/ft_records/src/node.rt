@@ -9,10 +9,11 @@ ghost use Rattle.ft_format.specs.Rules.{◌next◌, zero_broken, count_broken, v
 ghost use Rattle.ft_format.specs.Values.{shape_of, node_of};
 
 use crate::node_records::NodeRecords;
-use crate::parts::{op, word};
+use crate::parts::op;
 use crate::rules::{check, check_count, check_named, check_op, check_zero};
 use ft_format::{NodeRow, ObjectError};
 use ft_static::{Node, Shape};
+use ft_types::joined;
 
 /// A variable, whose number is below the scope.
 fn check_variable(at: usize, row: NodeRow) -> Result<(), ObjectError>
@@ -24,7 +25,8 @@ fn check_variable(at: usize, row: NodeRow) -> Result<(), ObjectError>
         ObjectError::Index { at: at + 4 },
     )?;
     check_zero(at + 8, row.b)?;
-    check_zero(at + 12, row.c)
+    check_zero(at + 12, row.c)?;
+    Ok(())
 }
 
 /// An operation on two integers, or what a memory holds at an address.
@@ -51,7 +53,8 @@ fn check_memory(at: usize, row: NodeRow) -> Result<(), ObjectError>
 {
     check_zero(at + 4, row.a)?;
     check_zero(at + 8, row.b)?;
-    check_zero(at + 12, row.c)
+    check_zero(at + 12, row.c)?;
+    Ok(())
 }
 
 /// A memory with another value at an address.
@@ -61,7 +64,8 @@ fn check_upd(earlier: &NodeRecords, at: usize, row: NodeRow) -> Result<(), Objec
 {
     check_named(earlier, row.scope, true, at + 4, row.a)?;
     check_named(earlier, row.scope, false, at + 8, row.b)?;
-    check_named(earlier, row.scope, false, at + 12, row.c)
+    check_named(earlier, row.scope, false, at + 12, row.c)?;
+    Ok(())
 }
 
 /// The parts a, b and c of a node, by its kind, where any above 4 is that of `upd`.
@@ -117,7 +121,7 @@ fn shape(row: NodeRow) -> Shape
     ensures { result ≡ shape_of row.kind row.op row.a row.b row.c }
 {
     match row.kind {
-        0 => Shape::Word(word(row.b, row.c)),
+        0 => Shape::Word(joined(row.b, row.c)),
         1 => Shape::Var(row.a as u8),
         2 => Shape::Op {
             op: op(u32::from(row.op)),

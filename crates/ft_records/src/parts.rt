@@ -1,6 +1,6 @@
 //! Parts that the numbers of several records stand for.
 ghost use Rattle.std.specs.Prelude.{◌≡◌, ◌<◌};
-ghost use Rattle.ft_format.specs.Values.{register_of, colour_of, op_of, joined, base_of, basic_type_of};
+ghost use Rattle.ft_format.specs.Values.{register_of, colour_of, op_of, base_of, basic_type_of};
 
 use ft_isa::{Base, Basic, Colour, Op, Reg};
 
@@ -33,13 +33,6 @@ pub(crate) fn op(code: u32) -> Op
         3 => Op::Ltu,
         _ => Op::Eq,
     }
-}
-
-/// The word of two halves.
-pub(crate) fn word(high: u32, low: u32) -> u64
-    ensures { result ≡ joined high low }
-{
-    (u64::from(high) << 32) | u64::from(low)
 }
 
 /// The base of a code, where any but 0 is that of code.

@@ -1,3 +1,4 @@
 pub mod Objects
+pub mod NodeRows
 pub mod Spellable
 pub mod Texts

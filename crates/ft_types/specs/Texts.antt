@@ -1,6 +1,5 @@
 -- The lines of a run's outputs.
 use Rattle.std.specs.Prelude.{ℕ, ◌-◌, List, [], slice_get}
-use Rattle.std.specs.List.{flat_map}
 use Rattle.std.specs.Option.{option_map, unwrap_or}
 use Rattle.ft_isa.specs.Words.{cell_address, line}
 use Rattle.ft_isa.specs.declared.output.Output.{Output}
@@ -14,7 +13,3 @@ name_at o a = unwrap_or (option_map name_of (slice_get o.cells (a - cell_address
 -- the line of an output: the cell's name and the value
 abbrev pub line_at : Object → Output → List ℕ
 line_at o output = line (name_at o output.addr) output.value
-
--- a line for each output
-abbrev pub lines : Object → List Output → List ℕ
-lines o outputs = flat_map (line_at o) outputs

@@ -3,11 +3,13 @@ ghost use Rattle.std.specs.Prelude.{◌≡◌, ◌<◌, ◌^◌, Some, length, s
 ghost use Rattle.std.specs.Option.{option_map};
 
 use crate::object::{Block, CellHead, Counts, Object, RegType, TypeHead};
+use crate::words::node_words;
 use ft_isa::Instr;
 use ft_static::{Node, Nodes};
 
 /// An object, however it is kept. Its meaning is one `Object`, and each call tells a part of it.
 pub trait Program: Nodes {
+    ghost use Rattle.ft_types.specs.NodeRows.{node_words};
     ghost use Rattle.ft_types.specs.Objects.{IsCounted, cell_head_of, name_of, type_head_of, reg_rows, queue_rows};
     ghost use Rattle.ft_types.specs.declared.object.Object.{Object};
 
@@ -17,7 +19,8 @@ pub trait Program: Nodes {
     /// records, say, so that no fetch has to find them again.
     type Code: Copy;
 
-    // What a loop holds on to is a program's.
+    // What a loop holds on to is what `code` tells of the program, where `fetch` reads it. Where `fetch`
+    // does not read it, it may be anything.
     ghost is_code: { Self → Self.Code → Type 0 };
 
     /// How many there are of each kind of part.
@@ -85,6 +88,15 @@ pub trait Program: Nodes {
     fn name(&self, k: u32) -> &[u8]
         requires { k < length (object self.now).cells }
         ensures { option_map name_of (slice_get (object self.now).cells k) ≡ Some result.now };
+
+    /// Node `n` as two words that hold the whole of it: the two halves of its record in the object
+    /// format, each a big-endian number.
+    fn node_words(&self, n: u32) -> (u64, u64)
+        requires { n < length (Self.nodes self.now) }
+        ensures { option_map node_words (slice_get (Self.nodes self.now) n) ≡ Some result }
+    {
+        node_words(self.node(n))
+    }
 
     /// A program's nodes are its object's.
     ghost nodes_are: { (p : Self) → Self.nodes p ≡ (object p).nodes };

@@ -1,7 +1,7 @@
 -- Ends of rows, one type after the other.
-use Rattle.std.proofs.Common.{length, ◌≡◌, ℕ, zero, suc, ◌+◌, ◌-◌, ◌*◌, ◌≤◌, List, ◌∷◌, ◌++◌, map, take, drop, Option, None, Result, Ok, Err, refl, sym, ap, ◌∙◌, subst, append_assoc, arith}
+use Rattle.std.proofs.Common.{length, ◌≡◌, ℕ, zero, suc, ◌+◌, ◌-◌, ◌≤◌, List, ◌∷◌, take, drop, Option, None, Result, Ok, Err, refl, sym, ap, ◌∙◌, subst, arith}
 use Rattle.std.specs.Int.{Width}
-use Rattle.std.proofs.lemmas.List.{drop-drop, map-append}
+use Rattle.std.proofs.lemmas.List.{drop-drop}
 use Rattle.ft_types.specs.declared.object.RegType.{RegType}
 use Rattle.ft_format.specs.Values.{past_of, regs_end_of, queue_end_of, type_memory_of, type_ints_of, types_of}
 use Rattle.ft_format.specs.Layout.{size, numbers, rows, type_layout, cell_layout}
@@ -16,7 +16,7 @@ use Rattle.ft_format.specs.Broken.{types_broken, cells_broken}
 use Rattle.ft_view.specs.Ends.{AreEnds}
 use Rattle.ft_format.proofs.Unbroken.{both}
 use Rattle.ft_format.proofs.Shapes.{shape_5, shape_7}
-use Rattle.ft_format.proofs.Layouts.{rows_more, rows_plus}
+use Rattle.ft_format.proofs.Layouts.{rows_more}
 
 -- the end that the first record tells
 pub first_end : (end_of : List ℕ → ℕ) (all start : ℕ) (ws : List Width) (m n : ℕ) (bs row : List ℕ) → m ≡ suc n → row ≡ numbers ws (take (size ws) bs)

@@ -8,6 +8,7 @@ use Rattle.ft_types.specs.declared.object.Block.{Block}
 use Rattle.ft_types.specs.declared.object.CellHead.{CellHead}
 use Rattle.ft_types.specs.declared.object.TypeHead.{TypeHead}
 use Rattle.ft_types.specs.declared.object.RegType.{RegType}
+use Rattle.ft_types.specs.NodeRows.{node_row, row_words, node_words}
 use Rattle.ft_types.specs.Objects.{cell_head_of, name_of, type_head_of, regs_of, queue_of, reg_rows, queue_rows}
 use Rattle.ft_format.specs.declared.header.Header.{Header}
 use Rattle.ft_format.specs.declared.places.Places.{Places}
@@ -58,6 +59,9 @@ entry_is bytes = refl
 pub node_is : (bytes row : List ℕ) (i : ℕ) (x : Node) → slice_get (node_records bytes) i ≡ Some row → x ≡ node_of row → slice_get (object_of bytes).nodes i ≡ Some x
 unfolding tables_read
 node_is bytes row i x there is = mapped node_of (node_records bytes) i row x there is
+
+pub words_are : (bytes row : List ℕ) (i : ℕ) (x : ℕ × ℕ) → slice_get (node_records bytes) i ≡ Some row → node_row (node_of row) ≡ row → x ≡ row_words row → option_map node_words (slice_get (object_of bytes).nodes i) ≡ Some x
+words_are bytes row i x there written is = ap (option_map node_words) (node_is bytes row i (node_of row) there refl) ∙ ap (λ r. Some (row_words r)) written ∙ ap Some (sym is)
 
 pub block_is : (bytes row : List ℕ) (i : ℕ) (x : Block) → slice_get (block_records bytes) i ≡ Some row → x ≡ block_of row → slice_get (object_of bytes).blocks i ≡ Some x
 unfolding tables_read

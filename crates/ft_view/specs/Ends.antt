@@ -1,4 +1,4 @@
--- Ends of rows that rise, as the types' records tell them.
+-- Ends of rows that rise, as the types' records tell them: private to the code.
 use Rattle.std.specs.Prelude.{ℕ, ◌≤◌, List, [], ◌∷◌}
 
 -- the ends that records tell rise from this number on, up to so many rows

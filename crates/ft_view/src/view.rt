@@ -35,7 +35,8 @@ impl<'a> View<'a> {
     ghost use Rattle.std.specs.Option.{option_map};
     ghost use Rattle.std.specs.Prelude.{take};
     ghost use Rattle.ft_types.specs.Objects.{name_of};
-    ghost use Rattle.ft_format.specs.Values.{past_of, regs_end_of, queue_end_of};
+    ghost use Rattle.ft_types.specs.NodeRows.{node_row};
+    ghost use Rattle.ft_format.specs.Values.{node_of, past_of, regs_end_of, queue_end_of};
     ghost use Rattle.ft_format.specs.Fields.{cell_numbers, code_numbers, node_numbers, type_numbers, reg_numbers, pair_numbers, subst_numbers};
     ghost use Rattle.ft_format.specs.Broken.{header_at, instr_rows_of, object_of, broken};
     ghost use Rattle.ft_format.specs.Format.{Spells};
@@ -53,7 +54,7 @@ impl<'a> View<'a> {
         // What it is a view of is the object that the bytes spell, and no other.
         ensures spelled { IfOk result (λ v. Spells bytes.now (object_of v)) }
         ensures one { (o : Object) → Spells bytes.now o → IfOk result (λ v. object_of v ≡ o) }
-        // No rule is broken exactly where some object is spelled.
+        // No rule is broken exactly when some object is spelled.
         ensures exact { (broken bytes.now ≡ None) ↔ ((o : Object) × Spells bytes.now o) }
     {
         let header = judge(bytes)?;
@@ -76,6 +77,7 @@ impl<'a> View<'a> {
     fn node_record(&self, i: u32) -> NodeRow
         requires { i < (header_at self.now).nodes }
         ensures there { slice_get (node_records self.now) i ≡ Some (node_numbers result) }
+        ensures written { node_row (node_of (node_numbers result)) ≡ node_numbers result }
         ensures variable { result.kind ≡ 1 → result.a < 256 }
     {
         NodeRow::read(stretch(self.bytes, self.at.nodes + 16 * i as usize, 16))
@@ -243,6 +245,10 @@ impl<'a> Program for View<'a> {
     ghost is_code = { λ v code. code.now ≡ section_of Instrs v };
 
     ghost nodes_are = { λ v. refl };
+
+    fn node_words(&self, n: u32) -> (u64, u64) {
+        self.node_record(n).words()
+    }
 
     fn counts(&self) -> Counts {
         Counts {

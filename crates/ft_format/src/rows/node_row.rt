@@ -1,11 +1,13 @@
 //! The numbers of a node's record: kind, operation, scope, padding, and the parts a, b and c.
 ghost use Rattle.std.specs.Prelude.{◌≡◌, ◌≤◌, length, OnOk};
+ghost use Rattle.ft_types.specs.NodeRows.{row_words};
 ghost use Rattle.ft_format.specs.Layout.{numbers, written, code_layout};
 ghost use Rattle.ft_format.specs.Puts.{Puts};
 ghost use Rattle.ft_format.specs.Fields.{node_numbers};
 
 use crate::numbers::{put_u8, put_u32, read_u8, read_u32};
 use ft_isa::NoMemory;
+use ft_types::row_words;
 
 /// The numbers of a node's record: kind, operation, scope, padding, and the parts a, b and c, which are a word's
 /// upper and lower half at b and c.
@@ -43,6 +45,15 @@ impl NodeRow {
             b,
             c,
         }
+    }
+
+    /// The two halves of the record, each a big-endian number.
+    pub fn words(self) -> (u64, u64)
+        ensures { result ≡ row_words (node_numbers self) }
+    {
+        row_words(
+            self.kind, self.op, self.scope, self.pad, self.a, self.b, self.c,
+        )
     }
 
     /// Puts the record's bytes at the end. Where memory runs out, some of them may stand there.

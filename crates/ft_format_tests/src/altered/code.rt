@@ -247,9 +247,9 @@ pub(crate) const LONG_SUBSTITUTIONS: &[Row] = &[
 pub(crate) const SUBSTITUTION_ROWS: &[Row] = &[
     ("no node", &[(363, 3)], ObjectError::Index { at: 360 }),
     ("a memory", &[(363, 0)], ObjectError::Kind { at: 360 }),
-    ("nobody's", &[(275, 0)], ObjectError::Order { at: 360 }),
+    ("of none", &[(275, 0)], ObjectError::Order { at: 360 }),
     (
-        "nobody's, before its other rules",
+        "of none, before its other rules",
         &[(275, 0), (363, 3)],
         ObjectError::Order { at: 360 },
     ),

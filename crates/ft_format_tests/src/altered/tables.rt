@@ -321,9 +321,9 @@ pub(crate) const REGISTER_ROWS: &[Row] = &[
         &[(115, 2)],
         ObjectError::Index { at: 152 },
     ),
-    ("nobody's", &[(131, 1)], ObjectError::Order { at: 156 }),
+    ("of none", &[(131, 1)], ObjectError::Order { at: 156 }),
     (
-        "nobody's, before its other rules",
+        "of none, before its other rules",
         &[(131, 1), (156, 64)],
         ObjectError::Order { at: 156 },
     ),
@@ -362,7 +362,7 @@ pub(crate) const QUEUE_ROWS: &[Row] = &[
         ObjectError::Index { at: 172 },
     ),
     (
-        "nobody's, before its other rules",
+        "of none, before its other rules",
         &[(27, 1), (31, 1)],
         ObjectError::Order { at: 168 },
     ),
@@ -373,5 +373,5 @@ pub(crate) const NAMES: &[Row] = &[
     ("first byte", &[(364, 48)], ObjectError::Name { at: 364 }),
     ("second byte", &[(365, 45)], ObjectError::Name { at: 365 }),
     ("last byte", &[(366, 32)], ObjectError::Name { at: 366 }),
-    ("nobody's byte", &[(51, 2)], ObjectError::Order { at: 366 }),
+    ("a byte of none", &[(51, 2)], ObjectError::Order { at: 366 }),
 ];

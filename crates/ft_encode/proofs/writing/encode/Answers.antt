@@ -3,9 +3,10 @@ use Rattle.std.specs.List.{sum_by}
 use Rattle.std.proofs.lemmas.List.Sums.{sum_by-le}
 use Rattle.ft_types.specs.declared.object.Cell.{Cell}
 use Rattle.ft_types.specs.Objects.{name_of, regs_of, queue_of}
+use Rattle.ft_types.specs.NodeRows.{node_row}
 use Rattle.ft_format.specs.Puts.{Puts}
 use Rattle.ft_format.specs.Layout.{written, spelled, header_layout, cell_layout, code_layout, type_layout, reg_layout, pair_layout, subst_layout}
-use Rattle.ft_format.specs.Rows.{header_row, cell_rows, node_row, type_rows, reg_row, queue_row, block_row, instr_row, subst_row, all_regs, all_queue, all_names, spelling}
+use Rattle.ft_format.specs.Rows.{header_row, cell_rows, type_rows, reg_row, queue_row, block_row, instr_row, subst_row, all_regs, all_queue, all_names, spelling}
 use Rattle.ft_encode.proofs.Puts.{spelled_map, spelled_parts}
 use Rattle.ft_format.specs.Format.{Spells}
 use Rattle.ft_format.proofs.Write.{spells_unbroken, spells_read, spells_apart}

@@ -1,4 +1,4 @@
-use Rattle.std.proofs.Common.{◌≡◌, sym, ap, ◌∙◌}
+use Rattle.std.proofs.Common.{sym, ap, ◌∙◌}
 use Rattle.ft_format.specs.Values.{register_of}
 use Rattle.ft_format.proofs.Codes.{register_back}
 use Rattle.ft_records.proofs.parts.register.Goals as goal

@@ -1,0 +1,49 @@
+-- The numbers that stand for a node, and the two words that they make.
+use Rattle.std.specs.Prelude.{ℕ, ◌+◌, ◌*◌, ◌/◌, ◌%◌, ◌^◌, List, [], ◌∷◌}
+use Rattle.ft_isa.specs.declared.op.Op.{Op}
+use Rattle.ft_isa.specs.declared.op.Op.TheVariants.{Add, Sub, Mul, Ltu, Eq}
+use Rattle.ft_static.specs.declared.node.Node.{Node}
+use Rattle.ft_static.specs.declared.node.Shape.{Shape}
+use Rattle.ft_static.specs.declared.node.Shape.TheVariants.{Word, Var, Op as OpNode, Sel, Memory, Upd}
+
+-- the code of an operation
+abbrev pub op_code : Op → ℕ
+op_code Add = 0
+op_code Sub = 1
+op_code Mul = 2
+op_code Ltu = 3
+op_code Eq = 4
+
+-- the upper four bytes of a word
+abbrev pub high_half : ℕ → ℕ
+high_half w = w / 2 ^ 32
+
+-- the lower four bytes of a word
+abbrev pub low_half : ℕ → ℕ
+low_half w = w % 2 ^ 32
+
+-- a word, by its two halves
+abbrev pub joined : ℕ → ℕ → ℕ
+joined high low = high * 2 ^ 32 + low
+
+-- a node, by its scope and its shape
+abbrev pub shape_row : ℕ → Shape → List ℕ
+shape_row scope (Word w) = 0 ∷ 0 ∷ scope ∷ 0 ∷ 0 ∷ high_half w ∷ low_half w ∷ []
+shape_row scope (Var i) = 1 ∷ 0 ∷ scope ∷ 0 ∷ i ∷ 0 ∷ 0 ∷ []
+shape_row scope (OpNode op a b) = 2 ∷ op_code op ∷ scope ∷ 0 ∷ a ∷ b ∷ 0 ∷ []
+shape_row scope (Sel memory at) = 3 ∷ 0 ∷ scope ∷ 0 ∷ memory ∷ at ∷ 0 ∷ []
+shape_row scope Memory = 4 ∷ 0 ∷ scope ∷ 0 ∷ 0 ∷ 0 ∷ 0 ∷ []
+shape_row scope (Upd memory at value) = 5 ∷ 0 ∷ scope ∷ 0 ∷ memory ∷ at ∷ value ∷ []
+
+-- a node
+abbrev pub node_row : Node → List ℕ
+node_row n = shape_row n.scope n.shape
+
+-- the two words of a record with these numbers: kind, operation, scope, padding and a; then b and c
+abbrev pub row_words : List ℕ → ℕ × ℕ
+row_words (kind ∷ op ∷ scope ∷ pad ∷ a ∷ b ∷ c ∷ []) = (joined (kind * 2 ^ 24 + op * 2 ^ 16 + scope * 2 ^ 8 + pad) a, joined b c)
+row_words _ = (0, 0)
+
+-- a node as two words
+abbrev pub node_words : Node → ℕ × ℕ
+node_words n = row_words (node_row n)
