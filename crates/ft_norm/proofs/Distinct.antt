@@ -28,7 +28,7 @@ same_term : (x y : Term) → (term.ghosts).eq x y ≡ true → parts x ≡ parts
 same_term x y h = let t = both _ _ h in rw (same_factors x.factors.value.items y.factors.value.items t.0, (Decides-eqb x.coefficient y.coefficient).0 t.1) refl
 
 -- so do equal lists of them
-same_terms : (xs ys : List Term) → pointwise (term.ghosts).eq xs ys ≡ true → map parts xs ≡ map parts ys
+pub same_terms : (xs ys : List Term) → pointwise (term.ghosts).eq xs ys ≡ true → map parts xs ≡ map parts ys
 same_terms [] [] h = refl
 same_terms [] (y ∷ ys) h = absurd (true≢false (sym h))
 same_terms (x ∷ xs) [] h = absurd (true≢false (sym h))
@@ -57,7 +57,7 @@ term_equal x y e =
     rw (q, (Decides-eqb x.coefficient y.coefficient).1 c) refl
 
 -- so are lists of them
-terms_equal : (xs ys : List Term) → map parts xs ≡ map parts ys → pointwise (term.ghosts).eq xs ys ≡ true
+pub terms_equal : (xs ys : List Term) → map parts xs ≡ map parts ys → pointwise (term.ghosts).eq xs ys ≡ true
 terms_equal [] [] e = refl
 terms_equal [] (y ∷ ys) e = cc
 terms_equal (x ∷ xs) [] e = cc

@@ -14,4 +14,5 @@ pub mod Same
 pub mod Paths
 pub mod Made
 mod Distinct
+pub mod Apart
 pub mod Memos

@@ -2,8 +2,8 @@
 use Rattle.std.proofs.Common.{ℕ, ◌≡◌, ◌+◌, ◌*◌, ◌<◌, ◌≤◌, min, List, [], ◌∷◌, refl, sym, ap, ◌∙◌, subst, arith, Bool, not, ◌==◌, if◌then◌else◌, nat_le, true, false, ◌&&◌, inl, inr, Option, Some, None, length, ◌^◌}
 use Rattle.std.proofs.Math.Nat.{mod-eq_of_lt}
 use Rattle.std.proofs.lemmas.Bool.{and_parts, cases_lt, le-leb, leb-true, lt-leb}
-use Rattle.ft_static.specs.Form.{Form as Normal, Monomial, Polynomial, factors, nought, one, plus, times, sum_atom, terms}
-use Rattle.ft_static.specs.NormalForm.{alone, constant_of, is_not_zero, negation, norm_add, norm_sub, total}
+use Rattle.ft_static.specs.Form.{Form as Normal, Monomial, Polynomial, factors, nought, one, plus, times, product_atom, sum_atom, terms}
+use Rattle.ft_static.specs.NormalForm.{add_products, alone, constant_of, degree, negation, norm_add, norm_mul, norm_sub, total}
 use Rattle.ft_static.proofs.Cases.{if_cases}
 use Rattle.ft_norm.specs.declared.entry.Factor.{Factor}
 use Rattle.ft_norm.specs.declared.entry.Term.{Term}
@@ -50,12 +50,8 @@ large_is_none (plus one c (plus n d p)) e = refl
 large_is_none (plus (times a m) c p) e = refl
 
 -- so a sum is the constant that its form is, also beyond the limit
-constant_sum : (p q : Polynomial) → constant_of (total p q) ≡ constant_of (norm_add p q)
+pub constant_sum : (p q : Polynomial) → constant_of (total p q) ≡ constant_of (norm_add p q)
 constant_sum p q = if_cases (λ r. constant_of (total p q) ≡ constant_of r) (nat_le (terms (total p q)) 64) (total p q) (alone (sum_atom p q)) (λ e. refl) (λ e. large_is_none (total p q) e)
-
--- so the difference tells whether two addresses are known to differ
-known_apart : (s p a : Polynomial) (o : Option ℕ) → s ≡ total p (negation a) → o ≡ constant_of s → is_not_zero o ≡ is_not_zero (constant_of (norm_sub p a))
-known_apart s p a o e f = ap is_not_zero (f ∙ (ap constant_of e ∙ constant_sum p (negation a)))
 
 -- no factor
 pub no_factor : (fs : List Normal) (xs : List Factor) (c : ℕ) → length xs ≡ 0 → c < 2 ^ 64 → Some c ≡ constant_of (plus (monomial_form fs xs) c nought)
@@ -113,17 +109,14 @@ product_count fs p q t d n o w h k l =
     let v : length p * length q ≤ 64 = rw (terms_over fs p o, terms_over fs q w) at u in
     omega (arith, l, v)
 
--- whether a number is not 0
-pub not_zero : (c : ℕ) → not (c == 0) ≡ is_not_zero (Some c)
-not_zero c = go (c == 0)
-  where
-    go : (b : Bool) → not b ≡ (if b then false else true)
-    go true = refl
-    go false = refl
+-- a product beyond the limits
+pub product_large : (a b x y : Polynomial) (t : Bool) → t ≡ (nat_le (terms x * terms y) 64 && nat_le (degree x + degree y) 4) → t ≡ false → x ≡ a → y ≡ b → alone (product_atom a b) ≡ norm_mul a b
+product_large a b x y t h k e f =
+    let n : (nat_le (terms a * terms b) 64 && nat_le (degree a + degree b) 4) ≡ false = rw (sym e, sym f) (sym h ∙ k) in
+    rw n refl
 
--- the terms of a difference tell whether two addresses are known to differ
-pub difference_tells : (fs : List Normal) (ts us : List Term) (x y p a : Polynomial) (o : Option ℕ) → AreOver fs ts → us ≡ ts → ((gs : List Normal) → AreOver gs us → o ≡ constant_of (polynomial_form gs us))
-    → polynomial_form fs ts ≡ total x (negation y) → x ≡ p → y ≡ a → is_not_zero o ≡ is_not_zero (constant_of (norm_sub p a))
-difference_tells fs ts us x y p a o w u e v f g =
-    let P : List Term → Type 0 = λ zs. (gs : List Normal) → AreOver gs zs → o ≡ constant_of (polynomial_form gs zs) in
-    known_apart (polynomial_form fs ts) p a o (v ∙ (ap (λ z. total z (negation y)) f ∙ ap (λ z. total p (negation z)) g)) (subst P u e fs w)
+-- and one within them
+pub product_small : (a b x y s : Polynomial) (t : Bool) → t ≡ (nat_le (terms x * terms y) 64 && nat_le (degree x + degree y) 4) → t ≡ true → x ≡ a → y ≡ b → s ≡ add_products x y nought → s ≡ norm_mul a b
+product_small a b x y s t h k e f v =
+    let n : (nat_le (terms a * terms b) 64 && nat_le (degree a + degree b) 4) ≡ true = rw (sym e, sym f) (sym h ∙ k) in
+    rw n (v ∙ (ap (λ z. add_products z y nought) e ∙ ap (λ z. add_products a z nought) f))

@@ -7,7 +7,7 @@ slice_get-append [] ys k l = absurd (omega arith)
 slice_get-append (x ∷ xs) ys zero l = refl
 slice_get-append (x ∷ xs) ys (suc k) l = slice_get-append xs ys k (omega arith)
 
--- the new one stands at the end
+-- the new one is the last
 pub slice_get-push : {A : Type 0} (xs : List A) (y : A) (k : ℕ) → k ≡ length xs → slice_get (xs ++ y ∷ []) k ≡ Some y
 slice_get-push [] y zero e = refl
 slice_get-push [] y (suc k) e = absurd (omega arith)

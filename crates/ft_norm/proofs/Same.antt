@@ -11,7 +11,7 @@ use Rattle.ft_norm.specs.declared.form.Form.{Form}
 use Rattle.ft_norm.specs.Held.{IsHeld, held, polynomial, updates_held}
 use Rattle.ft_norm.specs.Entries.{AreEntries, IsDistinct, forms_of}
 
--- numbers are equal exactly where the forms are
+-- numbers are equal exactly when the forms are
 pub one_number : (es : List Entry) (fs : List Normal) (a b : Form) → AreEntries es → forms_of es ≡ fs → IsHeld fs a → IsTrue (a.0 == b.0) ↔ (held fs a ≡ held fs b)
 one_number es fs a b h v i = (
   λ t. ap (λ k. held fs (record { 0 = k })) ((Decides-eqb a.0 b.0).0 t),

@@ -104,7 +104,7 @@ gives fs k [] = 0
 gives fs k (t ∷ ts) = share k (monomial_form fs t.factors.value.items) t.coefficient + gives fs k ts
 
 -- it gets the same of their polynomial
-weigh_form : (fs : List Form) (k : Monomial) (ts : List Term) → weigh (share k) (polynomial_form fs ts) % 2 ^ 64 ≡ gives fs k ts % 2 ^ 64
+pub weigh_form : (fs : List Form) (k : Monomial) (ts : List Term) → weigh (share k) (polynomial_form fs ts) % 2 ^ 64 ≡ gives fs k ts % 2 ^ 64
 weigh_form fs k [] = refl
 weigh_form fs k (t ∷ ts) =
     let m = monomial_form fs t.factors.value.items in
@@ -175,7 +175,7 @@ module _ (fs : List Form) (d : IsDistinct fs) where
       (misses_form xs ts h a k.4 (omega arith) (precedes_through xs t.factors.value.items ts p k.3))
 
   -- nor does it get anything of them
-  gives_none : (xs : List Factor) (ts : List Term) → AreOrdered xs → reach_of_factors fs xs ≤ length fs → AreTerms ts → reach_of_terms fs ts ≤ length fs → Precedes xs ts → gives fs (monomial_form fs xs) ts ≡ 0
+  pub gives_none : (xs : List Factor) (ts : List Term) → AreOrdered xs → reach_of_factors fs xs ≤ length fs → AreTerms ts → reach_of_terms fs ts ≤ length fs → Precedes xs ts → gives fs (monomial_form fs xs) ts ≡ 0
   gives_none xs [] h a k b p = refl
   gives_none xs (t ∷ ts) h a k b p =
       let x = share_other (monomial_form fs xs) (monomial_form fs t.factors.value.items) t.coefficient (monomials_apart xs t.factors.value.items h k.0 a (omega arith) p) in
@@ -216,7 +216,7 @@ module _ (fs : List Form) (d : IsDistinct fs) where
   one_polynomial ts us h k a b e = same_gives ts us h k a b (λ q. sym (weigh_form fs q ts) ∙ (ap (λ p. weigh (share q) p % 2 ^ 64) e ∙ weigh_form fs q us))
 
 -- the terms after the first
-rest_over : (fs : List Form) (t : Term) (ts : List Term) → AreOver fs (t ∷ ts) → AreOver fs ts
+pub rest_over : (fs : List Form) (t : Term) (ts : List Term) → AreOver fs (t ∷ ts) → AreOver fs ts
 rest_over fs t ts h = record { terms = h.terms.4; distinct = h.distinct; reach = let r = h.reach in omega (arith, r) }
 
 -- the first monomial is not among those after it

@@ -187,7 +187,7 @@ weigh_below k nought h b = refl
 weigh_below k (plus n d p) h b = rw (b, zero-add) (weigh_below k p h.3 (below_more k n p b h.2))
 
 -- what the first monomial gets
-weigh_first : (m : Monomial) (c : ℕ) (p : Polynomial) → Rises (plus m c p) → weigh (share m) (plus m c p) ≡ c
+pub weigh_first : (m : Monomial) (c : ℕ) (p : Polynomial) → Rises (plus m c p) → weigh (share m) (plus m c p) ≡ c
 weigh_first m c p h = rw (tied_itself cmp_monomial_total m, weigh_below m p h.3 h.2) (omega arith)
 
 -- a number equal to another one modulo 2^64 is that one

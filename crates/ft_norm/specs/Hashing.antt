@@ -1,4 +1,4 @@
--- What the hasher of the table computes.
+-- What the hasher of the table computes: private to the code.
 use Rattle.std.specs.Prelude.{ℕ, List, ◌==◌, if◌then◌else◌, bit_xor, length}
 use Rattle.std.specs.Int.{from_le_bytes, w64}
 use Rattle.std.specs.List.{fold}

@@ -1,4 +1,4 @@
--- The parts of a node, by the forms that were made of them.
+-- The parts of a node, by the forms that were made of them: private to the code.
 use Rattle.std.specs.Prelude.{ℕ, ◌≡◌, ◌⊎◌, nat_eq, List, Some, slice_index_or}
 use Rattle.indexmap.specs.IndexMap.{IndexMap, get}
 use Rattle.ft_static.specs.Form.{Form as Normal, Polynomial, Updates, integer_form, memory_form, nought, updates}

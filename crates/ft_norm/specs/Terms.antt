@@ -1,5 +1,5 @@
--- Places of factors and terms, and what the functions on terms know of them.
-use Rattle.std.specs.Prelude.{ℕ, ◌+◌, ◌<◌, ◌≤◌, ◌≡◌, ◌≢◌, List, length, slice_index_or}
+-- Places of factors and terms, and what the functions on terms know of them: private to the code.
+use Rattle.std.specs.Prelude.{ℕ, ◌+◌, ◌<◌, ◌≤◌, ◌≡◌, ◌≢◌, List, [], ◌∷◌, length, slice_index_or}
 use Rattle.std.specs.declared.cmp.Ordering.TheVariants.{Less, Greater}
 use Rattle.ft_static.specs.Form.{Form}
 use Rattle.ft_norm.specs.declared.entry.Factor.{Factor}
@@ -29,3 +29,23 @@ pub record AreOver (fs : List Form) (ts : List Term) : Type 0 where
   pub terms : AreTerms ts
   pub distinct : IsDistinct fs
   pub reach : reach_of_terms fs ts ≤ length fs
+
+-- the coefficient of a term of these factors, if there is none
+abbrev pub constant_with : List Factor → ℕ → ℕ
+constant_with [] c = c
+constant_with (x ∷ xs) c = 0
+
+-- the constant among terms in order: it comes first
+abbrev pub constant_among : List Term → ℕ
+constant_among [] = 0
+constant_among (t ∷ ts) = constant_with t.factors.value.items t.coefficient
+
+-- terms after one of these factors if it is a constant, and otherwise all terms
+abbrev pub others_with : List Factor → List Term → List Term → List Term
+others_with [] ts us = ts
+others_with (x ∷ xs) ts us = us
+
+-- terms in order without the constant among them
+abbrev pub others : List Term → List Term
+others [] = []
+others (t ∷ ts) = others_with t.factors.value.items ts (t ∷ ts)

@@ -15,6 +15,7 @@ ghost use Rattle.ft_norm.specs.Terms.{AreOver};
 use crate::entry::{Entry, Factor, MONOMIALS, Term, entry_of, is_word, terms_at};
 use crate::form::Form;
 use crate::keys::Keys;
+use crate::monomials::Monomials;
 use crate::product::{is_small, product_terms};
 use crate::substitution::Memo;
 use crate::sum::{difference_terms, negated_terms, sum_terms};
@@ -41,6 +42,8 @@ pub struct Interner {
     entries: IndexSet<Entry, Keys>,
     /// Where a word may be among the entries, by its remainder. It is looked at before the table.
     recent: [usize; RECENT],
+    /// Monomials whose factors new products share.
+    monomials: Monomials,
 }
 
 impl Model for Interner {
@@ -72,10 +75,12 @@ impl Interner {
     pub fn keyed(alloc: Global, first: u64, second: u64) -> Result<Interner, NoMemory>
         ensures { IfOk result (λ s. s ≡ []) }
     {
+        let keys = Keys::new(first, second);
         Ok(Interner {
             alloc,
-            entries: IndexSet::with_hasher(alloc, Keys::new(first, second)),
+            entries: IndexSet::with_hasher(alloc, keys),
             recent: [0; RECENT],
+            monomials: Monomials::new(alloc, keys),
         })
     }
 
@@ -148,7 +153,7 @@ impl Interner {
         ensures sort { IfOk result (λ f. IsInteger self.new f) }
         ensures steps { steps.new ≤ steps.old + updates (updates_held self.old memory) }
     {
-        let form = match walk_from(self.alloc, self.entries.as_slice(), memory.0, at.0, steps)? {
+        let form = match walk_from(self.entries.as_slice(), memory.0, at.0, steps) {
             Walk::Value(value) => Form(value),
             Walk::Stop(older) => self.alone(Factor::Sel(older, at.0))?,
         };
@@ -336,12 +341,12 @@ impl Interner {
         ensures kept { Keeps self.old self.new }
         ensures form { IfOk result (λ f. held self.new f ≡ Some (integer_form (norm_mul (polynomial self.old a) (polynomial self.old b)))) }
     {
-        let p = self.terms(a);
-        let q = self.terms(b);
+        let p = terms_at(self.entries.as_slice(), a.0);
+        let q = terms_at(self.entries.as_slice(), b.0);
         if !is_small(p, q) {
             return self.alone(Factor::Product(a.0, b.0));
         }
-        let product = product_terms(self.alloc, p, q)?;
+        let product = product_terms(self.alloc, &mut self.monomials, p, q)?;
         self.integer(product)
     }
 

@@ -11,6 +11,7 @@ mod entry;
 mod form;
 mod interner;
 mod keys;
+mod monomials;
 mod parts;
 mod product;
 mod substitution;

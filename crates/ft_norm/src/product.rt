@@ -7,11 +7,11 @@ ghost use Rattle.ft_norm.specs.Orders.{AreOrdered, AreTerms, cmp_factor};
 ghost use Rattle.ft_norm.specs.Terms.{AreOver, IsFactorPlace};
 
 use crate::entry::{ATOMS, Factor, Factors, MONOMIALS, Term};
+use crate::monomials::{FactorList, Monomials};
 use crate::sum::add_term;
 use smallvec::SmallVec;
 use std::alloc::{AllocError, Global};
 use std::cmp::Ordering;
-use std::rc::Rc;
 
 /// Whether `a` may stand before `b`.
 fn may_precede(a: Factor, b: Factor) -> bool
@@ -33,24 +33,28 @@ fn place_of_factor(factors: &[Factor], a: Factor) -> usize
     factors.len()
 }
 
-/// The factors of the product of two monomials, in a list of their own.
-fn merged(alloc: Global, m: &[Factor], n: &[Factor]) -> Result<Factors, AllocError>
+/// The factors of the product of two monomials.
+fn merged(
+    alloc: Global,
+    known: &mut Monomials,
+    m: &[Factor],
+    n: &[Factor],
+) -> Result<Factors, AllocError>
     requires { AreOrdered n.now }
     ensures value { IfOk result (λ v. (fs : List Normal) → monomial_form fs v.value.items ≡ join (monomial_form fs m.now) (monomial_form fs n.now)) }
     ensures ordered { IfOk result (λ v. AreOrdered v.value.items) }
     ensures reach { IfOk result (λ v. (fs : List Normal) (k : ℕ) → reach_of_factors fs m.now ≤ k → reach_of_factors fs n.now ≤ k → reach_of_factors fs v.value.items ≤ k) }
 {
-    let mut product: SmallVec<Factor, 1> = SmallVec::from_slice(alloc, n)?;
+    let mut product: FactorList = SmallVec::from_slice(alloc, n)?;
     for i in 0..m.len() {
         let place = place_of_factor(product.as_slice(), m[i]);
         product.insert(place, m[i])?;
     }
-    let shared = Rc::new(alloc, product)?;
-    Ok(shared)
+    known.shared(product)
 }
 
 /// The factors of the product of two terms. They are shared where one of the two is a constant.
-fn joined(alloc: Global, t: &Term, u: &Term) -> Result<Factors, AllocError>
+fn joined(alloc: Global, known: &mut Monomials, t: &Term, u: &Term) -> Result<Factors, AllocError>
     requires first { AreOrdered t.now.factors.value.items }
     requires second { AreOrdered u.now.factors.value.items }
     ensures value { IfOk result (λ v. (fs : List Normal) → monomial_form fs v.value.items ≡ join (monomial_form fs t.now.factors.value.items) (monomial_form fs u.now.factors.value.items)) }
@@ -67,13 +71,14 @@ fn joined(alloc: Global, t: &Term, u: &Term) -> Result<Factors, AllocError>
         let factors = t.factors.clone()?;
         return Ok(factors);
     }
-    let factors = merged(alloc, m, n)?;
+    let factors = merged(alloc, known, m, n)?;
     Ok(factors)
 }
 
 /// Adds the product of `t` and each of `terms` to `sum`.
 fn add_multiple(
     alloc: Global,
+    known: &mut Monomials,
     sum: &mut Vec<Term>,
     t: &Term,
     terms: &[Term],
@@ -87,14 +92,19 @@ fn add_multiple(
     ensures count { length sum.new.items ≤ length sum.old.items + length terms.now }
 {
     for u in terms {
-        let factors = joined(alloc, t, u)?;
+        let factors = joined(alloc, known, t, u)?;
         add_term(sum, factors, t.coefficient.wrapping_mul(u.coefficient))?;
     }
     Ok(())
 }
 
 /// The terms of the product of two polynomials.
-pub fn product_terms(alloc: Global, p: &[Term], q: &[Term]) -> Result<Vec<Term>, AllocError>
+pub fn product_terms(
+    alloc: Global,
+    known: &mut Monomials,
+    p: &[Term],
+    q: &[Term],
+) -> Result<Vec<Term>, AllocError>
     requires first { AreTerms p.now }
     requires second { AreTerms q.now }
     ensures value { IfOk result (λ v. (fs : List Normal) → polynomial_form fs v.items ≡ add_products (polynomial_form fs p.now) (polynomial_form fs q.now) nought) }
@@ -104,7 +114,7 @@ pub fn product_terms(alloc: Global, p: &[Term], q: &[Term]) -> Result<Vec<Term>,
 {
     let mut sum = Vec::new(alloc);
     for t in p {
-        add_multiple(alloc, &mut sum, t, q)?;
+        add_multiple(alloc, known, &mut sum, t, q)?;
     }
     Ok(sum)
 }

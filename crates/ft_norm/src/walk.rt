@@ -1,16 +1,14 @@
 //! Constants, and the walk of `sel`.
-ghost use Rattle.std.specs.Prelude.{◌≡◌, ◌+◌, ◌<◌, ◌≤◌, List, length, IfOk};
+ghost use Rattle.std.specs.Prelude.{◌≡◌, ◌+◌, ◌<◌, ◌≤◌, List, length};
 ghost use Rattle.ft_static.specs.Form.{Form as Normal, Polynomial, nought, plus, update, updates};
 ghost use Rattle.ft_static.specs.NormalForm.{constant_of, is_not_zero, norm_sel, norm_sub, norm_upd};
 ghost use Rattle.ft_norm.specs.Held.{polynomial_at, updates_at};
 ghost use Rattle.ft_norm.specs.Entries.{AreEntries, IsIntegerAt, IsMemoryAt, forms_of, memory_reach, monomial_form, polynomial_form};
-ghost use Rattle.ft_norm.specs.Terms.{AreOver};
+ghost use Rattle.ft_norm.specs.Terms.{AreOver, constant_among, others};
 ghost use Rattle.ft_norm.specs.Walks.{EndsWithin, form_of_walk};
 
 use crate::entry::{Entry, Factor, Term, terms_at};
-use crate::sum::difference_terms;
 use ft_steps::Steps;
-use std::alloc::{AllocError, Global};
 use std::sync::ledger::Ledger;
 
 /// Where a walk ends: at the value of an update, or at the entry from which nothing more is known.
@@ -42,46 +40,72 @@ pub fn constant_in(terms: &[Term]) -> Option<u64>
     }
 }
 
+/// The constant among these terms.
+fn constant_among(terms: &[Term]) -> u64
+    ensures { result ≡ constant_among terms.now }
+{
+    match terms {
+        [first, ..] if first.list().is_empty() => first.coefficient,
+        _ => 0,
+    }
+}
+
+/// These terms without the constant among them.
+fn others(terms: &[Term]) -> &[Term]
+    ensures { result.now ≡ others terms.now }
+{
+    match terms {
+        [first, others @ ..] if first.list().is_empty() => others,
+        _ => terms,
+    }
+}
+
+/// Whether two polynomials differ by a constant other than 0: their other terms are the same, and their
+/// constants are not.
+fn are_apart(p: &[Term], q: &[Term]) -> bool
+    ensures { (fs : List Normal) → AreOver fs p.now → AreOver fs q.now → result ≡ is_not_zero (constant_of (norm_sub (polynomial_form fs p.now) (polynomial_form fs q.now))) }
+{
+    if constant_among(p) == constant_among(q) {
+        return false;
+    }
+    others(p) == others(q)
+}
+
 /// Whether `p` less `a` is a constant other than 0.
-fn differs(alloc: Global, entries: &[Entry], p: usize, a: usize) -> Result<bool, AllocError>
+fn differs(entries: &[Entry], p: usize, a: usize) -> bool
     requires first { p < length entries.now }
     requires second { a < length entries.now }
     requires entries { AreEntries entries.now }
-    ensures { IfOk result (λ b. b ≡ is_not_zero (constant_of (norm_sub (polynomial_at (forms_of entries.now) p) (polynomial_at (forms_of entries.now) a)))) }
+    ensures { result ≡ is_not_zero (constant_of (norm_sub (polynomial_at (forms_of entries.now) p) (polynomial_at (forms_of entries.now) a))) }
 {
-    let difference = difference_terms(alloc, terms_at(entries, p), terms_at(entries, a))?;
-    match constant_in(&difference) {
-        Some(c) => Ok(c != 0),
-        None => Ok(false),
-    }
+    are_apart(terms_at(entries, p), terms_at(entries, a))
 }
 
 /// Walks from the newest update of `memory` to the one that is known to have the address `p`, past
 /// updates whose addresses are known to differ from it. It counts a step for each update passed.
 pub fn walk_from<L: Ledger>(
-    alloc: Global,
     entries: &[Entry],
     memory: usize,
     p: usize,
     steps: &mut Steps<L>,
-) -> Result<Walk, AllocError>
+) -> Walk
     requires memory { IsMemoryAt (forms_of entries.now) memory }
     requires at { IsIntegerAt (forms_of entries.now) p }
     requires entries { AreEntries entries.now }
-    ensures ends { IfOk result (λ w. EndsWithin (forms_of entries.now) w) }
-    ensures form { IfOk result (λ w. form_of_walk (forms_of entries.now) p w ≡ norm_sel (updates_at (forms_of entries.now) memory) (polynomial_at (forms_of entries.now) p)) }
+    ensures ends { EndsWithin (forms_of entries.now) result }
+    ensures form { form_of_walk (forms_of entries.now) p result ≡ norm_sel (updates_at (forms_of entries.now) memory) (polynomial_at (forms_of entries.now) p) }
     ensures steps { steps.new ≤ steps.old + updates (updates_at (forms_of entries.now) memory) }
 {
     let mut m = memory;
     loop {
         let Entry::Update { at, value, older } = &entries[m] else {
-            return Ok(Walk::Stop(m));
+            return Walk::Stop(m);
         };
         if *at == p {
-            return Ok(Walk::Value(*value));
+            return Walk::Value(*value);
         }
-        if !differs(alloc, entries, p, *at)? {
-            return Ok(Walk::Stop(m));
+        if !differs(entries, p, *at) {
+            return Walk::Stop(m);
         }
         steps.tick();
         m = *older;

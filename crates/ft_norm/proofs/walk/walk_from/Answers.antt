@@ -39,18 +39,15 @@ differs-requires-clause-second g c =
     let es = c.args.entries.now in
     integer_bound es c.in-Update.at (link_address es c.loop-m.m c.index-entries-m.result c.in-Update.at c.in-Update.value c.in-Update.older c.requires.entries.earlier c.loop-m.invariant.bound c.index-entries-m.is c.in-Update.is)
 
-pub returns-in_err-differs-clause-steps : goal.returns-in_err-differs-clause-steps
-returns-in_err-differs-clause-steps g c = omega (arith, c.loop-m.invariant.steps)
-
-pub returns-then-not-branch : goal.returns-then-not-branch
-returns-then-not-branch g c =
+pub returns-then-not-differs : goal.returns-then-not-differs
+returns-then-not-differs g c =
     let es = c.args.entries.now in
     let l = c.loop-m.invariant.bound in
     let a = link es c.loop-m.m c.index-entries-m.result c.in-Update.at c.in-Update.value c.in-Update.older c.requires.entries.earlier l c.index-entries-m.is c.in-Update.is in
     let f = address_differs es c.loop-m.m c.index-entries-m.result c.in-Update.at c.in-Update.value c.in-Update.older c.args.p c.requires.entries l c.index-entries-m.is c.in-Update.is c.requires.at c.if-at-p.false in
     record {
       ends = c.loop-m.invariant.sort;
-      form = walk_stop _ _ _ _ _ _ c.in_ok-differs.field-0 a refl f c.in_ok-differs.ensures c.if-not-branch.true ∙ c.loop-m.invariant.form;
+      form = walk_stop _ _ _ _ _ _ c.differs.result a refl f c.differs.ensures c.if-not-differs.true ∙ c.loop-m.invariant.form;
       steps = omega (arith, c.loop-m.invariant.steps);
     }
 
@@ -65,7 +62,7 @@ loop-m-preserved g c =
     record {
       bound = omega (arith, l, r);
       sort = older_reach es c.loop-m.m c.index-entries-m.result c.in-Update.at c.in-Update.value c.in-Update.older c.requires.entries l c.index-entries-m.is c.in-Update.is;
-      form = walk_on _ _ _ _ _ _ c.in_ok-differs.field-0 a refl f c.in_ok-differs.ensures c.if-not-branch.false ∙ c.loop-m.invariant.form;
+      form = walk_on _ _ _ _ _ _ c.differs.result a refl f c.differs.ensures c.if-not-differs.false ∙ c.loop-m.invariant.form;
       steps = omega (arith, c.loop-m.invariant.steps, n, c.tick.ensures);
     }
 

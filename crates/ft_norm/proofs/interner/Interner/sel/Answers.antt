@@ -14,6 +14,6 @@ pub alone-requires : goal.alone-requires
 alone-requires g c =
     let y = integer_within c.args.self.now c.args.at _ c.requires.address.found in
     let v : forms_of c.as_slice.result.now ≡ c.args.self.now = ap forms_of c.as_slice.ensures.keys ∙ c.self.view_is in
-    let e : EndsWithin c.args.self.now c.in_ok-value.field-0 = rw v at c.in_ok-value.ensures.ends in
+    let e : EndsWithin c.args.self.now c.walk_from.result = rw v at c.walk_from.ensures.ends in
     let w : memory_reach c.args.self.now c.in-Stop.older ≤ length c.args.self.now = rw c.in-Stop.is at e in
     omega (arith, w, y)
