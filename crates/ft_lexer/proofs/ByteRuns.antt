@@ -5,7 +5,7 @@ use Rattle.std.proofs.Math.Seq.{take-suc}
 use Rattle.ft_lexer.specs.Numeral.{numeral}
 use Rattle.ft_lexer.specs.Bytes.{is_name_byte, is_digit}
 use Rattle.ft_lexer.specs.Ends.{EndsName, EndsNumber}
-use Rattle.ft_lexer.specs.Scan.{scan_from, name, number, in_name, ends, begins, fault}
+use Rattle.ft_lexer.specs.Scan.{scan_from, name, number, in_name, ends, begins, wrong}
 use Rattle.ft_lexer.specs.declared.lex_error.LexError.TheVariants.{Byte}
 
 -- lists that are taken and dropped, one further
@@ -61,15 +61,15 @@ numeral_grows n (d ∷ ds) = omega (arith, numeral_grows (n * 10 + (d - 48)) ds)
 pub numeral_step : (text : List ℕ) (i n : ℕ) → i < length text → numeral n (drop i text) ≡ numeral (n * 10 + (get_or text i 0 - 48)) (drop (i + 1) text)
 numeral_step text i n h = ap (numeral n) (next_drop text i h)
 
-one_long : (start at : ℕ) (t : List ℕ) (b : ℕ) (bs : List ℕ) → length t ≡ 32 → is_name_byte b ≡ true → scan_from (name start t) at (b ∷ bs) ≡ fault (Byte at)
+one_long : (start at : ℕ) (t : List ℕ) (b : ℕ) (bs : List ℕ) → length t ≡ 32 → is_name_byte b ≡ true → scan_from (name start t) at (b ∷ bs) ≡ wrong (Byte at)
 one_long start at t b bs h g =
     let more = scan_from (name start (t ++ b ∷ [])) (at + 1) bs in
     let end = ends (name start t) (begins at b (λ n. scan_from n (at + 1) bs)) in
     ap (λ v. in_name v (nat_le 32 (length t)) at more end) g ∙ ap (λ v. in_name true (nat_le 32 v) at more end) h
 
 pub name_long : (text : List ℕ) (n start at : ℕ) → n ≡ 32 → n < length text → is_name_byte (get_or text n 0) ≡ true →
-    scan_from (name start (take n text)) (at + n) (drop n text) ≡ fault (Byte (at + 32))
+    scan_from (name start (take n text)) (at + n) (drop n text) ≡ wrong (Byte (at + 32))
 name_long text n start at e h is =
     ap (scan_from (name start (take n text)) (at + n)) (next_drop text n h)
     ∙ one_long start (at + n) (take n text) (get_or text n 0) (drop (n + 1) text) (length-take-le n text (omega arith) ∙ e) is
-    ∙ ap (λ v. fault (Byte (at + v))) e
+    ∙ ap (λ v. wrong (Byte (at + v))) e

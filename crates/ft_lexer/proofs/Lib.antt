@@ -1,2 +1,3 @@
 pub mod ByteRuns
 pub mod Places
+pub mod FitLexemes

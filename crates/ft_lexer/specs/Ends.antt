@@ -1,4 +1,4 @@
--- Where names and numbers end.
+-- Where names and numbers end: private to the code.
 use Rattle.std.specs.Prelude.{◌≡◌, ℕ, false, List, [], ◌∷◌}
 use Rattle.ft_lexer.specs.Bytes.{is_digit, is_name_byte}
 

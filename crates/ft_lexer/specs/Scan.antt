@@ -1,10 +1,10 @@
--- What a text is cut into: its tokens with their places, up to the first fault.
+-- What a text is cut into: its tokens with their places, up to the first error.
 use Rattle.std.specs.Prelude.{ℕ, ◌+◌, ◌^◌, ◌==◌, Bool, true, false, List, [], ◌∷◌, ◌++◌, length, nat_lt, nat_le, if◌then◌else◌, Option, Some, None, Result, Ok, Err}
 use Rattle.ft_lexer.specs.declared.kind.Kind.{Kind}
 use Rattle.ft_lexer.specs.declared.kind.Kind.TheVariants as kinds
 use Rattle.ft_lexer.specs.declared.token.Token.{Token}
 use Rattle.ft_lexer.specs.declared.lex_error.LexError.{LexError}
-use Rattle.ft_lexer.specs.declared.lex_error.LexError.TheVariants as faults
+use Rattle.ft_lexer.specs.declared.lex_error.LexError.TheVariants as lex_errors
 use Rattle.ft_lexer.specs.Numeral.{numeral}
 use Rattle.ft_lexer.specs.Bytes.{is_blank, is_digit, is_letter, is_name_byte, word_kind, sign_kind}
 
@@ -17,10 +17,10 @@ pub record Lexeme : Type 0 where
 abbrev pub lexeme : Token → Lexeme
 lexeme t = record { kind = t.kind; text = t.text.now; at = t.at }
 
--- what is told of a text from some place on: nothing more, the first fault, or a token and what is told after it
+-- what is told of a text from some place on: nothing more, the first error, or a token and what is told after it
 pub data Scan : Type 0 where
   over : Scan
-  fault : LexError → Scan
+  wrong : LexError → Scan
   token : Lexeme → Scan → Scan
 
 -- what the bytes so far have begun, where it began and its bytes: a gap, a comment, a name, a number or a `=`
@@ -31,10 +31,10 @@ pub data Mode : Type 0 where
   number : ℕ → List ℕ → Mode
   equals : ℕ → Mode
 
--- a number of 2^64 or more is a fault at its first digit
+-- a number of 2^64 or more is an error at its first digit
 abbrev pub number_token : Bool → ℕ → List ℕ → Scan → Scan
 number_token true start t rest = token (record { kind = kinds.Number; text = t; at = start }) rest
-number_token false start t rest = fault (faults.Number start)
+number_token false start t rest = wrong (lex_errors.Number start)
 
 -- what has begun ends here
 abbrev pub ends : Mode → Scan → Scan
@@ -44,10 +44,10 @@ ends (name start t) rest = token (record { kind = word_kind t; text = t; at = st
 ends (number start t) rest = number_token (nat_lt (numeral 0 t) (2 ^ 64)) start t rest
 ends (equals start) rest = token (record { kind = kinds.Assign; text = 61 ∷ []; at = start }) rest
 
--- a byte that begins no token is a fault
+-- a byte that begins no token is an error
 abbrev pub sign_at : Option Kind → ℕ → ℕ → Scan → Scan
 sign_at (Some k) at b rest = token (record { kind = k; text = b ∷ []; at = at }) rest
-sign_at None at b rest = fault (faults.Byte at)
+sign_at None at b rest = wrong (lex_errors.Byte at)
 
 -- what the byte b begins
 abbrev pub begins : ℕ → ℕ → (Mode → Scan) → Scan
@@ -59,11 +59,11 @@ begins at b after =
     else (if b == 61 then after (equals at)
     else sign_at (sign_kind b) at b (after gap)))))
 
--- in a name: it ends, goes on, or would be longer than 32 bytes, which is a fault at the 33rd
+-- in a name: it ends, goes on, or would be longer than 32 bytes, which is an error at the 33rd
 abbrev pub in_name : Bool → Bool → ℕ → Scan → Scan → Scan
 in_name false long at more end = end
 in_name true false at more end = more
-in_name true true at more end = fault (faults.Byte at)
+in_name true true at more end = wrong (lex_errors.Byte at)
 
 -- the byte b goes on with what has begun, or ends it and begins something else
 abbrev pub reads : Mode → ℕ → ℕ → (Mode → Scan) → Scan → Scan
@@ -85,7 +85,7 @@ scan text = scan_from gap 0 text
 -- what a call told, before what is told after it
 abbrev pub told : Option (Result Token LexError) → Scan → Scan
 told None rest = over
-told (Some (Err e)) rest = fault e
+told (Some (Err e)) rest = wrong e
 told (Some (Ok t)) rest = token (lexeme t) rest
 
 -- a token before others
@@ -93,14 +93,14 @@ abbrev pub with_token : Lexeme → Result (List Lexeme) LexError → Result (Lis
 with_token t (Ok ts) = Ok (t ∷ ts)
 with_token t (Err e) = Err e
 
--- all tokens of a scan, or its fault
+-- all tokens of a scan, or its error
 abbrev pub all_of : Scan → Result (List Lexeme) LexError
 all_of over = Ok []
-all_of (fault e) = Err e
+all_of (wrong e) = Err e
 all_of (token t rest) = with_token t (all_of rest)
 
--- how many tokens and faults a scan tells
+-- how many tokens and errors a scan tells
 abbrev pub size : Scan → ℕ
 size over = 0
-size (fault e) = 1
+size (wrong e) = 1
 size (token t rest) = size rest + 1

@@ -1,7 +1,7 @@
 //! Why a text is cut into no tokens.
 use thiserror::Error;
 
-/// The first fault of a text.
+/// The first error of a text.
 #[derive(Clone, Copy, Debug, PartialEq, Eq, Error)]
 pub enum LexError {
     /// The byte at `at`, counted from 0, begins no token, or is the 33rd of a name.

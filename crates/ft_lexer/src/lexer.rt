@@ -153,11 +153,11 @@ impl<'a> Lexer<'a> {
         })
     }
 
-    /// The next token, or the fault of the text; `None` at the end and, for ever, after either.
+    /// The next token, or the error of the text; `None` at the end and, for ever, after either.
     pub fn next(&mut self) -> Option<Result<Token<'a>, LexError>>
         ensures tells { left self.old ≡ told result (left self.new) }
         ensures end { IfNone result (left self.new ≡ over) }
-        ensures fault { IfSome result (λ r. OnErr r (left self.new ≡ over)) }
+        ensures wrong { IfSome result (λ r. OnErr r (left self.new ≡ over)) }
     {
         self.pass_gap();
         let [b, ..] = self.rest else {

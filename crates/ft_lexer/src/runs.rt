@@ -1,9 +1,9 @@
 //! Runs of bytes at the front of a text: names and numbers.
 ghost use Rattle.std.specs.Prelude.{◌≡◌, ℕ, ◌+◌, ◌^◌, ◌<◌, ◌≤◌, length, nat_lt, take, drop, IfNone, IfSome};
 ghost use Rattle.ft_lexer.specs.Numeral.{numeral};
-ghost use Rattle.ft_lexer.specs.Scan.{scan_from, name, number, fault};
+ghost use Rattle.ft_lexer.specs.Scan.{scan_from, name, number, wrong};
 ghost use Rattle.ft_lexer.specs.Ends.{EndsName, EndsNumber};
-ghost use Rattle.ft_lexer.specs.declared.lex_error.LexError.TheVariants as faults;
+ghost use Rattle.ft_lexer.specs.declared.lex_error.LexError.TheVariants as lex_errors;
 
 use crate::bytes::{is_digit, is_name_byte};
 
@@ -18,7 +18,7 @@ pub fn name_len(text: &[u8]) -> Option<usize>
     ensures high { IfSome result (λ n. n ≤ length text.now) }
     ensures run { IfSome result (λ n. (start at : ℕ) → scan_from (name start (take 1 text.now)) (at + 1) (drop 1 text.now) ≡ scan_from (name start (take n text.now)) (at + n) (drop n text.now)) }
     ensures stops { IfSome result (λ n. EndsName (drop n text.now)) }
-    ensures long { IfNone result ((start at : ℕ) → scan_from (name start (take 1 text.now)) (at + 1) (drop 1 text.now) ≡ fault (faults.Byte (at + 32))) }
+    ensures long { IfNone result ((start at : ℕ) → scan_from (name start (take 1 text.now)) (at + 1) (drop 1 text.now) ≡ wrong (lex_errors.Byte (at + 32))) }
     ensures long_len { IfNone result (32 < length text.now) }
 {
     let mut n = 1;

@@ -49,8 +49,8 @@ fn cuts_texts_into_tokens_that_outlive_the_lexer(rt: HostRuntime) -> Result<(), 
 }
 
 #[test]
-fn tells_the_first_fault_and_then_nothing(rt: HostRuntime) {
-    for (text, fault) in [
+fn tells_the_first_error_and_then_nothing(rt: HostRuntime) {
+    for (text, error) in [
         (b"x = 1 % 2;".as_slice(), LexError::Byte { at: 6 }),
         (b"# %\n\r\t%", LexError::Byte { at: 6 }),
         (b"18446744073709551616 %", LexError::Number { at: 0 }),
@@ -76,7 +76,7 @@ fn tells_the_first_fault_and_then_nothing(rt: HostRuntime) {
         if text.len() == 32 {
             assert_eq!(rt; first, None);
         } else {
-            assert_eq!(rt; first, Some(fault));
+            assert_eq!(rt; first, Some(error));
         }
         assert!(rt; lexer.next().is_none());
         assert!(rt; lexer.next().is_none());

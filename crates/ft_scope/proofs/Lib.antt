@@ -7,3 +7,4 @@ pub mod Renames
 pub mod Narrowed
 pub mod Outcomes
 pub mod Resolves
+pub mod ProgramFacts

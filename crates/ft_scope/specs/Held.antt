@@ -1,4 +1,4 @@
--- What the table of names holds.
+-- What the table of names holds: private to the code.
 use Rattle.std.specs.Prelude.{◌≡◌, ℕ, List, map, Option, Some, min, is_some, true}
 use Rattle.std.specs.Option.{option_map}
 use Rattle.std.specs.Ordering.{nat_cmp}
@@ -28,13 +28,13 @@ pub record Holds (n : Names) (ds : List Declared) : Type 0 where
   pub inits : n.inits.items ≡ cell_words ds
   pub vars : n.vars ≡ variable_count ds
 
--- a declaration fails at the place of its name, where that was declared before; want of memory says nothing
+-- a declaration fails at the place of its name, where that was declared before; out of memory says nothing
 abbrev pub DeclareFails : SourceError → ℕ → Option Slot → Type 0
 DeclareFails (Twice at) place before = (at ≡ place) × (is_some before ≡ true)
 DeclareFails NoMemory place before = Unit {0}
 DeclareFails _ place before = ⊥
 
--- declarations fail at the first name that was declared before; want of memory says nothing
+-- declarations fail at the first name that was declared before; out of memory says nothing
 abbrev pub TwiceFails : SourceError → Option ℕ → Type 0
 TwiceFails (Twice at) first = first ≡ Some at
 TwiceFails NoMemory first = Unit {0}

@@ -1,11 +1,11 @@
--- What a step of the renaming answers.
+-- What a step of the renaming answers: private to the code.
 use Rattle.std.specs.Prelude.{◌≡◌, ℕ, List, Option, Some, Result, Err}
 use Rattle.ft_syntax.specs.declared.source_error.SourceError.{SourceError}
 use Rattle.ft_syntax.specs.declared.source_error.SourceError.TheVariants.{Unknown, NoMemory}
 use Rattle.ft_scope.specs.declared.slot.Slot.{Slot}
 use Rattle.ft_scope.specs.Size.{SlotFits}
 
--- an error of the code against a result of the definition; want of memory says nothing
+-- an error of the code against a result of the definition; out of memory says nothing
 abbrev pub Fails : {A : Type 0} → SourceError → Result A ℕ → Type 0
 Fails (Unknown at) r = r ≡ Err at
 Fails NoMemory r = Unit {0}

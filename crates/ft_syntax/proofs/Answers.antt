@@ -2,7 +2,7 @@
 use Rattle.std.proofs.Common.{◌≡◌, ◌≢◌, ◌<◌, ◌≤◌, ℕ, List, [], length, Result, Ok, Err, refl, sym, ap, ◌∙◌, arith, ◌⊎◌, inl, inr, ⊎_elim}
 use Rattle.ft_lexer.specs.Scan.{Lexeme, all_of, scan}
 use Rattle.ft_lexer.specs.declared.lex_error.LexError.{LexError}
-use Rattle.ft_lexer.specs.declared.lex_error.LexError.TheVariants as faults
+use Rattle.ft_lexer.specs.declared.lex_error.LexError.TheVariants as lex_errors
 use Rattle.ft_syntax.specs.declared.source_error.SourceError.{SourceError}
 use Rattle.ft_syntax.specs.declared.source_error.SourceError.TheVariants.{TooLong, Byte, Number, Syntax, Deep, Twice, Unknown, Cells, Registers, Weight, NoMemory}
 use Rattle.ft_syntax.specs.Syntax.{SyntaxTree}
@@ -22,8 +22,8 @@ answer_of (Err (deep_at at)) = Err (Deep at)
 
 -- the answer of a text of this length, by its lexemes
 abbrev lexed_answer : Result (List Lexeme) LexError → ℕ → Result SyntaxTree SourceError
-lexed_answer (Err (faults.Byte at)) end = Err (Byte at)
-lexed_answer (Err (faults.Number at)) end = Err (Number at)
+lexed_answer (Err (lex_errors.Byte at)) end = Err (Byte at)
+lexed_answer (Err (lex_errors.Number at)) end = Err (Number at)
 lexed_answer (Ok ts) end = answer_of (walk end nothing_open (decls []) ts)
 
 abbrev IsComputed : List ℕ → Result SyntaxTree SourceError → Type 0
@@ -60,8 +60,8 @@ some_judged text ts (Err (syntax_at at)) has f = (Err (Syntax at), (ts, has, f))
 some_judged text ts (Err (deep_at at)) has f = (Err (Deep at), (ts, has, f))
 
 some_lexed : (text : List ℕ) (r : Result (List Lexeme) LexError) → length text ≤ text_limit → all_of (scan text) ≡ r → (s : Result SyntaxTree SourceError) × IsAnswer text s
-some_lexed text (Err (faults.Byte at)) h e = (Err (Byte at), (h, e))
-some_lexed text (Err (faults.Number at)) h e = (Err (Number at), (h, e))
+some_lexed text (Err (lex_errors.Byte at)) h e = (Err (Byte at), (h, e))
+some_lexed text (Err (lex_errors.Number at)) h e = (Err (Number at), (h, e))
 some_lexed text (Ok ts) h e = some_judged text ts (walk (length text) nothing_open (decls []) ts) (record { short = h; scanned = e }) (judged ts (length text))
 
 some_within : (text : List ℕ) (b : Bool) → nat_le (length text) text_limit ≡ b → (s : Result SyntaxTree SourceError) × IsAnswer text s
@@ -72,7 +72,7 @@ some_within text false h = (Err TooLong, grind arith)
 pub some_answer : (text : List ℕ) → (s : Result SyntaxTree SourceError) × IsAnswer text s
 some_answer text = some_within text (nat_le (length text) text_limit) refl
 
--- a fault of the scan refuses the text
+-- an error of the scan refuses the text
 pub lex_refused : (text : List ℕ) (e : SourceError) → length text ≤ text_limit → LexRefused e (all_of (scan text)) → e ≢ NoMemory → IsRefused text e
 lex_refused text (Byte at) short h other = (short, h)
 lex_refused text (Number at) short h other = (short, h)

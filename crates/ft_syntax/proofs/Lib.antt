@@ -8,3 +8,4 @@ pub mod Only
 pub mod TokenLists
 pub mod Sizes
 pub mod Answers
+pub mod FitTrees

@@ -2,7 +2,7 @@
 use Rattle.std.proofs.Common.{◌≡◌, ℕ, ◌+◌, ◌<◌, ◌≤◌, List, [], ◌∷◌, length, take, drop, Result, Ok, Err, refl, ap, arith, length-append, length-drop, length-take}
 use Rattle.ft_lexer.specs.declared.lex_error.LexError.{LexError}
 use Rattle.ft_lexer.specs.declared.kind.Kind.TheVariants as kinds
-use Rattle.ft_lexer.specs.Scan.{Lexeme, Scan, over, fault, token, all_of, with_token, scan}
+use Rattle.ft_lexer.specs.Scan.{Lexeme, Scan, over, wrong, token, all_of, with_token, scan}
 use Rattle.ft_lexer.specs.Placed.{Placed}
 use Rattle.ft_lexer.proofs.Places.{placed}
 use Rattle.ft_syntax.specs.declared.decl.Decl.{Decl}
@@ -88,7 +88,7 @@ counted_one text t rest low ts p (Ok us) g e =
 
 counted : (text : List ℕ) (s : Scan) (low : ℕ) (ts : List Lexeme) → Placed text low s → low ≤ length text → all_of s ≡ Ok ts → low + length ts ≤ length text
 counted text over low ts p h e = let none : [] ≡ ts = cc in omega (arith, ap length none)
-counted text (fault x) low ts p h e = absurd (cc)
+counted text (wrong x) low ts p h e = absurd (cc)
 counted text (token t rest) low ts p h e =
     counted_one text t rest low ts p (all_of rest) (λ us g. counted text rest (t.at + length t.text) us p.3 (within text t.text t.at p.1 p.2) g) e
 

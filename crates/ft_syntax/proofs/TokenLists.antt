@@ -24,10 +24,10 @@ unfolding after
 after_none [] = refl
 after_none (x ∷ ts) = ap (with_token x) (after_none ts)
 
-pub after_fault : (ts : List Lexeme) (e : LexError) → after ts (Err e) ≡ Err e
+pub after_error : (ts : List Lexeme) (e : LexError) → after ts (Err e) ≡ Err e
 unfolding after
-after_fault [] e = refl
-after_fault (x ∷ ts) e = ap (with_token x) (after_fault ts e)
+after_error [] e = refl
+after_error (x ∷ ts) e = ap (with_token x) (after_error ts e)
 
 pub after_empty : (r : Result (List Lexeme) LexError) → after [] r ≡ r
 unfolding after

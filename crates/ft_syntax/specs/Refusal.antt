@@ -1,7 +1,7 @@
 -- Which text is a source, and which is refused where.
 use Rattle.std.specs.Prelude.{◌≡◌, ◌<◌, ◌≤◌, length, ℕ, true, List, [], ◌∷◌, ◌++◌, ◌⊎◌, Result, Ok, Err}
 use Rattle.ft_lexer.specs.Scan.{Lexeme, all_of, scan}
-use Rattle.ft_lexer.specs.declared.lex_error.LexError.TheVariants as faults
+use Rattle.ft_lexer.specs.declared.lex_error.LexError.TheVariants as lex_errors
 use Rattle.ft_syntax.specs.declared.source_error.SourceError.{SourceError}
 use Rattle.ft_syntax.specs.declared.source_error.SourceError.TheVariants.{TooLong, Byte, Number, Syntax, Deep}
 use Rattle.ft_syntax.specs.Syntax.{SyntaxTree}
@@ -56,7 +56,7 @@ abbrev pub Judged : List Lexeme → ℕ → Answer → Type 0
 Judged ts end (Ok t) = Derives ts t × IsShallow nothing_open ts
 Judged ts end (Err f) = IsFault ts end f
 
--- the text is within its limit, has no fault of the scan, and has these lexemes
+-- the text is within its limit, has no error of the scan, and has these lexemes
 pub record HasLexemes (text : List ℕ) (ts : List Lexeme) : Type 0 where
   pub short : length text ≤ text_limit
   pub scanned : all_of (scan text) ≡ Ok ts
@@ -68,8 +68,8 @@ IsSource text t = (ts : List Lexeme) × HasLexemes text ts × Derives ts t × Is
 -- the text is refused so: each refusal only where none before it in this order applies
 abbrev pub IsRefused : List ℕ → SourceError → Type 0
 IsRefused text TooLong = text_limit < length text
-IsRefused text (Byte at) = (length text ≤ text_limit) × (all_of (scan text) ≡ Err (faults.Byte at))
-IsRefused text (Number at) = (length text ≤ text_limit) × (all_of (scan text) ≡ Err (faults.Number at))
+IsRefused text (Byte at) = (length text ≤ text_limit) × (all_of (scan text) ≡ Err (lex_errors.Byte at))
+IsRefused text (Number at) = (length text ≤ text_limit) × (all_of (scan text) ≡ Err (lex_errors.Number at))
 IsRefused text (Syntax at) = (ts : List Lexeme) × HasLexemes text ts × IsFault ts (length text) (syntax_at at)
 IsRefused text (Deep at) = (ts : List Lexeme) × HasLexemes text ts × IsFault ts (length text) (deep_at at)
 IsRefused text _ = ⊥

@@ -4,7 +4,7 @@ use Rattle.ft_isa.specs.declared.op.Op.{Op}
 use Rattle.ft_lexer.specs.declared.kind.Kind.{Kind}
 use Rattle.ft_lexer.specs.declared.kind.Kind.TheVariants.{Name, While, If, Plus, Minus, Star, Less, EqEq}
 use Rattle.ft_lexer.specs.declared.lex_error.LexError.{LexError}
-use Rattle.ft_lexer.specs.declared.lex_error.LexError.TheVariants as faults
+use Rattle.ft_lexer.specs.declared.lex_error.LexError.TheVariants as lex_errors
 use Rattle.ft_lexer.specs.declared.token.Token.{Token}
 use Rattle.ft_lexer.specs.Scan.{Lexeme, lexeme}
 use Rattle.ft_syntax.specs.declared.expr.Expr.{Expr}
@@ -43,24 +43,24 @@ signed p = (p.0, expression p.1)
 abbrev pub waiting : Pending → Waiting
 waiting p = record { equal = option_map expression p.equal; less = option_map expression p.less; sum = option_map signed p.sum; product = option_map expression p.product }
 
--- the error is what the machine answers, want of memory aside
+-- the error is what the machine answers, out of memory aside
 abbrev pub Refuses : SourceError → Answer → Type 0
 Refuses (Syntax at) r = r ≡ Err (syntax_at at)
 Refuses (Deep at) r = r ≡ Err (deep_at at)
 Refuses NoMemory r = Unit {0}
 Refuses _ r = ⊥
 
--- the error is how the lexemes are refused, want of memory aside
+-- the error is how the lexemes are refused, out of memory aside
 abbrev pub RefusedBy : List Lexeme → ℕ → SourceError → Type 0
 RefusedBy ts end (Syntax at) = IsFault ts end (syntax_at at)
 RefusedBy ts end (Deep at) = IsFault ts end (deep_at at)
 RefusedBy ts end NoMemory = Unit {0}
 RefusedBy ts end _ = ⊥
 
--- the error is the fault of the scan, want of memory aside
+-- the error is that of the scan, out of memory aside
 abbrev pub LexRefused : SourceError → Result (List Lexeme) LexError → Type 0
-LexRefused (Byte at) r = r ≡ Err (faults.Byte at)
-LexRefused (Number at) r = r ≡ Err (faults.Number at)
+LexRefused (Byte at) r = r ≡ Err (lex_errors.Byte at)
+LexRefused (Number at) r = r ≡ Err (lex_errors.Number at)
 LexRefused NoMemory r = Unit {0}
 LexRefused _ r = ⊥
 

@@ -11,7 +11,7 @@ pub enum SourceError {
     /// The byte at `at` begins no token, or is the 33rd of a name.
     #[error("no token at byte {at}")]
     Byte { at: usize },
-    /// The number of which the first digit stands at `at` is 2^64 or more.
+    /// The number whose first digit is at `at` is 2^64 or more.
     #[error("too large a number at byte {at}")]
     Number { at: usize },
     /// No program is possible after the token at `at`; the text's length where it only lacks something.

@@ -8,7 +8,7 @@ use ft_lexer::{LexError, Lexer, Token};
 use std::alloc::Global;
 
 /// The tokens of a text.
-#[tactic(auto, using(crate::proofs::TokenLists::lexemes_push, crate::proofs::TokenLists::after_push, crate::proofs::TokenLists::after_none, crate::proofs::TokenLists::after_fault, crate::proofs::TokenLists::after_empty))]
+#[tactic(auto, using(crate::proofs::TokenLists::lexemes_push, crate::proofs::TokenLists::after_push, crate::proofs::TokenLists::after_none, crate::proofs::TokenLists::after_error, crate::proofs::TokenLists::after_empty))]
 pub fn all_tokens<'a>(alloc: Global, text: &'a [u8]) -> Result<Vec<Token<'a>>, SourceError>
     ensures ok { IfOk result (λ v. all_of (scan text.now) ≡ Ok (lexemes v.items)) }
     ensures err { IfErr result (λ e. LexRefused e (all_of (scan text.now))) }

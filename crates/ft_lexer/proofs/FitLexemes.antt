@@ -1,0 +1,204 @@
+-- The names and numbers of a text are fit: a name has at most 32 bytes, and a number is below 2^64.
+use Rattle.std.proofs.Common.{◌≡◌, ℕ, ◌+◌, ◌^◌, ◌<◌, ◌≤◌, Bool, true, false, ◌&&◌, ◌==◌, List, [], ◌∷◌, ◌++◌, length, Option, Some, None, refl, ◌∙◌, subst, arith, length-append}
+use Rattle.std.specs.Prelude.{Result, Ok, Err, if◌then◌else◌, nat_le, nat_lt, codes}
+use Rattle.std.specs.List.{list_all}
+use Rattle.std.specs.Str.{bytes_eq}
+use Rattle.std.proofs.lemmas.Bool.{and_parts, and_from, ltb-true, leb-false}
+use Rattle.std.proofs.lemmas.List.Folds.{list_all-append}
+use Rattle.ft_lexer.specs.declared.kind.Kind.{Kind}
+use Rattle.ft_lexer.specs.declared.kind.Kind.TheVariants as kinds
+use Rattle.ft_lexer.specs.declared.lex_error.LexError.{LexError}
+use Rattle.ft_lexer.specs.Bytes.{is_blank, is_digit, is_letter, is_name_byte, word_kind, sign_kind}
+use Rattle.ft_lexer.specs.Numeral.{numeral}
+use Rattle.ft_lexer.specs.Scan.{Lexeme, Scan, over, wrong, token, Mode, gap, comment, name, number, equals, number_token, ends, sign_at, begins, in_name, reads, scan_from, scan, with_token, all_of}
+
+-- a letter and then bytes of names
+abbrev pub is_word : List ℕ → Bool
+is_word [] = false
+is_word (b ∷ bs) = is_letter b && list_all is_name_byte bs
+
+-- a word with one more byte of names
+word_more : (t : List ℕ) (b : ℕ) → is_word t ≡ true → is_name_byte b ≡ true → is_word (t ++ b ∷ []) ≡ true
+word_more [] b e f = cc
+word_more (c ∷ cs) b e f =
+    let p = and_parts (is_letter c) (list_all is_name_byte cs) e in
+    and_from (is_letter c) (list_all is_name_byte (cs ++ b ∷ [])) p.0
+    (list_all-append is_name_byte cs (b ∷ []) ∙ and_from (list_all is_name_byte cs) (is_name_byte b && true) p.1 (and_from (is_name_byte b) true f refl))
+
+-- a text of a name: at most 32 bytes
+pub record IsNameText (t : List ℕ) : Type 0 where
+  pub word : is_word t ≡ true
+  pub short : length t ≤ 32
+
+-- the lexeme of a name has such a text, and that of a number is one below 2^64
+pub record IsFit (l : Lexeme) : Type 0 where
+  pub name_fits : l.kind ≡ kinds.Name → IsNameText l.text
+  pub number_fits : l.kind ≡ kinds.Number → numeral 0 l.text < 2 ^ 64
+
+-- a scan of which all tokens are so
+data AreFit : Scan → Type 0 where
+  over_fits : AreFit over
+  wrong_fits : {e : LexError} → AreFit (wrong e)
+  token_fits : {l : Lexeme} {rest : Scan} → IsFit l → AreFit rest → AreFit (token l rest)
+
+-- the first token of such a scan is so, and the rest is such a scan
+token_parts : (l : Lexeme) (rest : Scan) → AreFit (token l rest) → IsFit l × AreFit rest
+token_parts l rest (token_fits a b) = (a, b)
+
+-- the kind of neither a name nor a number
+abbrev IsPlain : Kind → Type 0
+IsPlain kinds.Name = ⊥
+IsPlain kinds.Number = ⊥
+IsPlain _ = Unit {0}
+
+-- a kind other than that of numbers
+abbrev IsNoNumber : Kind → Type 0
+IsNoNumber kinds.Number = ⊥
+IsNoNumber _ = Unit {0}
+
+-- a lexeme that is neither name nor number is fit
+plain_fits : (k : Kind) (t : List ℕ) (at : ℕ) → IsPlain k → IsFit (record { kind = k; text = t; at = at })
+plain_fits k t at h = record { name_fits = λ e. absurd (subst IsPlain e h); number_fits = λ e. absurd (subst IsPlain e h) }
+
+-- a choice of two such scans is one
+if_fits : (c : Bool) (x y : Scan) → AreFit x → AreFit y → AreFit (if c then x else y)
+if_fits true x y h k = h
+if_fits false x y h k = k
+
+-- the kinds of words are other ones
+word_choice : (a b c d e : Bool) → IsNoNumber (if a then kinds.Cell else (if b then kinds.Var else (if c then kinds.While else (if d then kinds.If else (if e then kinds.Else else kinds.Name)))))
+word_choice true b c d e = tt
+word_choice false true c d e = tt
+word_choice false false true d e = tt
+word_choice false false false true e = tt
+word_choice false false false false true = tt
+word_choice false false false false false = tt
+
+-- so the kind of a word is another
+word_kind_plain : (t : List ℕ) → IsNoNumber (word_kind t)
+unfolding word_kind
+word_kind_plain t = word_choice (bytes_eq t (codes "cell")) (bytes_eq t (codes "var")) (bytes_eq t (codes "while")) (bytes_eq t (codes "if")) (bytes_eq t (codes "else"))
+
+-- nothing, or the kind of neither a name nor a number
+abbrev IsPlainSign : Option Kind → Type 0
+IsPlainSign None = Unit {0}
+IsPlainSign (Some k) = IsPlain k
+
+-- so is a choice of a sign and other kinds
+if_plain : (c : Bool) (k : Kind) (o : Option Kind) → IsPlain k → IsPlainSign o → IsPlainSign (if c then Some k else o)
+if_plain true k o h g = h
+if_plain false k o h g = g
+
+-- the kind of a sign is neither
+sign_kind_plain : (b : ℕ) → IsPlainSign (sign_kind b)
+unfolding sign_kind
+sign_kind_plain b =
+    let eight = if b == 60 then Some kinds.Less else None in
+    let seven = if b == 42 then Some kinds.Star else eight in
+    let six = if b == 45 then Some kinds.Minus else seven in
+    let five = if b == 43 then Some kinds.Plus else six in
+    let four = if b == 125 then Some kinds.RBrace else five in
+    let three = if b == 123 then Some kinds.LBrace else four in
+    let two = if b == 41 then Some kinds.RParen else three in
+    let one = if b == 40 then Some kinds.LParen else two in
+    if_plain (b == 59) kinds.Semi one tt
+    (if_plain (b == 40) kinds.LParen two tt
+    (if_plain (b == 41) kinds.RParen three tt
+    (if_plain (b == 123) kinds.LBrace four tt
+    (if_plain (b == 125) kinds.RBrace five tt
+    (if_plain (b == 43) kinds.Plus six tt
+    (if_plain (b == 45) kinds.Minus seven tt
+    (if_plain (b == 42) kinds.Star eight tt
+    (if_plain (b == 60) kinds.Less None tt tt))))))))
+
+-- what has begun may become a lexeme
+abbrev MayEnd : Mode → Type 0
+MayEnd gap = Unit {0}
+MayEnd comment = Unit {0}
+MayEnd (name start t) = (is_word t ≡ true) × (length t ≤ 32)
+MayEnd (number start t) = Unit {0}
+MayEnd (equals start) = Unit {0}
+
+-- a number that is told is a word
+number_token_fits : (b : Bool) (start : ℕ) (t : List ℕ) (rest : Scan) → nat_lt (numeral 0 t) (2 ^ 64) ≡ b → AreFit rest → AreFit (number_token b start t rest)
+number_token_fits true start t rest e h = token_fits (record { name_fits = λ f. absurd (no f); number_fits = λ f. ltb-true (numeral 0 t) (2 ^ 64) e }) h
+  where
+    no : kinds.Number ≡ kinds.Name → ⊥
+    no f = cc
+number_token_fits false start t rest e h = wrong_fits
+
+-- what ends leaves a fit scan
+ends_fits : (m : Mode) (rest : Scan) → MayEnd m → AreFit rest → AreFit (ends m rest)
+ends_fits gap rest m h = h
+ends_fits comment rest m h = h
+ends_fits (name start t) rest m h = token_fits (record { name_fits = λ e. record { word = m.0; short = m.1 }; number_fits = λ e. absurd (subst IsNoNumber e (word_kind_plain t)) }) h
+ends_fits (number start t) rest m h = number_token_fits (nat_lt (numeral 0 t) (2 ^ 64)) start t rest refl h
+ends_fits (equals start) rest m h = token_fits (plain_fits kinds.Assign (61 ∷ []) start tt) h
+
+-- so does a sign
+sign_fits : (o : Option Kind) (at b : ℕ) (rest : Scan) → IsPlainSign o → AreFit rest → AreFit (sign_at o at b rest)
+sign_fits None at b rest p h = wrong_fits
+sign_fits (Some k) at b rest p h = token_fits (plain_fits k (b ∷ []) at p) h
+
+-- a choice of six such scans is one
+begins_choice : (a b c d e : Bool) (u v w x y z : Scan) → AreFit u → AreFit v → (c ≡ true → AreFit w) → AreFit x → AreFit y → AreFit z → AreFit (if a then u else (if b then v else (if c then w else (if d then x else (if e then y else z)))))
+begins_choice true b c d e u v w x y z hu hv hw hx hy hz = hu
+begins_choice false true c d e u v w x y z hu hv hw hx hy hz = hv
+begins_choice false false true d e u v w x y z hu hv hw hx hy hz = hw refl
+begins_choice false false false true e u v w x y z hu hv hw hx hy hz = hx
+begins_choice false false false false true u v w x y z hu hv hw hx hy hz = hy
+begins_choice false false false false false u v w x y z hu hv hw hx hy hz = hz
+
+-- what a byte begins leaves a fit scan
+begins_fits : (at b : ℕ) (after : Mode → Scan) → ((n : Mode) → MayEnd n → AreFit (after n)) → AreFit (begins at b after)
+begins_fits at b after h =
+    begins_choice (is_blank b) (b == 35) (is_letter b) (is_digit b) (b == 61) (after gap) (after comment) (after (name at (b ∷ []))) (after (number at (b ∷ []))) (after (equals at)) (sign_at (sign_kind b) at b (after gap))
+    (h gap tt) (h comment tt) (λ e. h (name at (b ∷ [])) (and_from (is_letter b) true e refl, omega arith)) (h (number at (b ∷ [])) tt) (h (equals at) tt)
+    (sign_fits (sign_kind b) at b (after gap) (sign_kind_plain b) (h gap tt))
+
+-- so does a byte after a name
+in_name_fits : (goes long : Bool) (at : ℕ) (more end : Scan) → (goes ≡ true → long ≡ false → AreFit more) → AreFit end → AreFit (in_name goes long at more end)
+in_name_fits false long at more end h k = k
+in_name_fits true false at more end h k = h refl refl
+in_name_fits true true at more end h k = wrong_fits
+
+-- so does each byte
+reads_fits : (m : Mode) (at b : ℕ) (after : Mode → Scan) (other : Scan) → MayEnd m → ((n : Mode) → MayEnd n → AreFit (after n)) → AreFit other → AreFit (reads m at b after other)
+reads_fits gap at b after other m h k = k
+reads_fits comment at b after other m h k = if_fits (b == 10) (after gap) (after comment) (h gap tt) (h comment tt)
+reads_fits (name start t) at b after other m h k =
+    in_name_fits (is_name_byte b) (nat_le 32 (length t)) at (after (name start (t ++ b ∷ []))) (ends (name start t) other)
+    (λ e f. h (name start (t ++ b ∷ [])) (word_more t b m.0 e, (let l = length-append t (b ∷ []) in let g = leb-false 32 (length t) f in omega arith)))
+    (ends_fits (name start t) other m k)
+reads_fits (number start t) at b after other m h k = if_fits (is_digit b) (after (number start (t ++ b ∷ []))) (ends (number start t) other) (h (number start (t ++ b ∷ [])) tt) (ends_fits (number start t) other tt k)
+reads_fits (equals start) at b after other m h k = if_fits (b == 61) (token (record { kind = kinds.EqEq; text = 61 ∷ 61 ∷ []; at = start }) (after gap)) (ends (equals start) other) (token_fits (plain_fits kinds.EqEq (61 ∷ 61 ∷ []) start tt) (h gap tt)) (ends_fits (equals start) other tt k)
+
+-- all tokens of a scan are fit
+scan_fits : (m : Mode) (at : ℕ) (bs : List ℕ) → MayEnd m → AreFit (scan_from m at bs)
+scan_fits m at [] h = ends_fits m over h over_fits
+scan_fits m at (b ∷ bs) h =
+    reads_fits m at b (λ n. scan_from n (at + 1) bs) (begins at b (λ n. scan_from n (at + 1) bs)) h
+    (λ n k. scan_fits n (at + 1) bs k)
+    (begins_fits at b (λ n. scan_from n (at + 1) bs) (λ n k. scan_fits n (at + 1) bs k))
+
+-- these lexemes are so
+abbrev pub AllFit : List Lexeme → Type 0
+AllFit [] = Unit {0}
+AllFit (l ∷ ls) = IsFit l × AllFit ls
+
+-- so are the lexemes of a scan without an error
+lexemes_fit : (s : Scan) (ts : List Lexeme) → AreFit s → all_of s ≡ Ok ts → AllFit ts
+lexemes_fit over ts h e = let f : [] ≡ ts = cc in subst AllFit f tt
+lexemes_fit (wrong x) ts h e = absurd (no e)
+  where
+    no : Err x ≡ Ok ts → ⊥
+    no f = cc
+lexemes_fit (token l rest) ts h e = go (all_of rest) refl e (λ us f. lexemes_fit rest us (token_parts l rest h).1 f)
+  where
+    go : (r : Result (List Lexeme) LexError) → all_of rest ≡ r → with_token l r ≡ Ok ts → ((us : List Lexeme) → all_of rest ≡ Ok us → AllFit us) → AllFit ts
+    go (Ok us) f g rec = let q : l ∷ us ≡ ts = cc in subst AllFit q ((token_parts l rest h).0, rec us f)
+    go (Err x) f g rec = cc
+
+-- the lexemes of a text are fit
+pub scanned_fit : (text : List ℕ) (ts : List Lexeme) → all_of (scan text) ≡ Ok ts → AllFit ts
+scanned_fit text ts e = lexemes_fit (scan text) ts (scan_fits gap 0 text tt) e
