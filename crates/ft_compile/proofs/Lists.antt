@@ -28,7 +28,7 @@ get_front (y ∷ ys) rest (suc k) x e = get_front ys rest k x e
 pub get_starts : {X : Type 0} (xs ys : List X) (k : ℕ) (x : X) → Starts xs ys → slice_get xs k ≡ Some x → slice_get ys k ≡ Some x
 get_starts xs ys k x p e = subst (λ l. slice_get l k ≡ Some x) p.1 (get_front xs p.0 k x e)
 
--- one more stands at the end
+-- one more is the last
 pub get_last : {X : Type 0} (xs : List X) (x : X) → slice_get (xs ++ x ∷ []) (length xs) ≡ Some x
 get_last [] x = refl
 get_last (y ∷ ys) x = get_last ys x

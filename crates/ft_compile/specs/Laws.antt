@@ -19,7 +19,7 @@ use Rattle.ft_lower.specs.Well.{IsWell}
 use Rattle.ft_dup.specs.Doubles.{words_of, Carries, RunsAs}
 use Rattle.ft_compile.specs.StandsFor.{IsIntCell, RunsAsMeant, StandsFor}
 use Rattle.ft_compile.specs.Cells.{AreCells}
-use Rattle.ft_compile.specs.Emitted.{emitted}
+use Rattle.ft_compile.specs.Emitted.{emitted, IsEmitted}
 
 -- an object that carries the blocks to which a program was lowered, with its initial words, runs as the program means
 abbrev pub CarriedBlocksRunAsMeant : Type 0
@@ -43,6 +43,10 @@ EmittedObjectsAreAccepted = (names : List (List ℕ)) (inits : List ℕ) (vars :
 -- the cells of a text's program have lawful names that differ
 abbrev pub ProgramsHaveCells : Type 0
 ProgramsHaveCells = (text : List ℕ) (p : Program) → IsProgramOf text p → AreCells p.names p.inits
+
+-- each program of a text has an object that stands for it, which is that of a flow of the program
+abbrev pub ProgramsHaveObjects : Type 0
+ProgramsHaveObjects = (text : List ℕ) (p : Program) → IsProgramOf text p → (o : Object) × (StandsFor p o × IsEmitted p o)
 
 -- the lines of outputs by the names of an object's cells, one for each
 abbrev pub object_lines : Object → List Output → List (List ℕ)

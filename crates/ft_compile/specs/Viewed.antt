@@ -1,4 +1,4 @@
--- What the code keeps along the steps, as plain data.
+-- What the code keeps along the steps, as plain data: private to the code.
 use Rattle.std.specs.Prelude.{ℕ, ◌+◌, ◌*◌, ◌≤◌, ◌≡◌, length}
 use Rattle.ft_compile.specs.declared.notes.Notes.{Notes}
 use Rattle.ft_compile.specs.Emitted.{Noted}

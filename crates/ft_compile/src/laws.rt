@@ -1,5 +1,5 @@
 //! Laws of the definitions, each the contract of a function that does nothing.
-ghost use Rattle.ft_compile.specs.Laws.{CarriedBlocksRunAsMeant, CutMeaningsBeginTheRun, DoneRunsWriteTheMeaning, EmittedObjectsAreAccepted, EndedMeaningsAreWritten, LinesAreByTheProgramsNames, ProgramsHaveCells, RunningRunsBeginTheMeaning};
+ghost use Rattle.ft_compile.specs.Laws.{CarriedBlocksRunAsMeant, CutMeaningsBeginTheRun, DoneRunsWriteTheMeaning, EmittedObjectsAreAccepted, EndedMeaningsAreWritten, LinesAreByTheProgramsNames, ProgramsHaveCells, ProgramsHaveObjects, RunningRunsBeginTheMeaning};
 
 /// An object that carries the blocks to which a program was lowered, with the program's initial words,
 /// runs as the program means.
@@ -16,6 +16,11 @@ pub fn emitted_objects_are_accepted()
 /// The cells of a text's program have names of 1 to 32 bytes that differ, and there are at most 1,024.
 pub fn programs_have_cells()
     ensures { ProgramsHaveCells }
+{}
+
+/// Each text that is a program has an object that stands for the program.
+pub fn programs_have_objects()
+    ensures { ProgramsHaveObjects }
 {}
 
 /// Where an object stands for a program, outputs have the same lines by the names of the object's cells, as

@@ -18,5 +18,5 @@ mod walking;
 pub use compiling::compile;
 pub use laws::{
     carried_blocks_run_as_meant, emitted_objects_are_accepted, programs_have_cells,
-    runs_and_meanings_write_the_same_lines,
+    programs_have_objects, runs_and_meanings_write_the_same_lines,
 };

@@ -103,7 +103,7 @@ shows_done o vars bs k f r d h =
       pace = λ e. absurd (no_known (sym e ∙ ap (λ (x : FlowState). x.done) s ∙ d));
     }
 
--- the step that stands at a place
+-- the step at a place
 there : (bs : Blocks) (f : FlowState) (front rest : List Step3) (s : Step3) → block_of bs f.place.block ≡ front ++ s ∷ rest → f.place.index ≡ length front → step_at bs f.place ≡ Some s
 there bs f front rest s e n =
     let within : length front < length (front ++ s ∷ rest) = omega (arith, length-append front (s ∷ rest)) in

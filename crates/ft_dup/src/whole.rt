@@ -47,7 +47,7 @@ fn put_blocks(
 /// Doubles a flow: the instructions of its steps, each in green and in blue, block by block. The flow
 /// has pairs below 32 only, each jump goes to a block that is there and is not the entry, each block is
 /// ended by its last step and no other, and there are at most 65,536 instructions in all. The only
-/// error is want of memory.
+/// error is out of memory.
 pub fn duplicate(alloc: Global, flow: &Flow) -> Result<Doubled, NoMemory>
     requires { HasShape (blocks_of flow.now) }
     ensures vars { IfOk result (λ d. d.vars ≡ flow.now.vars) }
