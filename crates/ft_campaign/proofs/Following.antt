@@ -11,7 +11,7 @@ use Rattle.ft_semantics.specs.declared.status.Status.TheVariants.{Running}
 use Rattle.ft_semantics.specs.State.{State}
 use Rattle.ft_semantics.specs.Agrees.{IsPrefix}
 use Rattle.ft_semantics.specs.Run.{Ran}
-use Rattle.ft_machine.specs.declared.machine.Stepped.{Stepped}
+use Rattle.ft_machine.specs.declared.stepped.Stepped.{Stepped}
 use Rattle.ft_machine.specs.Advances.{output_told, Advances}
 use Rattle.ft_machine.specs.Spans.{span, span-zero}
 use Rattle.ft_machine.proofs.Spanned.{joined, span_join}

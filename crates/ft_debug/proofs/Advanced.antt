@@ -14,7 +14,7 @@ use Rattle.ft_semantics.specs.State.{State}
 use Rattle.ft_semantics.specs.Step.{step}
 use Rattle.ft_semantics.specs.Strike.{is_running}
 use Rattle.ft_types.specs.Texts.{line_at}
-use Rattle.ft_machine.specs.declared.machine.Stepped.{Stepped}
+use Rattle.ft_machine.specs.declared.stepped.Stepped.{Stepped}
 use Rattle.ft_machine.specs.Answers.{told_output, Takes}
 use Rattle.ft_debug.specs.declared.moment.Moment.{Moment}
 use Rattle.ft_debug.specs.declared.debugger.Debugger.{Debugger}

@@ -10,8 +10,8 @@ use Rattle.ft_types.specs.declared.object.Object.{Object}
 use Rattle.ft_semantics.specs.State.{State, HasCells}
 use Rattle.ft_semantics.specs.Strike.{is_running}
 use Rattle.ft_types.specs.Texts.{line_at}
-use Rattle.ft_machine.specs.declared.machine.Stepped.{Stepped}
-use Rattle.ft_machine.specs.declared.machine.Stepped.TheVariants.{Commit, Quiet, Done, Detected}
+use Rattle.ft_machine.specs.declared.stepped.Stepped.{Stepped}
+use Rattle.ft_machine.specs.declared.stepped.Stepped.TheVariants.{Commit, Quiet, Done, Detected}
 use Rattle.ft_script.specs.Commands.{Command, Step, Go, IsCount}
 use Rattle.ft_debug.specs.declared.moment.Moment.{Moment}
 use Rattle.ft_debug.specs.declared.debugger.Debugger.{Debugger}

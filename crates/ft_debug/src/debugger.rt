@@ -158,7 +158,7 @@ impl<'w> Debugger<'w> {
         }
     }
 
-    /// Strikes the machine now; `false` exactly where the site is not there.
+    /// Strikes the machine now; `false` exactly when the site is not there.
     pub fn zap(&mut self, site: Site, value: u64) -> bool
         requires { IsFull self.old.history }
         ensures there { result ≡ is_there self.old.present.machine site }

@@ -11,8 +11,8 @@ use Rattle.ft_semantics.specs.State.{State}
 use Rattle.ft_semantics.specs.Step.{step}
 use Rattle.ft_semantics.specs.Run.{Ran, run-add_one, state_after, wild_after, outputs_after, status_after}
 use Rattle.ft_machine.specs.Answers.{told, told_output}
-use Rattle.ft_machine.specs.declared.machine.Stepped.{Stepped}
-use Rattle.ft_machine.specs.declared.machine.Stepped.TheVariants.{Quiet, Commit, Done, Detected}
+use Rattle.ft_machine.specs.declared.stepped.Stepped.{Stepped}
+use Rattle.ft_machine.specs.declared.stepped.Stepped.TheVariants.{Quiet, Commit, Done, Detected}
 use Rattle.ft_machine.proofs.Runs.{HasStopped}
 use Rattle.ft_tolerance.proofs.Whole.{accepted_fits}
 use Rattle.ft_tolerance.proofs.AnyAnswers.{AreSame, step_same}

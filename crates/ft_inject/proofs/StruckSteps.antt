@@ -13,7 +13,7 @@ use Rattle.ft_semantics.specs.State.{State}
 use Rattle.ft_semantics.specs.Step.{Stepping, step, step_at}
 use Rattle.ft_semantics.specs.Strike.{is_there, struck_state}
 use Rattle.ft_semantics.specs.Run.{Ran, run-add_one, state_after, wild_after}
-use Rattle.ft_machine.specs.declared.machine.Stepped.TheVariants as stepped
+use Rattle.ft_machine.specs.declared.stepped.Stepped.TheVariants as stepped
 use Rattle.ft_machine.specs.Answers.{told, told_output, told_status}
 use Rattle.ft_tolerance.specs.TypedState.{Place}
 use Rattle.ft_tolerance.specs.Soundness.{EndsOrFits}

@@ -61,7 +61,7 @@ impl<'a, P: Program> Clean<'a, P> {
         stepped
     }
 
-    /// Strikes the run before its next step: the word at the site becomes `value`. `Idle` exactly where
+    /// Strikes the run before its next step: the word at the site becomes `value`. `Idle` exactly when
     /// the run has stopped or the site is not there, with the run as it was. The run that is struck takes
     /// these answers to wild loads.
     pub fn strike<'w>(self, site: Site, value: u64, wild: &'w [Wild]) -> Hit<'a, 'w, P>

@@ -18,8 +18,8 @@ use Rattle.ft_semantics.specs.Run.{Ran, extended}
 use Rattle.ft_machine.specs.declared.bank.Bank.{Bank}
 use Rattle.ft_machine.specs.declared.bank.Effect.{Effect}
 use Rattle.ft_machine.specs.declared.bank.Effect.TheVariants as effects
-use Rattle.ft_machine.specs.declared.machine.Stepped.{Stepped}
-use Rattle.ft_machine.specs.declared.machine.Stepped.TheVariants.{Quiet, Commit, Done, Detected}
+use Rattle.ft_machine.specs.declared.stepped.Stepped.{Stepped}
+use Rattle.ft_machine.specs.declared.stepped.Stepped.TheVariants.{Quiet, Commit, Done, Detected}
 use Rattle.ft_machine.specs.declared.run.RunEnd.{RunEnd}
 use Rattle.ft_machine.specs.Answers.{Takes, told_output}
 use Rattle.ft_machine.specs.Drives.{EndsWith, GivesLast, TurnEnds, TurnPuts, output_lines}

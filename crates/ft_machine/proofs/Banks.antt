@@ -14,7 +14,7 @@ use Rattle.ft_semantics.specs.Step.{Stepping, next, detected, quiet, goes_on, tr
 use Rattle.ft_machine.specs.declared.bank.Bank.{Bank}
 use Rattle.ft_machine.specs.declared.bank.Effect.{Effect}
 use Rattle.ft_machine.specs.declared.bank.Effect.TheVariants.{On, To, Commit, Done, Detected}
-use Rattle.ft_machine.specs.declared.machine.Stepped.{Stepped}
+use Rattle.ft_machine.specs.declared.stepped.Stepped.{Stepped}
 use Rattle.ft_machine.specs.Answers.{Takes, next_answer, told}
 use Rattle.ft_machine.specs.Effects.{Does, DoesQuietly, doing, followed, put_out, told_effect}
 

@@ -12,7 +12,7 @@ use Rattle.ft_semantics.specs.Step.{Stepping, detected, advance, fetch}
 use Rattle.ft_isa.specs.declared.plan.Site.TheVariants.{QAddr, QVal}
 use Rattle.ft_semantics.specs.declared.status.Status.TheVariants.{Running}
 use Rattle.ft_semantics.specs.Strike.{is_running, is_there, struck_state}
-use Rattle.ft_machine.specs.declared.machine.Stepped.{Stepped}
+use Rattle.ft_machine.specs.declared.stepped.Stepped.{Stepped}
 use Rattle.ft_machine.specs.Answers.{TakesQuietly}
 
 -- the condition holds

@@ -13,8 +13,8 @@ use Rattle.ft_semantics.specs.Run.{Ran}
 use Rattle.ft_machine.specs.Spans.{span}
 use Rattle.ft_machine.specs.Effects.{doing}
 use Rattle.ft_machine.specs.declared.bank.Bank.{Bank}
-use Rattle.ft_machine.specs.declared.machine.Stepped.{Stepped}
-use Rattle.ft_machine.specs.declared.machine.Stepped.TheVariants.{Quiet, Commit, Done, Detected}
+use Rattle.ft_machine.specs.declared.stepped.Stepped.{Stepped}
+use Rattle.ft_machine.specs.declared.stepped.Stepped.TheVariants.{Quiet, Commit, Done, Detected}
 
 -- the output of a step that answers so
 abbrev pub output_told : Stepped → Option Output

@@ -15,7 +15,8 @@ ghost use Rattle.ft_machine.specs.Effects.{doing};
 ghost use Rattle.ft_machine.specs.Spans.{Goes, HasGone, HasDriven, Spares};
 ghost use Rattle.ft_machine.specs.Drives.{EndsAs, Puts, output_lines, IsExcused, HasTaken, Stops, TurnEnds, TurnPuts, TurnIsExcused};
 
-use crate::machine::{Machine, Stepped};
+use crate::machine::Machine;
+use crate::stepped::Stepped;
 use crate::wild::WildLeft;
 use ft_edge::{Failed, Sink};
 use ft_isa::{FIRST_CELL, LINE_ROOM, Output, Plan, Strike, write_line};

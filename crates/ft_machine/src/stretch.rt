@@ -6,7 +6,7 @@ ghost use Rattle.ft_machine.specs.Advances.{Advances, state_where};
 ghost use Rattle.ft_machine.specs.Effects.{doing};
 
 use crate::bank::{Bank, Effect};
-use crate::machine::{Stepped, is_quiet};
+use crate::stepped::{Stepped, is_quiet};
 use crate::wild::WildLeft;
 use ft_types::Program;
 

@@ -2,8 +2,8 @@ use Rattle.std.proofs.Common.{◌≡◌, ◌⊎◌, ⊎_elim, [], sym, subst, re
 use Rattle.ft_edge.specs.Puts.{PutsLines}
 use Rattle.ft_edge.proofs.PutLines.{puts_none}
 use Rattle.ft_types.specs.declared.object.Object.{Object}
-use Rattle.ft_machine.specs.declared.machine.Stepped.{Stepped}
-use Rattle.ft_machine.specs.declared.machine.Stepped.TheVariants.{Commit, Quiet, Done, Detected}
+use Rattle.ft_machine.specs.declared.stepped.Stepped.{Stepped}
+use Rattle.ft_machine.specs.declared.stepped.Stepped.TheVariants.{Commit, Quiet, Done, Detected}
 use Rattle.ft_debug.specs.Inside.{committed_lines}
 use Rattle.ft_debug.proofs.debugger.put_output.Goals as goal
 

@@ -2,7 +2,7 @@ use Rattle.std.proofs.Common.{◌+◌, [], None, refl, sym, ap, ◌∙◌, subst
 use Rattle.ft_semantics.specs.Run.{Ran, run-zero, state_after, outputs_after}
 use Rattle.ft_semantics.specs.Step.{step}
 use Rattle.ft_machine.specs.Answers.{told}
-use Rattle.ft_machine.specs.declared.machine.Stepped.TheVariants.{Quiet, Commit}
+use Rattle.ft_machine.specs.declared.stepped.Stepped.TheVariants.{Quiet, Commit}
 use Rattle.ft_inject.specs.Runs.{CleanRun}
 use Rattle.ft_demo.specs.Shown.{Tallies}
 use Rattle.ft_demo.specs.declared.tally.Tally.{Tally}

@@ -1,7 +1,7 @@
 use Rattle.std.proofs.Common.{◌≡◌, ◌-◌, length, None, refl, sym, subst, ◌∙◌, arith}
 use Rattle.ft_edge.proofs.PutLines.{told_none, puts_none, puts_one, breaks_one}
 use Rattle.ft_types.specs.Texts.{line_at}
-use Rattle.ft_machine.specs.declared.machine.Stepped.TheVariants.{Quiet, Commit, Done, Detected}
+use Rattle.ft_machine.specs.declared.stepped.Stepped.TheVariants.{Quiet, Commit, Done, Detected}
 use Rattle.ft_machine.specs.declared.run.RunEnd.TheVariants as ending
 use Rattle.ft_machine.specs.Spans.{HasGone}
 use Rattle.ft_machine.specs.Advances.{IsEnough, Advances}

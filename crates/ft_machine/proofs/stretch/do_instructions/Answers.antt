@@ -1,7 +1,7 @@
 use Rattle.std.proofs.Common.{◌≡◌, Option, None, refl, sym, subst, arith, rules}
 use Rattle.ft_isa.specs.declared.instr.Instr.{Instr}
 use Rattle.ft_semantics.specs.declared.status.Status.TheVariants as status
-use Rattle.ft_machine.specs.declared.machine.Stepped.TheVariants.{Quiet, Detected}
+use Rattle.ft_machine.specs.declared.stepped.Stepped.TheVariants.{Quiet, Detected}
 use Rattle.ft_machine.specs.Effects.{doing}
 use Rattle.ft_machine.specs.Advances.{Advances, state_where}
 use Rattle.ft_machine.proofs.Advancing.{advances_none, advances_more, advances_lost, advances_quietly}

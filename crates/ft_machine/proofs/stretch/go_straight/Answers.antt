@@ -2,7 +2,7 @@ use Rattle.std.proofs.Common.{◌≡◌, ℕ, ◌+◌, ◌-◌, ◌*◌, Option,
 use Rattle.ft_isa.specs.declared.instr.Instr.{Instr}
 use Rattle.ft_semantics.specs.declared.status.Status.TheVariants as status
 use Rattle.ft_machine.specs.declared.bank.Effect.TheVariants as effects
-use Rattle.ft_machine.specs.declared.machine.Stepped.TheVariants.{Quiet, Commit, Done, Detected}
+use Rattle.ft_machine.specs.declared.stepped.Stepped.TheVariants.{Quiet, Commit, Done, Detected}
 use Rattle.ft_machine.specs.Effects.{doing}
 use Rattle.ft_machine.specs.Advances.{Advances}
 use Rattle.ft_machine.proofs.Spanned.{there_is}

@@ -1,8 +1,8 @@
 use Rattle.std.proofs.Common.{◌≡◌, ◌⊎◌, None, sym, subst}
 use Rattle.ft_semantics.specs.Run.{state_after}
 use Rattle.ft_semantics.specs.Step.{step}
-use Rattle.ft_machine.specs.declared.machine.Stepped.{Stepped}
-use Rattle.ft_machine.specs.declared.machine.Stepped.TheVariants.{Detected}
+use Rattle.ft_machine.specs.declared.stepped.Stepped.{Stepped}
+use Rattle.ft_machine.specs.declared.stepped.Stepped.TheVariants.{Detected}
 use Rattle.ft_machine.specs.Answers.{told}
 use Rattle.ft_inject.specs.Runs.{StruckRun}
 use Rattle.ft_inject.proofs.StruckSteps.{struck_next, struck_told}

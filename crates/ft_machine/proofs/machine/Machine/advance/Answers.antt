@@ -1,5 +1,5 @@
 use Rattle.std.proofs.Common.{◌≡◌, ◌+◌, subst, arith, rules}
-use Rattle.ft_machine.specs.declared.machine.Stepped.TheVariants.{Quiet}
+use Rattle.ft_machine.specs.declared.stepped.Stepped.TheVariants.{Quiet}
 use Rattle.ft_machine.specs.Advances.{Advances}
 use Rattle.ft_machine.proofs.Advancing.{advances_none, advances_more, advances_within, advances_to_cell, advances_cells}
 use Rattle.ft_machine.proofs.machine.Machine.advance.Goals as goal

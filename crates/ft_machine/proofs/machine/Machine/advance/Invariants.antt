@@ -1,5 +1,5 @@
 use Rattle.std.proofs.Common.{◌≤◌, ◌-◌}
-use Rattle.ft_machine.specs.declared.machine.Stepped.TheVariants.{Quiet}
+use Rattle.ft_machine.specs.declared.stepped.Stepped.TheVariants.{Quiet}
 use Rattle.ft_machine.specs.Advances.{Advances}
 use Rattle.ft_machine.proofs.machine.Machine.advance.Given as goal
 

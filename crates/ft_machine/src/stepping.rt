@@ -1,0 +1,269 @@
+//! What a machine does: strikes, single steps, and steps in a row.
+ghost use Rattle.std.specs.Prelude.{◌≡◌, ℕ, ◌≤◌, ◌<◌, IsTrue, true, None};
+ghost use Rattle.ft_types.specs.Objects.{instr_at};
+ghost use Rattle.ft_types.specs.Spellable.{IsSpellable};
+ghost use Rattle.ft_semantics.specs.State.{is_cell, HasCells};
+ghost use Rattle.ft_semantics.specs.Step.{step, advance, detected, goes_on};
+ghost use Rattle.ft_semantics.specs.Strike.{is_there, struck_state};
+ghost use Rattle.ft_machine.specs.Answers.{Takes, TakesQuietly};
+ghost use Rattle.ft_machine.specs.Advances.{Advances, fetched_where};
+ghost use Rattle.ft_machine.specs.Effects.{doing, followed, told_effect, bank_of};
+ghost use Rattle.ft_isa.specs.declared.output.Output as outputs;
+
+use crate::bank::Effect;
+use crate::machine::Machine;
+use crate::stepped::{Advance, Stepped, is_quiet, status_told};
+use crate::stretch::do_instructions;
+use crate::wild::WildLeft;
+use ft_isa::{Coloured, Instr, Site};
+use ft_semantics::Status;
+use ft_types::Program;
+
+impl Machine {
+    /// Strikes a site: the word there becomes `value`, and its colour stays. `false` exactly when the
+    /// machine has stopped or the site is not there, and then nothing changes.
+    pub fn strike(&mut self, site: Site, value: u64) -> bool
+        ensures there { result ≡ is_there self.old site }
+        ensures struck { self.new ≡ struck_state self.old site value }
+        ensures cells { (n : ℕ) → HasCells n self.old → HasCells n self.new }
+    {
+        match self.status {
+            Status::Running => self.put_word(site, value),
+            Status::Done => false,
+            Status::Detected => false,
+        }
+    }
+
+    /// Puts a word at a site of a running machine, where it is there.
+    fn put_word(&mut self, site: Site, value: u64) -> bool
+        requires { self.old.status ≡ Status.Running }
+        ensures there { result ≡ is_there self.old site }
+        ensures struck { self.new ≡ struck_state self.old site value }
+    {
+        match site {
+            Site::R(r) => {
+                let colour = self.reg(r).colour;
+                self.bank.registers.put(
+                    r,
+                    Coloured {
+                        colour,
+                        word: value,
+                    },
+                );
+                true
+            }
+            Site::D => {
+                self.bank.d = value;
+                true
+            }
+            Site::PcG => {
+                self.pc_green = value;
+                true
+            }
+            Site::PcB => {
+                self.pc_blue = value;
+                true
+            }
+            Site::QAddr(i) => self.bank.queue.strike_addr(i, value),
+            Site::QVal(i) => self.bank.queue.strike_value(i, value),
+        }
+    }
+
+    /// Takes one step. A machine that has stopped stays as it is, and answers the same again.
+    pub fn step<P: Program>(&mut self, program: &P, wild: &mut WildLeft) -> Stepped
+        requires { IsSpellable (P.object program.now) }
+        ensures takes { Takes (step (P.object program.now) self.old wild.old) self.new wild.new result }
+
+        // The cells keep their addresses, and a pair that is committed goes to one of them.
+        ensures cells { (n : ℕ) → HasCells n self.old → HasCells n self.new }
+        ensures commits { (output : outputs.Output) → result ≡ Stepped.Commit output → is_cell self.old.cells output.addr ≡ true }
+    {
+        match self.status {
+            Status::Running => self.fetch_or_execute(program, wild),
+            Status::Done => Stepped::Done,
+            Status::Detected => Stepped::Detected,
+        }
+    }
+
+    /// Fetches an instruction, or does the one that is fetched.
+    fn fetch_or_execute<P: Program>(&mut self, program: &P, wild: &mut WildLeft) -> Stepped
+        requires spellable { IsSpellable (P.object program.now) }
+        requires running { self.old.status ≡ Status.Running }
+        ensures { Takes (advance (P.object program.now) self.old.fetched self.old wild.old) self.new wild.new result }
+    {
+        match self.fetched {
+            None => self.fetch(program),
+            Some(instr) => {
+                let effect = self.bank.execute(instr, wild);
+                self.follow(effect)
+            }
+        }
+    }
+
+    fn fetch<P: Program>(&mut self, program: &P) -> Stepped
+        requires spellable { IsSpellable (P.object program.now) }
+        requires running { self.old.status ≡ Status.Running }
+        ensures { TakesQuietly (advance (P.object program.now) None self.old) self.new result }
+    {
+        if self.pc_green != self.pc_blue {
+            return self.detect();
+        }
+        match instr_at(program, self.pc_green) {
+            Some(instr) => {
+                self.fetched = Some(instr);
+                Stepped::Quiet
+            }
+            None => self.detect(),
+        }
+    }
+
+    /// Takes over what an instruction did.
+    #[inline(always)]
+    fn follow(&mut self, effect: Effect) -> Stepped
+        requires running { self.old.status ≡ Status.Running }
+        ensures state { self.new ≡ followed effect (bank_of self.old) self.old.pc_green self.old.pc_blue self.old.fetched }
+        ensures answer { result ≡ told_effect effect }
+    {
+        match effect {
+            Effect::On => {
+                self.go_on();
+                Stepped::Quiet
+            }
+            Effect::To(target) => {
+                self.pc_green = target;
+                self.pc_blue = target;
+                self.fetched = None;
+                Stepped::Quiet
+            }
+            Effect::Commit(output) => {
+                self.go_on();
+                Stepped::Commit(output)
+            }
+            Effect::Done => {
+                self.status = Status::Done;
+                Stepped::Done
+            }
+            Effect::Detected => {
+                self.status = Status::Detected;
+                Stepped::Detected
+            }
+        }
+    }
+
+    /// Stops at a fault that was noticed.
+    fn detect(&mut self) -> Stepped
+        ensures { TakesQuietly (detected self.old) self.new result }
+    {
+        self.status = Status::Detected;
+        Stepped::Detected
+    }
+
+    /// Both counters grow by 1, and nothing is fetched.
+    fn go_on(&mut self)
+        ensures { self.new ≡ goes_on self.old }
+    {
+        self.pc_green = self.pc_green.wrapping_add(1);
+        self.pc_blue = self.pc_blue.wrapping_add(1);
+        self.fetched = None;
+    }
+
+    /// Takes at most `most` steps of a running machine, and stops at the first that is not quiet.
+    pub fn advance<P: Program>(&mut self, program: &P, wild: &mut WildLeft, most: u64) -> Advance
+        requires spellable { IsSpellable (P.object program.now) }
+        requires running { self.old.status ≡ Status.Running }
+        ensures advances { Advances (P.object program.now) self.old wild.old self.new wild.new most result.taken result.last }
+        ensures few { result.taken ≤ most }
+        ensures some { 0 < most → 0 < result.taken }
+
+        // The cells keep their addresses, and a pair that is committed goes to one of them.
+        ensures cells { (n : ℕ) → HasCells n self.old → HasCells n self.new }
+        ensures commits { (output : outputs.Output) → result.last ≡ Stepped.Commit output → is_cell self.old.cells output.addr ≡ true }
+    {
+        let mut taken = 0;
+        while taken < most {
+            let next = self.advance_some(program, wild, most - taken);
+            taken += next.taken;
+            if !is_quiet(next.last) {
+                return Advance {
+                    taken,
+                    last: next.last,
+                };
+            }
+        }
+        Advance {
+            taken,
+            last: Stepped::Quiet,
+        }
+    }
+
+    /// Takes some steps: whole instructions where the machine is ready for them, and else one step.
+    fn advance_some<P: Program>(&mut self, program: &P, wild: &mut WildLeft, most: u64) -> Advance
+        requires spellable { IsSpellable (P.object program.now) }
+        requires running { self.old.status ≡ Status.Running }
+        requires some { 0 < most }
+        ensures some { 0 < result.taken }
+        ensures few { result.taken ≤ most }
+        ensures advances { Advances (P.object program.now) self.old wild.old self.new wild.new result.taken result.taken result.last }
+    {
+        if most > 1 && self.is_ready() {
+            return self.advance_ready(program, wild, most);
+        }
+        Advance {
+            taken: 1,
+            last: self.step(program, wild),
+        }
+    }
+
+    /// Whether nothing is fetched and the counters are equal.
+    fn is_ready(&self) -> bool
+        requires { self.now.status ≡ Status.Running }
+        ensures { IsTrue result → self.now ≡ doing (bank_of self.now) self.now.pc_green self.now.pc_green None }
+    {
+        self.fetched.is_none() && self.pc_green == self.pc_blue
+    }
+
+    /// Takes whole instructions of a machine that is ready for one, each in two steps.
+    fn advance_ready<P: Program>(&mut self, program: &P, wild: &mut WildLeft, most: u64) -> Advance
+        requires spellable { IsSpellable (P.object program.now) }
+        requires ready { self.old ≡ doing (bank_of self.old) self.old.pc_green self.old.pc_green None }
+        requires some { 1 < most }
+        ensures some { 0 < result.taken }
+        ensures few { result.taken ≤ most }
+        ensures advances { Advances (P.object program.now) self.old wild.old self.new wild.new result.taken result.taken result.last }
+    {
+        let stretch = do_instructions(&mut self.bank, program, self.pc_green, most, wild);
+        self.pc_green = stretch.pc;
+        self.pc_blue = stretch.pc;
+        self.fetched = fetched_where(program, stretch.pc, stretch.last);
+        self.status = status_told(stretch.last);
+        Advance {
+            taken: stretch.taken,
+            last: stretch.last,
+        }
+    }
+}
+
+/// The instruction at a code address, if one is there.
+#[tactic(auto, using(ft_types::proofs::Counted::spellable_counted))]
+fn instr_at<P: Program>(program: &P, pc: u64) -> Option<Instr>
+    requires { IsSpellable (P.object program.now) }
+    ensures { result ≡ instr_at (P.object program.now) pc }
+{
+    if pc == 0 || pc > program.counts().instrs as u64 {
+        return None;
+    }
+    Some(program.instr((pc - 1) as u32))
+}
+
+/// What is fetched after the last step of whole instructions.
+fn fetched_where<P: Program>(program: &P, pc: u64, last: Stepped) -> Option<Instr>
+    requires { IsSpellable (P.object program.now) }
+    ensures { result ≡ fetched_where (P.object program.now) pc last }
+{
+    match last {
+        Stepped::Quiet => None,
+        Stepped::Commit(_) => None,
+        Stepped::Done => instr_at(program, pc),
+        Stepped::Detected => instr_at(program, pc),
+    }
+}
