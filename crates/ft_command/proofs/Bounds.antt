@@ -6,7 +6,7 @@ use Rattle.ft_command.specs.declared.allowed.Allowed.{Allowed}
 use Rattle.ft_command.specs.declared.verb.Verb.{Verb}
 use Rattle.ft_command.specs.declared.verb.Verb.TheVariants as verb
 use Rattle.ft_command.specs.Options.{Word, Given, none_given, IsNumberUpTo, Gives, by_steps, by_turns, by_strike, by_wild, by_faults, GivesAll}
-use Rattle.ft_command.specs.Commands.{allowed_of, campaign_of, turns_up_to, request_of, Request, Strikes, Surveys, Demonstrates, AreCommand, HasFewSteps, HasTurns}
+use Rattle.ft_command.specs.Commands.{allowed_of, campaign_of, turns_up_to, request_of, Request, Campaigns, Surveys, Demonstrates, AreCommand, HasFewSteps, HasTurns}
 use Rattle.ft_command.proofs.Numbers.{turns_within}
 
 -- a number that was given is allowed and at most the greatest
@@ -51,7 +51,7 @@ few_of : (v : Verb) (operand : Word) (given : Given) → IsUpTo (allowed_of v).s
 few_of verb.Check operand given h = tt
 few_of verb.Run operand given h = tt
 few_of verb.Trial operand given h = tt
-few_of verb.Campaign operand given h = few_of_list (λ faults. Strikes (campaign_of operand given faults)) given.faults (λ w. few_by_default given.steps h)
+few_of verb.Campaign operand given h = few_of_list (λ faults. Campaigns (campaign_of operand given faults)) given.faults (λ w. few_by_default given.steps h)
 few_of verb.Survey operand given h = few_of_list (λ faults. Surveys (campaign_of operand given faults)) given.faults (λ w. few_by_default given.steps h)
 few_of verb.Compile operand given h = tt
 few_of verb.Exec operand given h = tt
@@ -84,7 +84,7 @@ turns_of : (v : Verb) (operand : Word) (given : Given) → HasTurnsIfSome (reque
 turns_of verb.Check operand given = tt
 turns_of verb.Run operand given = tt
 turns_of verb.Trial operand given = tt
-turns_of verb.Campaign operand given = turns_of_list (λ faults. Strikes (campaign_of operand given faults)) given.faults (λ w. tt)
+turns_of verb.Campaign operand given = turns_of_list (λ faults. Campaigns (campaign_of operand given faults)) given.faults (λ w. tt)
 turns_of verb.Survey operand given = turns_of_list (λ faults. Surveys (campaign_of operand given faults)) given.faults (λ w. tt)
 turns_of verb.Compile operand given = tt
 turns_of verb.Exec operand given = tt

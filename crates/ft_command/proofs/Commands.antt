@@ -4,7 +4,7 @@ use Rattle.std.specs.Option.{option_map, unwrap_or}
 use Rattle.ft_command.specs.declared.verb.Verb.{Verb}
 use Rattle.ft_command.specs.declared.verb.Verb.TheVariants as verb
 use Rattle.ft_command.specs.Options.{Word, Given, none_given, GivesAll}
-use Rattle.ft_command.specs.Commands.{name_of, allowed_of, turns_up_to, request_of, Request, Usage, Checks, Runs, Tries, Strikes, Surveys, Compiles, Executes, Means, Debugs, Demonstrates, AreCommand, Asks}
+use Rattle.ft_command.specs.Commands.{name_of, allowed_of, turns_up_to, request_of, Request, Usage, Checks, Runs, Trials, Campaigns, Surveys, Compiles, Executes, Means, Debugs, Demonstrates, AreCommand, Asks}
 
 -- the command that a name is of, by its letters
 verb_by : Word → Verb
@@ -84,8 +84,8 @@ pub asks : (words : List Word) (request : Request) → AreCommand words request 
 asks words Usage h = absurd (no_usage h.verb h.operand h.given h.request_is)
 asks words (Checks object) h = h
 asks words (Runs run) h = h
-asks words (Tries run) h = h
-asks words (Strikes campaign) h = h
+asks words (Trials run) h = h
+asks words (Campaigns campaign) h = h
 asks words (Surveys campaign) h = h
 asks words (Compiles source) h = h
 asks words (Executes execution) h = h
@@ -98,8 +98,8 @@ pub by_command : (words : List Word) (request other : Request) → AreCommand wo
 by_command words request Usage asked usage = absurd (usage request asked)
 by_command words request (Checks object) asked h = h
 by_command words request (Runs run) asked h = h
-by_command words request (Tries run) asked h = h
-by_command words request (Strikes campaign) asked h = h
+by_command words request (Trials run) asked h = h
+by_command words request (Campaigns campaign) asked h = h
 by_command words request (Surveys campaign) asked h = h
 by_command words request (Compiles source) asked h = h
 by_command words request (Executes execution) asked h = h
@@ -135,8 +135,8 @@ pub usage_only : (words : List Word) → ((request : Request) → AreCommand wor
 usage_only words none Usage h = refl
 usage_only words none (Checks object) h = absurd (none (Checks object) h)
 usage_only words none (Runs run) h = absurd (none (Runs run) h)
-usage_only words none (Tries run) h = absurd (none (Tries run) h)
-usage_only words none (Strikes campaign) h = absurd (none (Strikes campaign) h)
+usage_only words none (Trials run) h = absurd (none (Trials run) h)
+usage_only words none (Campaigns campaign) h = absurd (none (Campaigns campaign) h)
 usage_only words none (Surveys campaign) h = absurd (none (Surveys campaign) h)
 usage_only words none (Compiles source) h = absurd (none (Compiles source) h)
 usage_only words none (Executes execution) h = absurd (none (Executes execution) h)

@@ -10,7 +10,7 @@ use Rattle.ft_command.specs.declared.allowed.Allowed.{Allowed}
 use Rattle.ft_command.specs.declared.verb.Verb.{Verb}
 use Rattle.ft_command.specs.declared.verb.Verb.TheVariants as verb
 use Rattle.ft_command.specs.Options.{Word, Given, none_given, IsNumberUpTo, GivesSteps, GivesTurns, GivesStrike, GivesWild, GivesFaults, Gives, by_steps, by_turns, by_strike, by_wild, by_faults, GivesAll}
-use Rattle.ft_command.specs.Commands.{allowed_of, Request, Usage, Checks, Runs, Tries, Strikes, Surveys, Compiles, Executes, Means, Debugs, Demonstrates, AreCommand, Asks}
+use Rattle.ft_command.specs.Commands.{allowed_of, Request, Usage, Checks, Runs, Trials, Campaigns, Surveys, Compiles, Executes, Means, Debugs, Demonstrates, AreCommand, Asks}
 use Rattle.ft_command.proofs.Given.{steps_only, turns_only, strike_only, wild_only, faults_only}
 use Rattle.ft_command.proofs.Commands.{asks_only, usage_only}
 
@@ -96,8 +96,8 @@ pub one_request : (words : List Word) (a b : Request) → Asks words a → Asks 
 one_request words Usage b h i = sym (usage_only words h b i)
 one_request words (Checks object) b h i = one_command words (Checks object) b h i
 one_request words (Runs run) b h i = one_command words (Runs run) b h i
-one_request words (Tries run) b h i = one_command words (Tries run) b h i
-one_request words (Strikes campaign) b h i = one_command words (Strikes campaign) b h i
+one_request words (Trials run) b h i = one_command words (Trials run) b h i
+one_request words (Campaigns campaign) b h i = one_command words (Campaigns campaign) b h i
 one_request words (Surveys campaign) b h i = one_command words (Surveys campaign) b h i
 one_request words (Compiles source) b h i = one_command words (Compiles source) b h i
 one_request words (Executes execution) b h i = one_command words (Executes execution) b h i

@@ -10,7 +10,7 @@ use Rattle.ft_command.specs.declared.command.Debugging as declared_debugging
 use Rattle.ft_command.specs.declared.command.Command as declared_command
 use Rattle.ft_command.specs.declared.command.Command.TheVariants as commands
 use Rattle.ft_command.specs.Options.{Given}
-use Rattle.ft_command.specs.Commands.{Run, Campaign, Meaning, Execution, Debugging, Request, Usage, Checks, Runs, Tries, Strikes, Surveys, Compiles, Executes, Means, Debugs, Demonstrates}
+use Rattle.ft_command.specs.Commands.{Run, Campaign, Meaning, Execution, Debugging, Request, Usage, Checks, Runs, Trials, Campaigns, Surveys, Compiles, Executes, Means, Debugs, Demonstrates}
 
 -- the options that the code has taken so far
 abbrev pub given_of : Options → Given
@@ -37,8 +37,8 @@ abbrev pub asked : declared_command.Command → Request
 asked commands.Usage = Usage
 asked (commands.Check object) = Checks object.now
 asked (commands.Run run) = Runs (run_view run)
-asked (commands.Trial run) = Tries (run_view run)
-asked (commands.Campaign campaign) = Strikes (campaign_view campaign)
+asked (commands.Trial run) = Trials (run_view run)
+asked (commands.Campaign campaign) = Campaigns (campaign_view campaign)
 asked (commands.Survey campaign) = Surveys (campaign_view campaign)
 asked (commands.Compile source) = Compiles source.now
 asked (commands.Exec execution) = Executes (execution_view execution)

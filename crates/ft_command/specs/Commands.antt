@@ -132,9 +132,9 @@ pub data Request : Type 0 where
   -- the run of an object that is accepted
   Runs : Run → Request
   -- the run of an object that is not checked
-  Tries : Run → Request
+  Trials : Run → Request
   -- a campaign on an object that is accepted
-  Strikes : Campaign → Request
+  Campaigns : Campaign → Request
   -- a campaign on an object that is not checked
   Surveys : Campaign → Request
   -- the object of a source
@@ -152,8 +152,8 @@ pub data Request : Type 0 where
 abbrev pub request_of : Verb → Word → Given → Option Request
 request_of verb.Check operand given = Some (Checks operand)
 request_of verb.Run operand given = Some (Runs (run_of operand given))
-request_of verb.Trial operand given = Some (Tries (run_of operand given))
-request_of verb.Campaign operand given = option_map (λ faults. Strikes (campaign_of operand given faults)) given.faults
+request_of verb.Trial operand given = Some (Trials (run_of operand given))
+request_of verb.Campaign operand given = option_map (λ faults. Campaigns (campaign_of operand given faults)) given.faults
 request_of verb.Survey operand given = option_map (λ faults. Surveys (campaign_of operand given faults)) given.faults
 request_of verb.Compile operand given = Some (Compiles operand)
 request_of verb.Exec operand given = Some (Executes (execution_of operand given))
@@ -171,13 +171,13 @@ pub record AreCommand (words : List Word) (request : Request) : Type 0 where
   pub gives : GivesAll (allowed_of verb) options none_given given
   pub request_is : request_of verb operand given ≡ Some request
 
--- the words ask for this: for the line on usage exactly where they are no command
+-- the words ask for this: for the line on usage exactly when they are no command
 abbrev pub Asks : List Word → Request → Type 0
 Asks words Usage = (request : Request) → ¬ (AreCommand words request)
 Asks words (Checks object) = AreCommand words (Checks object)
 Asks words (Runs run) = AreCommand words (Runs run)
-Asks words (Tries run) = AreCommand words (Tries run)
-Asks words (Strikes campaign) = AreCommand words (Strikes campaign)
+Asks words (Trials run) = AreCommand words (Trials run)
+Asks words (Campaigns campaign) = AreCommand words (Campaigns campaign)
 Asks words (Surveys campaign) = AreCommand words (Surveys campaign)
 Asks words (Compiles source) = AreCommand words (Compiles source)
 Asks words (Executes execution) = AreCommand words (Executes execution)
@@ -190,8 +190,8 @@ abbrev pub HasFewSteps : Request → Type 0
 HasFewSteps Usage = Unit {0}
 HasFewSteps (Checks object) = Unit {0}
 HasFewSteps (Runs run) = Unit {0}
-HasFewSteps (Tries run) = Unit {0}
-HasFewSteps (Strikes campaign) = campaign.steps ≤ 1000000
+HasFewSteps (Trials run) = Unit {0}
+HasFewSteps (Campaigns campaign) = campaign.steps ≤ 1000000
 HasFewSteps (Surveys campaign) = campaign.steps ≤ 1000000
 HasFewSteps (Compiles source) = Unit {0}
 HasFewSteps (Executes execution) = Unit {0}
@@ -204,8 +204,8 @@ abbrev pub HasTurns : Request → Type 0
 HasTurns Usage = Unit {0}
 HasTurns (Checks object) = Unit {0}
 HasTurns (Runs run) = Unit {0}
-HasTurns (Tries run) = Unit {0}
-HasTurns (Strikes campaign) = Unit {0}
+HasTurns (Trials run) = Unit {0}
+HasTurns (Campaigns campaign) = Unit {0}
 HasTurns (Surveys campaign) = Unit {0}
 HasTurns (Compiles source) = Unit {0}
 HasTurns (Executes execution) = Unit {0}

@@ -1,5 +1,6 @@
 -- What the parts of a command conclude.
-use Rattle.std.proofs.Common.{◌≡◌, false, nat_le, ℕ, ◌<◌, List, [], ◌∷◌, length, Option, Some, None, Ok, Err, inl, inr, refl, sym, ap, ◌∙◌, subst}
+use Rattle.std.proofs.Common.{◌≡◌, ◌≢◌, false, nat_le, ℕ, ◌<◌, List, [], ◌∷◌, length, Option, Some, None, Ok, Err, inl, inr, refl, sym, ap, ◌∙◌, subst}
+use Rattle.std.specs.Prelude.{◌⊎◌, IsTrue}
 use Rattle.std.proofs.lemmas.Bool.{lt-leb}
 use Rattle.ft_edge.specs.Puts.{PutsLines, BreaksOff as LinesBreakOff}
 use Rattle.ft_edge.specs.Causes.{Rose}
@@ -7,6 +8,7 @@ use Rattle.ft_edge.specs.Loads.{Files}
 use Rattle.ft_isa.specs.declared.plan.Wild.{Wild}
 use Rattle.ft_types.specs.declared.object.Object as objects
 use Rattle.ft_semantics.specs.declared.status.Status.{Status}
+use Rattle.ft_semantics.specs.declared.status.Status.TheVariants as machine
 use Rattle.ft_semantics.specs.Run.{run, status_after, outputs_after}
 use Rattle.ft_types.specs.Spellable.{IsSpellable}
 use Rattle.ft_typing.proofs.Acceptance.{accepted_is_unrefused}
@@ -14,44 +16,79 @@ use Rattle.ft_tolerance.specs.Soundness.{IsNeverDetected}
 use Rattle.ft_tolerance.proofs.Whole.{never_detected}
 use Rattle.ft_tolerance.proofs.Masking.{tolerant}
 use Rattle.ft_isa.specs.declared.plan.Strike.{Strike}
-use Rattle.ft_machine.specs.Drives.{output_lines}
+use Rattle.ft_machine.specs.declared.run.RunEnd.{RunEnd}
+use Rattle.ft_machine.specs.declared.run.RunEnd.TheVariants as runs
+use Rattle.ft_machine.specs.Drives.{EndsAs, Puts, IsExcused, output_lines}
 use Rattle.ft_format.specs.Broken.{broken, object_of}
+use Rattle.ft_format.proofs.Write.{spells_unbroken}
 use Rattle.ft_format.specs.declared.object_error.ObjectError.TheVariants.{Length}
 use Rattle.ft_command.specs.Options.{Word}
 use Rattle.ft_command.specs.Commands.{Run, Request}
 use Rattle.ft_tool.specs.declared.load.ObjectFault.{ObjectFault}
 use Rattle.ft_tool.specs.declared.load.ObjectFault.TheVariants.{Refused, Failed, NoMemory as no_memory}
 use Rattle.ft_tool.specs.declared.ending.Ending.{Ending}
-use Rattle.ft_tool.specs.declared.ending.Ending.TheVariants.{Done, Detected, Usage, LoadFault, WriteFault, NoMemory, Source, Object, NotAccepted, OutOfSteps, Corrupt, FaultList}
-use Rattle.ft_typing.specs.Accepted.{refusal}
+use Rattle.ft_tool.specs.declared.ending.Ending.TheVariants.{Done, Detected, Usage, LoadFailed, WriteFailed, NoMemory, SourceRefused, ObjectRefused, NotAccepted, OutOfSteps, Corrupt, ListRefused}
+use Rattle.ft_typing.specs.Accepted.{Refusal, refusal}
 use Rattle.ft_checker.specs.declared.error.CheckError.{CheckError}
 use Rattle.ft_checker.specs.declared.error.CheckError.TheVariants as checks
 use Rattle.ft_checker.specs.Judges.{IsRefusalOf}
 use Rattle.ft_tool.specs.Replies.{Answer, one_piece, ran, status_of_run}
-use Rattle.ft_tool.specs.Answers.{tried, judged, checked, Withstands, RunsUnless, RunsObject, TriesObject, OverFile, ComesTo, FailsIn, Concludes, BreaksOff}
+use Rattle.ft_tool.specs.Answers.{tried, judged, checked, Withstands, RunsUnless, RunsObject, TrialsObject, OverFile, SpellsFile, ComesTo, FailsIn, Concludes, BreaksOff}
 use Rattle.ft_tool.specs.Told.{OfFiles}
 use Rattle.ft_tool.specs.Files.{LoadsObject, LoadCause, IsRefusedBy, IsNotAccepted}
-use Rattle.ft_tool.specs.Endings.{Ends}
-use Rattle.ft_tool.proofs.Mapped.{some_files, files_with}
+use Rattle.ft_tool.specs.Endings.{Ends, ends_early, ending_of_run}
+use Rattle.ft_tool.proofs.Mapped.{some_same, none_some, some_files, files_with}
 
 -- an ending says the same of an answer that is known less well
 pub Ends-map : (e : Ending) (P Q : Answer → Type 0) (old new : Option (List ℕ)) (puts puts' : Option (List (List ℕ))) (before now : ℕ) (L M : Type 0) → ((a : Answer) → P a → Q a) → (L → M) → Ends e P old new puts puts' before now L → Ends e Q old new puts puts' before now M
 Ends-map Done P Q old new puts puts' before now L M f g h = record { answer = h.answer; is = f h.answer h.is; put = h.put; status_is = h.status_is }
 Ends-map Detected P Q old new puts puts' before now L M f g h = record { answer = h.answer; is = f h.answer h.is; put = h.put; status_is = h.status_is }
 Ends-map Usage P Q old new puts puts' before now L M f g h = record { answer = h.answer; is = f h.answer h.is; put = h.put; status_is = h.status_is }
-Ends-map LoadFault P Q old new puts puts' before now L M f g h = (h.0, g h.1)
-Ends-map WriteFault P Q old new puts puts' before now L M f g h = (h.0, record { answer = h.1.answer; is = f h.1.answer h.1.is; broken = h.1.broken })
+Ends-map LoadFailed P Q old new puts puts' before now L M f g h = (h.0, g h.1)
+Ends-map WriteFailed P Q old new puts puts' before now L M f g h = (h.0, record { answer = h.1.answer; is = f h.1.answer h.1.is; broken = h.1.broken })
 Ends-map NoMemory P Q old new puts puts' before now L M f g h = h
-Ends-map Source P Q old new puts puts' before now L M f g h = record { answer = h.answer; is = f h.answer h.is; put = h.put; status_is = h.status_is }
-Ends-map Object P Q old new puts puts' before now L M f g h = record { answer = h.answer; is = f h.answer h.is; put = h.put; status_is = h.status_is }
+Ends-map SourceRefused P Q old new puts puts' before now L M f g h = record { answer = h.answer; is = f h.answer h.is; put = h.put; status_is = h.status_is }
+Ends-map ObjectRefused P Q old new puts puts' before now L M f g h = record { answer = h.answer; is = f h.answer h.is; put = h.put; status_is = h.status_is }
 Ends-map NotAccepted P Q old new puts puts' before now L M f g h = record { answer = h.answer; is = f h.answer h.is; put = h.put; status_is = h.status_is }
 Ends-map OutOfSteps P Q old new puts puts' before now L M f g h = record { answer = h.answer; is = f h.answer h.is; put = h.put; status_is = h.status_is }
 Ends-map Corrupt P Q old new puts puts' before now L M f g h = record { answer = h.answer; is = f h.answer h.is; put = h.put; status_is = h.status_is }
-Ends-map FaultList P Q old new puts puts' before now L M f g h = record { answer = h.answer; is = f h.answer h.is; put = h.put; status_is = h.status_is }
+Ends-map ListRefused P Q old new puts puts' before now L M f g h = record { answer = h.answer; is = f h.answer h.is; put = h.put; status_is = h.status_is }
+
+-- a call that ends without an answer ends early
+pub unanswered : (e : Ending) (Is : Answer → Type 0) (old new : Option (List ℕ)) (puts puts' : Option (List (List ℕ))) (before now : ℕ) (L : Type 0) → ((a : Answer) → Is a → ⊥) → Ends e Is old new puts puts' before now L → IsTrue (ends_early e)
+unanswered Done Is old new puts puts' before now L none h = absurd (none h.answer h.is)
+unanswered Detected Is old new puts puts' before now L none h = absurd (none h.answer h.is)
+unanswered Usage Is old new puts puts' before now L none h = absurd (none h.answer h.is)
+unanswered LoadFailed Is old new puts puts' before now L none h = refl
+unanswered WriteFailed Is old new puts puts' before now L none h = absurd (none h.1.answer h.1.is)
+unanswered NoMemory Is old new puts puts' before now L none h = refl
+unanswered SourceRefused Is old new puts puts' before now L none h = absurd (none h.answer h.is)
+unanswered ObjectRefused Is old new puts puts' before now L none h = absurd (none h.answer h.is)
+unanswered NotAccepted Is old new puts puts' before now L none h = absurd (none h.answer h.is)
+unanswered OutOfSteps Is old new puts puts' before now L none h = absurd (none h.answer h.is)
+unanswered Corrupt Is old new puts puts' before now L none h = absurd (none h.answer h.is)
+unanswered ListRefused Is old new puts puts' before now L none h = absurd (none h.answer h.is)
+
+-- bytes that are refused spell no object, and else the call ends early
+pub unspelled : (told : Option Files) (name : Word) (e : ObjectFault) (end : Ending) (old new : Option (List ℕ)) (puts puts' : Option (List (List ℕ))) (before now : ℕ) (L : Type 0) → LoadsObject told name (Err e)
+    → Ends end (IsRefusedBy e) old new puts puts' before now L → OfFiles told (λ files. (SpellsFile files name → ⊥) ⊎ IsTrue (ends_early end))
+unspelled told name (Refused e) end old new puts puts' before now L h ends =
+    let m = files_with told name h.0 h.1.0 in
+    (m.0, (m.1.0, inl (λ s. none_some e (sym (spells_unbroken s.0 s.1.1.0 s.1.1.1) ∙ ap broken (some_same s.0 h.0 (sym s.1.0 ∙ m.1.1)) ∙ h.1.1))))
+unspelled told name Failed end old new puts puts' before now L h ends = let m = some_files told in (m.0, (m.1.0, inr (unanswered end (IsRefusedBy Failed) old new puts puts' before now L (λ a is. is) ends)))
+unspelled told name no_memory end old new puts puts' before now L h ends = let m = some_files told in (m.0, (m.1.0, inr (unanswered end (IsRefusedBy no_memory) old new puts puts' before now L (λ a is. is) ends)))
+
+-- an object that is not accepted is refused, and else the call ends early
+pub unaccepted : (x : Option Refusal) (e : CheckError) (end : Ending) (old new : Option (List ℕ)) (puts puts' : Option (List (List ℕ))) (before now : ℕ) (L : Type 0) → IsRefusalOf x e
+    → Ends end (IsNotAccepted e) old new puts puts' before now L → (x ≢ None) ⊎ IsTrue (ends_early end)
+unaccepted x checks.EntryType end old new puts puts' before now L h ends = inl (λ none. none_some _ (sym none ∙ h))
+unaccepted x (checks.CellType k) end old new puts puts' before now L h ends = inl (λ none. none_some _ (sym none ∙ h))
+unaccepted x (checks.Refused b i why) end old new puts puts' before now L h ends = inl (λ none. none_some _ (sym none ∙ h))
+unaccepted x checks.NoMemory end old new puts puts' before now L h ends = inr (unanswered end (IsNotAccepted checks.NoMemory) old new puts puts' before now L (λ a is. is) ends)
 
 -- a run whose lines were put
-pub concludes : (r : Run) (o : objects.Object) (w : List Wild) (v : Status) (old new : Option (List ℕ)) (before now : Option (List (List ℕ))) → w ≡ r.wild → status_after o r.strike w r.steps ≡ v
-    → PutsLines (output_lines o (outputs_after o r.strike w r.steps)) old new before now → Concludes (TriesObject r o) (status_of_run v) old new before now
+concludes : (r : Run) (o : objects.Object) (w : List Wild) (v : Status) (old new : Option (List ℕ)) (before now : Option (List (List ℕ))) → w ≡ r.wild → status_after o r.strike w r.steps ≡ v
+    → PutsLines (output_lines o (outputs_after o r.strike w r.steps)) old new before now → Concludes (TrialsObject r o) (status_of_run v) old new before now
 concludes r o w v old new before now is status put = record {
   answer = ran o (run o r.strike r.wild r.steps);
   is = refl;
@@ -60,13 +97,21 @@ concludes r o w v old new before now is status put = record {
 }
 
 -- a run of whose lines a put failed
-pub breaks_off : (r : Run) (o : objects.Object) (w : List Wild) (old new : Option (List ℕ)) (before now : Option (List (List ℕ))) → w ≡ r.wild
-    → LinesBreakOff (output_lines o (outputs_after o r.strike w r.steps)) old new before now → BreaksOff (TriesObject r o) old new before now
+breaks_off : (r : Run) (o : objects.Object) (w : List Wild) (old new : Option (List ℕ)) (before now : Option (List (List ℕ))) → w ≡ r.wild
+    → LinesBreakOff (output_lines o (outputs_after o r.strike w r.steps)) old new before now → BreaksOff (TrialsObject r o) old new before now
 breaks_off r o w old new before now is broken = record {
   answer = ran o (run o r.strike r.wild r.steps);
   is = refl;
   broken = subst (λ ws. LinesBreakOff (output_lines o (outputs_after o r.strike ws r.steps)) old new before now) is broken;
 }
+
+-- a run that ended so, whose lines were put up to there
+pub trial_ends : (e : RunEnd) (r : Run) (o : objects.Object) (w : List Wild) (old new : Option (List ℕ)) (before now : Option (List (List ℕ))) (count count' : ℕ) → w ≡ r.wild → EndsAs e (status_after o r.strike w r.steps)
+    → Puts e (output_lines o (outputs_after o r.strike w r.steps)) old new before now → IsExcused e count count' → Ends (ending_of_run e) (TrialsObject r o) old new before now count count' ⊥
+trial_ends runs.Done r o w old new before now count count' is status put excused = concludes r o w machine.Done old new before now is status put
+trial_ends runs.Detected r o w old new before now count count' is status put excused = concludes r o w machine.Detected old new before now is status put
+trial_ends runs.OutOfSteps r o w old new before now count count' is status put excused = concludes r o w machine.Running old new before now is status put
+trial_ends runs.WriteFault r o w old new before now count count' is status put excused = (excused, breaks_off r o w old new before now is put)
 
 -- an answer of one piece, which was put, or whose put failed
 pub piece_concludes : (Is : Answer → Type 0) (line piece : List ℕ) (status : ℕ) (old new : Option (List ℕ)) (before now : Option (List (List ℕ))) → Is (one_piece line status) → piece ≡ line → PutsLines (piece ∷ []) old new before now
@@ -92,19 +137,19 @@ withstands o strike w spellable h = record {
 pub run_accepted : (r : Run) (o : objects.Object) → IsSpellable o → refusal o ≡ None → (a : Answer) → a ≡ tried r o → RunsObject r o a
 run_accepted r o spellable h a is = subst (λ x. RunsUnless x r o a) (sym h) (is, withstands o r.strike r.wild spellable h)
 
--- a run of an accepted object whose lines were put
-pub run_concludes : (r : Run) (o x : objects.Object) (w : List Wild) (v : Status) (old new : Option (List ℕ)) (before now : Option (List (List ℕ))) → IsSpellable o → refusal o ≡ None → x ≡ o → w ≡ r.wild
-    → status_after x r.strike w r.steps ≡ v → PutsLines (output_lines x (outputs_after x r.strike w r.steps)) old new before now → Concludes (RunsObject r o) (status_of_run v) old new before now
-run_concludes r o x w v old new before now spelled unrefused same is status put =
-    let h = concludes r o w v old new before now is (subst (λ y. status_after y r.strike w r.steps ≡ v) same status) (subst (λ y. PutsLines (output_lines y (outputs_after y r.strike w r.steps)) old new before now) same put) in
-    record { answer = h.answer; is = run_accepted r o spelled unrefused h.answer h.is; put = h.put; status_is = h.status_is }
+-- a run of an accepted object
+pub run_ends : (e : RunEnd) (r : Run) (o x : objects.Object) (w : List Wild) (old new : Option (List ℕ)) (before now : Option (List (List ℕ))) (count count' : ℕ) → IsSpellable o → refusal o ≡ None → x ≡ o → w ≡ r.wild
+    → EndsAs e (status_after x r.strike w r.steps) → Puts e (output_lines x (outputs_after x r.strike w r.steps)) old new before now → IsExcused e count count' → Ends (ending_of_run e) (RunsObject r o) old new before now count count' ⊥
+run_ends e r o x w old new before now count count' spelled unrefused same is status put excused =
+    Ends-map (ending_of_run e) (TrialsObject r o) (RunsObject r o) old new before now count count' ⊥ ⊥ (run_accepted r o spelled unrefused) (λ n. n)
+    (subst (λ y. Ends (ending_of_run e) (TrialsObject r y) old new before now count count' ⊥) same (trial_ends e r x w old new before now count count' is status put excused))
 
--- a run of an accepted object of whose lines a put failed
-pub run_breaks_off : (r : Run) (o x : objects.Object) (w : List Wild) (old new : Option (List ℕ)) (before now : Option (List (List ℕ))) → IsSpellable o → refusal o ≡ None → x ≡ o → w ≡ r.wild
-    → LinesBreakOff (output_lines x (outputs_after x r.strike w r.steps)) old new before now → BreaksOff (RunsObject r o) old new before now
-run_breaks_off r o x w old new before now spelled unrefused same is broken =
-    let h = breaks_off r o w old new before now is (subst (λ y. LinesBreakOff (output_lines y (outputs_after y r.strike w r.steps)) old new before now) same broken) in
-    record { answer = h.answer; is = run_accepted r o spelled unrefused h.answer h.is; broken = h.broken }
+-- a command whose run had no failed put keeps the count of failures
+pub run_excused : (e : RunEnd) (count count' : ℕ) → IsExcused e count count' → ending_of_run e ≢ WriteFailed → count' ≡ count
+run_excused runs.Done count count' excused other = excused
+run_excused runs.Detected count count' excused other = excused
+run_excused runs.OutOfSteps count count' excused other = excused
+run_excused runs.WriteFault count count' excused other = absurd (other refl)
 
 -- the answer of a check that is refused
 pub checked_refused : (e : CheckError) (o : objects.Object) → IsRefusalOf (refusal o) e → (a : Answer) → IsNotAccepted e a → a ≡ checked o

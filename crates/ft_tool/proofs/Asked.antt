@@ -2,7 +2,7 @@
 use Rattle.std.proofs.Common.{ℕ, List, Option, inl, inr}
 use Rattle.std.specs.Prelude.{◌⊎◌}
 use Rattle.ft_edge.specs.Loads.{Files}
-use Rattle.ft_edge.specs.Streams.{ConsumesAtMost, IsFrugal}
+use Rattle.ft_edge.specs.Streams.{TakesAtMost}
 use Rattle.ft_command.specs.Options.{Word}
 use Rattle.ft_command.specs.Commands.{Debugging, Request, Debugs, Asks}
 use Rattle.ft_tool.specs.Replies.{Answer, AreFiles}
@@ -49,15 +49,15 @@ pub failed_session : (words : List Word) (told : Option Files) (d : Debugging) (
 failed_session words told d before now x y failed asks h = failed_at words told d before now x y failed asks h.0 h.1.0 h.1.1
 
 -- the loads of a request
-pub loads_by : (words : List Word) (told : Option Files) (r : Request) (asked asked' : Option LoadList) → Asks words r → OfFiles told (λ files. LoadsFor r files asked asked') → Loads words told asked asked'
-loads_by words told r asked asked' asks h = record { request = r; asks = asks; files = h.0; are_files = h.1.0; made = h.1.1 }
+pub loads_by : (words : List Word) (told : Option Files) (r : Request) (Early : Type 0) (asked asked' : Option LoadList) → Asks words r → OfFiles told (λ files. LoadsFor r files Early asked asked') → Loads words told Early asked asked'
+loads_by words told r Early asked asked' asks h = record { request = r; asks = asks; files = h.0; are_files = h.1.0; made = h.1.1 }
 
-pub plain_loads : (words : List Word) (told : Option Files) (r : Request) (asked asked' : Option LoadList) → Asks words r → ((files : Files) → LoadsFor r files asked asked') → Loads words told asked asked'
-plain_loads words told r asked asked' asks h = let m = some_files told in record { request = r; asks = asks; files = m.0; are_files = m.1.0; made = h m.0 }
+pub plain_loads : (words : List Word) (told : Option Files) (r : Request) (Early : Type 0) (asked asked' : Option LoadList) → Asks words r → ((files : Files) → LoadsFor r files Early asked asked') → Loads words told Early asked asked'
+plain_loads words told r Early asked asked' asks h = let m = some_files told in record { request = r; asks = asks; files = m.0; are_files = m.1.0; made = h m.0 }
 
 -- what a session takes of its script
-pub takes_from : (words : List Word) (told : Option Files) (d : Debugging) (takes takes' : Option ℕ) (left left' : Option (List ℕ)) (Same : Type 0) → Asks words (Debugs d)
-    → (OfFiles told (λ files. SpellsFile files d.object) × ConsumesAtMost left left' 1048577 × IsFrugal takes takes' left left') ⊎ Same → TakesFrom words told takes takes' left left' ⊎ Same
+pub takes_from : (words : List Word) (told : Option Files) (d : Debugging) (takes takes' left left' : Option (List ℕ)) (Same : Type 0) → Asks words (Debugs d)
+    → (OfFiles told (λ files. SpellsFile files d.object) × TakesAtMost 1048577 takes takes' left left') ⊎ Same → TakesFrom words told takes takes' left left' ⊎ Same
 takes_from words told d takes takes' left left' Same asks (inl h) =
-    inl (record { debugging = d; asks = asks; files = h.0.0; are_files = h.0.1.0; comes = h.0.1.1; taken = h.1; frugal = h.2 })
+    inl (record { debugging = d; asks = asks; files = h.0.0; are_files = h.0.1.0; comes = h.0.1.1; taken = h.1 })
 takes_from words told d takes takes' left left' Same asks (inr h) = inr h

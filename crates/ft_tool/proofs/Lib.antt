@@ -2,6 +2,7 @@ mod Mapped
 mod Answered
 mod Compiled
 mod Meant
+mod Frugal
 mod Taken
 mod Tried
 mod Asked

@@ -16,6 +16,13 @@ use Rattle.ft_tool.specs.Replies.{IsFile}
 use Rattle.ft_tool.specs.Told.{IsToldFile, OfFiles, OfScript}
 use Rattle.ft_tool.specs.Files.{Gives}
 
+-- what an option holds is one, and none holds nothing
+pub some_same : {A : Type 0} (x y : A) → Some x ≡ Some y → x ≡ y
+some_same x y e = cc
+
+pub none_some : {A : Type 0} (x : A) → None ≡ Some x → ⊥
+none_some x e = cc
+
 -- no byte, and a byte before others
 pub no_bytes : AreBytes []
 no_bytes i = omega arith
@@ -38,9 +45,6 @@ longer_bytes (suc n) = let h = longer_bytes n in (0 ∷ h.0, (zero_first h.0 h.1
 -- each content is bytes
 abbrev HasBytes : Files → Type 0
 HasBytes files = (name bytes : List ℕ) → get files name ≡ Some bytes → AreBytes bytes
-
-none_some : (bytes : List ℕ) → None ≡ Some bytes → ⊥
-none_some bytes e = cc
 
 none_bytes : HasBytes empty
 none_bytes name bytes e = absurd (none_some bytes (sym (get-empty (slice_cmp nat_cmp) name) ∙ e))

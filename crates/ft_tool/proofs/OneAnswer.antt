@@ -30,24 +30,19 @@ use Rattle.ft_compile.specs.Laws.{object_lines, DoneRunsWriteTheMeaning, Running
 use Rattle.ft_sample.specs.Sample.{sample_object}
 use Rattle.ft_demo.specs.Demonstrations.{first_faults, demo_lines}
 use Rattle.ft_command.specs.Options.{Word}
-use Rattle.ft_command.specs.Commands.{Campaign, Debugging, Run, Request, Usage, Checks, Runs, Tries, Strikes, Surveys, Compiles, Executes, Means, Debugs, Demonstrates, Asks}
+use Rattle.ft_command.specs.Commands.{Campaign, Debugging, Run, Request, Usage, Checks, Runs, Trials, Campaigns, Surveys, Compiles, Executes, Means, Debugs, Demonstrates, Asks}
 use Rattle.ft_tool.specs.Texts.{source_line}
 use Rattle.ft_tool.specs.Replies.{Answer, one_piece, ran, status_of_run}
 use Rattle.ft_tool.specs.Lists.{IsListAnswer, AnyVerdicts, NoneCorrupt, OverFaults, too_much, tried, OverList, refused_list, listed, status_of}
 use Rattle.ft_tool.specs.Sources.{OverText, CompilesProgram, ExecutesProgram, MeansProgram}
 use Rattle.ft_tool.specs.Scripts.{DebugsObject, too_long, debugged}
 use Rattle.ft_tool.specs.Demonstrations.{ShowsSample}
-use Rattle.ft_tool.specs.Answers.{refused as object_refused, ChecksObject, RunsUnless, TriesObject, RunsObject, OverBytes, OverFile, OverListFile, SurveysObject, StrikesUnless, StrikesAccepted, StrikesObject, OverSource, Answers, IsAnswer}
+use Rattle.ft_tool.specs.Answers.{refused as object_refused, ChecksObject, RunsUnless, TrialsObject, RunsObject, OverBytes, OverFile, OverListFile, SurveysObject, CampaignsUnless, CampaignsAccepted, CampaignsObject, OverSource, Answers, IsAnswer}
 use Rattle.ft_tool.specs.OneAnswer.{Begins, AreCompilations, AreExecutions, AreAnswers}
 use Rattle.ft_tool.specs.OneAnswer as one
+use Rattle.ft_tool.proofs.Mapped.{some_same, none_some}
 
 -- what constructors hold is one
-some_same : {A : Type 0} (x y : A) → Some x ≡ Some y → x ≡ y
-some_same x y e = cc
-
-none_some : {A : Type 0} (x : A) → None ≡ Some x → ⊥
-none_some x e = cc
-
 ok_same : {A B : Type 0} (x y : A) (r s : Result A B) → r ≡ Ok x → s ≡ Ok y → r ≡ s → x ≡ y
 ok_same x y r s a b e = cc
 
@@ -139,7 +134,7 @@ over_list_file one one_list one_refusal either Promised c files o a b x y =
     over_list one one_list one_refusal either Promised c o x.0 a b x.1.1 (subst (λ list. OverList Promised c o list b) (some_same y.0 x.0 (sym y.1.0 ∙ x.1.0)) y.1.1)
 
 -- the answer of a campaign, unless its object is refused
-strikes_same : (x : Option Refusal) (Accepted : Answer → Type 0) → ((a b : Answer) → Accepted a → Accepted b → a ≡ b) → (a b : Answer) → StrikesUnless x Accepted a → StrikesUnless x Accepted b → a ≡ b
+strikes_same : (x : Option Refusal) (Accepted : Answer → Type 0) → ((a b : Answer) → Accepted a → Accepted b → a ≡ b) → (a b : Answer) → CampaignsUnless x Accepted a → CampaignsUnless x Accepted b → a ≡ b
 strikes_same None Accepted same a b h g = same a b h g
 strikes_same (Some r) Accepted same a b h g = h ∙ sym g
 
@@ -243,10 +238,10 @@ same_answers : HasLaws → (r : Request) (files : Files) (script : List ℕ) (a 
 same_answers l Usage files script a b h g = h ∙ sym g
 same_answers l (Checks name) files script a b h g = over_file l.one_object l.unbroken ChecksObject (λ o x y e f. e ∙ sym f) name files a b h g
 same_answers l (Runs r) files script a b h g = over_file l.one_object l.unbroken (RunsObject r) (λ o x y e f. run_same (refusal o) r o x y e f) r.object files a b h g
-same_answers l (Tries r) files script a b h g = over_file l.one_object l.unbroken (TriesObject r) (λ o x y e f. e ∙ sym f) r.object files a b h g
-same_answers l (Strikes c) files script a b h g =
-    over_file l.one_object l.unbroken (StrikesObject c files)
-    (λ o x y e f. strikes_same (refusal o) (StrikesAccepted c files o) (λ v w i j. over_list_file l.one_verdict l.one_list l.one_refusal l.either NoneCorrupt c files o v w i.0 j.0) x y e f) c.object files a b h g
+same_answers l (Trials r) files script a b h g = over_file l.one_object l.unbroken (TrialsObject r) (λ o x y e f. e ∙ sym f) r.object files a b h g
+same_answers l (Campaigns c) files script a b h g =
+    over_file l.one_object l.unbroken (CampaignsObject c files)
+    (λ o x y e f. strikes_same (refusal o) (CampaignsAccepted c files o) (λ v w i j. over_list_file l.one_verdict l.one_list l.one_refusal l.either NoneCorrupt c files o v w i.0 j.0) x y e f) c.object files a b h g
 same_answers l (Surveys c) files script a b h g =
     over_file l.one_object l.unbroken (SurveysObject c files) (λ o x y e f. over_list_file l.one_verdict l.one_list l.one_refusal l.either AnyVerdicts c files o x y e f) c.object files a b h g
 same_answers l (Compiles name) files script a b h g = over_source l.one_outcome CompilesProgram AreCompilations two_objects (λ x y s e. one.refused_both s e) name files a b h g

@@ -1,7 +1,7 @@
 -- What was taken of a script, and what a session over it concludes.
 use Rattle.std.proofs.Common.{◌≡◌, ℕ, ◌<◌, ◌≤◌, List, [], ◌++◌, length, take, append-nil, Option, Some, None, Ok, Err, inl, inr, refl, sym, ap, ◌∙◌, subst, arith, length-append}
 use Rattle.std.specs.Prelude.{◌⊎◌, IfSome}
-use Rattle.std.specs.Io.KnownBytes.{Consumes, Keeps, IsAtEnd}
+use Rattle.std.specs.Io.KnownBytes.{Consumes, IsAtEnd}
 use Rattle.ft_edge.specs.Causes.{Rose}
 use Rattle.ft_edge.specs.Loads.{Files}
 use Rattle.ft_edge.specs.Puts.{PutsLines, BreaksOff as LinesBreakOff}
@@ -43,13 +43,6 @@ pub longer_script : (old new : Option (List ℕ)) (taken : List ℕ) → Consume
 longer_script None new taken h long = longer_bytes 1048576
 longer_script (Some text) None taken h long = absurd h
 longer_script (Some text) (Some rest) taken h long = let e : length text ≡ length (taken ++ rest) = ap length h in (text, (refl, omega (arith, e, length-append {A = ℕ}, long)))
-
--- a take that failed took nothing
-pub failed_take : (old between new : Option (List ℕ)) (text : List ℕ) → Consumes old between text → Keeps between new → Consumes old new text
-failed_take None between new text taken kept = tt
-failed_take (Some old) None new text taken kept = absurd taken
-failed_take (Some old) (Some between) None text taken kept = absurd kept
-failed_take (Some old) (Some between) (Some new) text taken kept = taken ∙ ap (λ l. text ++ l) (sym kept)
 
 -- a session whose lines were put
 pub session_concludes : (d : Debugging) (o : Object) (w : List Wild) (text : List ℕ) (old new : Option (List ℕ)) (before now : Option (List (List ℕ))) → length text ≤ 1048576 → w ≡ d.wild

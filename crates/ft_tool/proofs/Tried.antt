@@ -1,5 +1,5 @@
 -- What the parts of a campaign conclude.
-use Rattle.std.proofs.Common.{◌≡◌, ℕ, suc, ◌*◌, ◌<◌, ◌≤◌, List, [], ◌∷◌, length, Option, Some, None, Result, Ok, Err, inl, inr, refl, sym, ap, ◌∙◌, subst, arith, if◌then◌else◌, eq-eqb, ne_eqb}
+use Rattle.std.proofs.Common.{◌≡◌, ◌≢◌, ℕ, suc, ◌*◌, ◌<◌, ◌≤◌, List, [], ◌∷◌, length, Option, Some, None, Result, Ok, Err, inl, inr, refl, sym, ap, ◌∙◌, subst, arith, if◌then◌else◌, eq-eqb, ne_eqb}
 use Rattle.std.specs.Prelude.{◌⊎◌, count_by}
 use Rattle.std.proofs.Math.Nat.{lt_of_not-le}
 use Rattle.ft_edge.specs.Causes.{Rose}
@@ -8,6 +8,7 @@ use Rattle.ft_isa.specs.declared.plan.Strike.{Strike}
 use Rattle.ft_types.specs.declared.object.Object.{Object}
 use Rattle.ft_typing.specs.Accepted.{Refusal, refusal}
 use Rattle.ft_format.specs.Broken.{object_of}
+use Rattle.ft_format.proofs.Write.{spells_read}
 use Rattle.ft_tolerance.specs.Soundness.{IsNeverDetected}
 use Rattle.ft_tolerance.proofs.Whole.{never_detected}
 use Rattle.ft_sample.specs.Sample.{sample_object}
@@ -20,18 +21,18 @@ use Rattle.ft_campaign.specs.Campaigns.{Finishes, Stops}
 use Rattle.ft_campaign.specs.Texts.{is_corrupt, totals_of, campaign_lines}
 use Rattle.ft_campaign.specs.Verdicts.{AreVerdicts}
 use Rattle.ft_command.specs.Options.{Word}
-use Rattle.ft_command.specs.Commands.{Campaign, Strikes, Surveys}
+use Rattle.ft_command.specs.Commands.{Campaign, Campaigns, Surveys}
 use Rattle.ft_tool.specs.declared.load.ListFault.{ListFault}
 use Rattle.ft_tool.specs.declared.load.ListFault.TheVariants as list_faults
 use Rattle.ft_tool.specs.declared.load.ObjectFault.{ObjectFault}
 use Rattle.ft_tool.specs.declared.load.ObjectFault.TheVariants.{Refused, Failed, NoMemory as no_memory}
 use Rattle.ft_tool.specs.Replies.{Answer, IsFile}
-use Rattle.ft_tool.specs.Answers.{Concludes, BreaksOff, OverFile, OverListFile, SurveysObject, StrikesAccepted, StrikesUnless, StrikesObject, SpellsFile, SpellsAccepted, FailsIn}
+use Rattle.ft_tool.specs.Answers.{Concludes, BreaksOff, OverFile, OverListFile, SurveysObject, CampaignsAccepted, CampaignsUnless, CampaignsObject, SpellsFile, SpellsAccepted, FailsIn}
 use Rattle.ft_tool.specs.Calls.{LoadList, asked_after, HasMade, object_load, list_load, LoadsCampaign, LoadsFor}
 use Rattle.ft_tool.specs.Lists.{status_of, AnyVerdicts, NoneCorrupt, OverFaults, tried, refused_list, listed}
-use Rattle.ft_tool.specs.Told.{IsToldFile, OfFiles, IsListOf, OverListOf, StrikesListOf, MayLoadList}
+use Rattle.ft_tool.specs.Told.{IsToldFile, OfFiles, IsListOf, OverListOf, CampaignsListOf, LoadsOther}
 use Rattle.ft_tool.specs.Files.{LoadsObject, ReadsList, GetsList, ListCause, IsRefusedBy, IsListRefusedBy}
-use Rattle.ft_tool.proofs.Mapped.{some_files, files_with, files_with_both}
+use Rattle.ft_tool.proofs.Mapped.{some_same, some_files, files_with, files_with_both}
 
 -- a number that is not above another is at most it
 pub at_most : (n m : ℕ) → (n < m → ⊥) → m ≤ n
@@ -114,8 +115,8 @@ with_list Promised c told bytes o a file is =
     (m.0, (m.1.0, (m.1.1.0, (is.0, (m.1.1.1, is.1.1)))))
 
 -- so is that of a campaign, unless its object is refused
-with_strikes : (x : Option Refusal) (c : Campaign) (told : Option Files) (bytes : List ℕ) (o : Object) (a : Answer) → IsToldFile told c.object bytes → StrikesUnless x (StrikesListOf c told bytes o) a
-    → OfFiles told (λ files. IsFile files c.object bytes × StrikesUnless x (StrikesAccepted c files o) a)
+with_strikes : (x : Option Refusal) (c : Campaign) (told : Option Files) (bytes : List ℕ) (o : Object) (a : Answer) → IsToldFile told c.object bytes → CampaignsUnless x (CampaignsListOf c told bytes o) a
+    → OfFiles told (λ files. IsFile files c.object bytes × CampaignsUnless x (CampaignsAccepted c files o) a)
 with_strikes None c told bytes o a file is = let m = with_list NoneCorrupt c told bytes o a file is.0 in (m.0, (m.1.0, (m.1.1.0, (m.1.1.1, is.1))))
 with_strikes (Some r) c told bytes o a file is = let m = files_with told c.object bytes file in (m.0, (m.1.0, (m.1.1, is)))
 
@@ -126,8 +127,8 @@ over_surveyed c told bytes h a is =
     let m = with_list AnyVerdicts c told bytes (object_of bytes) a h.0 is in
     (m.0, (m.1.0, (bytes, (m.1.1.0, inl (object_of bytes, (h.1, m.1.1.1))))))
 
-pub over_struck : (c : Campaign) (told : Option Files) (bytes : List ℕ) → LoadsObject told c.object (Ok bytes) → (a : Answer) → StrikesUnless (refusal (object_of bytes)) (StrikesListOf c told bytes (object_of bytes)) a
-    → OfFiles told (λ files. OverFile (StrikesObject c files) c.object files a)
+pub over_struck : (c : Campaign) (told : Option Files) (bytes : List ℕ) → LoadsObject told c.object (Ok bytes) → (a : Answer) → CampaignsUnless (refusal (object_of bytes)) (CampaignsListOf c told bytes (object_of bytes)) a
+    → OfFiles told (λ files. OverFile (CampaignsObject c files) c.object files a)
 over_struck c told bytes h a is =
     let m = with_strikes (refusal (object_of bytes)) c told bytes (object_of bytes) a h.0 is in
     (m.0, (m.1.0, (bytes, (m.1.1.0, inl (object_of bytes, (h.1, m.1.1.1))))))
@@ -142,11 +143,11 @@ over_surveyed_between c told between bytes lent e f h a is =
     over_surveyed c told bytes h a (subst (λ t. OverListOf AnyVerdicts c t bytes (object_of bytes) a) e (subst (λ b. OverListOf AnyVerdicts c between b (object_of bytes) a) f is))
 
 pub over_struck_between : (c : Campaign) (told between : Option Files) (bytes lent : List ℕ) → between ≡ told → lent ≡ bytes → LoadsObject told c.object (Ok bytes)
-    → (a : Answer) → StrikesUnless (refusal (object_of bytes)) (StrikesListOf c between lent (object_of bytes)) a → OfFiles told (λ files. OverFile (StrikesObject c files) c.object files a)
+    → (a : Answer) → CampaignsUnless (refusal (object_of bytes)) (CampaignsListOf c between lent (object_of bytes)) a → OfFiles told (λ files. OverFile (CampaignsObject c files) c.object files a)
 over_struck_between c told between bytes lent e f h a is =
     over_struck c told bytes h a
-    (subst (λ t. StrikesUnless (refusal (object_of bytes)) (StrikesListOf c t bytes (object_of bytes)) a) e
-    (subst (λ b. StrikesUnless (refusal (object_of bytes)) (StrikesListOf c between b (object_of bytes)) a) f is))
+    (subst (λ t. CampaignsUnless (refusal (object_of bytes)) (CampaignsListOf c t bytes (object_of bytes)) a) e
+    (subst (λ b. CampaignsUnless (refusal (object_of bytes)) (CampaignsListOf c between b (object_of bytes)) a) f is))
 
 -- the answer to an object's bytes that are refused is one of a campaign over the file
 pub over_unstruck : (Over : Files → Object → Answer → Type 0) (told : Option Files) (name : Word) (e : ObjectFault) → LoadsObject told name (Err e) → (a : Answer) → IsRefusedBy e a
@@ -162,6 +163,27 @@ spells_file told name bytes h = let m = files_with told name bytes h.0 in (m.0, 
 pub spells_accepted : (told : Option Files) (name : Word) (bytes : List ℕ) → LoadsObject told name (Ok bytes) → refusal (object_of bytes) ≡ None → OfFiles told (λ files. SpellsAccepted files name)
 spells_accepted told name bytes h unrefused = let m = files_with told name bytes h.0 in (m.0, (m.1.0, (bytes, (m.1.1, (object_of bytes, (h.1, unrefused))))))
 
+-- the file of an object that is refused spells none that is accepted
+unrefused : (files : Files) (name : Word) (bytes : List ℕ) → IsFile files name bytes → refusal (object_of bytes) ≢ None → SpellsAccepted files name → ⊥
+unrefused files name bytes file refused s =
+    refused (ap (λ bs. refusal (object_of bs)) (some_same bytes s.0 (sym file ∙ s.1.0)) ∙ ap refusal (spells_read s.0 s.1.1.0 s.1.1.1.0) ∙ s.1.1.1.1)
+
+refused_by : (files : Files) (name : Word) (bytes : List ℕ) (Early : Type 0) → IsFile files name bytes → (refusal (object_of bytes) ≢ None) ⊎ Early → (SpellsAccepted files name → ⊥) ⊎ Early
+refused_by files name bytes Early file (inl refused) = inl (unrefused files name bytes file refused)
+refused_by files name bytes Early file (inr early) = inr early
+
+refused_file : (told : Option Files) (name : Word) (bytes : List ℕ) (Early : Type 0) → LoadsObject told name (Ok bytes) → (refusal (object_of bytes) ≢ None) ⊎ Early → OfFiles told (λ files. (SpellsAccepted files name → ⊥) ⊎ Early)
+refused_file told name bytes Early h refused = let m = files_with told name bytes h.0 in (m.0, (m.1.0, refused_by m.0 name bytes Early m.1.1 refused))
+
+-- what comes to less, or to something of its own
+unaccepted_file : (Spells Accepted Early : Type 0) → (Accepted → Spells) → (Spells → ⊥) ⊎ Early → (Accepted → ⊥) ⊎ Early
+unaccepted_file Spells Accepted Early f (inl none) = inl (λ a. none (f a))
+unaccepted_file Spells Accepted Early f (inr early) = inr early
+
+alone : (Comes Own Early : Type 0) → (Comes → ⊥) ⊎ Early → (Comes → Own) ⊎ Early
+alone Comes Own Early (inl none) = inl (λ comes. absurd (none comes))
+alone Comes Own Early (inr early) = inr early
+
 -- a load of the fault list failed
 pub survey_failed : (c : Campaign) (told : Option Files) (bytes : List ℕ) (before now : ℕ) (failed' : Option (List ℕ)) → LoadsObject told c.object (Ok bytes) → Rose before now × (failed' ≡ Some c.faults)
     → OfFiles told (λ files. FailsIn (Surveys c) files before now failed')
@@ -170,28 +192,42 @@ survey_failed c told bytes before now failed' h f =
     (m.0, (m.1.0, record { rose = f.0; file = c.faults; comes = inr (refl, m.1.1); name = f.1 }))
 
 pub campaign_failed : (c : Campaign) (told : Option Files) (bytes : List ℕ) (before now : ℕ) (failed' : Option (List ℕ)) → LoadsObject told c.object (Ok bytes)
-    → Rose before now × (failed' ≡ Some c.faults) × (refusal (object_of bytes) ≡ None) → OfFiles told (λ files. FailsIn (Strikes c) files before now failed')
+    → Rose before now × (failed' ≡ Some c.faults) × (refusal (object_of bytes) ≡ None) → OfFiles told (λ files. FailsIn (Campaigns c) files before now failed')
 campaign_failed c told bytes before now failed' h f =
     let m = spells_accepted told c.object bytes h f.2 in
     (m.0, (m.1.0, record { rose = f.0; file = c.faults; comes = inr (refl, m.1.1); name = f.1 }))
 
--- the loads of a campaign: that of its object alone, and then perhaps that of its list
-pub object_alone : (c : Campaign) (told : Option Files) (Comes : Files → Type 0) (asked asked' : Option LoadList) → HasMade (object_load c.object ∷ []) asked asked' → OfFiles told (λ files. LoadsCampaign c (Comes files) asked asked')
-object_alone c told Comes asked asked' h = let m = some_files told in (m.0, (m.1.0, inl h))
+-- the loads of a campaign that does not come to its list, or ends early
+pub object_alone : (c : Campaign) (told : Option Files) (Comes : Files → Type 0) (Early : Type 0) (asked asked' : Option LoadList) → OfFiles told (λ files. (Comes files → ⊥) ⊎ Early)
+    → HasMade (object_load c.object ∷ []) asked asked' → OfFiles told (λ files. LoadsCampaign c (Comes files) Early asked asked')
+object_alone c told Comes Early asked asked' m h = (m.0, (m.1.0, inl (record { none = alone (Comes m.0) (c.faults ≡ c.object) Early m.1.1; made = h })))
 
-pub list_loaded : (c : Campaign) (told : Option Files) (Comes : Files → Type 0) (asked between asked' : Option LoadList) → OfFiles told Comes → HasMade (object_load c.object ∷ []) asked between → MayLoadList c between asked'
-    → OfFiles told (λ files. LoadsCampaign c (Comes files) asked asked')
-list_loaded c told Comes asked between asked' m h (inl none) = (m.0, (m.1.0, inl (none ∙ h)))
-list_loaded c told Comes asked between asked' m h (inr more) = (m.0, (m.1.0, inr (record { comes = m.1.1; other = more.0; made = more.1 ∙ ap (asked_after (list_load c.faults ∷ [])) h })))
+-- the loads of a campaign that comes to its list
+list_loaded : (c : Campaign) (told : Option Files) (Comes : Files → Type 0) (Early : Type 0) (asked between asked' : Option LoadList) → OfFiles told Comes → HasMade (object_load c.object ∷ []) asked between → LoadsOther c between asked'
+    → OfFiles told (λ files. LoadsCampaign c (Comes files) Early asked asked')
+list_loaded c told Comes Early asked between asked' m h (inl own) = (m.0, (m.1.0, inl (record { none = inl (λ comes. own.0); made = own.1 ∙ h })))
+list_loaded c told Comes Early asked between asked' m h (inr more) = (m.0, (m.1.0, inr (record { comes = m.1.1; other = more.0; made = more.1 ∙ ap (asked_after (list_load c.faults ∷ [])) h })))
 
-pub surveys_loaded : (c : Campaign) (told : Option Files) (bytes : List ℕ) (asked between asked' : Option LoadList) → LoadsObject told c.object (Ok bytes) → HasMade (object_load c.object ∷ []) asked between
-    → MayLoadList c between asked' → OfFiles told (λ files. LoadsFor (Surveys c) files asked asked')
-surveys_loaded c told bytes asked between asked' h first more = list_loaded c told (λ files. SpellsFile files c.object) asked between asked' (spells_file told c.object bytes h) first more
+-- the loads of a survey
+pub surveys_loaded : (c : Campaign) (told : Option Files) (bytes : List ℕ) (Early : Type 0) (asked between asked' : Option LoadList) → LoadsObject told c.object (Ok bytes) → HasMade (object_load c.object ∷ []) asked between
+    → LoadsOther c between asked' → OfFiles told (λ files. LoadsFor (Surveys c) files Early asked asked')
+surveys_loaded c told bytes Early asked between asked' h first more = list_loaded c told (λ files. SpellsFile files c.object) Early asked between asked' (spells_file told c.object bytes h) first more
 
-pub strikes_loaded : (c : Campaign) (told : Option Files) (bytes : List ℕ) (asked between asked' : Option LoadList) → LoadsObject told c.object (Ok bytes) → HasMade (object_load c.object ∷ []) asked between
-    → HasMade [] between asked' ⊎ ((refusal (object_of bytes) ≡ None) × MayLoadList c between asked') → OfFiles told (λ files. LoadsFor (Strikes c) files asked asked')
-strikes_loaded c told bytes asked between asked' h first (inl none) = object_alone c told (λ files. SpellsAccepted files c.object) asked asked' (none ∙ first)
-strikes_loaded c told bytes asked between asked' h first (inr more) = list_loaded c told (λ files. SpellsAccepted files c.object) asked between asked' (spells_accepted told c.object bytes h more.0) first more.1
+-- the loads of a campaign
+pub campaigns_loaded : (c : Campaign) (told : Option Files) (bytes : List ℕ) (Early : Type 0) (asked between asked' : Option LoadList) → LoadsObject told c.object (Ok bytes) → HasMade (object_load c.object ∷ []) asked between
+    → (((refusal (object_of bytes) ≢ None) ⊎ Early) × HasMade [] between asked') ⊎ ((refusal (object_of bytes) ≡ None) × LoadsOther c between asked') → OfFiles told (λ files. LoadsFor (Campaigns c) files Early asked asked')
+campaigns_loaded c told bytes Early asked between asked' h first (inl none) = object_alone c told (λ files. SpellsAccepted files c.object) Early asked asked' (refused_file told c.object bytes Early h none.0) (none.1 ∙ first)
+campaigns_loaded c told bytes Early asked between asked' h first (inr more) = list_loaded c told (λ files. SpellsAccepted files c.object) Early asked between asked' (spells_accepted told c.object bytes h more.0) first more.1
+
+-- the loads of a campaign or a survey whose object was not loaded, or is none
+pub survey_unloaded : (c : Campaign) (told : Option Files) (Early : Type 0) (asked asked' : Option LoadList) → OfFiles told (λ files. (SpellsFile files c.object → ⊥) ⊎ Early) → HasMade (object_load c.object ∷ []) asked asked'
+    → OfFiles told (λ files. LoadsFor (Surveys c) files Early asked asked')
+survey_unloaded c told Early asked asked' m h = object_alone c told (λ files. SpellsFile files c.object) Early asked asked' m h
+
+pub campaign_unloaded : (c : Campaign) (told : Option Files) (Early : Type 0) (asked asked' : Option LoadList) → OfFiles told (λ files. (SpellsFile files c.object → ⊥) ⊎ Early) → HasMade (object_load c.object ∷ []) asked asked'
+    → OfFiles told (λ files. LoadsFor (Campaigns c) files Early asked asked')
+campaign_unloaded c told Early asked asked' m h =
+    object_alone c told (λ files. SpellsAccepted files c.object) Early asked asked' (m.0, (m.1.0, unaccepted_file (SpellsFile m.0 c.object) (SpellsAccepted m.0 c.object) Early (λ s. (s.0, (s.1.0, (s.1.1.0, s.1.1.1.0)))) m.1.1)) h
 
 -- a load of a list that failed
 pub list_failed : (V : Type 0) (before now : ℕ) (failed failed' : Option (List ℕ)) (name : Word) (e : ListFault) → ListCause {V = V} before now failed failed' name (Err e) → e ≡ list_faults.Failed → Rose before now × (failed' ≡ Some name)

@@ -14,7 +14,7 @@ use Rattle.ft_format.specs.declared.object_error.ObjectError.{ObjectError}
 use Rattle.ft_format.specs.Format.{Spells}
 use Rattle.ft_format.specs.Broken.{broken}
 use Rattle.ft_command.specs.Options.{Word}
-use Rattle.ft_command.specs.Commands.{Run, Campaign, Debugging, Request, Usage, Checks, Runs, Tries, Strikes, Surveys, Compiles, Executes, Means, Debugs, Demonstrates, Asks}
+use Rattle.ft_command.specs.Commands.{Run, Campaign, Debugging, Request, Usage, Checks, Runs, Trials, Campaigns, Surveys, Compiles, Executes, Means, Debugs, Demonstrates, Asks}
 use Rattle.ft_tolerance.specs.Soundness.{IsNeverDetected}
 use Rattle.ft_campaign.specs.declared.verdict.Verdict.{Verdict}
 use Rattle.ft_tool.specs.Texts.{object_line, accepted_line, check_line}
@@ -74,8 +74,8 @@ ChecksObject o a = a ≡ checked o
 abbrev pub RunsObject : Run → Object → Answer → Type 0
 RunsObject r o a = RunsUnless (refusal o) r o a
 
-abbrev pub TriesObject : Run → Object → Answer → Type 0
-TriesObject r o a = a ≡ tried r o
+abbrev pub TrialsObject : Run → Object → Answer → Type 0
+TrialsObject r o a = a ≡ tried r o
 
 -- the answer over an object and the file of a fault list
 abbrev pub OverListFile : (List Verdict → Type 0) → Campaign → Files → Object → Answer → Type 0
@@ -87,17 +87,17 @@ SurveysObject c files o a = OverListFile AnyVerdicts c files o a
 
 -- the answer of a campaign over an object that is accepted: no verdict is corrupt, and the run without a fault is detected
 -- after no number of steps
-abbrev pub StrikesAccepted : Campaign → Files → Object → Answer → Type 0
-StrikesAccepted c files o a = OverListFile NoneCorrupt c files o a × IsNeverDetected o c.wild
+abbrev pub CampaignsAccepted : Campaign → Files → Object → Answer → Type 0
+CampaignsAccepted c files o a = OverListFile NoneCorrupt c files o a × IsNeverDetected o c.wild
 
 -- the answer of a campaign, which is the refusal of an object that is not accepted
-abbrev pub StrikesUnless : Option Refusal → (Answer → Type 0) → Answer → Type 0
-StrikesUnless None Accepted a = Accepted a
-StrikesUnless (Some r) Accepted a = a ≡ judged (Some r)
+abbrev pub CampaignsUnless : Option Refusal → (Answer → Type 0) → Answer → Type 0
+CampaignsUnless None Accepted a = Accepted a
+CampaignsUnless (Some r) Accepted a = a ≡ judged (Some r)
 
 -- the answer of a campaign over an object
-abbrev pub StrikesObject : Campaign → Files → Object → Answer → Type 0
-StrikesObject c files o a = StrikesUnless (refusal o) (StrikesAccepted c files o) a
+abbrev pub CampaignsObject : Campaign → Files → Object → Answer → Type 0
+CampaignsObject c files o a = CampaignsUnless (refusal o) (CampaignsAccepted c files o) a
 
 -- the answer over the source in the file of a name
 abbrev pub OverSource : (Program → Answer → Type 0) → Word → Files → Answer → Type 0
@@ -108,8 +108,8 @@ abbrev pub Answers : Request → Files → List ℕ → Answer → Type 0
 Answers Usage files script a = a ≡ usage
 Answers (Checks name) files script a = OverFile ChecksObject name files a
 Answers (Runs r) files script a = OverFile (RunsObject r) r.object files a
-Answers (Tries r) files script a = OverFile (TriesObject r) r.object files a
-Answers (Strikes c) files script a = OverFile (StrikesObject c files) c.object files a
+Answers (Trials r) files script a = OverFile (TrialsObject r) r.object files a
+Answers (Campaigns c) files script a = OverFile (CampaignsObject c files) c.object files a
 Answers (Surveys c) files script a = OverFile (SurveysObject c files) c.object files a
 Answers (Compiles name) files script a = OverSource CompilesProgram name files a
 Answers (Executes e) files script a = OverSource (ExecutesProgram e.steps) e.source files a
@@ -154,8 +154,8 @@ abbrev pub ComesTo : Request → Files → Word → Type 0
 ComesTo Usage files file = ⊥
 ComesTo (Checks object) files file = file ≡ object
 ComesTo (Runs r) files file = file ≡ r.object
-ComesTo (Tries r) files file = file ≡ r.object
-ComesTo (Strikes c) files file = (file ≡ c.object) ⊎ ((file ≡ c.faults) × SpellsAccepted files c.object)
+ComesTo (Trials r) files file = file ≡ r.object
+ComesTo (Campaigns c) files file = (file ≡ c.object) ⊎ ((file ≡ c.faults) × SpellsAccepted files c.object)
 ComesTo (Surveys c) files file = (file ≡ c.object) ⊎ ((file ≡ c.faults) × SpellsFile files c.object)
 ComesTo (Compiles name) files file = file ≡ name
 ComesTo (Executes e) files file = file ≡ e.source

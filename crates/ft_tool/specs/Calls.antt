@@ -1,10 +1,10 @@
 -- Which loads a command makes, and what it takes of its script.
-use Rattle.std.specs.Prelude.{◌≡◌, ◌≢◌, ◌⊎◌, ℕ, List, [], ◌∷◌, Option}
+use Rattle.std.specs.Prelude.{◌≡◌, ◌≢◌, ◌⊎◌, ℕ, ◌==◌, Bool, ◌||◌, List, [], ◌∷◌, Option}
 use Rattle.ft_edge.specs.Loads.{Files}
 use Rattle.ft_edge.specs.Told.{append_told}
-use Rattle.ft_edge.specs.Streams.{ConsumesAtMost, IsFrugal}
+use Rattle.ft_edge.specs.Streams.{TakesAtMost}
 use Rattle.ft_command.specs.Options.{Word}
-use Rattle.ft_command.specs.Commands.{Campaign, Debugging, Request, Usage, Checks, Runs, Tries, Strikes, Surveys, Compiles, Executes, Means, Debugs, Demonstrates, Asks}
+use Rattle.ft_command.specs.Commands.{Campaign, Debugging, Request, Usage, Checks, Runs, Trials, Campaigns, Surveys, Compiles, Executes, Means, Debugs, Demonstrates, Asks}
 use Rattle.ft_tool.specs.Replies.{AreFiles}
 use Rattle.ft_tool.specs.Answers.{SpellsFile, SpellsAccepted}
 
@@ -31,46 +31,55 @@ list_load name = (name, 4194304)
 abbrev pub source_load : Word → Word × ℕ
 source_load name = (name, 1048576)
 
--- the fault list of a campaign was loaded, where the campaign came to it, and its name is not the object's own
+-- the statuses of calls that may end before their last load: a load or a take failed, or memory ran out
+abbrev pub is_early : ℕ → Bool
+is_early status = status == 3 || status == 5
+
+-- the fault list of a campaign was loaded: the campaign came to it, and its name is not the object's own
 pub record LoadsList (c : Campaign) (Comes : Type 0) (asked asked' : Option LoadList) : Type 0 where
   pub comes : Comes
   pub other : c.faults ≢ c.object
   pub made : HasMade (object_load c.object ∷ list_load c.faults ∷ []) asked asked'
 
--- the object of a campaign was loaded, and perhaps then the fault list
-abbrev pub LoadsCampaign : Campaign → Type 0 → Option LoadList → Option LoadList → Type 0
-LoadsCampaign c Comes asked asked' = HasMade (object_load c.object ∷ []) asked asked' ⊎ LoadsList c Comes asked asked'
+-- no fault list was loaded: where the campaign came to it, its name is the object's own, or the call ended early
+pub record LoadsNoList (c : Campaign) (Comes Early : Type 0) (asked asked' : Option LoadList) : Type 0 where
+  pub none : (Comes → c.faults ≡ c.object) ⊎ Early
+  pub made : HasMade (object_load c.object ∷ []) asked asked'
 
--- the loads of a request: one of each file that it names, in their order. The fault list of a campaign is loaded only where
--- its object is accepted, that of a survey only where its object's bytes spell one
-abbrev pub LoadsFor : Request → Files → Option LoadList → Option LoadList → Type 0
-LoadsFor Usage files asked asked' = HasMade [] asked asked'
-LoadsFor (Checks object) files asked asked' = HasMade (object_load object ∷ []) asked asked'
-LoadsFor (Runs r) files asked asked' = HasMade (object_load r.object ∷ []) asked asked'
-LoadsFor (Tries r) files asked asked' = HasMade (object_load r.object ∷ []) asked asked'
-LoadsFor (Strikes c) files asked asked' = LoadsCampaign c (SpellsAccepted files c.object) asked asked'
-LoadsFor (Surveys c) files asked asked' = LoadsCampaign c (SpellsFile files c.object) asked asked'
-LoadsFor (Compiles source) files asked asked' = HasMade (source_load source ∷ []) asked asked'
-LoadsFor (Executes e) files asked asked' = HasMade (source_load e.source ∷ []) asked asked'
-LoadsFor (Means m) files asked asked' = HasMade (source_load m.source ∷ []) asked asked'
-LoadsFor (Debugs d) files asked asked' = HasMade (object_load d.object ∷ []) asked asked'
-LoadsFor (Demonstrates turns) files asked asked' = HasMade [] asked asked'
+-- the object of a campaign was loaded, and then the fault list, or no other file
+abbrev pub LoadsCampaign : Campaign → Type 0 → Type 0 → Option LoadList → Option LoadList → Type 0
+LoadsCampaign c Comes Early asked asked' = LoadsNoList c Comes Early asked asked' ⊎ LoadsList c Comes asked asked'
+
+-- the loads of a request: one of each file that it names, in their order. The fault list of a campaign is loaded exactly
+-- where its object is accepted, that of a survey exactly where its object's bytes spell one, unless the call ended early
+abbrev pub LoadsFor : Request → Files → Type 0 → Option LoadList → Option LoadList → Type 0
+LoadsFor Usage files Early asked asked' = HasMade [] asked asked'
+LoadsFor (Checks object) files Early asked asked' = HasMade (object_load object ∷ []) asked asked'
+LoadsFor (Runs r) files Early asked asked' = HasMade (object_load r.object ∷ []) asked asked'
+LoadsFor (Trials r) files Early asked asked' = HasMade (object_load r.object ∷ []) asked asked'
+LoadsFor (Campaigns c) files Early asked asked' = LoadsCampaign c (SpellsAccepted files c.object) Early asked asked'
+LoadsFor (Surveys c) files Early asked asked' = LoadsCampaign c (SpellsFile files c.object) Early asked asked'
+LoadsFor (Compiles source) files Early asked asked' = HasMade (source_load source ∷ []) asked asked'
+LoadsFor (Executes e) files Early asked asked' = HasMade (source_load e.source ∷ []) asked asked'
+LoadsFor (Means m) files Early asked asked' = HasMade (source_load m.source ∷ []) asked asked'
+LoadsFor (Debugs d) files Early asked asked' = HasMade (object_load d.object ∷ []) asked asked'
+LoadsFor (Demonstrates turns) files Early asked asked' = HasMade [] asked asked'
 
 -- the loads of the request that words ask for, by the files that are told or by some files of bytes
-pub record Loads (words : List Word) (told : Option Files) (asked asked' : Option LoadList) : Type 0 where
+pub record Loads (words : List Word) (told : Option Files) (Early : Type 0) (asked asked' : Option LoadList) : Type 0 where
   pub request : Request
   pub asks : Asks words request
   pub files : Files
   pub are_files : AreFiles told files
-  pub made : LoadsFor request files asked asked'
+  pub made : LoadsFor request files Early asked asked'
 
 -- the words ask for a session, and the file of its object spells one, by the files that are told or by some files of bytes;
--- at most 1,048,577 bytes of the script were taken, by no more takes than bytes and one more, so none after the end
-pub record TakesFrom (words : List Word) (told : Option Files) (takes takes' : Option ℕ) (left left' : Option (List ℕ)) : Type 0 where
+-- at most 1,048,577 bytes of the script were taken, and each take but the last gave some, so none was made after the end or
+-- after a failure
+pub record TakesFrom (words : List Word) (told : Option Files) (takes takes' left left' : Option (List ℕ)) : Type 0 where
   pub debugging : Debugging
   pub asks : Asks words (Debugs debugging)
   pub files : Files
   pub are_files : AreFiles told files
   pub comes : SpellsFile files debugging.object
-  pub taken : ConsumesAtMost left left' 1048577
-  pub frugal : IsFrugal takes takes' left left'
+  pub taken : TakesAtMost 1048577 takes takes' left left'

@@ -1,23 +1,47 @@
 -- How a command's parts end: private to the tool.
-use Rattle.std.specs.Prelude.{ℕ, List, Option}
+use Rattle.std.specs.Prelude.{ℕ, Bool, true, false, List, Option}
 use Rattle.ft_edge.specs.Causes.{Rose}
 use Rattle.ft_edge.specs.Puts.{PutsNothing}
+use Rattle.ft_machine.specs.declared.run.RunEnd.{RunEnd}
+use Rattle.ft_machine.specs.declared.run.RunEnd.TheVariants as runs
 use Rattle.ft_tool.specs.Replies.{Answer}
 use Rattle.ft_tool.specs.Answers.{Concludes, BreaksOff}
 use Rattle.ft_tool.specs.declared.ending.Ending.{Ending}
-use Rattle.ft_tool.specs.declared.ending.Ending.TheVariants.{Done, Detected, Usage, LoadFault, WriteFault, NoMemory, Source, Object, NotAccepted, OutOfSteps, Corrupt, FaultList}
+use Rattle.ft_tool.specs.declared.ending.Ending.TheVariants.{Done, Detected, Usage, LoadFailed, WriteFailed, NoMemory, SourceRefused, ObjectRefused, NotAccepted, OutOfSteps, Corrupt, ListRefused}
+
+-- a load or a take failed, or memory ran out
+abbrev pub ends_early : Ending → Bool
+ends_early Done = false
+ends_early Detected = false
+ends_early Usage = false
+ends_early LoadFailed = true
+ends_early WriteFailed = false
+ends_early NoMemory = true
+ends_early SourceRefused = false
+ends_early ObjectRefused = false
+ends_early NotAccepted = false
+ends_early OutOfSteps = false
+ends_early Corrupt = false
+ends_early ListRefused = false
 
 -- what an ending says of the answer, what was written, the puts that were made, the sink's count of failures and a failed load
 abbrev pub Ends : Ending → (Answer → Type 0) → Option (List ℕ) → Option (List ℕ) → Option (List (List ℕ)) → Option (List (List ℕ)) → ℕ → ℕ → Type 0 → Type 0
 Ends Done Is old new puts puts' before now Load = Concludes Is 0 old new puts puts'
 Ends Detected Is old new puts puts' before now Load = Concludes Is 1 old new puts puts'
 Ends Usage Is old new puts puts' before now Load = Concludes Is 2 old new puts puts'
-Ends LoadFault Is old new puts puts' before now Load = PutsNothing old new puts puts' × Load
-Ends WriteFault Is old new puts puts' before now Load = Rose before now × BreaksOff Is old new puts puts'
+Ends LoadFailed Is old new puts puts' before now Load = PutsNothing old new puts puts' × Load
+Ends WriteFailed Is old new puts puts' before now Load = Rose before now × BreaksOff Is old new puts puts'
 Ends NoMemory Is old new puts puts' before now Load = PutsNothing old new puts puts'
-Ends Source Is old new puts puts' before now Load = Concludes Is 6 old new puts puts'
-Ends Object Is old new puts puts' before now Load = Concludes Is 7 old new puts puts'
+Ends SourceRefused Is old new puts puts' before now Load = Concludes Is 6 old new puts puts'
+Ends ObjectRefused Is old new puts puts' before now Load = Concludes Is 7 old new puts puts'
 Ends NotAccepted Is old new puts puts' before now Load = Concludes Is 8 old new puts puts'
 Ends OutOfSteps Is old new puts puts' before now Load = Concludes Is 9 old new puts puts'
 Ends Corrupt Is old new puts puts' before now Load = Concludes Is 10 old new puts puts'
-Ends FaultList Is old new puts puts' before now Load = Concludes Is 11 old new puts puts'
+Ends ListRefused Is old new puts puts' before now Load = Concludes Is 11 old new puts puts'
+
+-- how a command ends whose run ended so
+abbrev pub ending_of_run : RunEnd → Ending
+ending_of_run runs.Done = Done
+ending_of_run runs.Detected = Detected
+ending_of_run runs.OutOfSteps = OutOfSteps
+ending_of_run runs.WriteFault = WriteFailed

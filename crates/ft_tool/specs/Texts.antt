@@ -49,7 +49,7 @@ check_line (Refused b i p) = codes "check block " ++ decimal b ++ codes " index 
 abbrev pub list_line : ℕ → ℕ → List ℕ
 list_line n x = codes "list " ++ decimal n ++ codes " " ++ decimal x ++ codes "\n"
 
--- the number of a refusal of a source; want of memory has none
+-- the number of a refusal of a source; out of memory has none
 abbrev pub source_number : SourceError → ℕ
 source_number source.TooLong = 1
 source_number (source.Byte at) = 2

@@ -35,9 +35,9 @@ abbrev pub OverListOf : (List Verdict → Type 0) → Campaign → Option Files 
 OverListOf Promised c told bytes o a = (list : List ℕ) × (IsListOf c told bytes list × OverList Promised c o list a)
 
 -- the same of a campaign on an object that is accepted
-abbrev pub StrikesListOf : Campaign → Option Files → List ℕ → Object → Answer → Type 0
-StrikesListOf c told bytes o a = OverListOf NoneCorrupt c told bytes o a × IsNeverDetected o c.wild
+abbrev pub CampaignsListOf : Campaign → Option Files → List ℕ → Object → Answer → Type 0
+CampaignsListOf c told bytes o a = OverListOf NoneCorrupt c told bytes o a × IsNeverDetected o c.wild
 
--- the fault list of a campaign was loaded, where its name is not the object's own; or nothing was
-abbrev pub MayLoadList : Campaign → Option LoadList → Option LoadList → Type 0
-MayLoadList c asked asked' = HasMade [] asked asked' ⊎ ((c.faults ≢ c.object) × HasMade (list_load c.faults ∷ []) asked asked')
+-- the fault list of a campaign was loaded, where its name is not the object's own; else nothing was
+abbrev pub LoadsOther : Campaign → Option LoadList → Option LoadList → Type 0
+LoadsOther c asked asked' = ((c.faults ≡ c.object) × HasMade [] asked asked') ⊎ ((c.faults ≢ c.object) × HasMade (list_load c.faults ∷ []) asked asked')

@@ -8,13 +8,14 @@ ghost use Rattle.ft_tool.specs.Files.{IsRefusedBy, IsNotAccepted, IsListRefusedB
 ghost use Rattle.ft_tool.specs.Texts.{list_line};
 ghost use Rattle.ft_tool.specs.Sources.{IsSourceRefused};
 ghost use Rattle.ft_tool.specs.Scripts.{IsScriptRefusedBy};
-ghost use Rattle.ft_tool.specs.Endings.{Ends};
+ghost use Rattle.ft_tool.specs.Endings.{Ends, ending_of_run};
 
 use crate::load::{ListFault, ObjectFault, SourceFault};
 use crate::refused::{cell_line, entry_line, list_line, object_line, place_line, source_line};
 use crate::script::ScriptFault;
 use ft_checker::CheckError;
 use ft_edge::{Failed, Sink};
+use ft_machine::RunEnd;
 use ft_syntax::SourceError;
 
 /// How a command ended.
@@ -27,15 +28,15 @@ pub(crate) enum Ending {
     /// The words are no command.
     Usage,
     /// A file could not be read.
-    LoadFault,
+    LoadFailed,
     /// A line could not be written.
-    WriteFault,
+    WriteFailed,
     /// There was no memory left.
     NoMemory,
     /// The text is refused as a source.
-    Source,
+    SourceRefused,
     /// The bytes spell no object.
-    Object,
+    ObjectRefused,
     /// The object is not accepted.
     NotAccepted,
     /// The machine still runs after the last step.
@@ -43,7 +44,19 @@ pub(crate) enum Ending {
     /// Some verdict is corrupt.
     Corrupt,
     /// The fault list, the campaign over it, or the script is refused.
-    FaultList,
+    ListRefused,
+}
+
+/// How a command ends whose run ended so.
+pub(crate) fn ending_of_run(end: RunEnd) -> Ending
+    ensures { result ≡ ending_of_run end }
+{
+    match end {
+        RunEnd::Done => Ending::Done,
+        RunEnd::Detected => Ending::Detected,
+        RunEnd::OutOfSteps => Ending::OutOfSteps,
+        RunEnd::WriteFault => Ending::WriteFailed,
+    }
 }
 
 /// Puts a piece of the answer's text, in one put.
@@ -63,26 +76,26 @@ pub(crate) fn put_piece<K: Sink>(piece: &[u8], out: &mut K) -> Result<(), Failed
 /// Puts the line of words that are no command.
 pub(crate) fn put_usage<K: Sink>(out: &mut K) -> Ending
     ensures ends { Ends result (λ a. a ≡ usage) (K.written out.old) (K.written out.new) (K.pieces out.old) (K.pieces out.new) (K.failures out.old) (K.failures out.new) ⊥ }
-    ensures failures { result ≢ Ending.WriteFault → K.failures out.new ≡ K.failures out.old }
+    ensures failures { result ≢ Ending.WriteFailed → K.failures out.new ≡ K.failures out.old }
 {
     match put_piece(b"usage\n", out) {
         Ok(()) => Ending::Usage,
-        Err(_) => Ending::WriteFault,
+        Err(_) => Ending::WriteFailed,
     }
 }
 
 /// Ends a command that has no object, with the line of the refusal where its bytes are refused.
 pub(crate) fn refuse_object<K: Sink>(fault: ObjectFault, out: &mut K) -> Ending
     ensures ends { Ends result (IsRefusedBy fault) (K.written out.old) (K.written out.new) (K.pieces out.old) (K.pieces out.new) (K.failures out.old) (K.failures out.new) (fault ≡ ObjectFault.Failed) }
-    ensures failures { result ≢ Ending.WriteFault → K.failures out.new ≡ K.failures out.old }
-    ensures failed { result ≢ Ending.LoadFault → fault ≢ ObjectFault.Failed }
+    ensures failures { result ≢ Ending.WriteFailed → K.failures out.new ≡ K.failures out.old }
+    ensures failed { result ≢ Ending.LoadFailed → fault ≢ ObjectFault.Failed }
 {
     match fault {
         ObjectFault::Refused(error) => match put_piece(object_line(error).as_bytes(), out) {
-            Ok(()) => Ending::Object,
-            Err(_) => Ending::WriteFault,
+            Ok(()) => Ending::ObjectRefused,
+            Err(_) => Ending::WriteFailed,
         },
-        ObjectFault::Failed => Ending::LoadFault,
+        ObjectFault::Failed => Ending::LoadFailed,
         ObjectFault::NoMemory => Ending::NoMemory,
     }
 }
@@ -90,7 +103,7 @@ pub(crate) fn refuse_object<K: Sink>(fault: ObjectFault, out: &mut K) -> Ending
 /// Ends a command whose object is not accepted, with the line of the refusal.
 pub(crate) fn refuse_check<K: Sink>(error: CheckError, out: &mut K) -> Ending
     ensures ends { Ends result (IsNotAccepted error) (K.written out.old) (K.written out.new) (K.pieces out.old) (K.pieces out.new) (K.failures out.old) (K.failures out.new) ⊥ }
-    ensures failures { result ≢ Ending.WriteFault → K.failures out.new ≡ K.failures out.old }
+    ensures failures { result ≢ Ending.WriteFailed → K.failures out.new ≡ K.failures out.old }
 {
     let line = match error {
         CheckError::EntryType => entry_line(),
@@ -100,31 +113,31 @@ pub(crate) fn refuse_check<K: Sink>(error: CheckError, out: &mut K) -> Ending
     };
     match put_piece(line.as_bytes(), out) {
         Ok(()) => Ending::NotAccepted,
-        Err(_) => Ending::WriteFault,
+        Err(_) => Ending::WriteFailed,
     }
 }
 
 /// Puts the line of a list or of a campaign that is refused.
 pub(crate) fn put_list_line<K: Sink>(number: u64, told: u64, out: &mut K) -> Ending
     ensures ends { Ends result (λ a. a ≡ one_piece (list_line number told) 11) (K.written out.old) (K.written out.new) (K.pieces out.old) (K.pieces out.new) (K.failures out.old) (K.failures out.new) ⊥ }
-    ensures failures { result ≢ Ending.WriteFault → K.failures out.new ≡ K.failures out.old }
+    ensures failures { result ≢ Ending.WriteFailed → K.failures out.new ≡ K.failures out.old }
 {
     match put_piece(list_line(number, told).as_bytes(), out) {
-        Ok(()) => Ending::FaultList,
-        Err(_) => Ending::WriteFault,
+        Ok(()) => Ending::ListRefused,
+        Err(_) => Ending::WriteFailed,
     }
 }
 
 /// Ends a command that has no fault list, with the line of the refusal where its text is refused.
 pub(crate) fn refuse_list<K: Sink>(fault: ListFault, out: &mut K) -> Ending
     ensures ends { Ends result (IsListRefusedBy fault) (K.written out.old) (K.written out.new) (K.pieces out.old) (K.pieces out.new) (K.failures out.old) (K.failures out.new) (fault ≡ ListFault.Failed) }
-    ensures failures { result ≢ Ending.WriteFault → K.failures out.new ≡ K.failures out.old }
-    ensures failed { result ≢ Ending.LoadFault → fault ≢ ListFault.Failed }
+    ensures failures { result ≢ Ending.WriteFailed → K.failures out.new ≡ K.failures out.old }
+    ensures failed { result ≢ Ending.LoadFailed → fault ≢ ListFault.Failed }
 {
     match fault {
         ListFault::Line(number) => put_list_line(1, number as u64, out),
         ListFault::TooMany => put_list_line(2, 65_536, out),
-        ListFault::Failed => Ending::LoadFault,
+        ListFault::Failed => Ending::LoadFailed,
         ListFault::NoMemory => Ending::NoMemory,
     }
 }
@@ -132,12 +145,12 @@ pub(crate) fn refuse_list<K: Sink>(fault: ListFault, out: &mut K) -> Ending
 /// Ends a command that has no script, with the line of the refusal where it is too long.
 pub(crate) fn refuse_script<K: Sink>(fault: ScriptFault, out: &mut K) -> Ending
     ensures ends { Ends result (IsScriptRefusedBy fault) (K.written out.old) (K.written out.new) (K.pieces out.old) (K.pieces out.new) (K.failures out.old) (K.failures out.new) (fault ≡ ScriptFault.Failed) }
-    ensures failures { result ≢ Ending.WriteFault → K.failures out.new ≡ K.failures out.old }
-    ensures failed { result ≢ Ending.LoadFault → fault ≢ ScriptFault.Failed }
+    ensures failures { result ≢ Ending.WriteFailed → K.failures out.new ≡ K.failures out.old }
+    ensures failed { result ≢ Ending.LoadFailed → fault ≢ ScriptFault.Failed }
 {
     match fault {
         ScriptFault::TooLong => put_list_line(4, 1_048_576, out),
-        ScriptFault::Failed => Ending::LoadFault,
+        ScriptFault::Failed => Ending::LoadFailed,
         ScriptFault::NoMemory => Ending::NoMemory,
     }
 }
@@ -145,26 +158,26 @@ pub(crate) fn refuse_script<K: Sink>(fault: ScriptFault, out: &mut K) -> Ending
 /// Ends a command whose source is refused, with the line of the refusal.
 pub(crate) fn refuse_source<K: Sink>(error: SourceError, out: &mut K) -> Ending
     ensures ends { Ends result (IsSourceRefused error) (K.written out.old) (K.written out.new) (K.pieces out.old) (K.pieces out.new) (K.failures out.old) (K.failures out.new) ⊥ }
-    ensures failures { result ≢ Ending.WriteFault → K.failures out.new ≡ K.failures out.old }
+    ensures failures { result ≢ Ending.WriteFailed → K.failures out.new ≡ K.failures out.old }
 {
     if let SourceError::NoMemory = error {
         return Ending::NoMemory;
     }
     match put_piece(source_line(error).as_bytes(), out) {
-        Ok(()) => Ending::Source,
-        Err(_) => Ending::WriteFault,
+        Ok(()) => Ending::SourceRefused,
+        Err(_) => Ending::WriteFailed,
     }
 }
 
 /// Ends a command that has no source, with the line of the refusal where it is too long.
 pub(crate) fn refuse_long_source<K: Sink>(fault: SourceFault, out: &mut K) -> Ending
     ensures ends { Ends result (IsTooLongBy fault) (K.written out.old) (K.written out.new) (K.pieces out.old) (K.pieces out.new) (K.failures out.old) (K.failures out.new) (fault ≡ SourceFault.Failed) }
-    ensures failures { result ≢ Ending.WriteFault → K.failures out.new ≡ K.failures out.old }
-    ensures failed { result ≢ Ending.LoadFault → fault ≢ SourceFault.Failed }
+    ensures failures { result ≢ Ending.WriteFailed → K.failures out.new ≡ K.failures out.old }
+    ensures failed { result ≢ Ending.LoadFailed → fault ≢ SourceFault.Failed }
 {
     match fault {
         SourceFault::TooLong => refuse_source(SourceError::TooLong, out),
-        SourceFault::Failed => Ending::LoadFault,
+        SourceFault::Failed => Ending::LoadFailed,
         SourceFault::NoMemory => Ending::NoMemory,
     }
 }

@@ -1,22 +1,26 @@
 //! The tool: what a command line does over files, a script and an output.
 //!
-//! The crate promises that `tool` writes and answers what the words ask for, a row for each command in
+//! The crate promises that `tool` writes and answers what the words ask for, one rule for each command in
 //! `specs/Answers.antt`. The words' table is in `ft_command`. The lines of refusals are in
 //! `specs/Texts.antt`.
 #![tactic(auto)]
 
-mod campaigns;
-mod checking;
-mod debugging;
-mod demonstrating;
+mod campaign;
+mod check;
+mod compile;
+mod debug;
+mod demo;
 mod ending;
+mod exec;
 mod laws;
 mod load;
-mod objects;
+mod mean;
 mod refused;
+mod run;
 mod script;
-mod sources;
+mod survey;
 mod top;
+mod trial;
 
 pub use ft_sample::sample;
 pub use laws::{answers_matter_after_a_strike_alone, words_have_one_answer};

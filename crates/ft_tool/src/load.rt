@@ -3,7 +3,7 @@ ghost use Rattle.std.specs.Prelude.{◌≡◌, [], ◌∷◌};
 ghost use Rattle.ft_edge.specs.Loads.{LoadCause as EdgeCause};
 ghost use Rattle.ft_command.specs.Asked.{campaign_view};
 ghost use Rattle.ft_tool.specs.Calls.{HasMade, object_load, list_load, source_load};
-ghost use Rattle.ft_tool.specs.Told.{IsToldFile, IsListOf, MayLoadList};
+ghost use Rattle.ft_tool.specs.Told.{IsToldFile, IsListOf, LoadsOther};
 ghost use Rattle.ft_tool.specs.Files.{Gives, LoadsObject, LoadCause, ReadsList, GetsList, ListCause, LoadsSource, SourceCause};
 
 use ft_campaign::{ListError, read_faults};
@@ -134,7 +134,7 @@ pub(crate) fn list_of<F: Shelf>(
     ensures gets { GetsList (λ v. v.items) (IsListOf (campaign_view asked.now) (F.files shelf.old) bytes.now) result }
     ensures cause { ListCause (F.failures shelf.old) (F.failures shelf.new) (F.failed_name shelf.old) (F.failed_name shelf.new) asked.now.faults.now result }
     ensures files { F.files shelf.new ≡ F.files shelf.old }
-    ensures made { MayLoadList (campaign_view asked.now) (F.asked shelf.old) (F.asked shelf.new) }
+    ensures made { LoadsOther (campaign_view asked.now) (F.asked shelf.old) (F.asked shelf.new) }
 {
     if asked.faults == asked.object {
         return read_list(alloc, bytes);

@@ -129,7 +129,7 @@ pub(crate) fn list_line(number: u64, told: u64) -> Line
     line
 }
 
-/// The number of a refusal of a source, from 1; 0 for want of memory.
+/// The number of a refusal of a source, from 1; 0 when out of memory.
 fn source_number(error: SourceError) -> u64
     ensures { result ≡ source_number error }
 {

@@ -1,6 +1,6 @@
 //! What the script of a command holds.
 ghost use Rattle.std.specs.Prelude.{◌≡◌};
-ghost use Rattle.ft_edge.specs.Streams.{ConsumesAtMost, IsFrugal};
+ghost use Rattle.ft_edge.specs.Streams.{TakesAtMost};
 ghost use Rattle.ft_tool.specs.Scripts.{TakesScript, TakeCause};
 
 use ft_edge::Source;
@@ -27,12 +27,12 @@ pub(crate) enum ScriptFault {
     NoMemory,
 }
 
-/// Takes the script to its end, or to one byte past the limit. Nothing is taken after the end.
+/// Takes the script to its end, or to one byte past the limit. Nothing is taken after the end, nor
+/// after a take that failed.
 pub(crate) fn take_script<I: Source>(alloc: Global, script: &mut I) -> Result<Vec<u8>, ScriptFault>
     ensures takes { TakesScript (λ v. v.items) (I.left script.old) result }
     ensures cause { TakeCause (I.failures script.old) (I.failures script.new) result }
-    ensures taken { ConsumesAtMost (I.left script.old) (I.left script.new) 1048577 }
-    ensures frugal { IsFrugal (I.takes script.old) (I.takes script.new) (I.left script.old) (I.left script.new) }
+    ensures taken { TakesAtMost 1048577 (I.takes script.old) (I.takes script.new) (I.left script.old) (I.left script.new) }
 {
     let mut text = Vec::new(alloc);
     let mut piece = [0u8; PIECE];

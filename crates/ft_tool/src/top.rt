@@ -1,116 +1,26 @@
 //! The top call.
-ghost use Rattle.std.specs.Prelude.{◌≡◌, ◌≢◌, ◌≤◌, ◌⊎◌, [], ◌∷◌, map, string_bytes, IsTrue};
+ghost use Rattle.std.specs.Prelude.{◌≡◌, ◌≢◌, ◌⊎◌, [], map, string_bytes, IsTrue};
 ghost use Rattle.ft_edge.specs.Causes.{Rose};
 ghost use Rattle.ft_edge.specs.Puts.{PutsNothing};
-ghost use Rattle.ft_tool.specs.Calls.{HasMade, object_load, LoadsFor, Loads, TakesFrom};
-ghost use Rattle.ft_command.specs.Commands.{Asks, Usage, Checks, Runs, Tries, Strikes, Surveys};
-ghost use Rattle.ft_command.specs.Asked.{run_view, campaign_view};
-ghost use Rattle.ft_tool.specs.Answers.{ChecksObject, RunsObject, TriesObject, StrikesObject, SurveysObject, OverFile, IsAnswer, Concludes, BreaksOff, FailsIn, FailedToLoad, FailedToTake, is_status};
-ghost use Rattle.ft_tool.specs.Told.{OfFiles};
-ghost use Rattle.ft_tool.specs.Endings.{Ends};
+ghost use Rattle.ft_tool.specs.Calls.{HasMade, is_early, Loads, TakesFrom};
+ghost use Rattle.ft_command.specs.Commands.{Asks, Usage};
+ghost use Rattle.ft_tool.specs.Answers.{IsAnswer, Concludes, BreaksOff, FailedToLoad, FailedToTake, is_status};
+ghost use Rattle.ft_tool.specs.Endings.{Ends, ends_early};
 
-use crate::campaigns::{strike_object, survey_object};
-use crate::debugging::debug_file;
-use crate::demonstrating::demonstrate;
-use crate::ending::{Ending, put_usage, refuse_object};
-use crate::load::load_object;
-use crate::objects::{check_object, run_object, try_object};
-use crate::sources::{compile_file, execute_file, mean_file};
-use ft_command::{Campaign, Command, Run, command_of};
+use crate::campaign::campaign_file;
+use crate::check::check_file;
+use crate::compile::compile_file;
+use crate::debug::debug_file;
+use crate::demo::demonstrate;
+use crate::ending::{Ending, put_usage};
+use crate::exec::exec_file;
+use crate::mean::mean_file;
+use crate::run::run_file;
+use crate::survey::survey_file;
+use crate::trial::trial_file;
+use ft_command::{Command, command_of};
 use ft_edge::{Shelf, Sink, Source};
 use std::alloc::Global;
-
-/// Loads an object and checks it.
-fn check_file<F: Shelf, K: Sink>(alloc: Global, name: &str, shelf: &mut F, out: &mut K) -> Ending
-    ensures ends { Ends result (λ a. OfFiles (F.files shelf.old) (λ files. OverFile ChecksObject name.now files a))
-        (K.written out.old) (K.written out.new) (K.pieces out.old) (K.pieces out.new) (K.failures out.old) (K.failures out.new)
-        (OfFiles (F.files shelf.old) (λ files. FailsIn (Checks name.now) files (F.failures shelf.old) (F.failures shelf.new) (F.failed_name shelf.new))) }
-    ensures failures { result ≢ Ending.WriteFault → K.failures out.new ≡ K.failures out.old }
-    ensures load_failures { result ≢ Ending.LoadFault → (F.failures shelf.new ≡ F.failures shelf.old) × (F.failed_name shelf.new ≡ F.failed_name shelf.old) }
-    ensures made { HasMade (object_load name.now ∷ []) (F.asked shelf.old) (F.asked shelf.new) }
-{
-    let mut bytes = Vec::new(alloc);
-    match load_object(name, shelf, &mut bytes) {
-        Ok(view) => check_object(alloc, &view, out),
-        Err(fault) => refuse_object(fault, out),
-    }
-}
-
-/// Loads an object and runs it, if it is accepted.
-fn run_file<F: Shelf, K: Sink>(alloc: Global, run: &Run, shelf: &mut F, out: &mut K) -> Ending
-    ensures ends { Ends result (λ a. OfFiles (F.files shelf.old) (λ files. OverFile (RunsObject (run_view run.now)) run.now.object.now files a))
-        (K.written out.old) (K.written out.new) (K.pieces out.old) (K.pieces out.new) (K.failures out.old) (K.failures out.new)
-        (OfFiles (F.files shelf.old) (λ files. FailsIn (Runs (run_view run.now)) files (F.failures shelf.old) (F.failures shelf.new) (F.failed_name shelf.new))) }
-    ensures failures { result ≢ Ending.WriteFault → K.failures out.new ≡ K.failures out.old }
-    ensures load_failures { result ≢ Ending.LoadFault → (F.failures shelf.new ≡ F.failures shelf.old) × (F.failed_name shelf.new ≡ F.failed_name shelf.old) }
-    ensures made { HasMade (object_load run.now.object.now ∷ []) (F.asked shelf.old) (F.asked shelf.new) }
-{
-    let mut bytes = Vec::new(alloc);
-    match load_object(run.object, shelf, &mut bytes) {
-        Ok(view) => run_object(alloc, &view, run, out),
-        Err(fault) => refuse_object(fault, out),
-    }
-}
-
-/// Loads an object and runs it without checking it.
-fn try_file<F: Shelf, K: Sink>(alloc: Global, run: &Run, shelf: &mut F, out: &mut K) -> Ending
-    ensures ends { Ends result (λ a. OfFiles (F.files shelf.old) (λ files. OverFile (TriesObject (run_view run.now)) run.now.object.now files a))
-        (K.written out.old) (K.written out.new) (K.pieces out.old) (K.pieces out.new) (K.failures out.old) (K.failures out.new)
-        (OfFiles (F.files shelf.old) (λ files. FailsIn (Tries (run_view run.now)) files (F.failures shelf.old) (F.failures shelf.new) (F.failed_name shelf.new))) }
-    ensures failures { result ≢ Ending.WriteFault → K.failures out.new ≡ K.failures out.old }
-    ensures load_failures { result ≢ Ending.LoadFault → (F.failures shelf.new ≡ F.failures shelf.old) × (F.failed_name shelf.new ≡ F.failed_name shelf.old) }
-    ensures made { HasMade (object_load run.now.object.now ∷ []) (F.asked shelf.old) (F.asked shelf.new) }
-{
-    let mut bytes = Vec::new(alloc);
-    match load_object(run.object, shelf, &mut bytes) {
-        Ok(view) => try_object(alloc, &view, run, out),
-        Err(fault) => refuse_object(fault, out),
-    }
-}
-
-/// Loads an object, checks it, and tries a fault list on it.
-fn strike_file<F: Shelf, K: Sink>(
-    alloc: Global,
-    asked: &Campaign,
-    shelf: &mut F,
-    out: &mut K,
-) -> Ending
-    requires { asked.now.steps ≤ 1000000 }
-    ensures ends { Ends result (λ a. OfFiles (F.files shelf.old) (λ files. OverFile (StrikesObject (campaign_view asked.now) files) asked.now.object.now files a))
-        (K.written out.old) (K.written out.new) (K.pieces out.old) (K.pieces out.new) (K.failures out.old) (K.failures out.new)
-        (OfFiles (F.files shelf.old) (λ files. FailsIn (Strikes (campaign_view asked.now)) files (F.failures shelf.old) (F.failures shelf.new) (F.failed_name shelf.new))) }
-    ensures failures { result ≢ Ending.WriteFault → K.failures out.new ≡ K.failures out.old }
-    ensures load_failures { result ≢ Ending.LoadFault → (F.failures shelf.new ≡ F.failures shelf.old) × (F.failed_name shelf.new ≡ F.failed_name shelf.old) }
-    ensures made { OfFiles (F.files shelf.old) (λ files. LoadsFor (Strikes (campaign_view asked.now)) files (F.asked shelf.old) (F.asked shelf.new)) }
-{
-    let mut bytes = Vec::new(alloc);
-    match load_object(asked.object, shelf, &mut bytes) {
-        Ok(view) => strike_object(alloc, &view, view.bytes(), asked, shelf, out),
-        Err(fault) => refuse_object(fault, out),
-    }
-}
-
-/// Loads an object and tries a fault list on it without checking it.
-fn survey_file<F: Shelf, K: Sink>(
-    alloc: Global,
-    asked: &Campaign,
-    shelf: &mut F,
-    out: &mut K,
-) -> Ending
-    requires { asked.now.steps ≤ 1000000 }
-    ensures ends { Ends result (λ a. OfFiles (F.files shelf.old) (λ files. OverFile (SurveysObject (campaign_view asked.now) files) asked.now.object.now files a))
-        (K.written out.old) (K.written out.new) (K.pieces out.old) (K.pieces out.new) (K.failures out.old) (K.failures out.new)
-        (OfFiles (F.files shelf.old) (λ files. FailsIn (Surveys (campaign_view asked.now)) files (F.failures shelf.old) (F.failures shelf.new) (F.failed_name shelf.new))) }
-    ensures failures { result ≢ Ending.WriteFault → K.failures out.new ≡ K.failures out.old }
-    ensures load_failures { result ≢ Ending.LoadFault → (F.failures shelf.new ≡ F.failures shelf.old) × (F.failed_name shelf.new ≡ F.failed_name shelf.old) }
-    ensures made { OfFiles (F.files shelf.old) (λ files. LoadsFor (Surveys (campaign_view asked.now)) files (F.asked shelf.old) (F.asked shelf.new)) }
-{
-    let mut bytes = Vec::new(alloc);
-    match load_object(asked.object, shelf, &mut bytes) {
-        Ok(view) => survey_object(alloc, &view, view.bytes(), asked, shelf, out),
-        Err(fault) => refuse_object(fault, out),
-    }
-}
 
 /// Does what the words ask for.
 fn carry_out<F: Shelf, I: Source, K: Sink>(
@@ -125,22 +35,22 @@ fn carry_out<F: Shelf, I: Source, K: Sink>(
         (FailedToLoad (map string_bytes words.now) (F.files shelf.old) (F.failures shelf.old) (F.failures shelf.new) (F.failed_name shelf.new)
         ⊎ FailedToTake (map string_bytes words.now) (F.files shelf.old) (I.failures script.old) (I.failures script.new)) }
     ensures usage { result ≡ Ending.Usage → Asks (map string_bytes words.now) Usage }
-    ensures failures { result ≢ Ending.WriteFault → K.failures out.new ≡ K.failures out.old }
-    ensures load_failures { result ≢ Ending.LoadFault → (F.failures shelf.new ≡ F.failures shelf.old) × (F.failed_name shelf.new ≡ F.failed_name shelf.old) }
+    ensures failures { result ≢ Ending.WriteFailed → K.failures out.new ≡ K.failures out.old }
+    ensures load_failures { result ≢ Ending.LoadFailed → (F.failures shelf.new ≡ F.failures shelf.old) × (F.failed_name shelf.new ≡ F.failed_name shelf.old) }
     ensures script { TakesFrom (map string_bytes words.now) (F.files shelf.old) (I.takes script.old) (I.takes script.new) (I.left script.old) (I.left script.new) ⊎ (script.new ≡ script.old) }
-    ensures loads { Loads (map string_bytes words.now) (F.files shelf.old) (F.asked shelf.old) (F.asked shelf.new)
+    ensures loads { Loads (map string_bytes words.now) (F.files shelf.old) (IsTrue (ends_early result)) (F.asked shelf.old) (F.asked shelf.new)
         ⊎ ((result ≡ Ending.NoMemory) × HasMade [] (F.asked shelf.old) (F.asked shelf.new)) }
-    ensures script_failures { result ≢ Ending.LoadFault → I.failures script.new ≡ I.failures script.old }
+    ensures script_failures { result ≢ Ending.LoadFailed → I.failures script.new ≡ I.failures script.old }
 {
     match command_of(alloc, words) {
         Ok(Command::Usage) => put_usage(out),
         Ok(Command::Check(name)) => check_file(alloc, name, shelf, out),
         Ok(Command::Run(run)) => run_file(alloc, &run, shelf, out),
-        Ok(Command::Trial(run)) => try_file(alloc, &run, shelf, out),
-        Ok(Command::Campaign(asked)) => strike_file(alloc, &asked, shelf, out),
+        Ok(Command::Trial(run)) => trial_file(alloc, &run, shelf, out),
+        Ok(Command::Campaign(asked)) => campaign_file(alloc, &asked, shelf, out),
         Ok(Command::Survey(asked)) => survey_file(alloc, &asked, shelf, out),
         Ok(Command::Compile(name)) => compile_file(alloc, name, shelf, out),
-        Ok(Command::Exec(asked)) => execute_file(alloc, &asked, shelf, out),
+        Ok(Command::Exec(asked)) => exec_file(alloc, &asked, shelf, out),
         Ok(Command::Mean(asked)) => mean_file(alloc, &asked, shelf, out),
         Ok(Command::Debug(asked)) => debug_file(alloc, &asked, shelf, script, out),
         Ok(Command::Demo(turns)) => demonstrate(alloc, turns, out),
@@ -185,12 +95,12 @@ pub fn tool<F: Shelf, I: Source, K: Sink>(
     ensures write_failures { result ≢ 4 → K.failures out.new ≡ K.failures out.old }
 
     // The counts of failed loads and takes stay where the answer is another. The script is taken only in a session over
-    // an object, at most 1,048,577 bytes of it, by at most one take more than bytes. Each file is loaded once, in the order of the
-    // request and up to its limit, and a fault list only where the command comes to it. With status 5 it may be that none
-    // is.
+    // an object, at most 1,048,577 bytes of it, and never again after its end or a failure. Each file is loaded once, in the
+    // order of the request and up to its limit, and a fault list exactly where the command comes to it; with statuses 3 and 5
+    // it may be that it is not, and with status 5 that nothing is.
     ensures load_failures { result ≢ 3 → (F.failures shelf.new ≡ F.failures shelf.old) × (F.failed_name shelf.new ≡ F.failed_name shelf.old) }
     ensures script { TakesFrom (map string_bytes words.now) (F.files shelf.old) (I.takes script.old) (I.takes script.new) (I.left script.old) (I.left script.new) ⊎ (script.new ≡ script.old) }
-    ensures loads { Loads (map string_bytes words.now) (F.files shelf.old) (F.asked shelf.old) (F.asked shelf.new)
+    ensures loads { Loads (map string_bytes words.now) (F.files shelf.old) (IsTrue (is_early result)) (F.asked shelf.old) (F.asked shelf.new)
         ⊎ ((result ≡ 5) × HasMade [] (F.asked shelf.old) (F.asked shelf.new)) }
     ensures script_failures { result ≢ 3 → I.failures script.new ≡ I.failures script.old }
 {
@@ -198,14 +108,14 @@ pub fn tool<F: Shelf, I: Source, K: Sink>(
         Ending::Done => 0,
         Ending::Detected => 1,
         Ending::Usage => 2,
-        Ending::LoadFault => 3,
-        Ending::WriteFault => 4,
+        Ending::LoadFailed => 3,
+        Ending::WriteFailed => 4,
         Ending::NoMemory => 5,
-        Ending::Source => 6,
-        Ending::Object => 7,
+        Ending::SourceRefused => 6,
+        Ending::ObjectRefused => 7,
         Ending::NotAccepted => 8,
         Ending::OutOfSteps => 9,
         Ending::Corrupt => 10,
-        Ending::FaultList => 11,
+        Ending::ListRefused => 11,
     }
 }

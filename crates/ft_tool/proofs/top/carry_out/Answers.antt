@@ -1,11 +1,11 @@
 use Rattle.std.proofs.Common.{◌≡◌, map, string_bytes, inl, refl, subst}
 use Rattle.std.specs.Prelude.{◌⊎◌}
-use Rattle.ft_command.specs.Commands.{Asks, Usage, Checks, Runs, Tries, Strikes, Surveys, Compiles, Executes, Means, Debugs, Demonstrates}
+use Rattle.ft_command.specs.Commands.{Asks, Usage, Checks, Runs, Trials, Campaigns, Surveys, Compiles, Executes, Means, Debugs, Demonstrates}
 use Rattle.ft_command.specs.Asked.{run_view, campaign_view, execution_view, meaning_view, debugging_view, asked}
 use Rattle.ft_tool.specs.Sources.{CompilesProgram, ExecutesProgram, MeansProgram}
 use Rattle.ft_tool.specs.Scripts.{DebugsObject}
 use Rattle.ft_tool.specs.Demonstrations.{ShowsSample}
-use Rattle.ft_tool.specs.Answers.{usage, ChecksObject, RunsObject, TriesObject, StrikesObject, SurveysObject, OverFile, OverSource, IsAnswer, FailsIn, FailedToLoad, FailsAtScript, FailedToTake}
+use Rattle.ft_tool.specs.Answers.{usage, ChecksObject, RunsObject, TrialsObject, CampaignsObject, SurveysObject, OverFile, OverSource, IsAnswer, FailsIn, FailedToLoad, FailsAtScript, FailedToTake}
 use Rattle.ft_tool.specs.Told.{OfFiles, OfScript}
 use Rattle.ft_tool.proofs.Answered.{Ends-map}
 use Rattle.ft_tool.proofs.Asked.{answer_over, plain_answer, session_answer, failed_load, failed_session, loads_by, plain_loads, takes_from}
@@ -19,7 +19,7 @@ returns-in-Ok-Usage-clause-ends g c =
     (λ x. absurd x) c.put_usage.ensures.ends
 
 pub returns-in-Ok-Usage-clause-loads : goal.returns-in-Ok-Usage-clause-loads
-returns-in-Ok-Usage-clause-loads g c = inl (plain_loads (map string_bytes c.args.words.now) (g.F.Shelf.files c.args.shelf.now) Usage (g.F.Shelf.asked c.args.shelf.now) (g.F.Shelf.asked c.args.shelf.now) (subst (λ x. Asks (map string_bytes c.args.words.now) (asked x)) c.in-Ok-Usage.field-0-is c.in-Ok-Usage.ensures.ok) (λ files. refl))
+returns-in-Ok-Usage-clause-loads g c = inl (plain_loads (map string_bytes c.args.words.now) (g.F.Shelf.files c.args.shelf.now) Usage _ (g.F.Shelf.asked c.args.shelf.now) (g.F.Shelf.asked c.args.shelf.now) (subst (λ x. Asks (map string_bytes c.args.words.now) (asked x)) c.in-Ok-Usage.field-0-is c.in-Ok-Usage.ensures.ok) (λ files. refl))
 
 pub returns-in-Ok-Check-clause-ends : goal.returns-in-Ok-Check-clause-ends
 returns-in-Ok-Check-clause-ends g c =
@@ -31,7 +31,7 @@ returns-in-Ok-Check-clause-ends g c =
     (λ h. failed_load (map string_bytes c.args.words.now) (g.F.Shelf.files c.args.shelf.now) (Checks c.in-Ok-Check.name.now) _ _ _ _ asks h) c.check_file.ensures.ends
 
 pub returns-in-Ok-Check-clause-loads : goal.returns-in-Ok-Check-clause-loads
-returns-in-Ok-Check-clause-loads g c = inl (plain_loads (map string_bytes c.args.words.now) (g.F.Shelf.files c.args.shelf.now) (Checks c.in-Ok-Check.name.now) (g.F.Shelf.asked c.args.shelf.now) (g.F.Shelf.asked c.check_file.new.shelf) (subst (λ x. Asks (map string_bytes c.args.words.now) (asked x)) c.in-Ok-Check.field-0-is c.in-Ok-Check.ensures.ok) (λ files. c.check_file.ensures.made))
+returns-in-Ok-Check-clause-loads g c = inl (plain_loads (map string_bytes c.args.words.now) (g.F.Shelf.files c.args.shelf.now) (Checks c.in-Ok-Check.name.now) _ (g.F.Shelf.asked c.args.shelf.now) (g.F.Shelf.asked c.check_file.new.shelf) (subst (λ x. Asks (map string_bytes c.args.words.now) (asked x)) c.in-Ok-Check.field-0-is c.in-Ok-Check.ensures.ok) (λ files. c.check_file.ensures.made))
 
 pub returns-in-Ok-Run-clause-ends : goal.returns-in-Ok-Run-clause-ends
 returns-in-Ok-Run-clause-ends g c =
@@ -43,31 +43,31 @@ returns-in-Ok-Run-clause-ends g c =
     (λ h. failed_load (map string_bytes c.args.words.now) (g.F.Shelf.files c.args.shelf.now) (Runs (run_view c.in-Ok-Run.run')) _ _ _ _ asks h) c.run_file.ensures.ends
 
 pub returns-in-Ok-Run-clause-loads : goal.returns-in-Ok-Run-clause-loads
-returns-in-Ok-Run-clause-loads g c = inl (plain_loads (map string_bytes c.args.words.now) (g.F.Shelf.files c.args.shelf.now) (Runs (run_view c.in-Ok-Run.run')) (g.F.Shelf.asked c.args.shelf.now) (g.F.Shelf.asked c.run_file.new.shelf) (subst (λ x. Asks (map string_bytes c.args.words.now) (asked x)) c.in-Ok-Run.field-0-is c.in-Ok-Run.ensures.ok) (λ files. c.run_file.ensures.made))
+returns-in-Ok-Run-clause-loads g c = inl (plain_loads (map string_bytes c.args.words.now) (g.F.Shelf.files c.args.shelf.now) (Runs (run_view c.in-Ok-Run.run')) _ (g.F.Shelf.asked c.args.shelf.now) (g.F.Shelf.asked c.run_file.new.shelf) (subst (λ x. Asks (map string_bytes c.args.words.now) (asked x)) c.in-Ok-Run.field-0-is c.in-Ok-Run.ensures.ok) (λ files. c.run_file.ensures.made))
 
 pub returns-in-Ok-Trial-clause-ends : goal.returns-in-Ok-Trial-clause-ends
 returns-in-Ok-Trial-clause-ends g c =
     let asks = (subst (λ x. Asks (map string_bytes c.args.words.now) (asked x)) c.in-Ok-Trial.field-0-is c.in-Ok-Trial.ensures.ok) in
-    Ends-map c.try_file.result (λ a. OfFiles (g.F.Shelf.files c.args.shelf.now) (λ files. OverFile (TriesObject (run_view c.in-Ok-Trial.run')) c.in-Ok-Trial.run'.object.now files a)) (IsAnswer (map string_bytes c.args.words.now) (g.F.Shelf.files c.args.shelf.now) (g.I.Source.left c.args.script.now)) _ _ _ _ _ _
-    (OfFiles (g.F.Shelf.files c.args.shelf.now) (λ files. FailsIn (Tries (run_view c.in-Ok-Trial.run')) files (g.F.Shelf.failures c.args.shelf.now) (g.F.Shelf.failures c.try_file.new.shelf) (g.F.Shelf.failed_name c.try_file.new.shelf)))
-    (FailedToLoad (map string_bytes c.args.words.now) (g.F.Shelf.files c.args.shelf.now) (g.F.Shelf.failures c.args.shelf.now) (g.F.Shelf.failures c.try_file.new.shelf) (g.F.Shelf.failed_name c.try_file.new.shelf) ⊎ FailedToTake (map string_bytes c.args.words.now) (g.F.Shelf.files c.args.shelf.now) (g.I.Source.failures c.args.script.now) (g.I.Source.failures c.args.script.now))
-    (λ a h. answer_over (map string_bytes c.args.words.now) (g.F.Shelf.files c.args.shelf.now) (g.I.Source.left c.args.script.now) (Tries (run_view c.in-Ok-Trial.run')) (λ files x. OverFile (TriesObject (run_view c.in-Ok-Trial.run')) c.in-Ok-Trial.run'.object.now files x) asks (λ files script x i. i) a h)
-    (λ h. failed_load (map string_bytes c.args.words.now) (g.F.Shelf.files c.args.shelf.now) (Tries (run_view c.in-Ok-Trial.run')) _ _ _ _ asks h) c.try_file.ensures.ends
+    Ends-map c.trial_file.result (λ a. OfFiles (g.F.Shelf.files c.args.shelf.now) (λ files. OverFile (TrialsObject (run_view c.in-Ok-Trial.run')) c.in-Ok-Trial.run'.object.now files a)) (IsAnswer (map string_bytes c.args.words.now) (g.F.Shelf.files c.args.shelf.now) (g.I.Source.left c.args.script.now)) _ _ _ _ _ _
+    (OfFiles (g.F.Shelf.files c.args.shelf.now) (λ files. FailsIn (Trials (run_view c.in-Ok-Trial.run')) files (g.F.Shelf.failures c.args.shelf.now) (g.F.Shelf.failures c.trial_file.new.shelf) (g.F.Shelf.failed_name c.trial_file.new.shelf)))
+    (FailedToLoad (map string_bytes c.args.words.now) (g.F.Shelf.files c.args.shelf.now) (g.F.Shelf.failures c.args.shelf.now) (g.F.Shelf.failures c.trial_file.new.shelf) (g.F.Shelf.failed_name c.trial_file.new.shelf) ⊎ FailedToTake (map string_bytes c.args.words.now) (g.F.Shelf.files c.args.shelf.now) (g.I.Source.failures c.args.script.now) (g.I.Source.failures c.args.script.now))
+    (λ a h. answer_over (map string_bytes c.args.words.now) (g.F.Shelf.files c.args.shelf.now) (g.I.Source.left c.args.script.now) (Trials (run_view c.in-Ok-Trial.run')) (λ files x. OverFile (TrialsObject (run_view c.in-Ok-Trial.run')) c.in-Ok-Trial.run'.object.now files x) asks (λ files script x i. i) a h)
+    (λ h. failed_load (map string_bytes c.args.words.now) (g.F.Shelf.files c.args.shelf.now) (Trials (run_view c.in-Ok-Trial.run')) _ _ _ _ asks h) c.trial_file.ensures.ends
 
 pub returns-in-Ok-Trial-clause-loads : goal.returns-in-Ok-Trial-clause-loads
-returns-in-Ok-Trial-clause-loads g c = inl (plain_loads (map string_bytes c.args.words.now) (g.F.Shelf.files c.args.shelf.now) (Tries (run_view c.in-Ok-Trial.run')) (g.F.Shelf.asked c.args.shelf.now) (g.F.Shelf.asked c.try_file.new.shelf) (subst (λ x. Asks (map string_bytes c.args.words.now) (asked x)) c.in-Ok-Trial.field-0-is c.in-Ok-Trial.ensures.ok) (λ files. c.try_file.ensures.made))
+returns-in-Ok-Trial-clause-loads g c = inl (plain_loads (map string_bytes c.args.words.now) (g.F.Shelf.files c.args.shelf.now) (Trials (run_view c.in-Ok-Trial.run')) _ (g.F.Shelf.asked c.args.shelf.now) (g.F.Shelf.asked c.trial_file.new.shelf) (subst (λ x. Asks (map string_bytes c.args.words.now) (asked x)) c.in-Ok-Trial.field-0-is c.in-Ok-Trial.ensures.ok) (λ files. c.trial_file.ensures.made))
 
 pub returns-in-Ok-Campaign-clause-ends : goal.returns-in-Ok-Campaign-clause-ends
 returns-in-Ok-Campaign-clause-ends g c =
     let asks = (subst (λ x. Asks (map string_bytes c.args.words.now) (asked x)) c.in-Ok-Campaign.field-0-is c.in-Ok-Campaign.ensures.ok) in
-    Ends-map c.strike_file.result (λ a. OfFiles (g.F.Shelf.files c.args.shelf.now) (λ files. OverFile (StrikesObject (campaign_view c.in-Ok-Campaign.asked) files) c.in-Ok-Campaign.asked.object.now files a)) (IsAnswer (map string_bytes c.args.words.now) (g.F.Shelf.files c.args.shelf.now) (g.I.Source.left c.args.script.now)) _ _ _ _ _ _
-    (OfFiles (g.F.Shelf.files c.args.shelf.now) (λ files. FailsIn (Strikes (campaign_view c.in-Ok-Campaign.asked)) files (g.F.Shelf.failures c.args.shelf.now) (g.F.Shelf.failures c.strike_file.new.shelf) (g.F.Shelf.failed_name c.strike_file.new.shelf)))
-    (FailedToLoad (map string_bytes c.args.words.now) (g.F.Shelf.files c.args.shelf.now) (g.F.Shelf.failures c.args.shelf.now) (g.F.Shelf.failures c.strike_file.new.shelf) (g.F.Shelf.failed_name c.strike_file.new.shelf) ⊎ FailedToTake (map string_bytes c.args.words.now) (g.F.Shelf.files c.args.shelf.now) (g.I.Source.failures c.args.script.now) (g.I.Source.failures c.args.script.now))
-    (λ a h. answer_over (map string_bytes c.args.words.now) (g.F.Shelf.files c.args.shelf.now) (g.I.Source.left c.args.script.now) (Strikes (campaign_view c.in-Ok-Campaign.asked)) (λ files x. OverFile (StrikesObject (campaign_view c.in-Ok-Campaign.asked) files) c.in-Ok-Campaign.asked.object.now files x) asks (λ files script x i. i) a h)
-    (λ h. failed_load (map string_bytes c.args.words.now) (g.F.Shelf.files c.args.shelf.now) (Strikes (campaign_view c.in-Ok-Campaign.asked)) _ _ _ _ asks h) c.strike_file.ensures.ends
+    Ends-map c.campaign_file.result (λ a. OfFiles (g.F.Shelf.files c.args.shelf.now) (λ files. OverFile (CampaignsObject (campaign_view c.in-Ok-Campaign.asked) files) c.in-Ok-Campaign.asked.object.now files a)) (IsAnswer (map string_bytes c.args.words.now) (g.F.Shelf.files c.args.shelf.now) (g.I.Source.left c.args.script.now)) _ _ _ _ _ _
+    (OfFiles (g.F.Shelf.files c.args.shelf.now) (λ files. FailsIn (Campaigns (campaign_view c.in-Ok-Campaign.asked)) files (g.F.Shelf.failures c.args.shelf.now) (g.F.Shelf.failures c.campaign_file.new.shelf) (g.F.Shelf.failed_name c.campaign_file.new.shelf)))
+    (FailedToLoad (map string_bytes c.args.words.now) (g.F.Shelf.files c.args.shelf.now) (g.F.Shelf.failures c.args.shelf.now) (g.F.Shelf.failures c.campaign_file.new.shelf) (g.F.Shelf.failed_name c.campaign_file.new.shelf) ⊎ FailedToTake (map string_bytes c.args.words.now) (g.F.Shelf.files c.args.shelf.now) (g.I.Source.failures c.args.script.now) (g.I.Source.failures c.args.script.now))
+    (λ a h. answer_over (map string_bytes c.args.words.now) (g.F.Shelf.files c.args.shelf.now) (g.I.Source.left c.args.script.now) (Campaigns (campaign_view c.in-Ok-Campaign.asked)) (λ files x. OverFile (CampaignsObject (campaign_view c.in-Ok-Campaign.asked) files) c.in-Ok-Campaign.asked.object.now files x) asks (λ files script x i. i) a h)
+    (λ h. failed_load (map string_bytes c.args.words.now) (g.F.Shelf.files c.args.shelf.now) (Campaigns (campaign_view c.in-Ok-Campaign.asked)) _ _ _ _ asks h) c.campaign_file.ensures.ends
 
 pub returns-in-Ok-Campaign-clause-loads : goal.returns-in-Ok-Campaign-clause-loads
-returns-in-Ok-Campaign-clause-loads g c = inl (loads_by (map string_bytes c.args.words.now) (g.F.Shelf.files c.args.shelf.now) (Strikes (campaign_view c.in-Ok-Campaign.asked)) (g.F.Shelf.asked c.args.shelf.now) (g.F.Shelf.asked c.strike_file.new.shelf) (subst (λ x. Asks (map string_bytes c.args.words.now) (asked x)) c.in-Ok-Campaign.field-0-is c.in-Ok-Campaign.ensures.ok) c.strike_file.ensures.made)
+returns-in-Ok-Campaign-clause-loads g c = inl (loads_by (map string_bytes c.args.words.now) (g.F.Shelf.files c.args.shelf.now) (Campaigns (campaign_view c.in-Ok-Campaign.asked)) _ (g.F.Shelf.asked c.args.shelf.now) (g.F.Shelf.asked c.campaign_file.new.shelf) (subst (λ x. Asks (map string_bytes c.args.words.now) (asked x)) c.in-Ok-Campaign.field-0-is c.in-Ok-Campaign.ensures.ok) c.campaign_file.ensures.made)
 
 pub returns-in-Ok-Survey-clause-ends : goal.returns-in-Ok-Survey-clause-ends
 returns-in-Ok-Survey-clause-ends g c =
@@ -79,7 +79,7 @@ returns-in-Ok-Survey-clause-ends g c =
     (λ h. failed_load (map string_bytes c.args.words.now) (g.F.Shelf.files c.args.shelf.now) (Surveys (campaign_view c.in-Ok-Survey.asked)) _ _ _ _ asks h) c.survey_file.ensures.ends
 
 pub returns-in-Ok-Survey-clause-loads : goal.returns-in-Ok-Survey-clause-loads
-returns-in-Ok-Survey-clause-loads g c = inl (loads_by (map string_bytes c.args.words.now) (g.F.Shelf.files c.args.shelf.now) (Surveys (campaign_view c.in-Ok-Survey.asked)) (g.F.Shelf.asked c.args.shelf.now) (g.F.Shelf.asked c.survey_file.new.shelf) (subst (λ x. Asks (map string_bytes c.args.words.now) (asked x)) c.in-Ok-Survey.field-0-is c.in-Ok-Survey.ensures.ok) c.survey_file.ensures.made)
+returns-in-Ok-Survey-clause-loads g c = inl (loads_by (map string_bytes c.args.words.now) (g.F.Shelf.files c.args.shelf.now) (Surveys (campaign_view c.in-Ok-Survey.asked)) _ (g.F.Shelf.asked c.args.shelf.now) (g.F.Shelf.asked c.survey_file.new.shelf) (subst (λ x. Asks (map string_bytes c.args.words.now) (asked x)) c.in-Ok-Survey.field-0-is c.in-Ok-Survey.ensures.ok) c.survey_file.ensures.made)
 
 pub returns-in-Ok-Compile-clause-ends : goal.returns-in-Ok-Compile-clause-ends
 returns-in-Ok-Compile-clause-ends g c =
@@ -91,19 +91,19 @@ returns-in-Ok-Compile-clause-ends g c =
     (λ h. failed_load (map string_bytes c.args.words.now) (g.F.Shelf.files c.args.shelf.now) (Compiles c.in-Ok-Compile.name.now) _ _ _ _ asks h) c.compile_file.ensures.ends
 
 pub returns-in-Ok-Compile-clause-loads : goal.returns-in-Ok-Compile-clause-loads
-returns-in-Ok-Compile-clause-loads g c = inl (plain_loads (map string_bytes c.args.words.now) (g.F.Shelf.files c.args.shelf.now) (Compiles c.in-Ok-Compile.name.now) (g.F.Shelf.asked c.args.shelf.now) (g.F.Shelf.asked c.compile_file.new.shelf) (subst (λ x. Asks (map string_bytes c.args.words.now) (asked x)) c.in-Ok-Compile.field-0-is c.in-Ok-Compile.ensures.ok) (λ files. c.compile_file.ensures.made))
+returns-in-Ok-Compile-clause-loads g c = inl (plain_loads (map string_bytes c.args.words.now) (g.F.Shelf.files c.args.shelf.now) (Compiles c.in-Ok-Compile.name.now) _ (g.F.Shelf.asked c.args.shelf.now) (g.F.Shelf.asked c.compile_file.new.shelf) (subst (λ x. Asks (map string_bytes c.args.words.now) (asked x)) c.in-Ok-Compile.field-0-is c.in-Ok-Compile.ensures.ok) (λ files. c.compile_file.ensures.made))
 
 pub returns-in-Ok-Exec-clause-ends : goal.returns-in-Ok-Exec-clause-ends
 returns-in-Ok-Exec-clause-ends g c =
     let asks = (subst (λ x. Asks (map string_bytes c.args.words.now) (asked x)) c.in-Ok-Exec.field-0-is c.in-Ok-Exec.ensures.ok) in
-    Ends-map c.execute_file.result (λ a. OfFiles (g.F.Shelf.files c.args.shelf.now) (λ files. OverSource (ExecutesProgram c.in-Ok-Exec.asked.steps) c.in-Ok-Exec.asked.source.now files a)) (IsAnswer (map string_bytes c.args.words.now) (g.F.Shelf.files c.args.shelf.now) (g.I.Source.left c.args.script.now)) _ _ _ _ _ _
-    (OfFiles (g.F.Shelf.files c.args.shelf.now) (λ files. FailsIn (Executes (execution_view c.in-Ok-Exec.asked)) files (g.F.Shelf.failures c.args.shelf.now) (g.F.Shelf.failures c.execute_file.new.shelf) (g.F.Shelf.failed_name c.execute_file.new.shelf)))
-    (FailedToLoad (map string_bytes c.args.words.now) (g.F.Shelf.files c.args.shelf.now) (g.F.Shelf.failures c.args.shelf.now) (g.F.Shelf.failures c.execute_file.new.shelf) (g.F.Shelf.failed_name c.execute_file.new.shelf) ⊎ FailedToTake (map string_bytes c.args.words.now) (g.F.Shelf.files c.args.shelf.now) (g.I.Source.failures c.args.script.now) (g.I.Source.failures c.args.script.now))
+    Ends-map c.exec_file.result (λ a. OfFiles (g.F.Shelf.files c.args.shelf.now) (λ files. OverSource (ExecutesProgram c.in-Ok-Exec.asked.steps) c.in-Ok-Exec.asked.source.now files a)) (IsAnswer (map string_bytes c.args.words.now) (g.F.Shelf.files c.args.shelf.now) (g.I.Source.left c.args.script.now)) _ _ _ _ _ _
+    (OfFiles (g.F.Shelf.files c.args.shelf.now) (λ files. FailsIn (Executes (execution_view c.in-Ok-Exec.asked)) files (g.F.Shelf.failures c.args.shelf.now) (g.F.Shelf.failures c.exec_file.new.shelf) (g.F.Shelf.failed_name c.exec_file.new.shelf)))
+    (FailedToLoad (map string_bytes c.args.words.now) (g.F.Shelf.files c.args.shelf.now) (g.F.Shelf.failures c.args.shelf.now) (g.F.Shelf.failures c.exec_file.new.shelf) (g.F.Shelf.failed_name c.exec_file.new.shelf) ⊎ FailedToTake (map string_bytes c.args.words.now) (g.F.Shelf.files c.args.shelf.now) (g.I.Source.failures c.args.script.now) (g.I.Source.failures c.args.script.now))
     (λ a h. answer_over (map string_bytes c.args.words.now) (g.F.Shelf.files c.args.shelf.now) (g.I.Source.left c.args.script.now) (Executes (execution_view c.in-Ok-Exec.asked)) (λ files x. OverSource (ExecutesProgram c.in-Ok-Exec.asked.steps) c.in-Ok-Exec.asked.source.now files x) asks (λ files script x i. i) a h)
-    (λ h. failed_load (map string_bytes c.args.words.now) (g.F.Shelf.files c.args.shelf.now) (Executes (execution_view c.in-Ok-Exec.asked)) _ _ _ _ asks h) c.execute_file.ensures.ends
+    (λ h. failed_load (map string_bytes c.args.words.now) (g.F.Shelf.files c.args.shelf.now) (Executes (execution_view c.in-Ok-Exec.asked)) _ _ _ _ asks h) c.exec_file.ensures.ends
 
 pub returns-in-Ok-Exec-clause-loads : goal.returns-in-Ok-Exec-clause-loads
-returns-in-Ok-Exec-clause-loads g c = inl (plain_loads (map string_bytes c.args.words.now) (g.F.Shelf.files c.args.shelf.now) (Executes (execution_view c.in-Ok-Exec.asked)) (g.F.Shelf.asked c.args.shelf.now) (g.F.Shelf.asked c.execute_file.new.shelf) (subst (λ x. Asks (map string_bytes c.args.words.now) (asked x)) c.in-Ok-Exec.field-0-is c.in-Ok-Exec.ensures.ok) (λ files. c.execute_file.ensures.made))
+returns-in-Ok-Exec-clause-loads g c = inl (plain_loads (map string_bytes c.args.words.now) (g.F.Shelf.files c.args.shelf.now) (Executes (execution_view c.in-Ok-Exec.asked)) _ (g.F.Shelf.asked c.args.shelf.now) (g.F.Shelf.asked c.exec_file.new.shelf) (subst (λ x. Asks (map string_bytes c.args.words.now) (asked x)) c.in-Ok-Exec.field-0-is c.in-Ok-Exec.ensures.ok) (λ files. c.exec_file.ensures.made))
 
 pub returns-in-Ok-Mean-clause-ends : goal.returns-in-Ok-Mean-clause-ends
 returns-in-Ok-Mean-clause-ends g c =
@@ -115,7 +115,7 @@ returns-in-Ok-Mean-clause-ends g c =
     (λ h. failed_load (map string_bytes c.args.words.now) (g.F.Shelf.files c.args.shelf.now) (Means (meaning_view c.in-Ok-Mean.asked)) _ _ _ _ asks h) c.mean_file.ensures.ends
 
 pub returns-in-Ok-Mean-clause-loads : goal.returns-in-Ok-Mean-clause-loads
-returns-in-Ok-Mean-clause-loads g c = inl (plain_loads (map string_bytes c.args.words.now) (g.F.Shelf.files c.args.shelf.now) (Means (meaning_view c.in-Ok-Mean.asked)) (g.F.Shelf.asked c.args.shelf.now) (g.F.Shelf.asked c.mean_file.new.shelf) (subst (λ x. Asks (map string_bytes c.args.words.now) (asked x)) c.in-Ok-Mean.field-0-is c.in-Ok-Mean.ensures.ok) (λ files. c.mean_file.ensures.made))
+returns-in-Ok-Mean-clause-loads g c = inl (plain_loads (map string_bytes c.args.words.now) (g.F.Shelf.files c.args.shelf.now) (Means (meaning_view c.in-Ok-Mean.asked)) _ (g.F.Shelf.asked c.args.shelf.now) (g.F.Shelf.asked c.mean_file.new.shelf) (subst (λ x. Asks (map string_bytes c.args.words.now) (asked x)) c.in-Ok-Mean.field-0-is c.in-Ok-Mean.ensures.ok) (λ files. c.mean_file.ensures.made))
 
 pub returns-in-Ok-Debug-clause-ends : goal.returns-in-Ok-Debug-clause-ends
 returns-in-Ok-Debug-clause-ends g c =
@@ -131,7 +131,7 @@ pub returns-in-Ok-Debug-clause-script : goal.returns-in-Ok-Debug-clause-script
 returns-in-Ok-Debug-clause-script g c = takes_from (map string_bytes c.args.words.now) (g.F.Shelf.files c.args.shelf.now) (debugging_view c.in-Ok-Debug.asked) _ _ _ _ _ (subst (λ x. Asks (map string_bytes c.args.words.now) (asked x)) c.in-Ok-Debug.field-0-is c.in-Ok-Debug.ensures.ok) c.debug_file.ensures.script
 
 pub returns-in-Ok-Debug-clause-loads : goal.returns-in-Ok-Debug-clause-loads
-returns-in-Ok-Debug-clause-loads g c = inl (plain_loads (map string_bytes c.args.words.now) (g.F.Shelf.files c.args.shelf.now) (Debugs (debugging_view c.in-Ok-Debug.asked)) (g.F.Shelf.asked c.args.shelf.now) (g.F.Shelf.asked c.debug_file.new.shelf) (subst (λ x. Asks (map string_bytes c.args.words.now) (asked x)) c.in-Ok-Debug.field-0-is c.in-Ok-Debug.ensures.ok) (λ files. c.debug_file.ensures.made))
+returns-in-Ok-Debug-clause-loads g c = inl (plain_loads (map string_bytes c.args.words.now) (g.F.Shelf.files c.args.shelf.now) (Debugs (debugging_view c.in-Ok-Debug.asked)) _ (g.F.Shelf.asked c.args.shelf.now) (g.F.Shelf.asked c.debug_file.new.shelf) (subst (λ x. Asks (map string_bytes c.args.words.now) (asked x)) c.in-Ok-Debug.field-0-is c.in-Ok-Debug.ensures.ok) (λ files. c.debug_file.ensures.made))
 
 pub returns-in-Ok-Demo-clause-ends : goal.returns-in-Ok-Demo-clause-ends
 returns-in-Ok-Demo-clause-ends g c =
@@ -141,4 +141,4 @@ returns-in-Ok-Demo-clause-ends g c =
     (λ x. absurd x) c.demonstrate.ensures.ends
 
 pub returns-in-Ok-Demo-clause-loads : goal.returns-in-Ok-Demo-clause-loads
-returns-in-Ok-Demo-clause-loads g c = inl (plain_loads (map string_bytes c.args.words.now) (g.F.Shelf.files c.args.shelf.now) (Demonstrates c.in-Ok-Demo.turns) (g.F.Shelf.asked c.args.shelf.now) (g.F.Shelf.asked c.args.shelf.now) (subst (λ x. Asks (map string_bytes c.args.words.now) (asked x)) c.in-Ok-Demo.field-0-is c.in-Ok-Demo.ensures.ok) (λ files. refl))
+returns-in-Ok-Demo-clause-loads g c = inl (plain_loads (map string_bytes c.args.words.now) (g.F.Shelf.files c.args.shelf.now) (Demonstrates c.in-Ok-Demo.turns) _ (g.F.Shelf.asked c.args.shelf.now) (g.F.Shelf.asked c.args.shelf.now) (subst (λ x. Asks (map string_bytes c.args.words.now) (asked x)) c.in-Ok-Demo.field-0-is c.in-Ok-Demo.ensures.ok) (λ files. refl))

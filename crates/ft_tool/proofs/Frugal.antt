@@ -1,0 +1,65 @@
+-- Takes in a loop, each of which gives a byte but the last.
+use Rattle.std.proofs.Common.{◌≡◌, ℕ, ◌+◌, ◌-◌, ◌<◌, ◌≤◌, List, [], ◌∷◌, ◌++◌, length, take, sum, All, Option, Some, None, refl, ap, sym, subst, ◌∙◌, arith, length-append}
+use Rattle.std.proofs.Math.Seq.{take-append_seam}
+use Rattle.std.proofs.KnownBytes.{Consumes-trans}
+use Rattle.std.proofs.lemmas.List.Elements.{All-push}
+use Rattle.std.proofs.lemmas.List.Sums.{sum_by-append}
+use Rattle.std.specs.Io.KnownBytes.{Consumes, Keeps}
+use Rattle.ft_edge.specs.Streams.{IsFrugal, TakesAtMost}
+use Rattle.ft_edge.specs.Told.{append_told}
+use Rattle.ft_edge.proofs.PutLines.{told_more}
+
+-- all but the last of a list and one more is the list
+but_last : (sizes : List ℕ) (n : ℕ) → take (length (sizes ++ n ∷ []) - 1) (sizes ++ n ∷ []) ≡ sizes
+but_last sizes n =
+    let e : length (sizes ++ n ∷ []) - 1 ≡ length sizes = omega (arith, length-append sizes (n ∷ [])) in
+    ap (λ k. take k (sizes ++ n ∷ [])) e ∙ take-append_seam sizes (n ∷ [])
+
+-- each of them gave some, so each but one more did
+frugal_more : (sizes : List ℕ) (n : ℕ) → All (λ count. 0 < count) sizes → IsFrugal (sizes ++ n ∷ [])
+frugal_more sizes n some = subst (All (λ count. 0 < count)) (sym (but_last sizes n)) some
+
+-- one more after all others
+sum_more : (sizes : List ℕ) (n : ℕ) → sum (sizes ++ n ∷ []) ≡ sum sizes + n
+sum_more sizes n = omega (arith, sum_by-append (λ count. count) sizes (n ∷ []))
+
+-- takes were made that gave so many bytes together, and each gave some
+pub record GaveSome (takes takes' : Option (List ℕ)) (total : ℕ) : Type 0 where
+  pub sizes : List ℕ
+  pub made : takes' ≡ append_told takes sizes
+  pub together : sum sizes ≡ total
+  pub some : All (λ count. 0 < count) sizes
+
+-- one more take gave bytes
+pub gave_more : (takes takes' takes'' : Option (List ℕ)) (total total' n : ℕ) → GaveSome takes takes' total → takes'' ≡ append_told takes' (n ∷ []) → 0 < n → total' ≡ total + n → GaveSome takes takes'' total'
+gave_more takes takes' takes'' total total' n h is some more = record {
+  sizes = h.sizes ++ n ∷ [];
+  made = is ∙ ap (λ told. append_told told (n ∷ [])) h.made ∙ told_more takes h.sizes (n ∷ []);
+  together = let e = sum_more h.sizes n in omega (arith, e, h.together, more);
+  some = All-push (λ count. 0 < count) h.sizes n h.some some;
+}
+
+-- one more take, the last, gave bytes or none
+pub takes_last : (most : ℕ) (takes takes' takes'' left left' left'' : Option (List ℕ)) (bytes more : List ℕ) (n : ℕ) → GaveSome takes takes' (length bytes) → Consumes left left' bytes
+    → takes'' ≡ append_told takes' (n ∷ []) → Consumes left' left'' more → length more ≡ n → length bytes + n ≤ most → TakesAtMost most takes takes'' left left''
+takes_last most takes takes' takes'' left left' left'' bytes more n h taken is gave same few = record {
+  bytes = bytes ++ more;
+  sizes = h.sizes ++ n ∷ [];
+  taken = Consumes-trans left left' left'' bytes more taken gave;
+  few = omega (arith, length-append bytes more, same, few);
+  made = is ∙ ap (λ told. append_told told (n ∷ [])) h.made ∙ told_more takes h.sizes (n ∷ []);
+  together = let e = sum_more h.sizes n in omega (arith, e, h.together, length-append bytes more, same);
+  frugal = frugal_more h.sizes n h.some;
+}
+
+-- where nothing was taken, no bytes were
+kept_none : (a b : Option (List ℕ)) → Keeps a b → Consumes a b []
+kept_none None b h = tt
+kept_none (Some xs) None h = absurd h
+kept_none (Some xs) (Some ys) h = sym h
+
+-- one more take, the last, failed
+pub takes_failed : (most : ℕ) (takes takes' takes'' left left' left'' : Option (List ℕ)) (bytes : List ℕ) → GaveSome takes takes' (length bytes) → Consumes left left' bytes
+    → takes'' ≡ append_told takes' (0 ∷ []) → Keeps left' left'' → length bytes ≤ most → TakesAtMost most takes takes'' left left''
+takes_failed most takes takes' takes'' left left' left'' bytes h taken is kept few =
+    takes_last most takes takes' takes'' left left' left'' bytes [] 0 h taken is (kept_none left' left'' kept) refl (omega (arith, few))

@@ -1,4 +1,0 @@
-use Rattle.ft_tool.proofs.campaigns.campaign_faults.Given as goal
-
-abbrev pub ghosts-campaign_counted : goal.ghosts-campaign_counted
-ghosts-campaign_counted g a = record { name = a.blank.name; parts = a.blank.parts }

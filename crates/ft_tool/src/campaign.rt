@@ -1,0 +1,156 @@
+//! The command `campaign`.
+ghost use Rattle.std.specs.Prelude.{◌≡◌, ◌≢◌, ◌≤◌, ◌<◌, ◌*◌, ◌⊎◌, [], length, Some, None, IsTrue};
+ghost use Rattle.ft_edge.specs.Causes.{Rose};
+ghost use Rattle.ft_command.specs.Asked.{campaign_view};
+ghost use Rattle.ft_typing.specs.Accepted.{refusal};
+ghost use Rattle.ft_types.specs.Spellable.{IsSpellable};
+ghost use Rattle.ft_campaign.specs.Campaigns.{EndsAs as CampaignEnds, IsExcused, IsUncorrupted};
+ghost use Rattle.ft_tool.specs.Answers.{CampaignsUnless, CampaignsObject, OverFile, FailsIn};
+ghost use Rattle.ft_tool.specs.Calls.{HasMade, LoadsFor};
+ghost use Rattle.ft_tool.specs.Told.{IsToldFile, CampaignsListOf, LoadsOther, OfFiles};
+ghost use Rattle.ft_tool.specs.Lists.{NoneCorrupt, OverFaults};
+ghost use Rattle.ft_tool.specs.Endings.{Ends, ends_early};
+ghost use Rattle.ft_command.specs.Commands.{Campaigns};
+
+use crate::check::check;
+use crate::ending::{Ending, put_list_line, refuse_check, refuse_list, refuse_object};
+use crate::load::{list_of, load_object};
+use ft_campaign::{CampaignEnd, campaign};
+use ft_checker::Checked;
+use ft_command::Campaign;
+use ft_edge::{Shelf, Sink};
+use ft_isa::Strike;
+use ft_steps::Steps;
+use ft_types::Program;
+use std::alloc::Global;
+use std::marker::Brand;
+use std::sync::ledger::{Blank, Ledger};
+
+/// A campaign on an object that is accepted, with a counter of its own.
+fn campaign_counted<P: Program, K: Sink, L: Ledger>(
+    alloc: Global,
+    checked: &Checked<P>,
+    faults: &[Strike],
+    asked: &Campaign,
+    out: &mut K,
+    blank: Blank,
+) -> CampaignEnd
+    requires name { blank.name ≡ L.name }
+    requires parts { blank.parts ≡ L.parts }
+    requires some { 0 < L.parts }
+    requires faults { length faults.now ≤ 65536 }
+    requires steps { asked.now.steps ≤ 1000000 }
+    ensures ends { CampaignEnds result (P.object checked.now) faults.now asked.now.wild.items asked.now.steps (K.written out.old) (K.written out.new) (K.pieces out.old) (K.pieces out.new) }
+    ensures too_much { 1000000000 < length faults.now * asked.now.steps → result ≡ CampaignEnd.TooMuch (length faults.now * asked.now.steps) }
+    ensures cause { IsExcused result (K.failures out.old) (K.failures out.new) }
+    ensures uncorrupted { IsUncorrupted result }
+{
+    let mut steps = Steps::<L>::new(blank);
+    campaign(
+        alloc,
+        checked,
+        faults,
+        asked.wild.as_slice(),
+        asked.steps,
+        out,
+        &mut steps,
+    )
+}
+
+/// The verdicts of faults on an object that is accepted, of which none is corrupt.
+fn campaign_faults<P: Program, K: Sink>(
+    alloc: Global,
+    checked: &Checked<P>,
+    faults: &[Strike],
+    asked: &Campaign,
+    out: &mut K,
+) -> Ending
+    requires spellable { IsSpellable (P.object checked.now) }
+    requires accepted { refusal (P.object checked.now) ≡ None }
+    requires faults { length faults.now ≤ 65536 }
+    requires steps { asked.now.steps ≤ 1000000 }
+    ensures ends { Ends result (OverFaults NoneCorrupt (campaign_view asked.now) (P.object checked.now) faults.now)
+        (K.written out.old) (K.written out.new) (K.pieces out.old) (K.pieces out.new) (K.failures out.old) (K.failures out.new) ⊥ }
+    ensures failures { result ≢ Ending.WriteFailed → K.failures out.new ≡ K.failures out.old }
+{
+    match campaign_counted::<P, K, Brand>(alloc, checked, faults, asked, out, Blank::new(1)) {
+        CampaignEnd::Finished(_) => Ending::Done,
+        CampaignEnd::TooMuch { product } => put_list_line(3, product, out),
+        CampaignEnd::WriteFault => Ending::WriteFailed,
+        CampaignEnd::NoMemory => Ending::NoMemory,
+    }
+}
+
+/// Loads a fault list and tries it on an object that is accepted.
+fn campaign_checked<P: Program, F: Shelf, K: Sink>(
+    alloc: Global,
+    checked: &Checked<P>,
+    bytes: &[u8],
+    asked: &Campaign,
+    shelf: &mut F,
+    out: &mut K,
+) -> Ending
+    requires spellable { IsSpellable (P.object checked.now) }
+    requires accepted { refusal (P.object checked.now) ≡ None }
+    requires steps { asked.now.steps ≤ 1000000 }
+    requires own { IsToldFile (F.files shelf.old) asked.now.object.now bytes.now }
+    ensures ends { Ends result (CampaignsListOf (campaign_view asked.now) (F.files shelf.old) bytes.now (P.object checked.now))
+        (K.written out.old) (K.written out.new) (K.pieces out.old) (K.pieces out.new) (K.failures out.old) (K.failures out.new)
+        (Rose (F.failures shelf.old) (F.failures shelf.new) × (F.failed_name shelf.new ≡ Some asked.now.faults.now)) }
+    ensures failures { result ≢ Ending.WriteFailed → K.failures out.new ≡ K.failures out.old }
+    ensures load_failures { result ≢ Ending.LoadFailed → (F.failures shelf.new ≡ F.failures shelf.old) × (F.failed_name shelf.new ≡ F.failed_name shelf.old) }
+    ensures made { LoadsOther (campaign_view asked.now) (F.asked shelf.old) (F.asked shelf.new) }
+{
+    match list_of(alloc, asked, bytes, shelf) {
+        Ok(faults) => campaign_faults(alloc, checked, faults.as_slice(), asked, out),
+        Err(fault) => refuse_list(fault, out),
+    }
+}
+
+/// Checks an object, and tries a fault list on it where it is accepted.
+fn campaign_object<P: Program, F: Shelf, K: Sink>(
+    alloc: Global,
+    program: &P,
+    bytes: &[u8],
+    asked: &Campaign,
+    shelf: &mut F,
+    out: &mut K,
+) -> Ending
+    requires spellable { IsSpellable (P.object program.now) }
+    requires steps { asked.now.steps ≤ 1000000 }
+    requires own { IsToldFile (F.files shelf.old) asked.now.object.now bytes.now }
+    ensures ends { Ends result (CampaignsUnless (refusal (P.object program.now)) (CampaignsListOf (campaign_view asked.now) (F.files shelf.old) bytes.now (P.object program.now)))
+        (K.written out.old) (K.written out.new) (K.pieces out.old) (K.pieces out.new) (K.failures out.old) (K.failures out.new)
+        (Rose (F.failures shelf.old) (F.failures shelf.new) × (F.failed_name shelf.new ≡ Some asked.now.faults.now) × (refusal (P.object program.now) ≡ None)) }
+    ensures failures { result ≢ Ending.WriteFailed → K.failures out.new ≡ K.failures out.old }
+    ensures load_failures { result ≢ Ending.LoadFailed → (F.failures shelf.new ≡ F.failures shelf.old) × (F.failed_name shelf.new ≡ F.failed_name shelf.old) }
+    ensures made { (((refusal (P.object program.now) ≢ None) ⊎ IsTrue (ends_early result)) × HasMade [] (F.asked shelf.old) (F.asked shelf.new))
+        ⊎ ((refusal (P.object program.now) ≡ None) × LoadsOther (campaign_view asked.now) (F.asked shelf.old) (F.asked shelf.new)) }
+{
+    match check(alloc, program) {
+        Ok(checked) => campaign_checked(alloc, &checked, bytes, asked, shelf, out),
+        Err(error) => refuse_check(error, out),
+    }
+}
+
+/// Loads an object, checks it, and tries a fault list on it.
+pub(crate) fn campaign_file<F: Shelf, K: Sink>(
+    alloc: Global,
+    asked: &Campaign,
+    shelf: &mut F,
+    out: &mut K,
+) -> Ending
+    requires { asked.now.steps ≤ 1000000 }
+    ensures ends { Ends result (λ a. OfFiles (F.files shelf.old) (λ files. OverFile (CampaignsObject (campaign_view asked.now) files) asked.now.object.now files a))
+        (K.written out.old) (K.written out.new) (K.pieces out.old) (K.pieces out.new) (K.failures out.old) (K.failures out.new)
+        (OfFiles (F.files shelf.old) (λ files. FailsIn (Campaigns (campaign_view asked.now)) files (F.failures shelf.old) (F.failures shelf.new) (F.failed_name shelf.new))) }
+    ensures failures { result ≢ Ending.WriteFailed → K.failures out.new ≡ K.failures out.old }
+    ensures load_failures { result ≢ Ending.LoadFailed → (F.failures shelf.new ≡ F.failures shelf.old) × (F.failed_name shelf.new ≡ F.failed_name shelf.old) }
+    ensures made { OfFiles (F.files shelf.old) (λ files. LoadsFor (Campaigns (campaign_view asked.now)) files (IsTrue (ends_early result)) (F.asked shelf.old) (F.asked shelf.new)) }
+{
+    let mut bytes = Vec::new(alloc);
+    match load_object(asked.object, shelf, &mut bytes) {
+        Ok(view) => campaign_object(alloc, &view, view.bytes(), asked, shelf, out),
+        Err(fault) => refuse_object(fault, out),
+    }
+}

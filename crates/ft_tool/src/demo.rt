@@ -1,0 +1,24 @@
+//! The command `demo`.
+ghost use Rattle.std.specs.Prelude.{◌≡◌, ◌≢◌, ◌≤◌};
+ghost use Rattle.ft_tool.specs.Demonstrations.{ShowsSample};
+ghost use Rattle.ft_tool.specs.Endings.{Ends};
+
+use crate::ending::Ending;
+use ft_demo::{DemoEnd, demo};
+use ft_edge::Sink;
+use std::alloc::Global;
+
+/// Demonstrates the object of so many turns.
+pub(crate) fn demonstrate<K: Sink>(alloc: Global, turns: u32, out: &mut K) -> Ending
+    requires some { 1 ≤ turns }
+    requires few { turns ≤ 10921 }
+    ensures ends { Ends result (ShowsSample turns)
+        (K.written out.old) (K.written out.new) (K.pieces out.old) (K.pieces out.new) (K.failures out.old) (K.failures out.new) ⊥ }
+    ensures failures { result ≢ Ending.WriteFailed → K.failures out.new ≡ K.failures out.old }
+{
+    match demo(alloc, turns, out) {
+        DemoEnd::Finished => Ending::Done,
+        DemoEnd::WriteFault => Ending::WriteFailed,
+        DemoEnd::NoMemory => Ending::NoMemory,
+    }
+}
