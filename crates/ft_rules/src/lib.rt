@@ -1,7 +1,7 @@
 //! The typing rules, one instruction at a time.
 //!
-//! The crate promises that `apply_rule` is exactly one typing row, with the first failing premise in a
-//! refusal (`specs/Answers.antt`). The rows are those of `TypingRow` in `ft_types/specs`, and a
+//! The crate promises that `apply_rule` is exactly one typing rule, with the first failing premise in a
+//! refusal (`specs/Answers.antt`). The rules are those of `TypingRow` in `ft_typing/specs`, and a
 //! context is what `ft_contexts` says.
 #![tactic(auto)]
 

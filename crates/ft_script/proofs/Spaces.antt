@@ -47,7 +47,7 @@ first_space a b h =
     let below : nat_lt (length a) (length (a ++ 32 ∷ b)) ≡ true = lt-ltb (length a) (length (a ++ 32 ∷ b)) (omega (arith, length-append a (32 ∷ b))) in
     ap (λ n. cond (nat_lt n (length (a ++ 32 ∷ b))) (Some n) None) at ∙ ap (λ t. cond t (Some (length a)) None) below
 
--- a text has no space exactly where none is found
+-- a text has no space exactly when none is found
 pub no_space_found : (a : List ℕ) → HasNoSpace a → position is_space a ≡ None
 no_space_found a h = ap (λ n. cond (nat_lt n (length a)) (Some n) None) (spaces_none a (recursion_from_All (λ byte. byte ≢ 32) a h)) ∙ ap (λ t. cond t (Some (length a)) None) (not_below (length a))
   where

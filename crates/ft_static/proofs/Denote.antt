@@ -18,7 +18,7 @@ pub norm_denotes : (e : Expression) (s : Valuation) → IsLawful s → HasWords 
 norm_denotes (integer e) s lawful h = ap denoted_word (norm_value e s lawful h)
 norm_denotes (memory m) s lawful h = ap denoted_memory (value_norm_memory m s lawful h)
 
--- two expressions are the same exactly where their forms are equal
+-- two expressions are the same exactly when their forms are equal
 pub same_forms : (a b : Expression) → same a b ≡ true ↔ norm a ≡ norm b
 same_forms (integer a) (integer b) =
     let k = equal_polynomials (norm_integer a) (norm_integer b) in

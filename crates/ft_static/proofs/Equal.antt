@@ -1,4 +1,4 @@
--- The order finds two forms equal exactly where they are the same.
+-- The order finds two forms equal exactly when they are the same.
 use Rattle.std.proofs.Common.{◌≡◌, ◌↔◌, true, refl, ap}
 use Rattle.std.specs.Cmp.{IsTotalOrder}
 use Rattle.std.specs.Ordering.{is_eq}
@@ -19,7 +19,7 @@ is_equal Greater e = cc
 tied : {K : Type 0} (R : K → K → Ordering) → IsTotalOrder R → (x y : K) → x ≡ y → R x y ≡ Equal
 tied R t x y e = rw e (tied_itself t y)
 
--- two atoms are tied exactly where they are the same
+-- two atoms are tied exactly when they are the same
 pub equal_atoms : (a b : Atom) → cmp_atom a b ≡ Equal ↔ a ≡ b
 equal_atoms a b = (atom_equal a b, tied cmp_atom cmp_atom_total a b)
 
@@ -27,7 +27,7 @@ equal_atoms a b = (atom_equal a b, tied cmp_atom cmp_atom_total a b)
 pub equal_monomials : (m n : Monomial) → cmp_monomial m n ≡ Equal ↔ m ≡ n
 equal_monomials m n = (monomial_equal m n, tied cmp_monomial cmp_monomial_total m n)
 
--- the test of polynomials is true exactly where they are the same
+-- the test of polynomials is true exactly when they are the same
 pub equal_polynomials : (p q : Polynomial) → same_polynomial p q ≡ true ↔ p ≡ q
 equal_polynomials p q = (λ e. polynomial_equal p q (is_equal (cmp_polynomial p q) e), λ e. ap is_eq (tied cmp_polynomial cmp_polynomial_total p q e))
 

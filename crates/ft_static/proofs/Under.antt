@@ -15,7 +15,7 @@ use Rattle.ft_static.specs.declared.node.Shape.TheVariants as shape
 use Rattle.ft_static.proofs.Rows.{value_op, value_sel, value_upd, value_constant}
 use Rattle.ft_static.proofs.Sums.{value_polynomial_is_word, value_updates_are_words}
 
--- what stands at a place of a list after a function, with its value at the default
+-- what is at a place of a list after a function, with its value at the default
 pub get_or-map : {A B : Type 0} (f : A → B) (xs : List A) (k : ℕ) (d : A) → get_or (map f xs) k (f d) ≡ f (get_or xs k d)
 get_or-map f [] k d = refl
 get_or-map f (x ∷ xs) zero d = refl

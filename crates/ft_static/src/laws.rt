@@ -18,7 +18,7 @@ ghost use Rattle.ft_static.specs.declared.node.Node.{Node};
 
 use std::cmp::Ordering;
 
-/// The order of forms is total, and it finds two forms equal exactly where they are the same. It is
+/// The order of forms is total, and it finds two forms equal exactly when they are the same. It is
 /// that of lists, by length and then by the first members that differ, where a polynomial is a list of
 /// pairs of monomial and coefficient, and a memory form one of pairs of address and value.
 pub fn forms_are_ordered()
@@ -59,7 +59,7 @@ pub fn forms_are_known_by_coefficients()
     ensures counts { (k : Atom) (m n : Monomial) → count k (join m n) ≡ count k m + count k n }
 {}
 
-/// Two expressions are the same exactly where their normal forms are equal. A form denotes what its
+/// Two expressions are the same exactly when their normal forms are equal. A form denotes what its
 /// expression does, where the expression's numbers are words, under every valuation of the integer
 /// variables and of the memory by words. So two such expressions that are the same denote the same.
 pub fn forms_denote_as_expressions()

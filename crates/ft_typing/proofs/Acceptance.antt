@@ -1,4 +1,4 @@
--- An object is accepted exactly where nothing of it is refused.
+-- An object is accepted exactly when nothing of it is refused.
 use Rattle.std.proofs.Common.{◌≡◌, ℕ, zero, suc, ◌+◌, Bool, true, false, List, [], ◌∷◌, Option, Some, None, refl, sym, ap, ◌∙◌, subst, arith, eqb-true, eq-eqb, slice_get}
 use Rattle.std.specs.Prelude.{Decides, ◌↔◌, if◌then◌else◌}
 use Rattle.std.specs.Option.{option_or, option_map}
@@ -136,7 +136,7 @@ after_entry : (o : Object) (b : Bool) (r : Option Refusal) → (if b then r else
 after_entry o true r e = (refl, e)
 after_entry o false r e = cc
 
--- an object is accepted exactly where it has no refusal
+-- an object is accepted exactly when it has no refusal
 pub accepted_is_unrefused : (o : Object) → IsAccepted o ↔ refusal o ≡ None
 accepted_is_unrefused o = (
   λ h.

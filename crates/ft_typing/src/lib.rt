@@ -4,7 +4,7 @@
 //! effects, that its tests decide what they stand for, and that an object is accepted exactly when it
 //! has no refusal. Its definitions: `specs/TypedWord.antt`, `specs/Premise.antt`, `specs/Context.antt`,
 //! the rules (`specs/TypingRow.antt`), the same as data (`specs/TypingTable.antt`), and
-//! `specs/Accepted.antt`. Objects that are accepted or refused stand in `specs/Examples.antt`.
+//! `specs/Accepted.antt`. Objects that are accepted or refused are in `specs/Examples.antt`.
 #![tactic(auto)]
 
 mod examples;
