@@ -1,0 +1,77 @@
+"""Bytes that are no object, and lawful objects with tables that are as large as may be."""
+from limits_objects import *
+from limits_rows import *
+
+# Bytes that are no object.
+over_objects("zeros", "zero bytes", 64 * MIB, "bytes", bytes, refused("object 1 0"))
+over_objects("beyond", "a byte more than may be, and half of that", 64 * MIB + 1, "bytes", bytes,
+             {c: (lambda n: (7, "object 2 67108864" if n > 64 * MIB else "object 1 0")) for c in OBJECT_COMMANDS})
+FIVE = spell(memory(), mov(0, GREEN, OUT, REF_INT) + mov(1, GREEN, 5) + mov(32, BLUE, OUT, REF_INT) + mov(33, BLUE, 5)
+             + store(GREEN, 0, 1) + store(BLUE, 32, 33) + HALT)
+over_objects("tail", "an object with zero bytes after it", 64 * MIB, "bytes", lambda n: FIVE + bytes(n - len(FIVE)),
+             refused("object 2 219"))
+GREATEST = b"TALFT\0\0\1" + rows([1024, 1048576, 4096, 262144, 32768, 65536, 65536, 1048576, 32768, 0])
+over_objects("greatest", "a header with the greatest counts, and zero bytes", 64 * MIB, "bytes",
+             lambda n: GREATEST + bytes(n - 48), refused("object 2 26066992"))
+over_objects("kinds", "nodes, of which the last is of no kind", 1048576, "nodes",
+             lambda n: spell(memory() * (n - 1) + b"\6" + bytes(15), HALT),
+             {c: (lambda n: (7, f"object 5 {64 + 16 * (n - 1)}")) for c in OBJECT_COMMANDS})
+
+
+# Lawful objects that are as large as may be.
+def names_of(count):
+    return b"".join(b"n%031d" % number for number in range(count))
+
+
+def cells_of(count, length=32, word=0):
+    return b"".join(cell(length * (number + 1), word) for number in range(count))
+
+
+def many_types(count, registers, queue):
+    """Types of which all but the first have rows for so many registers and pairs, of nodes from 1 on."""
+    types, regs, queues, node = [code_type()], [], [], 1
+    for number in range(1, count):
+        for register in range(registers):
+            regs.append(register_row(register, register // 32, node))
+            node += 1
+        queues.append(pair(node - 1, node - 1) * queue)
+        types.append(code_type(number * registers, number * queue, 0))
+    return b"".join(types), b"".join(regs), b"".join(queues)
+
+
+def words_from(first, count):
+    return b"".join(word(value) for value in range(first, first + count))
+
+
+def largest(n):
+    """All counts but those of rows at a 65,536th of n of their limits; the last blocks jump without need."""
+    types, regs, queues = many_types(n // 16, 64, 8)
+    jumps = n // 8
+    return spell(memory() + words_from(1, 16 * n - 1), HALT * (n - jumps) + b"".join(
+        jump(BLUE, 1, 128 * k, 128 * k + 128, 0) for k in range(jumps)), types,
+        b"".join(pair(k, 0) for k in range(n)), cells_of(n // 64), names_of(n // 64), regs, queues, rows([1] * (128 * jumps)))
+
+
+over_objects("largest", "every table as large as may be, by instructions", 65536, "instructions", largest,
+             {c: (lambda n, a=a: (a(n)[0], a(n)[1].replace("BLOCK", str(n - n // 8)))) for c, a in
+              unaccepted("check block BLOCK index 0 premise 1").items()})
+over_objects("halts", "blocks of one instruction", 65536, "blocks",
+             lambda n: spell(memory(), HALT * n, None, b"".join(pair(k, 0) for k in range(n))), HALTS)
+over_objects("moves", "a `mov` per instruction", 65536, "instructions",
+             lambda n: spell(memory(), b"".join(mov(k % 32, GREEN, k) for k in range(n - 1)) + HALT), HALTS)
+
+
+def typed_blocks(n):
+    types, regs, _ = many_types(4096, 64, 0)
+    return spell(memory() + words_from(1, 1048575), HALT * n, types, pair(0, 0) + b"".join(
+        pair(k, k % 4096) for k in range(1, n)), regs=regs)
+
+
+over_objects("typed", "blocks of 4,096 types of 64 register rows", 65536, "blocks", typed_blocks, {"check": HALTS["check"]})
+over_objects("stores", "stores to 1,024 cells, each green and then blue", 65536, "instructions", lambda n: spell(
+    memory(), b"".join(mov(0, GREEN, OUT + k % 1024, REF_INT) + mov(32, BLUE, OUT + k % 1024, REF_INT) + store(GREEN, 0, 0)
+                       + store(BLUE, 32, 32) for k in range((n - 1) // 4)) + HALT, cells=cells_of(1024), names=names_of(1024)),
+    {"check": HALTS["check"], "run": lambda n: (0, "n%031d %d" % (((n - 1) // 4 - 1) % 1024, OUT + ((n - 1) // 4 - 1) % 1024)),
+     "debug": HALTS["debug"]})
+over_objects("names", "cells of which the names differ in their last bytes", 1024, "cells",
+             lambda n: spell(memory(), HALT, cells=cells_of(n), names=names_of(n)), HALTS, power=2)
