@@ -9,7 +9,7 @@ top=$(cd "$(dirname "$0")/.." && pwd)
 work=$(mktemp -d)
 trap 'rm -rf "$work"' EXIT
 program=$top/crates/talft/out/talft
-"$top/talft" trial "$top/examples/five.obj" >"$work/first" || exit
+bash "$top/build/prove.sh" >&2 || exit
 failed=0
 
 fails() {

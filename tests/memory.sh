@@ -6,7 +6,7 @@ set -u
 top=$(cd "$(dirname "$0")/.." && pwd)
 work=$(mktemp -d)
 trap 'rm -rf "$work"' EXIT
-"$top/talft" trial "$top/examples/five.obj" >"$work/out" || exit
+bash "$top/build/prove.sh" >&2 || exit
 program=$top/crates/talft/out/talft
 cc -O1 -fPIC -shared -o "$work/failing_malloc.so" "$top/tests/failing_malloc.c" -ldl || exit
 cd "$top/examples" || exit

@@ -1,0 +1,94 @@
+#!/usr/bin/env bash
+# Answers a call of talft before the program is proved: `rt try` compiles its sources and runs them with checks, which
+# takes most of a minute. Words, files, standard input, output and status are the program's. Where it cannot be sure of
+# that, it says what to do, and ends with status 70.
+set -u
+top=$(cd "$(dirname "${BASH_SOURCE[0]}")/.." && pwd) || exit 70
+# The longest object and script that the program reads, and one byte more, which it refuses.
+most_bytes=67108865 most_script=1048577
+# How long a run may take, in seconds.
+most_seconds=600
+
+cannot() {
+  printf 'talft: %s. Only the proved program can do this: `make` proves and builds it\n' "$1" >&2
+  exit 70
+}
+
+command -v rt >/dev/null || cannot "no \`rt\` is on PATH, so its sources cannot be tried"
+echo 'talft: not proved yet, slow: `make` proves and builds it' >&2
+work=$(mktemp -d) || exit 70
+trap 'rm -rf "$work"' EXIT
+words=("$@") data=() lacking=no script=/dev/null
+
+# Like the program, hands over no words where one is no text.
+case $* in
+  *[![:ascii:]]*)
+    python3 -X utf8 -c 'import sys; "".join(sys.argv[1:]).encode()' "$@" 2>/dev/null || words=()
+    ;;
+esac
+
+# Hands over the file that a word names, under the name $2: no answer depends on the name. A file that is not there
+# or may not be read is not there for the program, either.
+hand_over() {
+  local file=${words[$1]}
+  words[$1]=$2
+  if [ -f "$file" ] && [ -r "$file" ]; then
+    head -c "$most_bytes" <"$file" >"$work/$2" || cannot "$file cannot be copied"
+    data+=(--data "$2=$work/$2")
+  elif [ -e "$file" ] && [ ! -f "$file" ] && [ ! -d "$file" ]; then
+    cannot "$file is no plain file, and is read once"
+  else
+    lacking=yes
+  fi
+}
+
+if [ "${#words[@]}" -gt 1 ] && [ "${words[0]}" != demo ]; then
+  operand=${words[1]}
+  hand_over 1 operand
+  for ((at = 2; at + 1 < ${#words[@]}; at += 2)); do
+    if [ "${words[at]}" = --faults ] && [ "${words[at + 1]}" = "$operand" ]; then
+      words[at + 1]=operand
+    elif [ "${words[at]}" = --faults ]; then
+      hand_over $((at + 1)) faults
+    fi
+  done
+  # Without an object the program takes no script.
+  if [ "${words[0]}" = debug ] && [ "$lacking" = no ]; then
+    { [ ! -d /dev/fd/0 ] && : <&0; } 2>/dev/null || cannot 'standard input cannot be read'
+    script=$work/script
+    head -c "$most_script" >"$script" || cannot 'standard input cannot be read'
+  fi
+fi
+
+cd "$top/crates/talft" || exit 70
+rt try --steps 1 --seconds "$most_seconds" ${data[@]+"${data[@]}"} -- ${words[@]+"${words[@]}"} \
+  <"$script" >"$work/out" 2>"$work/said" &
+tried=$!
+stopped() {
+  kill "$tried" 2>/dev/null
+  wait "$tried"
+  exit "$1"
+}
+trap 'stopped 129' HUP
+trap 'stopped 130' INT
+trap 'stopped 143' TERM
+{ wait "$tried"; } 2>/dev/null
+
+status=$(sed -n '$s/^run=ended status=\([0-9]*\) .*$/\1/p' "$work/said")
+case $status:$lacking in
+  :*)
+    if grep -q 'no-answer: the program wrote more than' "$work/said"; then
+      cannot 'this writes more than 1 MiB'
+    elif grep -q 'no-answer: the program did not end within' "$work/said"; then
+      cannot "this takes more than $most_seconds seconds"
+    fi
+    cat "$work/said" >&2
+    cannot 'its sources could not be tried'
+    ;;
+  3:no) cannot 'a file was lost on the way' ;;
+  5:*) cannot 'memory ran out' ;;
+esac
+if [ -s "$work/out" ]; then
+  cat "$work/out" 2>/dev/null || exit 4
+fi
+exit "$status"
