@@ -34,10 +34,10 @@ head -c 1048577 /dev/zero >long.src
 expect 'a source above the limit' 6 'source 1 1048576\n' mean long.src
 head -c 1048576 /dev/zero >longest.src
 expect 'a source at the limit' 6 'source 2 0\n' mean longest.src
-got=$("$top/talft" debug "$top/examples/five.obj" <"$top/examples/five.script" 2>errors; printf '/%d' $?)
+got=$("$top/talft" debug "$top/examples/five.obj" <"$top/examples/five.script" 2>"$work/errors"; printf '/%d' $?)
 report 'a session' "$(printf 'at 4 running\nzapped\nat 12 detected\nr1 G 6\n1048576 6\nat 4 running\nr1 G 6\nat 0 running\nout 5\nat 14 done\nat 14 done pcg 7 pcb 7 block 0 index 6\n/0')" "$got"
 head -c 1048577 /dev/zero >long.script
-got=$("$top/talft" debug "$top/examples/five.obj" <long.script 2>errors; printf '/%d' $?)
+got=$("$top/talft" debug "$top/examples/five.obj" <long.script 2>"$work/errors"; printf '/%d' $?)
 report 'a script above the limit' "$(printf 'list 4 1048576\n/11')" "$got"
 expect 'a session without a line' 0 '' debug "$top/examples/five.obj"
 expect 'no words' 2 'usage\n'
