@@ -20,6 +20,11 @@ def word(value, scope=0):
     return struct.pack(">BBBBIQ", 0, 0, scope, 0, 0, value)
 
 
+def words_from(first, count):
+    """Nodes of the words from `first` on."""
+    return b"".join(word(value) for value in range(first, first + count))
+
+
 def variable(number, scope):
     return struct.pack(">BBBBIII", 1, 0, scope, 0, number, 0, 0)
 

@@ -39,10 +39,6 @@ def many_types(count, registers, queue):
     return b"".join(types), b"".join(regs), b"".join(queues)
 
 
-def words_from(first, count):
-    return b"".join(word(value) for value in range(first, first + count))
-
-
 def largest(n):
     """All counts but those of rows at a 65,536th of n of their limits; the last blocks jump without need."""
     types, regs, queues = many_types(n // 16, 64, 8)
