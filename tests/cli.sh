@@ -4,19 +4,8 @@
 # programs over the libraries, of which some must not compile.
 set -u
 top=$(cd "$(dirname "$0")/.." && pwd)
-work=$(mktemp -d)
-trap 'rm -rf "$work"' EXIT
+. "$top/tests/report.sh"
 cd "$work" || exit 2
-passed=0 failed=0
-
-report() {
-  if [ "$2" = "$3" ]; then
-    passed=$((passed + 1))
-  else
-    failed=$((failed + 1))
-    printf 'FAILED %s: wanted <%s>, got <%s>\n' "$1" "$2" "$3"
-  fi
-}
 
 expect() {
   local name=$1 status=$2 text=$3 got
@@ -29,7 +18,7 @@ expect() {
 within() {
   local limit=$1
   shift
-  (ulimit -v "$limit" && "$top/crates/talft/out/talft" "$@" </dev/null 2>errors; printf '/%d' $?)
+  (ulimit -v "$limit" && "$top/crates/talft/out/talft" "$@" </dev/null 2>"$work/errors"; printf '/%d' $?)
 }
 
 # `least_memory TEXT WORDS..` is the least limit, in steps of 512 KB, under which the words write the text and end with the

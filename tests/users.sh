@@ -8,19 +8,9 @@
 # kept of earlier proofs. Tools that are missing are named, and what needs them is left out.
 set -u
 from=$(cd "$(dirname "$0")/.." && pwd)
-work=$(mktemp -d)
-trap 'rm -rf "$work"' EXIT
-passed=0 failed=0
+. "$from/tests/report.sh"
 way=${1-}
 
-report() {
-  if [ "$2" = "$3" ]; then
-    passed=$((passed + 1))
-  else
-    failed=$((failed + 1))
-    printf 'FAILED %s: wanted <%s>, got <%s>\n' "$1" "$2" "$3"
-  fi
-}
 has() {
   command -v "$1" >/dev/null || { echo "not tested, since $1 is missing: $2"; return 1; }
 }
