@@ -6,12 +6,12 @@ use Rattle.ft_isa.specs.declared.op.Op.{Op}
 use Rattle.ft_isa.specs.declared.op.Op.TheVariants.{Add, Sub, Mul, Ltu, Eq}
 use Rattle.ft_isa.specs.Words.{apply}
 use Rattle.ft_static.specs.Expression.{Integer, Memory, word, variable, operation, sel, memory_variable, upd}
-use Rattle.ft_static.specs.NormalForm.{constant, constant_of, tested, norm_op, norm_sel, norm_upd, norm_integer, norm_memory, is_not_zero}
+use Rattle.ft_static.specs.NormalForm.{constant, constant_of, folded, norm_folded, norm_op, norm_sel, norm_upd, norm_integer, norm_memory, is_not_zero}
 use Rattle.std.specs.Ordering.{ordering_reverse}
 use Rattle.std.specs.declared.cmp.Ordering.{Ordering}
 use Rattle.std.specs.declared.cmp.Ordering.TheVariants.{Less, Equal, Greater}
 use Rattle.std.proofs.lemmas.Bool.{eqb-false, leb-true, and_parts}
-use Rattle.ft_static.specs.Form.{factors, terms, Atom, Monomial, Polynomial, Updates, variable_atom, ltu_atom, eq_atom, sel_atom, product_atom, sum_atom, one, times, nought, plus, unchanged, update}
+use Rattle.ft_static.specs.Form.{factors, terms, Atom, Monomial, Polynomial, Updates, variable_atom, operation_atom, sel_atom, one, times, nought, plus, unchanged, update}
 use Rattle.ft_static.specs.FormOrder.{cmp_atom, cmp_monomial, same_polynomial}
 use Rattle.ft_static.specs.NormalForm.{with_factor, join, led_by, add_term, total, add_multiple, add_products, degree, alone, negation, norm_add, norm_sub, norm_mul}
 use Rattle.ft_static.specs.Proper.{Leads, Below, IsProperAtom, IsProperMonomial, IsProper, AreProperUpdates, IsNormal}
@@ -137,15 +137,15 @@ proper_alone a h = ((h, tt, tt), lit≤ tt, lit< tt, lit< tt, tt, tt)
 
 -- the form of add is normal
 pub proper_norm_add : (p q : Polynomial) → IsProper p → IsProper q → terms p ≤ 64 → terms q ≤ 64 → IsProper (norm_add p q) × (terms (norm_add p q) ≤ 64)
-proper_norm_add p q h k m n = if_cases (λ t. IsProper t × (terms t ≤ 64)) (nat_le (terms (total p q)) 64) (total p q) (alone (sum_atom p q))
+proper_norm_add p q h k m n = if_cases (λ t. IsProper t × (terms t ≤ 64)) (nat_le (terms (total p q)) 64) (total p q) (alone (operation_atom Add p q))
     (λ e. (proper_total p q h k, leb-true _ _ e))
-    (λ e. (proper_alone (sum_atom p q) (h, k, m, n), lit≤ tt))
+    (λ e. (proper_alone (operation_atom Add p q) (h, k, m, n), lit≤ tt))
 
 -- the form of mul is normal
 pub proper_norm_mul : (p q : Polynomial) → IsProper p → IsProper q → terms p ≤ 64 → terms q ≤ 64 → IsProper (norm_mul p q) × (terms (norm_mul p q) ≤ 64)
-proper_norm_mul p q h k m n = if_cases (λ t. IsProper t × (terms t ≤ 64)) (nat_le (terms p * terms q) 64 && nat_le (degree p + degree q) 4) (add_products p q nought) (alone (product_atom p q))
+proper_norm_mul p q h k m n = if_cases (λ t. IsProper t × (terms t ≤ 64)) (nat_le (terms p * terms q) 64 && nat_le (degree p + degree q) 4) (add_products p q nought) (alone (operation_atom Mul p q))
     (λ e. let b : (nat_le (terms p * terms q) 64 ≡ true) × (nat_le (degree p + degree q) 4 ≡ true) = and_parts _ _ e in let u : terms p * terms q ≤ 64 = leb-true _ _ b.0 in let t = terms_products p q nought in (proper_products p q nought (leb-true _ _ b.1) h k tt, omega arith))
-    (λ e. (proper_alone (product_atom p q) (h, k, m, n), lit≤ tt))
+    (λ e. (proper_alone (operation_atom Mul p q) (h, k, m, n), lit≤ tt))
 
 -- negation keeps the monomials
 below_negation : (k : Monomial) (p : Polynomial) → Below k p → Below k (negation p)
@@ -179,19 +179,23 @@ normal_constant c = if_cases (λ t. IsNormal t) (c % 2 ^ 64 == 0) nought (plus o
 normal_alone : (a : Atom) → IsProperAtom a → IsNormal (alone a)
 normal_alone a h = (proper_alone a h, lit≤ tt)
 
--- the form of a test is normal
-normal_tested : (o : Op) (x y : Option ℕ) (a : Atom) → IsProperAtom a → IsNormal (tested o x y a)
-normal_tested o (Some c) (Some d) a h = normal_constant (apply o c d)
-normal_tested o None y a h = normal_alone a h
-normal_tested o (Some c) None a h = normal_alone a h
+-- a folded constant is normal, and so is the atom
+normal_choice : (o : Op) (x y : Option ℕ) (a : Atom) → IsProperAtom a → IsNormal (folded o x y a)
+normal_choice o (Some c) (Some d) a h = normal_constant (apply o c d)
+normal_choice o None y a h = normal_alone a h
+normal_choice o (Some c) None a h = normal_alone a h
+
+-- the form of ltu or eq is normal
+normal_folded : (o : Op) (p q : Polynomial) → IsNormal p → IsNormal q → IsNormal (norm_folded o p q)
+normal_folded o p q h k = normal_choice o (constant_of p) (constant_of q) (operation_atom o p q) (h.0, k.0, h.1, k.1)
 
 -- the form of an operation is normal
 pub normal_op : (o : Op) (p q : Polynomial) → IsNormal p → IsNormal q → IsNormal (norm_op o p q)
 normal_op Add p q h k = proper_norm_add p q h.0 k.0 h.1 k.1
 normal_op Sub p q h k = normal_sub p q h k
 normal_op Mul p q h k = proper_norm_mul p q h.0 k.0 h.1 k.1
-normal_op Ltu p q h k = normal_tested Ltu (constant_of p) (constant_of q) (ltu_atom p q) (h.0, k.0, h.1, k.1)
-normal_op Eq p q h k = normal_tested Eq (constant_of p) (constant_of q) (eq_atom p q) (h.0, k.0, h.1, k.1)
+normal_op Ltu p q h k = normal_folded Ltu p q h k
+normal_op Eq p q h k = normal_folded Eq p q h k
 
 -- the form of a sel is normal
 pub normal_sel : (u : Updates) (p : Polynomial) → AreProperUpdates u → IsNormal p → IsNormal (norm_sel u p)

@@ -7,10 +7,10 @@ use Rattle.ft_isa.specs.declared.op.Op.{Op}
 use Rattle.ft_isa.specs.declared.op.Op.TheVariants.{Add, Sub, Mul, Ltu, Eq}
 use Rattle.ft_isa.specs.Words.{apply, IsWord}
 use Rattle.ft_static.specs.Expression.{Integer, Memory, word, variable, operation, sel, memory_variable, upd, word_at, with_word, Valuation, value, memory_value, IsLawful, AreWords, AreWordsOfMemory}
-use Rattle.ft_static.specs.Form.{Atom, Polynomial, Updates, variable_atom, ltu_atom, eq_atom, sel_atom, one, times, nought, plus, unchanged, update}
+use Rattle.ft_static.specs.Form.{Polynomial, Updates, variable_atom, operation_atom, sel_atom, one, times, nought, plus, unchanged, update}
 use Rattle.ft_static.specs.FormOrder.{same_polynomial}
-use Rattle.ft_static.specs.NormalForm.{constant, alone, negation, norm_sub, constant_of, tested, norm_ltu, norm_eq, norm_sel, norm_upd, norm_op, norm_integer, norm_memory, is_not_zero}
-use Rattle.ft_static.specs.FormValue.{value_atom, value_monomial, value_polynomial, value_updates}
+use Rattle.ft_static.specs.NormalForm.{constant, negation, norm_sub, constant_of, folded, norm_folded, norm_sel, norm_upd, norm_op, norm_integer, norm_memory, is_not_zero}
+use Rattle.ft_static.specs.FormValue.{value_monomial, value_polynomial, value_updates}
 use Rattle.ft_static.proofs.Cases.{if_cases}
 use Rattle.ft_static.proofs.Equal.{equal_polynomials}
 use Rattle.ft_static.proofs.Words.{word_at-with_word, with_word-with_word}
@@ -68,34 +68,22 @@ value_constant_of (plus one d nought) c s e = let h : d % 2 ^ 64 ≡ c = cc in s
 value_constant_of (plus one d (plus n b q)) c s e = cc
 value_constant_of (plus (times a m) d p) c s e = cc
 
--- the form of a test denotes what the operation gives
-value_tested : (o : Op) (p q : Polynomial) (a : Atom) (s : Valuation) → IsLawful s → value_atom a s ≡ apply o (value_polynomial p s) (value_polynomial q s)
-    → value_polynomial (tested o (constant_of p) (constant_of q) a) s ≡ apply o (value_polynomial p s) (value_polynomial q s)
-value_tested o p q a s lawful h = go (constant_of p) (constant_of q) refl refl
+-- the form of ltu or eq denotes what the operation gives
+value_folded : (o : Op) (p q : Polynomial) (s : Valuation) → IsLawful s → value_polynomial (norm_folded o p q) s ≡ apply o (value_polynomial p s) (value_polynomial q s)
+value_folded o p q s lawful = go (constant_of p) (constant_of q) refl refl
   where
-    atom : value_polynomial (alone a) s ≡ apply o (value_polynomial p s) (value_polynomial q s)
-    atom = value_alone a s lawful ∙ h
-
-    go : (x y : Option ℕ) → constant_of p ≡ x → constant_of q ≡ y → value_polynomial (tested o x y a) s ≡ apply o (value_polynomial p s) (value_polynomial q s)
+    go : (x y : Option ℕ) → constant_of p ≡ x → constant_of q ≡ y → value_polynomial (folded o x y (operation_atom o p q)) s ≡ apply o (value_polynomial p s) (value_polynomial q s)
     go (Some c) (Some d) e g = rw (value_constant_of p c s e, value_constant_of q d s g) (value_constant (apply o c d) s ∙ mod-eq_of_lt (apply_is_word o c d))
-    go None y e g = atom
-    go (Some c) None e g = atom
+    go None y e g = value_alone (operation_atom o p q) s lawful
+    go (Some c) None e g = value_alone (operation_atom o p q) s lawful
 
--- so does that of ltu
-pub value_ltu : (p q : Polynomial) (s : Valuation) (lawful : IsLawful s) → value_polynomial (norm_ltu p q) s ≡ apply Ltu (value_polynomial p s) (value_polynomial q s)
-value_ltu p q s lawful = value_tested Ltu p q (ltu_atom p q) s lawful refl
-
--- and that of eq
-pub value_eq : (p q : Polynomial) (s : Valuation) (lawful : IsLawful s) → value_polynomial (norm_eq p q) s ≡ apply Eq (value_polynomial p s) (value_polynomial q s)
-value_eq p q s lawful = value_tested Eq p q (eq_atom p q) s lawful refl
-
--- and that of each operation
+-- and so does that of each operation
 pub value_op : (o : Op) (p q : Polynomial) (s : Valuation) (lawful : IsLawful s) → value_polynomial (norm_op o p q) s ≡ apply o (value_polynomial p s) (value_polynomial q s)
 value_op Add p q s lawful = value_add p q s lawful
 value_op Sub p q s lawful = value_sub p q s lawful
 value_op Mul p q s lawful = value_mul p q s lawful
-value_op Ltu p q s lawful = value_ltu p q s lawful
-value_op Eq p q s lawful = value_eq p q s lawful
+value_op Ltu p q s lawful = value_folded Ltu p q s lawful
+value_op Eq p q s lawful = value_folded Eq p q s lawful
 
 -- updates
 pub value_upd : (u : Updates) (p v : Polynomial) (s : Valuation) → value_updates (norm_upd u p v) s ≡ with_word (value_updates u s) (value_polynomial p s) (value_polynomial v s)

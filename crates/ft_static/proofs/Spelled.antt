@@ -1,5 +1,5 @@
 -- The order of forms is the order of their spellings, and so it is total.
-use Rattle.std.proofs.Common.{ℕ, ◌≡◌, List, [], ◌∷◌, ◌++◌, refl, sym, ap, ◌∙◌, append_assoc, arith}
+use Rattle.std.proofs.Common.{ℕ, ◌≡◌, ◌≢◌, List, [], ◌∷◌, ◌++◌, refl, sym, ap, ◌∙◌, append_assoc, arith}
 use Rattle.std.specs.Cmp.{IsTotalOrder}
 use Rattle.std.specs.Cmp.Lexicographic.{slice_cmp, on_texts}
 use Rattle.std.specs.Ordering.{nat_cmp, on, ordering_then}
@@ -9,18 +9,17 @@ use Rattle.std.proofs.lemmas.Bool.Decides.{nat_tests}
 use base.Stored.{Coded, coded_ℕ, coded_list, coded_via}
 use Rattle.std.proofs.lemmas.Cmp.{tied_itself, nat_list_cmp_total}
 use Rattle.std.proofs.lemmas.List.{append-nil}
-use Rattle.ft_static.specs.Form.{Form, integer_form, memory_form, factors, terms, updates, Atom, Monomial, Polynomial, Updates, variable_atom, ltu_atom, eq_atom, sel_atom, product_atom, sum_atom, one, times, nought, plus, unchanged, update}
-use Rattle.ft_static.specs.FormOrder.{cmp_atom, cmp_monomial, cmp_polynomial, cmp_updates}
+use Rattle.ft_isa.specs.declared.op.Op.{Op}
+use Rattle.ft_isa.specs.declared.op.Op.TheVariants.{Add, Sub, Mul, Ltu, Eq}
+use Rattle.ft_static.specs.Form.{Form, integer_form, memory_form, factors, terms, updates, Atom, Monomial, Polynomial, Updates, variable_atom, operation_atom, sel_atom, one, times, nought, plus, unchanged, update}
+use Rattle.ft_static.specs.FormOrder.{operation_kind, cmp_atom, cmp_monomial, cmp_polynomial, cmp_updates}
 
 abbrev mutual
   -- an atom as a list of numbers
   pub spell_atom : Atom → List ℕ
   spell_atom (variable_atom i) = 0 ∷ (i ∷ [])
-  spell_atom (ltu_atom p q) = 1 ∷ (spell_polynomial p ++ spell_polynomial q)
-  spell_atom (eq_atom p q) = 2 ∷ (spell_polynomial p ++ spell_polynomial q)
+  spell_atom (operation_atom o p q) = operation_kind o ∷ (spell_polynomial p ++ spell_polynomial q)
   spell_atom (sel_atom u p) = 3 ∷ (spell_updates u ++ spell_polynomial p)
-  spell_atom (product_atom p q) = 4 ∷ (spell_polynomial p ++ spell_polynomial q)
-  spell_atom (sum_atom p q) = 5 ∷ (spell_polynomial p ++ spell_polynomial q)
 
   -- a monomial
   pub spell_monomial : Monomial → List ℕ
@@ -43,6 +42,36 @@ then_assoc Less b c = refl
 then_assoc Equal b c = refl
 then_assoc Greater b c = refl
 
+-- `Equal` means equality
+nat_cmp_equal : (i j : ℕ) → nat_cmp i j ≡ Equal → i ≡ j
+nat_cmp_equal i j e = grind (arith, nat_tests)
+
+-- numbers that differ decide
+unlike : (i j : ℕ) (x y : Ordering) → i ≢ j → ordering_then (nat_cmp i j) x ≡ ordering_then (nat_cmp i j) y
+unlike i j x y h = go (nat_cmp i j) refl
+  where
+    go : (o : Ordering) → nat_cmp i j ≡ o → ordering_then o x ≡ ordering_then o y
+    go Less e = refl
+    go Equal e = absurd (h (nat_cmp_equal i j e))
+    go Greater e = refl
+
+-- no operation has the kind of the variables or of sel
+other_kind : (o : Op) → (0 ≢ operation_kind o) × (3 ≢ operation_kind o)
+other_kind Add = (λ e. cc, λ e. cc)
+other_kind Sub = (λ e. cc, λ e. cc)
+other_kind Mul = (λ e. cc, λ e. cc)
+other_kind Ltu = (λ e. cc, λ e. cc)
+other_kind Eq = (λ e. cc, λ e. cc)
+
+-- no two operations have one kind
+same_kind : (o k : Op) → operation_kind o ≡ operation_kind k → o ≡ k
+same_kind Add Add e = refl
+same_kind Sub Sub e = refl
+same_kind Mul Mul e = refl
+same_kind Ltu Ltu e = refl
+same_kind Eq Eq e = refl
+same_kind o k e = cc
+
 -- lists of numbers, by the first that differ
 abbrev lex : List ℕ → List ℕ → Ordering
 lex = slice_cmp nat_cmp
@@ -51,11 +80,12 @@ mutual
   -- spelled atoms with lists after them compare as the atoms and then the lists
   pub lex_atom : (a b : Atom) (xs ys : List ℕ) → lex (spell_atom a ++ xs) (spell_atom b ++ ys) ≡ ordering_then (cmp_atom a b) (lex xs ys)
   lex_atom (variable_atom i) (variable_atom j) xs ys = refl
-  lex_atom (ltu_atom p q) (ltu_atom r s) xs ys = simp (append_assoc, lex_polynomial p r, lex_polynomial q s, then_assoc)
-  lex_atom (eq_atom p q) (eq_atom r s) xs ys = simp (append_assoc, lex_polynomial p r, lex_polynomial q s, then_assoc)
+  lex_atom (operation_atom o p q) (operation_atom k r s) xs ys = simp (append_assoc, lex_polynomial p r, lex_polynomial q s, then_assoc)
   lex_atom (sel_atom u q) (sel_atom w s) xs ys = simp (append_assoc, lex_updates u w, lex_polynomial q s, then_assoc)
-  lex_atom (product_atom p q) (product_atom r s) xs ys = simp (append_assoc, lex_polynomial p r, lex_polynomial q s, then_assoc)
-  lex_atom (sum_atom p q) (sum_atom r s) xs ys = simp (append_assoc, lex_polynomial p r, lex_polynomial q s, then_assoc)
+  lex_atom (variable_atom i) (operation_atom o p q) xs ys = unlike _ _ _ _ (other_kind o).0
+  lex_atom (operation_atom o p q) (variable_atom i) xs ys = unlike _ _ _ _ (λ e. (other_kind o).0 (sym e))
+  lex_atom (sel_atom u r) (operation_atom o p q) xs ys = unlike _ _ _ _ (other_kind o).1
+  lex_atom (operation_atom o p q) (sel_atom u r) xs ys = unlike _ _ _ _ (λ e. (other_kind o).1 (sym e))
   lex_atom a b xs ys = refl
 
   -- so do monomials
@@ -125,10 +155,6 @@ cmp_polynomial_total = agreeing cmp_polynomial (on spell_polynomial lex) polynom
 pub cmp_updates_total : IsTotalOrder cmp_updates
 cmp_updates_total = agreeing cmp_updates (on spell_updates lex) updates_spelled (on_texts spell_updates)
 
--- `Equal` means equality
-nat_cmp_equal : (i j : ℕ) → nat_cmp i j ≡ Equal → i ≡ j
-nat_cmp_equal i j e = grind (arith, nat_tests)
-
 -- two comparisons that tie
 then_both : (a b : Ordering) → ordering_then a b ≡ Equal → (a ≡ Equal) × (b ≡ Equal)
 then_both Less b e = cc
@@ -139,11 +165,12 @@ mutual
   -- tied atoms are the same
   pub atom_equal : (a b : Atom) → cmp_atom a b ≡ Equal → a ≡ b
   atom_equal (variable_atom i) (variable_atom j) e = ap variable_atom (nat_cmp_equal i j e)
-  atom_equal (ltu_atom p q) (ltu_atom r s) e = let h = then_both _ _ e in let x = polynomial_equal p r h.0 in let y = polynomial_equal q s h.1 in cc
-  atom_equal (eq_atom p q) (eq_atom r s) e = let h = then_both _ _ e in let x = polynomial_equal p r h.0 in let y = polynomial_equal q s h.1 in cc
+  atom_equal (operation_atom o p q) (operation_atom k r s) e = let h = then_both _ _ e in let i = then_both _ _ h.1 in let j = same_kind o k (nat_cmp_equal _ _ h.0) in let x = polynomial_equal p r i.0 in let y = polynomial_equal q s i.1 in cc
   atom_equal (sel_atom u q) (sel_atom w s) e = let h = then_both _ _ e in let x = updates_equal u w h.0 in let y = polynomial_equal q s h.1 in cc
-  atom_equal (product_atom p q) (product_atom r s) e = let h = then_both _ _ e in let x = polynomial_equal p r h.0 in let y = polynomial_equal q s h.1 in cc
-  atom_equal (sum_atom p q) (sum_atom r s) e = let h = then_both _ _ e in let x = polynomial_equal p r h.0 in let y = polynomial_equal q s h.1 in cc
+  atom_equal (variable_atom i) (operation_atom o p q) e = absurd ((other_kind o).0 (nat_cmp_equal _ _ e))
+  atom_equal (operation_atom o p q) (variable_atom i) e = absurd ((other_kind o).0 (sym (nat_cmp_equal _ _ e)))
+  atom_equal (sel_atom u r) (operation_atom o p q) e = absurd ((other_kind o).1 (nat_cmp_equal _ _ e))
+  atom_equal (operation_atom o p q) (sel_atom u r) e = absurd ((other_kind o).1 (sym (nat_cmp_equal _ _ e)))
   atom_equal a b e = cc
 
   -- tied monomials are the same

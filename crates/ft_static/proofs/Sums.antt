@@ -7,7 +7,7 @@ use Rattle.ft_isa.specs.declared.op.Op.{Op}
 use Rattle.ft_isa.specs.declared.op.Op.TheVariants.{Add, Sub, Mul, Ltu, Eq}
 use Rattle.ft_isa.specs.Words.{apply, IsWord}
 use Rattle.ft_static.specs.Expression.{word_at, Valuation, IsLawful}
-use Rattle.ft_static.specs.Form.{terms, Atom, Monomial, Polynomial, Updates, variable_atom, ltu_atom, eq_atom, sel_atom, product_atom, sum_atom, one, times, nought, plus, unchanged, update}
+use Rattle.ft_static.specs.Form.{terms, Atom, Monomial, Polynomial, Updates, variable_atom, operation_atom, sel_atom, one, times, nought, plus, unchanged, update}
 use Rattle.ft_static.specs.FormOrder.{cmp_atom, cmp_monomial}
 use Rattle.ft_static.specs.NormalForm.{with_factor, join, led_by, add_term, total, add_multiple, add_products, degree, alone, norm_add, norm_mul}
 use Rattle.ft_static.specs.FormValue.{value_atom, value_monomial, value_polynomial, value_updates}
@@ -91,11 +91,8 @@ value_updates_are_words (update p v u) s lawful x = with_word_is_word (value_upd
 -- an atom denotes a word
 pub value_atom_is_word : (a : Atom) (s : Valuation) (lawful : IsLawful s) → value_atom a s < 2 ^ 64
 value_atom_is_word (variable_atom i) s lawful = lawful.integers i
-value_atom_is_word (ltu_atom p q) s lawful = apply_is_word _ _ _
-value_atom_is_word (eq_atom p q) s lawful = apply_is_word _ _ _
+value_atom_is_word (operation_atom o p q) s lawful = apply_is_word _ _ _
 value_atom_is_word (sel_atom u p) s lawful = value_updates_are_words u s lawful _
-value_atom_is_word (product_atom p q) s lawful = apply_is_word _ _ _
-value_atom_is_word (sum_atom p q) s lawful = apply_is_word _ _ _
 
 -- sums
 value_led : (m : Monomial) (c : ℕ) (p : Polynomial) (s : Valuation) → value_polynomial (led_by m c p) s ≡ (c * value_monomial m s + value_polynomial p s) % 2 ^ 64
@@ -127,7 +124,7 @@ pub value_add : (p q : Polynomial) (s : Valuation) (lawful : IsLawful s) → val
 unfolding apply
 value_add p q s lawful = if_cases (λ t. value_polynomial t s ≡ apply Add (value_polynomial p s) (value_polynomial q s)) (nat_le (terms (total p q)) 64) _ _
     (λ e. value_total p q s)
-    (λ e. value_alone (sum_atom p q) s lawful)
+    (λ e. value_alone (operation_atom Add p q) s lawful)
 
 -- products
 pub value_with_factor : (a : Atom) (m : Monomial) (s : Valuation) → value_monomial (with_factor a m) s ≡ (value_atom a s * value_monomial m s) % 2 ^ 64
@@ -164,4 +161,4 @@ pub value_mul : (p q : Polynomial) (s : Valuation) (lawful : IsLawful s) → val
 unfolding apply
 value_mul p q s lawful = if_cases (λ t. value_polynomial t s ≡ apply Mul (value_polynomial p s) (value_polynomial q s)) (nat_le (terms p * terms q) 64 && nat_le (degree p + degree q) 4) _ _
     (λ e. value_products p q nought s ∙ rw add-zero refl)
-    (λ e. value_alone (product_atom p q) s lawful)
+    (λ e. value_alone (operation_atom Mul p q) s lawful)

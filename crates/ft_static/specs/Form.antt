@@ -1,15 +1,13 @@
 -- Normal forms: polynomials for integers, lists of updates for memories.
 use Rattle.std.specs.Prelude.{ℕ, suc, List, [], ◌∷◌}
+use Rattle.ft_isa.specs.declared.op.Op.{Op}
 
 mutual
   -- what a polynomial is built over
   pub data Atom : Type 0 where
     variable_atom : ℕ → Atom
-    ltu_atom : Polynomial → Polynomial → Atom
-    eq_atom : Polynomial → Polynomial → Atom
+    operation_atom : Op → Polynomial → Polynomial → Atom
     sel_atom : Updates → Polynomial → Atom
-    product_atom : Polynomial → Polynomial → Atom
-    sum_atom : Polynomial → Polynomial → Atom
 
   -- a product of atoms: the list of them, in rising order
   pub data Monomial : Type 0 where

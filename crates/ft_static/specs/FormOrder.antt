@@ -5,27 +5,31 @@ use Rattle.std.specs.Ordering.{nat_cmp, ordering_then, is_eq}
 use Rattle.std.specs.Cmp.Lexicographic.{slice_cmp}
 use Rattle.std.specs.declared.cmp.Ordering.{Ordering}
 use Rattle.std.specs.declared.cmp.Ordering.TheVariants.{Less, Equal, Greater}
-use Rattle.ft_static.specs.Form.{factors, terms, updates, Atom, Monomial, Polynomial, Updates, variable_atom, ltu_atom, eq_atom, sel_atom, product_atom, sum_atom, one, times, nought, plus, unchanged, update}
+use Rattle.ft_isa.specs.declared.op.Op.{Op}
+use Rattle.ft_isa.specs.declared.op.Op.TheVariants.{Add, Sub, Mul, Ltu, Eq}
+use Rattle.ft_static.specs.Form.{factors, terms, updates, Atom, Monomial, Polynomial, Updates, variable_atom, operation_atom, sel_atom, one, times, nought, plus, unchanged, update}
+
+-- the place of an operation's atoms among the kinds; no normal form has an atom of sub
+abbrev pub operation_kind : Op → ℕ
+operation_kind Ltu = 1
+operation_kind Eq = 2
+operation_kind Mul = 4
+operation_kind Add = 5
+operation_kind Sub = 6
 
 -- the place of an atom's kind among the kinds
 abbrev pub kind : Atom → ℕ
 kind (variable_atom i) = 0
-kind (ltu_atom p q) = 1
-kind (eq_atom p q) = 2
+kind (operation_atom o p q) = operation_kind o
 kind (sel_atom u p) = 3
-kind (product_atom p q) = 4
-kind (sum_atom p q) = 5
 
 -- Lengths are compared at each level; below the outermost they are equal.
 abbrev mutual
   -- atoms; two of different kinds by kind
   pub cmp_atom : Atom → Atom → Ordering
   cmp_atom (variable_atom i) (variable_atom j) = nat_cmp i j
-  cmp_atom (ltu_atom p q) (ltu_atom r s) = ordering_then (cmp_polynomial p r) (cmp_polynomial q s)
-  cmp_atom (eq_atom p q) (eq_atom r s) = ordering_then (cmp_polynomial p r) (cmp_polynomial q s)
+  cmp_atom (operation_atom o p q) (operation_atom k r s) = ordering_then (nat_cmp (operation_kind o) (operation_kind k)) (ordering_then (cmp_polynomial p r) (cmp_polynomial q s))
   cmp_atom (sel_atom u q) (sel_atom w s) = ordering_then (cmp_updates u w) (cmp_polynomial q s)
-  cmp_atom (product_atom p q) (product_atom r s) = ordering_then (cmp_polynomial p r) (cmp_polynomial q s)
-  cmp_atom (sum_atom p q) (sum_atom r s) = ordering_then (cmp_polynomial p r) (cmp_polynomial q s)
   cmp_atom a b = nat_cmp (kind a) (kind b)
 
   -- lists of atoms

@@ -1,19 +1,15 @@
 -- What normal forms denote.
 use Rattle.std.specs.Prelude.{ℕ, ◌+◌, ◌*◌, ◌%◌, ◌^◌, List, map}
-use Rattle.ft_isa.specs.declared.op.Op.TheVariants.{Add, Mul, Ltu, Eq}
 use Rattle.ft_isa.specs.Words.{apply}
 use Rattle.ft_static.specs.Expression.{WordMap, Denotation, denoted_word, denoted_memory, Valuation, integer_of, word_at, with_word}
-use Rattle.ft_static.specs.Form.{Form, integer_form, memory_form, Atom, Monomial, Polynomial, Updates, variable_atom, ltu_atom, eq_atom, sel_atom, product_atom, sum_atom, one, times, nought, plus, unchanged, update}
+use Rattle.ft_static.specs.Form.{Form, integer_form, memory_form, Atom, Monomial, Polynomial, Updates, variable_atom, operation_atom, sel_atom, one, times, nought, plus, unchanged, update}
 
 abbrev mutual
   -- an atom denotes what its operation gives
   pub value_atom : Atom → Valuation → ℕ
   value_atom (variable_atom i) s = integer_of s i
-  value_atom (ltu_atom p q) s = apply Ltu (value_polynomial p s) (value_polynomial q s)
-  value_atom (eq_atom p q) s = apply Eq (value_polynomial p s) (value_polynomial q s)
+  value_atom (operation_atom o p q) s = apply o (value_polynomial p s) (value_polynomial q s)
   value_atom (sel_atom u p) s = word_at (value_updates u s) (value_polynomial p s)
-  value_atom (product_atom p q) s = apply Mul (value_polynomial p s) (value_polynomial q s)
-  value_atom (sum_atom p q) s = apply Add (value_polynomial p s) (value_polynomial q s)
 
   -- the product of the atoms
   pub value_monomial : Monomial → Valuation → ℕ

@@ -6,7 +6,7 @@ use Rattle.ft_isa.specs.declared.op.Op.{Op}
 use Rattle.ft_isa.specs.declared.op.Op.TheVariants.{Add, Sub, Mul, Ltu, Eq}
 use Rattle.ft_isa.specs.Words.{apply}
 use Rattle.ft_static.specs.Expression.{Integer, Memory, Expression, word, variable, operation, sel, memory_variable, upd, integer, memory}
-use Rattle.ft_static.specs.Form.{Form, integer_form, memory_form, factors, terms, Atom, Monomial, Polynomial, Updates, variable_atom, ltu_atom, eq_atom, sel_atom, product_atom, sum_atom, one, times, nought, plus, unchanged, update}
+use Rattle.ft_static.specs.Form.{Form, integer_form, memory_form, factors, terms, Atom, Monomial, Polynomial, Updates, variable_atom, operation_atom, sel_atom, one, times, nought, plus, unchanged, update}
 use Rattle.ft_static.specs.FormOrder.{cmp_atom, cmp_monomial, same_polynomial, same_updates}
 
 -- the first, second or third by what a comparison gave
@@ -80,7 +80,7 @@ alone a = plus (times a one) 1 nought
 
 -- add of p and q: their sum, or an atom where that has more than 64 monomials
 abbrev pub norm_add : Polynomial → Polynomial → Polynomial
-norm_add p q = let s = total p q in if nat_le (terms s) 64 then s else alone (sum_atom p q)
+norm_add p q = let s = total p q in if nat_le (terms s) 64 then s else alone (operation_atom Add p q)
 
 -- sub of p and q
 abbrev pub norm_sub : Polynomial → Polynomial → Polynomial
@@ -88,20 +88,16 @@ norm_sub p q = norm_add p (negation q)
 
 -- mul of p and q: their product, or an atom where the numbers of monomials or the degrees are too large
 abbrev pub norm_mul : Polynomial → Polynomial → Polynomial
-norm_mul p q = if nat_le (terms p * terms q) 64 && nat_le (degree p + degree q) 4 then add_products p q nought else alone (product_atom p q)
+norm_mul p q = if nat_le (terms p * terms q) 64 && nat_le (degree p + degree q) 4 then add_products p q nought else alone (operation_atom Mul p q)
 
--- a test: what the operation gives where both are constants, and the atom otherwise
-abbrev pub tested : Op → Option ℕ → Option ℕ → Atom → Polynomial
-tested o (Some c) (Some d) a = constant (apply o c d)
-tested o c d a = alone a
+-- a constant, what an operation gives, where both its words are known, and the atom otherwise
+abbrev pub folded : Op → Option ℕ → Option ℕ → Atom → Polynomial
+folded o (Some c) (Some d) a = constant (apply o c d)
+folded o c d a = alone a
 
--- ltu of p and q
-abbrev pub norm_ltu : Polynomial → Polynomial → Polynomial
-norm_ltu p q = tested Ltu (constant_of p) (constant_of q) (ltu_atom p q)
-
--- eq of p and q
-abbrev pub norm_eq : Polynomial → Polynomial → Polynomial
-norm_eq p q = tested Eq (constant_of p) (constant_of q) (eq_atom p q)
+-- ltu or eq of p and q: folded to a constant where both are constants, and an atom otherwise
+abbrev pub norm_folded : Op → Polynomial → Polynomial → Polynomial
+norm_folded o p q = folded o (constant_of p) (constant_of q) (operation_atom o p q)
 
 -- sel of a memory form and p: the walk from the newest update on. It gives the value at an equal address, goes past an
 -- address from which p differs by a nonzero constant, and stops at any other update and at the end.
@@ -122,8 +118,8 @@ abbrev pub norm_op : Op → Polynomial → Polynomial → Polynomial
 norm_op Add p q = norm_add p q
 norm_op Sub p q = norm_sub p q
 norm_op Mul p q = norm_mul p q
-norm_op Ltu p q = norm_ltu p q
-norm_op Eq p q = norm_eq p q
+norm_op Ltu p q = norm_folded Ltu p q
+norm_op Eq p q = norm_folded Eq p q
 
 abbrev mutual
   -- the normal form of an integer
