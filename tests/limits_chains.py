@@ -109,6 +109,28 @@ def monomials(n, count=1024):
     return own(b"".join(nodes), last)
 
 
+def sliding(n, count=4096):
+    """Sums of 63 and 64 of so many products of four variables. Each is the one before it, less the oldest of its products
+    or with one more. The products are added in another order in each round."""
+    nodes, at = [variables(32)], 33
+    pairs = [[(i, j) for i in range(low, low + 16) for j in range(i + 1, low + 16)][:64] for low in (1, 17)]
+    nodes += [operation(MUL, i, j, 32) for i, j in pairs[0] + pairs[1]]
+    nodes += [operation(MUL, at + k % 64, at + 64 + k // 64, 32) for k in range(count)]
+    first, at = at + 128, at + 128 + count
+    nodes.append(total(first, 64, at, 32))
+    at += 63
+    window, turn = list(range(64)), 64
+    while at + 2 <= n:
+        fresh = turn * (2 * (turn // count) + 1) % count
+        turn += 1
+        if fresh in window:
+            continue
+        nodes += [operation(SUB, at - 1, first + window.pop(0), 32), operation(ADD, at, first + fresh, 32)]
+        window.append(fresh)
+        at += 2
+    return own(b"".join(nodes), at - 1, 32)
+
+
 def updates(n):
     """Each node is the memory before it with another word at an address; addresses take turns, so no update replaces one."""
     nodes = variables(2) + upd(0, 1, 2, 2) + b"".join(upd(k - 1, 1 + k % 2, 1, 2) for k in range(4, n))
@@ -155,6 +177,7 @@ chain("fibonacci", "nodes, each the sum of the two before it, over 64 variables"
 chain("scaled", "nodes, each three times the one before it, of 64 monomials of four atoms", scaled)
 chain("products", "nodes, products of unlike sums of eight variables and `ltu` of them", products)
 chain("quartics", "nodes, products of unlike sums of eight products of variables and `ltu` of them", lambda n: products(n, 2))
+chain("sliding", "nodes, each a sum of the last 63 or 64 of many products of four variables", sliding)
 chain("monomials", "nodes, products of unlike sums of eight squares of comparisons, and `ltu` of them", monomials)
 chain("updates", "nodes, each an update of the memory before it", updates, 1048575)
 chain("walks", "nodes, of which a fifth are words sought through as many updates", walks, 65536, power=2)

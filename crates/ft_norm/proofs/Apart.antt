@@ -1,60 +1,59 @@
 -- Polynomials that differ by a constant: the terms beside their constants are the same.
-use Rattle.std.proofs.Common.{ℕ, ◌≡◌, ◌≢◌, ◌+◌, ◌-◌, ◌%◌, ◌^◌, ◌<◌, ◌≤◌, ◌==◌, Bool, true, false, List, [], ◌∷◌, length, map, refl, sym, ap, ◌∙◌, subst, arith, lit<, true≢false}
-use lib.Pointwise.{pointwise}
+use Rattle.std.proofs.Common.{ℕ, ◌≡◌, ◌≢◌, ◌+◌, ◌-◌, ◌%◌, ◌^◌, ◌<◌, ◌==◌, Bool, true, false, if◌then◌else◌, List, [], ◌∷◌, refl, sym, ap, ◌∙◌, subst, arith, lit<, true≢false, Decides}
 use Rattle.std.proofs.Math.Nat.{mod-lt, mod-eq_of_lt}
-use Rattle.std.proofs.lemmas.Bool.{eqb-true}
+use Rattle.std.proofs.lemmas.Bool.{eqb-true, eqb-false}
 use Rattle.ft_static.specs.Coefficient.{share}
 use Rattle.ft_static.specs.Form.{Form, Monomial, Polynomial, nought, one, plus, times}
-use Rattle.ft_static.specs.FormOrder.{cmp_monomial}
 use Rattle.ft_static.specs.NormalForm.{add_term, constant_of, is_not_zero, negation, norm_sub, total}
 use Rattle.ft_static.proofs.Cases.{if_cases}
-use Rattle.ft_norm.specs.declared.entry.Factor.{Factor}
 use Rattle.ft_norm.specs.declared.entry.Term.{Term}
-use Rattle.ft_norm.specs.Entries.{monomial_form, parts, polynomial_form}
-use Rattle.ft_norm.specs.Orders.{AreTerms, Precedes, cmp_factors}
-use Rattle.ft_norm.specs.Terms.{AreOver, constant_among, constant_with, others, others_with}
+use Rattle.ft_norm.specs.Entries.{polynomial_form, size}
+use Rattle.ft_norm.specs.Orders.{AreTerms, Precedes}
+use Rattle.ft_norm.specs.Terms.{AreOver, constant_among, others}
 use Rattle.ft_norm.proofs.Adding.{add_none}
-use Rattle.ft_norm.specs.contracts.entry.TermPartialEq.TheImpl as term
-use Rattle.ft_norm.proofs.Distinct.{same_terms, terms_equal}
-use Rattle.ft_norm.proofs.Limits.{constant_sum}
+use Rattle.ft_norm.proofs.Limits.{constant_sum, no_atom}
+use Rattle.ft_norm.proofs.Numbers.{no_numbers, none, none_below}
 use Rattle.ft_norm.proofs.Single.{gives_none, one_polynomial, rest_over, weigh_form}
-use Rattle.ft_norm.proofs.Sums.{form_alike, form_rises}
-use Rattle.ft_norm.proofs.Weights.{Rises, known, mods_both, rises_add, rises_negation, rises_total, share_linear, share_negation, weigh, weigh_add, weigh_first, weigh_negation, weigh_total, order_split, words_same}
+use Rattle.ft_norm.proofs.Sums.{form_rises}
+use Rattle.ft_norm.proofs.Weights.{Rises, known, rises_add, rises_negation, rises_total, share_linear, share_negation, weigh, weigh_add, weigh_first, weigh_negation, weigh_total, words_same}
 
 -- a first term is the constant, or there is none
-first_split : (P : ℕ → List Term → Type 0) (xs : List Factor) (c : ℕ) (ts us : List Term) → (xs ≡ [] → P c ts) → ((y : Factor) (ys : List Factor) → xs ≡ y ∷ ys → P 0 us) → P (constant_with xs c) (others_with xs ts us)
-first_split P [] c ts us f g = f refl
-first_split P (x ∷ xs) c ts us f g = g x xs refl
+first_split : (P : ℕ → List Term → Type 0) (n c : ℕ) (ts us : List Term) → (n ≡ 0 → P c ts) → ((n ≡ 0 → ⊥) → P 0 us) → P (if n == 0 then c else 0) (if n == 0 then ts else us)
+first_split P n c ts us f g = go (n == 0) refl
+  where
+    go : (b : Bool) → (n == 0) ≡ b → P (if b then c else 0) (if b then ts else us)
+    go true e = f (eqb-true n 0 e)
+    go false e = g (eqb-false n 0 e)
 
 -- terms are their constant and the others
 split_form : (fs : List Form) (ts : List Term) → AreTerms ts → polynomial_form fs ts ≡ add_term one (constant_among ts) (polynomial_form fs (others ts))
 split_form fs [] h = refl
-split_form fs (t ∷ ts) h = first_split (λ c us. polynomial_form fs (t ∷ ts) ≡ add_term one c (polynomial_form fs us)) t.factors.value.items t.coefficient ts (t ∷ ts)
-    (λ e. ap (λ xs. add_term (monomial_form fs xs) t.coefficient (polynomial_form fs ts)) e)
-    (λ y ys e. sym (add_none one (polynomial_form fs (t ∷ ts)) (form_rises fs (t ∷ ts) h)))
+split_form fs (t ∷ ts) h = first_split (λ c us. polynomial_form fs (t ∷ ts) ≡ add_term one c (polynomial_form fs us)) (size t.atoms) t.coefficient ts (t ∷ ts)
+    (λ e. ap (λ m. add_term m t.coefficient (polynomial_form fs ts)) (no_atom fs t.atoms e))
+    (λ n. sym (add_none one (polynomial_form fs (t ∷ ts)) (form_rises fs (t ∷ ts) h)))
 
 -- the others are over the same forms
 others_over : (fs : List Form) (ts : List Term) → AreOver fs ts → AreOver fs (others ts)
 others_over fs [] h = h
-others_over fs (t ∷ ts) h = first_split (λ c us. AreOver fs us) t.factors.value.items 0 ts (t ∷ ts) (λ e. rest_over fs t ts h) (λ y ys e. h)
+others_over fs (t ∷ ts) h = first_split (λ c us. AreOver fs us) (size t.atoms) 0 ts (t ∷ ts) (λ e. rest_over fs t ts h) (λ n. h)
 
 -- the constant is before them
-others_follow : (ts : List Term) → AreTerms ts → Precedes [] (others ts)
+others_follow : (ts : List Term) → AreTerms ts → Precedes none (others ts)
 others_follow [] h = tt
-others_follow (t ∷ ts) h = first_split (λ c us. Precedes [] us) t.factors.value.items 0 ts (t ∷ ts)
-    (λ e. subst (λ xs. Precedes xs ts) e h.3)
-    (λ y ys e. ap (cmp_factors []) e)
+others_follow (t ∷ ts) h = first_split (λ c us. Precedes none us) (size t.atoms) 0 ts (t ∷ ts)
+    (λ e. subst (λ xs. Precedes xs ts) (no_numbers t.atoms h.0.0 e) h.3)
+    (λ n. none_below t.atoms h.0.0 n)
 
 -- so they give it nothing
 others_give : (fs : List Form) (ts : List Term) → AreOver fs ts → weigh (share one) (polynomial_form fs (others ts)) % 2 ^ 64 ≡ 0
 others_give fs ts h =
     let o = others_over fs ts h in
-    weigh_form fs one (others ts) ∙ ap (λ n. n % 2 ^ 64) (gives_none fs h.distinct [] (others ts) tt (omega arith) o.terms o.reach (others_follow ts h.terms))
+    weigh_form fs one (others ts) ∙ ap (λ n. n % 2 ^ 64) (gives_none fs h.distinct none (others ts) (refl, (omega arith, (omega arith, (omega arith, (tt, tt))))) (omega arith) o.terms o.reach (others_follow ts h.terms))
 
 -- a constant is a word
 constant_word : (ts : List Term) → AreTerms ts → constant_among ts < 2 ^ 64
 constant_word [] h = lit< tt
-constant_word (t ∷ ts) h = first_split (λ c us. c < 2 ^ 64) t.factors.value.items t.coefficient [] [] (λ e. h.2) (λ y ys e. lit< tt)
+constant_word (t ∷ ts) h = first_split (λ c us. c < 2 ^ 64) (size t.atoms) t.coefficient [] [] (λ e. h.2) (λ n. lit< tt)
 
 -- what a monomial gets of terms: of their constant and of the others
 weigh_split : (fs : List Form) (k : Monomial) (ts : List Term) → AreTerms ts
@@ -110,11 +109,11 @@ module _ (fs : List Form) (ps qs : List Term) (a : AreOver fs ps) (b : AreOver f
       opposite d p q c f n g r s t w x y e z l m = omega (arith, w, x, y, e, z, l, m)
 
   -- polynomials whose constants alone differ are known to differ
-  pub apart : constant_among ps ≢ constant_among qs → map parts (others ps) ≡ map parts (others qs) → true ≡ is_not_zero (constant_of (norm_sub (polynomial_form fs ps) (polynomial_form fs qs)))
+  pub apart : constant_among ps ≢ constant_among qs → others ps ≡ others qs → true ≡ is_not_zero (constant_of (norm_sub (polynomial_form fs ps) (polynomial_form fs qs)))
   apart n s =
       let c = constant_word ps a.terms in
       let d = constant_word qs b.terms in
-      let e = same_others (form_alike fs (others ps) (others qs) s) in
+      let e = same_others (ap (polynomial_form fs) s) in
       some_constant _ (λ z. n (alike (constant_among ps) (constant_among qs) c d z)) (mod-lt _ (lit< tt))
       ∙ (ap (λ p. is_not_zero (constant_of p)) (sym e) ∙ ap is_not_zero (constant_sum (polynomial_form fs ps) (negation (polynomial_form fs qs))))
     where
@@ -140,7 +139,7 @@ module _ (fs : List Form) (ps qs : List Term) (a : AreOver fs ps) (b : AreOver f
       none d g p q c f r s v w x y z o u = omega (arith, v, w, x, y, z, o, u)
 
   -- and the others are the same
-  others_same : (e : ℕ) → difference ≡ plus one e nought → map parts (others ps) ≡ map parts (others qs)
+  others_same : (e : ℕ) → difference ≡ plus one e nought → others ps ≡ others qs
   others_same e q =
       let o = others_over fs ps a in
       let u = others_over fs qs b in
@@ -157,13 +156,12 @@ module _ (fs : List Form) (ps qs : List Term) (a : AreOver fs ps) (b : AreOver f
           omega (arith, v, w, x, y)
 
   -- polynomials are not known to differ where their constants or their other terms are no reason
-  pub not_apart : ((constant_among ps ≢ constant_among qs) → map parts (others ps) ≡ map parts (others qs) → ⊥) → false ≡ is_not_zero (constant_of (norm_sub (polynomial_form fs ps) (polynomial_form fs qs)))
+  pub not_apart : ((constant_among ps ≢ constant_among qs) → others ps ≡ others qs → ⊥) → false ≡ is_not_zero (constant_of (norm_sub (polynomial_form fs ps) (polynomial_form fs qs)))
   not_apart n =
       no_constant difference (λ e q. n (constants_differ e q) (others_same e q))
       ∙ ap is_not_zero (constant_sum (polynomial_form fs ps) (negation (polynomial_form fs qs)))
 
   -- where the constants differ, the test of the others tells
-  pub by_others : (us vs : List Term) (b : Bool) → constant_among ps ≢ constant_among qs → us ≡ others ps → vs ≡ others qs → b ≡ pointwise (term.ghosts).eq us vs
-      → b ≡ is_not_zero (constant_of (norm_sub (polynomial_form fs ps) (polynomial_form fs qs)))
-  by_others us vs true n u v e = apart n (ap (map parts) (sym u) ∙ (same_terms us vs (sym e) ∙ ap (map parts) v))
-  by_others us vs false n u v e = not_apart (λ m s. true≢false (sym (terms_equal us vs (ap (map parts) u ∙ (s ∙ sym (ap (map parts) v)))) ∙ sym e))
+  pub by_others : (b : Bool) → constant_among ps ≢ constant_among qs → Decides b (others ps ≡ others qs) → b ≡ is_not_zero (constant_of (norm_sub (polynomial_form fs ps) (polynomial_form fs qs)))
+  by_others true n d = apart n (d.0 refl)
+  by_others false n d = not_apart (λ m s. true≢false (sym (d.1 s)))

@@ -1,94 +1,85 @@
 -- Equal entries have equal forms, and over distinct forms equal forms have equal entries.
-use Rattle.std.proofs.Common.{ℕ, suc, zero, ◌≡◌, ◌<◌, ◌≤◌, ◌&&◌, ◌||◌, Bool, true, false, if◌then◌else◌, List, [], ◌∷◌, ◌++◌, length, get_or, refl, sym, ap, ◌∙◌, subst, arith, true≢false, Some, slice_get, eqb, inl, inr, map, length-append}
+use Rattle.std.proofs.Common.{ℕ, suc, zero, ◌≡◌, ◌≢◌, ◌+◌, ◌^◌, ◌<◌, ◌≤◌, ◌||◌, Bool, true, false, if◌then◌else◌, List, [], ◌∷◌, ◌++◌, length, get_or, refl, sym, ap, ◌∙◌, subst, arith, true≢false, Some, slice_get, inl, inr, map, length-append}
 use Rattle.std.specs.List.{list_any}
 use Rattle.std.proofs.lemmas.Bool.{cases_lt}
-use Rattle.std.proofs.lemmas.Bool.Decides.{Decides-eqb}
+use Rattle.std.proofs.lemmas.Bool.Decides.{Decides-and, Decides-eqb}
 use Rattle.std.proofs.lemmas.List.{get_or_append_left, get_or_push}
 use Rattle.std.proofs.lemmas.Option.{slice_get_within, get_or_from_slice_get}
-use lib.Pointwise.{pointwise}
-use Rattle.ft_static.specs.Form.{Form, integer_form, polynomial_of}
-use Rattle.ft_norm.specs.declared.entry.Factor.{Factor}
+use Rattle.ft_static.specs.Form.{Atom, Form, integer_form, polynomial_of}
+use Rattle.ft_static.specs.NormalForm.{alone, degree}
+use Rattle.ft_norm.specs.declared.entry.LinearTerm.{LinearTerm}
 use Rattle.ft_norm.specs.declared.entry.Term.{Term}
 use Rattle.ft_norm.specs.declared.entry.Entry.{Entry}
-use Rattle.ft_norm.specs.declared.entry.Entry.TheVariants.{Single, Several, Unchanged, Update}
-use Rattle.ft_norm.specs.contracts.entry.FactorPartialEq.TheImpl as factor
-use Rattle.ft_norm.specs.contracts.entry.TermPartialEq.TheImpl as term
+use Rattle.ft_norm.specs.declared.entry.Entry.TheVariants.{Atom as Lone, Linear, Packed, Full, Unchanged, Update}
 use Rattle.ft_norm.specs.contracts.entry.EntryPartialEq.TheImpl as entry
 use Rattle.ft_norm.specs.Held.{Keeps, polynomial_at, updates_at}
-use Rattle.ft_norm.specs.Entries.{AreCanonical, AreEntries, IsCanonical, IsDistinct, entry_form, forms_of, parts, polynomial_form, reach_of_entry}
+use Rattle.ft_norm.specs.Entries.{AreCanonical, AreEntries, IsCanonical, IsDistinct, alone_term, atom_form, entry_form, forms_of, full, greatest, polynomial_form, reach_of_entry, reach_of_terms}
+use Rattle.ft_norm.specs.Orders.{AreTerms}
+use Rattle.ft_norm.specs.Packing.{ArePacked, HaveSmall, unpacked}
+use Rattle.ft_norm.specs.declared.packed.PackedTerm.{PackedTerm}
 use Rattle.ft_norm.proofs.Forms.{entry_agree, push_agrees, form_at, forms_onto-push, length-forms_of, names_push}
 use Rattle.ft_norm.proofs.Places.{grown, keeps_itself, keeps_push}
+use Rattle.ft_norm.proofs.Linear.{linear_degree, linears_itself}
 use Rattle.ft_norm.proofs.Lists.{slice_get-append, slice_get-push}
-use Rattle.ft_norm.proofs.SameFactors.{both, factor_itself, numbers, same_factors}
-use Rattle.ft_norm.proofs.Single.{one_integer, one_memory, one_polynomial}
-use Rattle.ft_norm.proofs.Sums.{form_alike}
-
--- equal terms say the same
-same_term : (x y : Term) → (term.ghosts).eq x y ≡ true → parts x ≡ parts y
-same_term x y h = let t = both _ _ h in rw (same_factors x.factors.value.items y.factors.value.items t.0, (Decides-eqb x.coefficient y.coefficient).0 t.1) refl
-
--- so do equal lists of them
-pub same_terms : (xs ys : List Term) → pointwise (term.ghosts).eq xs ys ≡ true → map parts xs ≡ map parts ys
-same_terms [] [] h = refl
-same_terms [] (y ∷ ys) h = absurd (true≢false (sym h))
-same_terms (x ∷ xs) [] h = absurd (true≢false (sym h))
-same_terms (x ∷ xs) (y ∷ ys) h = let t = both _ _ h in rw (same_term x y t.0, same_terms xs ys t.1) refl
+use Rattle.ft_norm.proofs.SameTerms.{factor_decides, linears_decide, packed_lists_decide, terms_decide}
+use Rattle.ft_norm.proofs.Packing.{have_small_unpacked, packed_itself}
+use Rattle.ft_norm.proofs.Single.{alone_is, degree_over, one_factor, one_integer, one_memory, one_polynomial}
 
 -- equal entries have one form
 pub same_entry : (fs : List Form) (a b : Entry) → (entry.ghosts).eq a b ≡ true → entry_form fs a ≡ entry_form fs b
-same_entry fs (Single t) (Single u) h = ap integer_form (form_alike fs (t ∷ []) (u ∷ []) (ap (λ p. p ∷ []) (same_term t u h)))
-same_entry fs (Several ts) (Several us) h = ap integer_form (form_alike fs ts.items us.items (same_terms ts.items us.items h))
+same_entry fs (Lone a) (Lone b) h = ap (λ x. integer_form (alone (atom_form fs x))) ((factor_decides a b).0 h)
+same_entry fs (Linear ts) (Linear us) h = ap (λ xs. integer_form (polynomial_form fs (map full xs))) ((linears_decide ts.items us.items _ refl).0 h)
+same_entry fs (Packed ts) (Packed us) h = ap (λ xs. integer_form (polynomial_form fs (map unpacked xs))) ((packed_lists_decide ts.items us.items _ refl).0 h)
+same_entry fs (Full ts) (Full us) h = ap (λ xs. integer_form (polynomial_form fs xs)) ((terms_decide ts.items us.items _ refl).0 h)
 same_entry fs Unchanged Unchanged h = refl
 same_entry fs (Update at value older) (Update at' value' older') h =
-    let t = both (eqb at at') (eqb value value' && eqb older older') h in let u = numbers value value' older older' t.1 in rw ((Decides-eqb at at').0 t.0, u.0, u.1) refl
+    let t = (Decides-and _ _ (Decides-eqb at at') (Decides-and _ _ (Decides-eqb value value') (Decides-eqb older older'))).0 h in rw (t.0, t.1.0, t.1.1) refl
 same_entry fs a b h = absurd (true≢false (sym h))
 
--- factors are equal to themselves
-factors_itself : (xs : List Factor) → pointwise (factor.ghosts).eq xs xs ≡ true
-factors_itself [] = refl
-factors_itself (x ∷ xs) = rw (factor_itself x, factors_itself xs) refl
+module _ (fs : List Form) (d : IsDistinct fs) where
+  -- terms of at most one atom and terms of more are two polynomials
+  linear_apart : (ts : List LinearTerm) (us : List Term) → AreTerms (map full ts) → AreTerms us → reach_of_terms fs (map full ts) ≤ length fs → reach_of_terms fs us ≤ length fs → 2 ≤ greatest us
+      → polynomial_form fs (map full ts) ≡ polynomial_form fs us → ⊥
+  linear_apart ts us h k a b g e = let q = ap greatest (one_polynomial fs d (map full ts) us h k a b e) in let l = linear_degree ts in omega (arith, q, l, g)
 
--- terms that say the same are equal
-term_equal : (x y : Term) → parts x ≡ parts y → (term.ghosts).eq x y ≡ true
-term_equal x y e =
-    let f = ap (λ (p : List Factor × ℕ). p.0) e in
-    let c = ap (λ (p : List Factor × ℕ). p.1) e in
-    let q : pointwise (factor.ghosts).eq x.factors.value.items y.factors.value.items ≡ true = ap (λ zs. pointwise (factor.ghosts).eq x.factors.value.items zs) (sym f) ∙ factors_itself x.factors.value.items in
-    rw (q, (Decides-eqb x.coefficient y.coefficient).1 c) refl
+  -- terms with an atom of a great number are not packed
+  packed_apart : (ps : List PackedTerm) (us : List Term) → AreTerms (map unpacked ps) → AreTerms us → reach_of_terms fs (map unpacked ps) ≤ length fs → reach_of_terms fs us ≤ length fs → ArePacked ps → (HaveSmall us → ⊥)
+      → polynomial_form fs (map unpacked ps) ≡ polynomial_form fs us → ⊥
+  packed_apart ps us h k a b p n e = n (subst HaveSmall (one_polynomial fs d (map unpacked ps) us h k a b e) (have_small_unpacked ps p))
 
--- so are lists of them
-pub terms_equal : (xs ys : List Term) → map parts xs ≡ map parts ys → pointwise (term.ghosts).eq xs ys ≡ true
-terms_equal [] [] e = refl
-terms_equal [] (y ∷ ys) e = cc
-terms_equal (x ∷ xs) [] e = cc
-terms_equal (x ∷ xs) (y ∷ ys) e =
-    let h : parts x ≡ parts y = cc in
-    let t : map parts xs ≡ map parts ys = cc in
-    rw (term_equal x y h, terms_equal xs ys t) refl
+  -- an atom alone is not what an entry of terms of at most one atom stands for
+  alone_linear : (x : Atom) (ts : List Term) → AreTerms ts → reach_of_terms fs ts ≤ length fs → greatest ts ≤ 1 → ((k : ℕ) → ts ≢ alone_term (k + 1) ∷ []) → alone x ≡ polynomial_form fs ts → ⊥
+  alone_linear x ts h r g n e = n (alone_is fs x ts (record { terms = h; distinct = d; reach = r }) g e).0 (alone_is fs x ts (record { terms = h; distinct = d; reach = r }) g e).1
 
--- as many terms say the same
-lengths : (xs ys : List Term) → map parts xs ≡ map parts ys → length xs ≡ length ys
-lengths [] [] e = refl
-lengths [] (y ∷ ys) e = cc
-lengths (x ∷ xs) [] e = cc
-lengths (x ∷ xs) (y ∷ ys) e = let t : map parts xs ≡ map parts ys = cc in ap suc (lengths xs ys t)
+  -- nor what one of terms of more stands for
+  alone_full : (x : Atom) (ts : List Term) → AreTerms ts → reach_of_terms fs ts ≤ length fs → 2 ≤ greatest ts → alone x ≡ polynomial_form fs ts → ⊥
+  alone_full x ts h r g e = let q = degree_over fs ts (record { terms = h; distinct = d; reach = r }) in let w : 1 ≡ degree (polynomial_form fs ts) = ap degree e in omega (arith, q, w, g)
 
--- one form has one entry
-pub one_entry : (fs : List Form) → IsDistinct fs → (a b : Entry) → IsCanonical a → IsCanonical b → reach_of_entry fs a ≤ length fs → reach_of_entry fs b ≤ length fs → entry_form fs a ≡ entry_form fs b → (entry.ghosts).eq a b ≡ true
-one_entry fs d (Single t) (Single u) h k a b e =
-    let p : polynomial_form fs (t ∷ []) ≡ polynomial_form fs (u ∷ []) = ap polynomial_of e in
-    let q : parts t ≡ parts u = let r = one_polynomial fs d (t ∷ []) (u ∷ []) h k a b p in cc in
-    term_equal t u q
-one_entry fs d (Several ts) (Several us) h k a b e = terms_equal ts.items us.items (one_polynomial fs d ts.items us.items h.0 k.0 a b (ap polynomial_of e))
-one_entry fs d (Single t) (Several us) h k a b e = absurd (k.2 (sym (lengths (t ∷ []) us.items (one_polynomial fs d (t ∷ []) us.items h k.0 a b (ap polynomial_of e)))))
-one_entry fs d (Several ts) (Single u) h k a b e = absurd (h.2 (lengths ts.items (u ∷ []) (one_polynomial fs d ts.items (u ∷ []) h.0 k a b (ap polynomial_of e))))
-one_entry fs d Unchanged Unchanged h k a b e = refl
-one_entry fs d (Update at value older) (Update at' value' older') h k a b e =
-    let t : polynomial_at fs at ≡ polynomial_at fs at' = cc in
-    let u : polynomial_at fs value ≡ polynomial_at fs value' = cc in
-    let w : updates_at fs older ≡ updates_at fs older' = cc in
-    rw ((Decides-eqb at at').1 (one_integer fs d at at' (omega arith) (omega arith) t), (Decides-eqb value value').1 (one_integer fs d value value' (omega arith) (omega arith) u), (Decides-eqb older older').1 (one_memory fs d older older' (omega arith) (omega arith) w)) refl
-one_entry fs d x y h k a b e = cc
+  -- one form has one entry
+  pub one_entry : (a b : Entry) → IsCanonical a → IsCanonical b → reach_of_entry fs a ≤ length fs → reach_of_entry fs b ≤ length fs → entry_form fs a ≡ entry_form fs b → (entry.ghosts).eq a b ≡ true
+  one_entry (Lone x) (Lone y) h k a b e = (factor_decides x y).1 (one_factor fs d x y a b (let p : alone (atom_form fs x) ≡ alone (atom_form fs y) = ap polynomial_of e in cc))
+  one_entry (Lone x) (Linear us) h k a b e = absurd (alone_linear (atom_form fs x) (map full us.items) k.0 b (linear_degree us.items) k.2 (ap polynomial_of e))
+  one_entry (Linear ts) (Lone y) h k a b e = absurd (alone_linear (atom_form fs y) (map full ts.items) h.0 a (linear_degree ts.items) h.2 (sym (ap polynomial_of e)))
+  one_entry (Lone x) (Packed us) h k a b e = absurd (alone_full (atom_form fs x) (map unpacked us.items) k.0 b k.2 (ap polynomial_of e))
+  one_entry (Packed ts) (Lone y) h k a b e = absurd (alone_full (atom_form fs y) (map unpacked ts.items) h.0 a h.2 (sym (ap polynomial_of e)))
+  one_entry (Lone x) (Full us) h k a b e = absurd (alone_full (atom_form fs x) us.items k.0 b k.2 (ap polynomial_of e))
+  one_entry (Full ts) (Lone y) h k a b e = absurd (alone_full (atom_form fs y) ts.items h.0 a h.2 (sym (ap polynomial_of e)))
+  one_entry (Linear ts) (Linear us) h k a b e = (linears_decide ts.items us.items _ refl).1 (linears_itself ts.items us.items (one_polynomial fs d (map full ts.items) (map full us.items) h.0 k.0 a b (ap polynomial_of e)))
+  one_entry (Linear ts) (Full us) h k a b e = absurd (linear_apart ts.items us.items h.0 k.0 a b k.2 (ap polynomial_of e))
+  one_entry (Full ts) (Linear us) h k a b e = absurd (linear_apart us.items ts.items k.0 h.0 b a h.2 (sym (ap polynomial_of e)))
+  one_entry (Linear ts) (Packed us) h k a b e = absurd (linear_apart ts.items (map unpacked us.items) h.0 k.0 a b k.2 (ap polynomial_of e))
+  one_entry (Packed ts) (Linear us) h k a b e = absurd (linear_apart us.items (map unpacked ts.items) k.0 h.0 b a h.2 (sym (ap polynomial_of e)))
+  one_entry (Packed ts) (Packed us) h k a b e = (packed_lists_decide ts.items us.items _ refl).1 (packed_itself ts.items us.items h.3 k.3 (one_polynomial fs d (map unpacked ts.items) (map unpacked us.items) h.0 k.0 a b (ap polynomial_of e)))
+  one_entry (Packed ts) (Full us) h k a b e = absurd (packed_apart ts.items us.items h.0 k.0 a b h.3 k.3 (ap polynomial_of e))
+  one_entry (Full ts) (Packed us) h k a b e = absurd (packed_apart us.items ts.items k.0 h.0 b a k.3 h.3 (sym (ap polynomial_of e)))
+  one_entry (Full ts) (Full us) h k a b e = (terms_decide ts.items us.items _ refl).1 (one_polynomial fs d ts.items us.items h.0 k.0 a b (ap polynomial_of e))
+  one_entry Unchanged Unchanged h k a b e = refl
+  one_entry (Update at value older) (Update at' value' older') h k a b e =
+      let t : polynomial_at fs at ≡ polynomial_at fs at' = cc in
+      let u : polynomial_at fs value ≡ polynomial_at fs value' = cc in
+      let w : updates_at fs older ≡ updates_at fs older' = cc in
+      rw ((Decides-eqb at at').1 (one_integer fs d at at' (omega arith) (omega arith) t), (Decides-eqb value value').1 (one_integer fs d value value' (omega arith) (omega arith) u), (Decides-eqb older older').1 (one_memory fs d older older' (omega arith) (omega arith) w)) refl
+  one_entry x y h k a b e = cc
 
 -- a test that none passes fails at each
 none_passes : {A : Type 0} (test : A → Bool) (xs : List A) (k : ℕ) (d : A) → list_any test xs ≡ false → k < length xs → test (get_or xs k d) ≡ false
@@ -150,11 +141,12 @@ canonical_push es e h c k d l = elim (cases_lt k (length es)) [
 ]
 
 -- so entries stay as an interner keeps them
-pub entries_push : (es : List Entry) (e : Entry) → AreEntries es → IsCanonical e → reach_of_entry (forms_of es) e ≤ length es → list_any ((entry.ghosts).eq e) es ≡ false → AreEntries (es ++ e ∷ [])
-entries_push es e h c r n = record {
+pub entries_push : (es : List Entry) (e : Entry) → AreEntries es → length es + 1 < 2 ^ 32 → IsCanonical e → reach_of_entry (forms_of es) e ≤ length es → list_any ((entry.ghosts).eq e) es ≡ false → AreEntries (es ++ e ∷ [])
+entries_push es e h few c r n = record {
   earlier = names_push es e h.earlier r;
   distinct = subst IsDistinct (sym (forms_onto-push [] es e)) (distinct_push (forms_of es) (entry_form (forms_of es) e) h.distinct (new_form es e h c r n));
   canonical = canonical_push es e h.canonical c;
+  few = rw (length-append es (e ∷ [])) few;
 }
 
 -- what putting an entry does: the entries stay as an interner keeps them, what was held stays, and place i has its form
@@ -164,9 +156,9 @@ pub record Puts (fs : List Form) (e : Entry) (xs : List Entry) (i : ℕ) : Type 
   pub form : slice_get (forms_of xs) i ≡ Some (entry_form fs e)
 
 -- an entry is found or comes last
-pub put : (es xs : List Entry) (fs : List Form) (e k : Entry) (i : ℕ) → AreEntries es → forms_of es ≡ fs → IsCanonical e → reach_of_entry fs e ≤ length fs
+pub put : (es xs : List Entry) (fs : List Form) (e k : Entry) (i : ℕ) → AreEntries es → length es + 1 < 2 ^ 32 → forms_of es ≡ fs → IsCanonical e → reach_of_entry fs e ≤ length fs
     → xs ≡ (if list_any ((entry.ghosts).eq e) es then es else es ++ e ∷ []) → slice_get xs i ≡ Some k → (entry.ghosts).eq e k ≡ true → Puts fs e xs i
-put es xs fs e k i h v c r x s q = go (list_any ((entry.ghosts).eq e) es) refl x
+put es xs fs e k i h w v c r x s q = go (list_any ((entry.ghosts).eq e) es) refl x
   where
     l : length es ≡ length fs
     l = sym (length-forms_of es) ∙ ap length v
@@ -184,7 +176,7 @@ put es xs fs e k i h v c r x s q = go (list_any ((entry.ghosts).eq e) es) refl x
       form = rw y (at es h (rw y at s) ∙ ap (λ gs. Some (entry_form gs e)) v);
     }
     go false n y =
-        let p = entries_push es e h c r' n in
+        let p = entries_push es e h w c r' n in
         record {
           entries = rw y p;
           kept = keeps_push fs (forms_of xs) (entry_form fs e) (grown es xs fs e v y);

@@ -1,16 +1,18 @@
 -- The forms of a list of entries: a later entry leaves the earlier forms, and each form is its entry's.
-use Rattle.std.proofs.Common.{ℕ, suc, zero, ◌≡◌, ◌+◌, ◌<◌, ◌≤◌, Bool, true, false, if◌then◌else◌, List, [], ◌∷◌, ◌++◌, length, get_or, refl, sym, ap, ◌∙◌, arith, max, length-append, inl, inr, Option, None, Some, slice_get}
+use Rattle.std.proofs.Common.{ℕ, suc, zero, add-one, ◌≡◌, ◌+◌, ◌<◌, ◌≤◌, Bool, true, false, if◌then◌else◌, List, [], ◌∷◌, ◌++◌, length, get_or, refl, sym, ap, ◌∙◌, arith, max, length-append, inl, inr, map, Option, None, Some, slice_get}
 use Rattle.std.specs.Option.{unwrap_or}
 use Rattle.std.proofs.lemmas.Bool.{cases_lt}
 use Rattle.std.proofs.lemmas.List.{get_or_append_left, get_or_push}
-use Rattle.ft_static.specs.Form.{Form, Polynomial, Updates, integer_form, memory_form, polynomial_of, updates_of, nought, unchanged, update}
+use Rattle.ft_static.specs.Form.{Atom, Form, Monomial, Polynomial, Updates, integer_form, memory_form, polynomial_of, updates_of, nought, one, plus, times, unchanged, update}
+use Rattle.ft_static.specs.NormalForm.{alone, with_factor}
 use Rattle.ft_norm.specs.declared.entry.Factor.{Factor}
-use Rattle.ft_norm.specs.declared.entry.Factor.TheVariants.{Variable, Ltu, Eq, Sel, Product, Sum}
+use Rattle.ft_norm.specs.declared.entry.Factor.TheVariants.{Variable, Operation, Sel}
 use Rattle.ft_norm.specs.declared.entry.Term.{Term}
 use Rattle.ft_norm.specs.declared.entry.Entry.{Entry}
-use Rattle.ft_norm.specs.declared.entry.Entry.TheVariants.{Single, Several, Unchanged, Update}
+use Rattle.ft_norm.specs.Packing.{unpacked}
+use Rattle.ft_norm.specs.declared.entry.Entry.TheVariants.{Atom as Lone, Linear, Packed, Full, Unchanged, Update}
 use Rattle.ft_norm.specs.Held.{polynomial_at, updates_at}
-use Rattle.ft_norm.specs.Entries.{atom_form, monomial_form, polynomial_form, entry_form, forms_onto, forms_of, is_integer_form, is_memory_form, integer_reach, memory_reach, reach, reach_of_factors, reach_of_terms, reach_of_entry, NamesEarlier, IsIntegerAt, IsMemoryAt}
+use Rattle.ft_norm.specs.Entries.{alone_term, atom_at, atom_form, atom_of, atom_reach, full, monomial_form, polynomial_form, entry_form, forms_onto, forms_of, is_atom_form, is_integer_form, is_memory_form, integer_reach, memory_reach, reach, reach_of_atoms, reach_of_terms, reach_of_entry, with_atom, NamesEarlier, IsAtomAt, IsIntegerAt, IsMemoryAt}
 use Rattle.ft_norm.proofs.Lists.{slice_get-append, slice_get-push}
 
 -- both lists have the same forms below n
@@ -28,26 +30,30 @@ updates_agree n fs gs h k l = ap (λ (o : Option Form). updates_of (unwrap_or o 
 -- a factor that names only what is below n is the same atom in both
 pub atom_agree : (n : ℕ) (fs gs hs : List Form) → Agree n fs gs → (a : Factor) → reach hs a ≤ n → atom_form fs a ≡ atom_form gs a
 atom_agree n fs gs hs h (Variable i) l = refl
-atom_agree n fs gs hs h (Ltu p q) l = let x = polynomials_agree n fs gs h p (omega arith) in let y = polynomials_agree n fs gs h q (omega arith) in cc
-atom_agree n fs gs hs h (Eq p q) l = let x = polynomials_agree n fs gs h p (omega arith) in let y = polynomials_agree n fs gs h q (omega arith) in cc
+atom_agree n fs gs hs h (Operation o p q) l = let x = polynomials_agree n fs gs h p (omega arith) in let y = polynomials_agree n fs gs h q (omega arith) in cc
 atom_agree n fs gs hs h (Sel p q) l = let x = updates_agree n fs gs h p (omega arith) in let y = polynomials_agree n fs gs h q (omega arith) in cc
-atom_agree n fs gs hs h (Product p q) l = let x = polynomials_agree n fs gs h p (omega arith) in let y = polynomials_agree n fs gs h q (omega arith) in cc
-atom_agree n fs gs hs h (Sum p q) l = let x = polynomials_agree n fs gs h p (omega arith) in let y = polynomials_agree n fs gs h q (omega arith) in cc
 
--- so are factors
-pub monomial_agree : (n : ℕ) (fs gs hs : List Form) → Agree n fs gs → (xs : List Factor) → reach_of_factors hs xs ≤ n → monomial_form fs xs ≡ monomial_form gs xs
+-- so is one of a number
+with_atom_agree : (n : ℕ) (fs gs hs : List Form) → Agree n fs gs → (x : ℕ) → atom_reach hs x ≤ n → (m : Monomial) → with_atom fs x m ≡ with_atom gs x m
+with_atom_agree n fs gs hs h zero l m = refl
+with_atom_agree n fs gs hs h (suc k) l m = ap (λ (p : Polynomial). with_factor (atom_of p) m) (polynomials_agree n fs gs h k (omega arith))
+
+-- and monomials
+pub monomial_agree : (n : ℕ) (fs gs hs : List Form) → Agree n fs gs → (xs : List ℕ) → reach_of_atoms hs xs ≤ n → monomial_form fs xs ≡ monomial_form gs xs
 monomial_agree n fs gs hs h [] l = refl
-monomial_agree n fs gs hs h (x ∷ xs) l = let a = atom_agree n fs gs hs h x (omega arith) in let b = monomial_agree n fs gs hs h xs (omega arith) in rw (a, b) refl
+monomial_agree n fs gs hs h (x ∷ xs) l = with_atom_agree n fs gs hs h x (omega arith) (monomial_form fs xs) ∙ ap (with_atom gs x) (monomial_agree n fs gs hs h xs (omega arith))
 
 -- and terms
 pub terms_agree : (n : ℕ) (fs gs hs : List Form) → Agree n fs gs → (ts : List Term) → reach_of_terms hs ts ≤ n → polynomial_form fs ts ≡ polynomial_form gs ts
 terms_agree n fs gs hs h [] l = refl
-terms_agree n fs gs hs h (t ∷ ts) l = let a = monomial_agree n fs gs hs h t.factors.value.items (omega arith) in let b = terms_agree n fs gs hs h ts (omega arith) in rw (a, b) refl
+terms_agree n fs gs hs h (t ∷ ts) l = let a = monomial_agree n fs gs hs h t.atoms (omega arith) in let b = terms_agree n fs gs hs h ts (omega arith) in rw (a, b) refl
 
 -- and entries
 pub entry_agree : (n : ℕ) (fs gs hs : List Form) → Agree n fs gs → (e : Entry) → reach_of_entry hs e ≤ n → entry_form fs e ≡ entry_form gs e
-entry_agree n fs gs hs h (Single t) l = ap integer_form (terms_agree n fs gs hs h (t ∷ []) l)
-entry_agree n fs gs hs h (Several ts) l = ap integer_form (terms_agree n fs gs hs h ts.items l)
+entry_agree n fs gs hs h (Lone a) l = ap (λ b. integer_form (alone b)) (atom_agree n fs gs hs h a l)
+entry_agree n fs gs hs h (Linear ts) l = ap integer_form (terms_agree n fs gs hs h (map full ts.items) l)
+entry_agree n fs gs hs h (Packed ts) l = ap integer_form (terms_agree n fs gs hs h (map unpacked ts.items) l)
+entry_agree n fs gs hs h (Full ts) l = ap integer_form (terms_agree n fs gs hs h ts.items l)
 entry_agree n fs gs hs h Unchanged l = refl
 entry_agree n fs gs hs h (Update at value older) l = let x = polynomials_agree n fs gs h at (omega arith) in let y = polynomials_agree n fs gs h value (omega arith) in let z = updates_agree n fs gs h older (omega arith) in cc
 
@@ -103,6 +109,10 @@ form_read es i e x h l r k = form_at es i e h l ∙ ap (λ (y : Entry). Some (en
 pub polynomial_read : (es : List Entry) (i : ℕ) (e x : Entry) → NamesEarlier es → i < length es → e ≡ get_or es i e → e ≡ x → polynomial_of (entry_form (forms_of es) x) ≡ polynomial_at (forms_of es) i
 polynomial_read es i e x h l r k = sym (ap (λ (o : Option Form). polynomial_of (unwrap_or o (integer_form nought))) (form_read es i e x h l r k))
 
+-- that of an atom is the term of its number
+pub lone_read : (es : List Entry) (i : ℕ) (e : Entry) (a : Factor) → NamesEarlier es → i < length es → e ≡ get_or es i e → e ≡ Lone a → polynomial_form (forms_of es) (alone_term (i + 1) ∷ []) ≡ polynomial_at (forms_of es) i
+lone_read es i e a h l r k = let p : polynomial_at (forms_of es) i ≡ alone (atom_form (forms_of es) a) = sym (polynomial_read es i e (Lone a) h l r k) in rw (add-one, p) refl
+
 -- the updates of such an entry
 pub updates_read : (es : List Entry) (i : ℕ) (e x : Entry) → NamesEarlier es → i < length es → e ≡ get_or es i e → e ≡ x → updates_at (forms_of es) i ≡ updates_of (entry_form (forms_of es) x)
 updates_read es i e x h l r k = ap (λ (o : Option Form). updates_of (unwrap_or o (integer_form nought))) (form_read es i e x h l r k)
@@ -126,26 +136,34 @@ memory_reach_agree n m fs gs h l k i r = go (is_memory_form (slice_get fs i)) (i
 -- and so are all that a factor names
 reach_agree : (n m : ℕ) (fs gs : List Form) → Agree n fs gs → n ≤ length fs → m ≤ n → (a : Factor) → reach fs a ≤ m → reach gs a ≤ m
 reach_agree n m fs gs h l k (Variable i) r = r
-reach_agree n m fs gs h l k (Ltu p q) r = let x = integer_reach_agree n m fs gs h l k p (omega arith) in let y = integer_reach_agree n m fs gs h l k q (omega arith) in omega arith
-reach_agree n m fs gs h l k (Eq p q) r = let x = integer_reach_agree n m fs gs h l k p (omega arith) in let y = integer_reach_agree n m fs gs h l k q (omega arith) in omega arith
+reach_agree n m fs gs h l k (Operation o p q) r = let x = integer_reach_agree n m fs gs h l k p (omega arith) in let y = integer_reach_agree n m fs gs h l k q (omega arith) in omega arith
 reach_agree n m fs gs h l k (Sel p q) r = let x = memory_reach_agree n m fs gs h l k p (omega arith) in let y = integer_reach_agree n m fs gs h l k q (omega arith) in omega arith
-reach_agree n m fs gs h l k (Product p q) r = let x = integer_reach_agree n m fs gs h l k p (omega arith) in let y = integer_reach_agree n m fs gs h l k q (omega arith) in omega arith
-reach_agree n m fs gs h l k (Sum p q) r = let x = integer_reach_agree n m fs gs h l k p (omega arith) in let y = integer_reach_agree n m fs gs h l k q (omega arith) in omega arith
 
--- that factors name
-factors_reach_agree : (n m : ℕ) (fs gs : List Form) → Agree n fs gs → n ≤ length fs → m ≤ n → (xs : List Factor) → reach_of_factors fs xs ≤ m → reach_of_factors gs xs ≤ m
-factors_reach_agree n m fs gs h l k [] r = r
-factors_reach_agree n m fs gs h l k (x ∷ xs) r = let a = reach_agree n m fs gs h l k x (omega arith) in let b = factors_reach_agree n m fs gs h l k xs (omega arith) in omega arith
+-- so is one that is an atom's
+atom_reach_agree : (n m : ℕ) (fs gs : List Form) → Agree n fs gs → n ≤ length fs → m ≤ n → (x : ℕ) → atom_reach fs x ≤ m → atom_reach gs x ≤ m
+atom_reach_agree n m fs gs h l k zero r = r
+atom_reach_agree n m fs gs h l k (suc i) r = go (is_atom_form (slice_get fs i)) (is_atom_form (slice_get gs i)) (ap is_atom_form (sym (h.below i (omega arith)))) r
+  where
+    go : (b c : Bool) → c ≡ b → i + 1 + (if b then 0 else length fs) ≤ m → i + 1 + (if c then 0 else length gs) ≤ m
+    go true c e r = rw e r
+    go false c e r = absurd (omega arith)
+
+-- that a monomial names
+atoms_reach_agree : (n m : ℕ) (fs gs : List Form) → Agree n fs gs → n ≤ length fs → m ≤ n → (xs : List ℕ) → reach_of_atoms fs xs ≤ m → reach_of_atoms gs xs ≤ m
+atoms_reach_agree n m fs gs h l k [] r = r
+atoms_reach_agree n m fs gs h l k (x ∷ xs) r = let a = atom_reach_agree n m fs gs h l k x (omega arith) in let b = atoms_reach_agree n m fs gs h l k xs (omega arith) in omega arith
 
 -- that terms name
 terms_reach_agree : (n m : ℕ) (fs gs : List Form) → Agree n fs gs → n ≤ length fs → m ≤ n → (ts : List Term) → reach_of_terms fs ts ≤ m → reach_of_terms gs ts ≤ m
 terms_reach_agree n m fs gs h l k [] r = r
-terms_reach_agree n m fs gs h l k (t ∷ ts) r = let a = factors_reach_agree n m fs gs h l k t.factors.value.items (omega arith) in let b = terms_reach_agree n m fs gs h l k ts (omega arith) in omega arith
+terms_reach_agree n m fs gs h l k (t ∷ ts) r = let a = atoms_reach_agree n m fs gs h l k t.atoms (omega arith) in let b = terms_reach_agree n m fs gs h l k ts (omega arith) in omega arith
 
 -- that an entry names
 entry_reach_agree : (n m : ℕ) (fs gs : List Form) → Agree n fs gs → n ≤ length fs → m ≤ n → (e : Entry) → reach_of_entry fs e ≤ m → reach_of_entry gs e ≤ m
-entry_reach_agree n m fs gs h l k (Single t) r = terms_reach_agree n m fs gs h l k (t ∷ []) r
-entry_reach_agree n m fs gs h l k (Several ts) r = terms_reach_agree n m fs gs h l k ts.items r
+entry_reach_agree n m fs gs h l k (Lone a) r = reach_agree n m fs gs h l k a r
+entry_reach_agree n m fs gs h l k (Linear ts) r = terms_reach_agree n m fs gs h l k (map full ts.items) r
+entry_reach_agree n m fs gs h l k (Packed ts) r = terms_reach_agree n m fs gs h l k (map unpacked ts.items) r
+entry_reach_agree n m fs gs h l k (Full ts) r = terms_reach_agree n m fs gs h l k ts.items r
 entry_reach_agree n m fs gs h l k Unchanged r = r
 entry_reach_agree n m fs gs h l k (Update at value older) r =
     let x = integer_reach_agree n m fs gs h l k at (omega arith) in
@@ -189,6 +207,28 @@ memory_reached fs n i l r = go (slice_get fs i) refl r
     go (Some (integer_form p)) e r = absurd (omega arith)
     go (Some (memory_form u)) e r = e ∙ ap (λ (q : Option Form). Some (memory_form (updates_of (unwrap_or q (integer_form nought))))) (sym e)
 
+-- or that of one atom alone
+pub atom_reached : (fs : List Form) (n i : ℕ) → n ≤ length fs → atom_reach fs (suc i) ≤ n → IsAtomAt fs i
+atom_reached fs n i l r = go (slice_get fs i) refl r
+  where
+    no : (o : Option Form) → is_atom_form o ≡ false → i + 1 + (if is_atom_form o then 0 else length fs) ≤ n → slice_get fs i ≡ Some (integer_form (alone (atom_at fs i)))
+    no o e r = absurd (let w : i + 1 + length fs ≤ n = rw e at r in omega arith)
+
+    go : (o : Option Form) → slice_get fs i ≡ o → i + 1 + (if is_atom_form o then 0 else length fs) ≤ n → IsAtomAt fs i
+    go (Some (integer_form (plus (times a one) (suc zero) nought))) e r = e ∙ ap (λ (q : Option Form). Some (integer_form (alone (atom_of (polynomial_of (unwrap_or q (integer_form nought))))))) (sym e)
+    go None e r = no None refl r
+    go (Some (memory_form u)) e r = no (Some (memory_form u)) refl r
+    go (Some (integer_form nought)) e r = no (Some (integer_form nought)) refl r
+    go (Some (integer_form (plus one c p))) e r = no (Some (integer_form (plus one c p))) refl r
+    go (Some (integer_form (plus (times a (times b m)) c p))) e r = no (Some (integer_form (plus (times a (times b m)) c p))) refl r
+    go (Some (integer_form (plus (times a one) zero p))) e r = no (Some (integer_form (plus (times a one) zero p))) refl r
+    go (Some (integer_form (plus (times a one) (suc (suc c)) p))) e r = no (Some (integer_form (plus (times a one) (suc (suc c)) p))) refl r
+    go (Some (integer_form (plus (times a one) (suc zero) (plus m d p)))) e r = no (Some (integer_form (plus (times a one) (suc zero) (plus m d p)))) refl r
+
+-- an atom's reaches just beyond itself
+pub atom_reaches : (fs : List Form) (i : ℕ) (a : Atom) → slice_get fs i ≡ Some (integer_form (alone a)) → atom_reach fs (i + 1) ≡ i + 1
+atom_reaches fs i a e = rw (add-one, e) (omega arith)
+
 -- an integer's reaches just beyond itself
 pub integer_reaches : (fs : List Form) (i : ℕ) (p : Polynomial) → slice_get fs i ≡ Some (integer_form p) → integer_reach fs i ≡ i + 1
 integer_reaches fs i p e = rw e (omega arith)
@@ -224,7 +264,9 @@ pub no_link : (es : List Entry) (m : ℕ) (e : Entry) → NamesEarlier es → m 
 no_link es m e h l r k = updates_read es m e e h l r refl ∙ go e k
   where
     go : (e : Entry) → ((at value older : ℕ) → e ≡ Update at value older → ⊥) → updates_of (entry_form (forms_of es) e) ≡ unchanged
-    go (Single t) k = refl
-    go (Several ts) k = refl
+    go (Lone a) k = refl
+    go (Linear ts) k = refl
+    go (Packed ts) k = refl
+    go (Full ts) k = refl
     go Unchanged k = refl
     go (Update at value older) k = absurd (k at value older refl)

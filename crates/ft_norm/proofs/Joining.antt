@@ -1,5 +1,5 @@
 -- An atom may be put before or after others, and into either part of a product.
-use Rattle.std.proofs.Common.{ℕ, suc, zero, ◌≡◌, ◌≢◌, ◌+◌, ◌<◌, ◌≤◌, List, [], ◌∷◌, ◌++◌, length, get_or, refl, sym, ap, ◌∙◌, arith, take, drop, add-one, drop-cons}
+use Rattle.std.proofs.Common.{ℕ, suc, zero, ◌≡◌, ◌≢◌, List, [], ◌∷◌, refl, sym, ap, ◌∙◌, arith, zero-add}
 use Rattle.std.specs.Ordering.{ordering_reverse}
 use Rattle.std.specs.declared.cmp.Ordering.{Ordering}
 use Rattle.std.specs.declared.cmp.Ordering.TheVariants.{Less, Equal, Greater}
@@ -8,8 +8,7 @@ use Rattle.ft_static.specs.FormOrder.{cmp_atom}
 use Rattle.ft_static.specs.NormalForm.{join, with_factor}
 use Rattle.ft_static.proofs.Cases.{by_cases}
 use Rattle.ft_static.proofs.Spelled.{atom_equal, cmp_atom_total}
-use Rattle.ft_norm.specs.declared.entry.Factor.{Factor}
-use Rattle.ft_norm.specs.Entries.{atom_form, monomial_form, reach, reach_of_factors}
+use Rattle.ft_norm.specs.Entries.{atom_at, monomial_form, size, with_atom}
 
 -- an atom that is not above the first comes first
 first_of_all : (a d : Atom) (m : Monomial) → cmp_atom a d ≢ Greater → with_factor a (times d m) ≡ times a (times d m)
@@ -94,66 +93,32 @@ join_added a (times b m) n = either (join (with_factor a (times b m)) n ≡ with
     (λ h. ap (λ k. join k n) (first_of_all a b m h) ∙ join_with (times b m) a n)
     (λ h. ap (λ k. join k n) (later a b m h) ∙ join_added a m (with_factor b n))
 
--- a factor put anywhere
-pub factor_put : (fs : List Form) (xs : List Factor) (i : ℕ) (a : Factor) → monomial_form fs (take i xs ++ a ∷ drop i xs) ≡ with_factor (atom_form fs a) (monomial_form fs xs)
-factor_put fs [] zero a = refl
-factor_put fs [] (suc i) a = refl
-factor_put fs (x ∷ xs) zero a = refl
-factor_put fs (x ∷ xs) (suc i) a = ap (with_factor (atom_form fs x)) (factor_put fs xs i a) ∙ with_swap (atom_form fs x) (atom_form fs a) (monomial_form fs xs)
+-- so may atoms by number
+pub atoms_swap : (fs : List Form) (x y : ℕ) (m : Monomial) → with_atom fs x (with_atom fs y m) ≡ with_atom fs y (with_atom fs x m)
+atoms_swap fs zero y m = refl
+atoms_swap fs (suc i) zero m = refl
+atoms_swap fs (suc i) (suc j) m = with_swap (atom_at fs i) (atom_at fs j) m
 
--- one more factor is joined
-pub join_more : (fs : List Form) (xs : List Factor) (n : Monomial) (i : ℕ) (d : Factor) → i < length xs
-    → join (monomial_form fs (drop i xs)) n ≡ join (monomial_form fs (drop (i + 1) xs)) (with_factor (atom_form fs (get_or xs i d)) n)
-join_more fs xs n i d l =
-    let e : drop i xs ≡ get_or xs i d ∷ drop (i + 1) xs = rw (add-one, drop-cons xs i d) refl in
-    let m = monomial_form fs (drop (i + 1) xs) in
-    ap (λ t. join (monomial_form fs t) n) e ∙ (join_added (atom_form fs (get_or xs i d)) m n ∙ sym (join_with m (atom_form fs (get_or xs i d)) n))
+-- an atom by number in the first part of a product
+pub join_atom : (fs : List Form) (x : ℕ) (m n : Monomial) → join (with_atom fs x m) n ≡ with_atom fs x (join m n)
+join_atom fs zero m n = refl
+join_atom fs (suc i) m n = join_added (atom_at fs i) m n
+
+-- the atoms of the first part are put into the second, the last first
+pub join_atoms : (fs : List Form) (a b c d : ℕ) (n : Monomial) → join (monomial_form fs (a ∷ b ∷ c ∷ d ∷ [])) n ≡ with_atom fs a (with_atom fs b (with_atom fs c (with_atom fs d n)))
+join_atoms fs a b c d n =
+    join_atom fs a (monomial_form fs (b ∷ c ∷ d ∷ [])) n
+    ∙ (ap (with_atom fs a) (join_atom fs b (monomial_form fs (c ∷ d ∷ [])) n)
+    ∙ (ap (λ k. with_atom fs a (with_atom fs b k)) (join_atom fs c (monomial_form fs (d ∷ [])) n)
+    ∙ ap (λ k. with_atom fs a (with_atom fs b (with_atom fs c k))) (join_atom fs d one n)))
 
 -- an atom more is one more
 factors_with : (a : Atom) (m : Monomial) → factors (with_factor a m) ≡ suc (factors m)
 factors_with a one = refl
 factors_with a (times b m) = by_cases (λ n. factors n ≡ suc (suc (factors m))) (cmp_atom a b) (times a (times b m)) (times a (times b m)) (times b (with_factor a m)) (λ e. refl) (λ e. refl) (λ e. ap suc (factors_with a m))
 
--- no factor behind those of a list
-join_none : (fs : List Form) (xs : List Factor) → join (monomial_form fs xs) one ≡ monomial_form fs xs
-join_none fs [] = refl
-join_none fs (x ∷ xs) = join_added (atom_form fs x) (monomial_form fs xs) one ∙ ap (with_factor (atom_form fs x)) (join_none fs xs)
-
--- so a list with none behind it is the product
-pub join_last_none : (fs : List Form) (xs ys zs : List Factor) → length ys ≡ 0 → zs ≡ xs → monomial_form fs zs ≡ join (monomial_form fs xs) (monomial_form fs ys)
-join_last_none fs xs [] zs e f = ap (monomial_form fs) f ∙ sym (join_none fs xs)
-join_last_none fs xs (y ∷ ys) zs e f = absurd (omega arith)
-
--- a monomial has as many atoms as there are factors
-pub factors-monomial_form : (fs : List Form) (xs : List Factor) → factors (monomial_form fs xs) ≡ length xs
+-- a monomial has as many atoms as its numbers tell
+pub factors-monomial_form : (fs : List Form) (xs : List ℕ) → factors (monomial_form fs xs) ≡ size xs
 factors-monomial_form fs [] = refl
-factors-monomial_form fs (x ∷ xs) = factors_with (atom_form fs x) (monomial_form fs xs) ∙ ap suc (factors-monomial_form fs xs)
-
--- two lists name no more than the larger bound
-factors_append : (fs : List Form) (xs ys : List Factor) (n : ℕ) → reach_of_factors fs xs ≤ n → reach_of_factors fs ys ≤ n → reach_of_factors fs (xs ++ ys) ≤ n
-factors_append fs [] ys n h k = k
-factors_append fs (x ∷ xs) ys n h k = let r = factors_append fs xs ys n (omega arith) k in omega arith
-
--- nor do the first ones
-factors_take : (fs : List Form) (xs : List Factor) (i n : ℕ) → reach_of_factors fs xs ≤ n → reach_of_factors fs (take i xs) ≤ n
-factors_take fs [] zero n h = omega arith
-factors_take fs [] (suc i) n h = omega arith
-factors_take fs (x ∷ xs) zero n h = omega arith
-factors_take fs (x ∷ xs) (suc i) n h = let r = factors_take fs xs i n (omega arith) in omega arith
-
--- nor do the last ones
-factors_drop : (fs : List Form) (xs : List Factor) (i n : ℕ) → reach_of_factors fs xs ≤ n → reach_of_factors fs (drop i xs) ≤ n
-factors_drop fs [] zero n h = omega arith
-factors_drop fs [] (suc i) n h = omega arith
-factors_drop fs (x ∷ xs) zero n h = h
-factors_drop fs (x ∷ xs) (suc i) n h = factors_drop fs xs i n (omega arith)
-
--- nor do they with one more
-pub factors_insert : (fs : List Form) (xs : List Factor) (i n : ℕ) (v : Factor) → reach_of_factors fs xs ≤ n → reach fs v ≤ n → reach_of_factors fs (take i xs ++ v ∷ drop i xs) ≤ n
-factors_insert fs xs i n v h k = factors_append fs (take i xs) (v ∷ drop i xs) n (factors_take fs xs i n h) (let r = factors_drop fs xs i n h in omega arith)
-
--- a factor names no more than all of them
-pub factor_reach : (fs : List Form) (xs : List Factor) (d : Factor) (k : ℕ) → k < length xs → reach fs (get_or xs k d) ≤ reach_of_factors fs xs
-factor_reach fs [] d k l = absurd (omega arith)
-factor_reach fs (x ∷ xs) d zero l = omega arith
-factor_reach fs (x ∷ xs) d (suc k) l = let h = factor_reach fs xs d k (omega arith) in omega arith
+factors-monomial_form fs (zero ∷ xs) = factors-monomial_form fs xs ∙ sym (zero-add (size xs))
+factors-monomial_form fs (suc k ∷ xs) = factors_with (atom_at fs k) (monomial_form fs xs) ∙ (let h = factors-monomial_form fs xs in omega (arith, h))

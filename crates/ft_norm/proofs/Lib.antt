@@ -3,9 +3,13 @@ pub mod Forms
 pub mod Weights
 pub mod Adding
 pub mod Joining
-pub mod SameFactors
+pub mod SameTerms
+pub mod Numbers
 pub mod Ordered
 pub mod Sums
+pub mod Linear
+pub mod Packing
+pub mod Views
 pub mod Single
 pub mod Limits
 pub mod Walking

@@ -1,13 +1,13 @@
 -- Where sums and products stay within the limits, and where they are atoms.
-use Rattle.std.proofs.Common.{ℕ, ◌≡◌, ◌+◌, ◌*◌, ◌<◌, ◌≤◌, min, List, [], ◌∷◌, refl, sym, ap, ◌∙◌, subst, arith, Bool, not, ◌==◌, if◌then◌else◌, nat_le, true, false, ◌&&◌, inl, inr, Option, Some, None, length, ◌^◌}
+use Rattle.std.proofs.Common.{ℕ, zero, suc, ◌≡◌, ◌+◌, ◌*◌, ◌<◌, ◌≤◌, min, List, [], ◌∷◌, refl, sym, ap, ◌∙◌, subst, arith, Bool, nat_le, true, false, ◌&&◌, inl, inr, Some, None, length, ◌^◌}
 use Rattle.std.proofs.Math.Nat.{mod-eq_of_lt}
-use Rattle.std.proofs.lemmas.Bool.{and_parts, cases_lt, le-leb, leb-true, lt-leb}
-use Rattle.ft_static.specs.Form.{Form as Normal, Monomial, Polynomial, factors, nought, one, plus, times, product_atom, sum_atom, terms}
+use Rattle.std.proofs.lemmas.Bool.{cases_lt, le-leb, lt-leb}
+use Rattle.ft_isa.specs.declared.op.Op.TheVariants.{Add, Mul}
+use Rattle.ft_static.specs.Form.{Form as Normal, Monomial, Polynomial, factors, nought, one, plus, times, operation_atom, terms}
 use Rattle.ft_static.specs.NormalForm.{add_products, alone, constant_of, degree, negation, norm_add, norm_mul, norm_sub, total}
 use Rattle.ft_static.proofs.Cases.{if_cases}
-use Rattle.ft_norm.specs.declared.entry.Factor.{Factor}
 use Rattle.ft_norm.specs.declared.entry.Term.{Term}
-use Rattle.ft_norm.specs.Entries.{monomial_form, polynomial_form}
+use Rattle.ft_norm.specs.Entries.{monomial_form, polynomial_form, size}
 use Rattle.ft_norm.specs.Terms.{AreOver}
 use Rattle.ft_norm.proofs.Adding.{total_none}
 use Rattle.ft_norm.proofs.Single.{terms_over}
@@ -22,7 +22,7 @@ norm_add_small p q s n e t h =
     rw k e
 
 -- otherwise the atom is
-norm_add_large : (p q s : Polynomial) (n : ℕ) → s ≡ total p q → terms s ≡ n → 64 < n → alone (sum_atom p q) ≡ norm_add p q
+norm_add_large : (p q s : Polynomial) (n : ℕ) → s ≡ total p q → terms s ≡ n → 64 < n → alone (operation_atom Add p q) ≡ norm_add p q
 norm_add_large p q s n e t h =
     let k : nat_le (terms (total p q)) 64 ≡ false = lt-leb _ _ (let m : terms (total p q) ≡ n = ap terms (sym e) ∙ t in omega arith) in
     rw k refl
@@ -51,21 +51,26 @@ large_is_none (plus (times a m) c p) e = refl
 
 -- so a sum is the constant that its form is, also beyond the limit
 pub constant_sum : (p q : Polynomial) → constant_of (total p q) ≡ constant_of (norm_add p q)
-constant_sum p q = if_cases (λ r. constant_of (total p q) ≡ constant_of r) (nat_le (terms (total p q)) 64) (total p q) (alone (sum_atom p q)) (λ e. refl) (λ e. large_is_none (total p q) e)
+constant_sum p q = if_cases (λ r. constant_of (total p q) ≡ constant_of r) (nat_le (terms (total p q)) 64) (total p q) (alone (operation_atom Add p q)) (λ e. refl) (λ e. large_is_none (total p q) e)
 
--- no factor
-pub no_factor : (fs : List Normal) (xs : List Factor) (c : ℕ) → length xs ≡ 0 → c < 2 ^ 64 → Some c ≡ constant_of (plus (monomial_form fs xs) c nought)
-no_factor fs [] c e w = ap Some (sym (mod-eq_of_lt w))
-no_factor fs (x ∷ xs) c e w = absurd (omega arith)
+-- no atom makes the empty monomial
+pub no_atom : (fs : List Normal) (xs : List ℕ) → size xs ≡ 0 → monomial_form fs xs ≡ one
+no_atom fs [] e = refl
+no_atom fs (zero ∷ xs) e = no_atom fs xs (omega (arith, e))
+no_atom fs (suc k ∷ xs) e = absurd (omega (arith, e))
+
+-- so its polynomial is a constant
+pub no_atom_constant : (fs : List Normal) (xs : List ℕ) (c : ℕ) → size xs ≡ 0 → c < 2 ^ 64 → Some c ≡ constant_of (plus (monomial_form fs xs) c nought)
+no_atom_constant fs xs c e w = rw (no_atom fs xs e) (ap Some (sym (mod-eq_of_lt w)))
 
 -- a monomial with an atom is no constant
 no_constant : (m : Monomial) (c : ℕ) → 0 < factors m → None ≡ constant_of (plus m c nought)
 no_constant one c l = absurd (omega arith)
 no_constant (times a m) c l = refl
 
--- some factor
-pub some_factor : (fs : List Normal) (xs : List Factor) (c : ℕ) → (length xs ≡ 0 → ⊥) → None ≡ constant_of (plus (monomial_form fs xs) c nought)
-some_factor fs xs c h = no_constant (monomial_form fs xs) c (let e = factors-monomial_form fs xs in omega (arith, e, h))
+-- some atom
+pub some_atom_constant : (fs : List Normal) (xs : List ℕ) (c : ℕ) → (size xs ≡ 0 → ⊥) → None ≡ constant_of (plus (monomial_form fs xs) c nought)
+some_atom_constant fs xs c h = no_constant (monomial_form fs xs) c (let e = factors-monomial_form fs xs in omega (arith, e, h))
 
 -- no terms make nothing
 nothing : (fs : List Normal) (q : List Term) → length q ≡ 0 → polynomial_form fs q ≡ nought
@@ -98,19 +103,11 @@ pub sum_small : (fs : List Normal) (a b x y : Polynomial) (s : List Term) → Ar
 sum_small fs a b x y s o v e f l = norm_add_small a b (polynomial_form fs s) (length s) (v ∙ (ap (λ z. total z y) e ∙ ap (total a) f)) (terms_over fs s o) l
 
 -- and beyond it
-pub sum_large : (fs : List Normal) (a b x y : Polynomial) (s : List Term) → AreOver fs s → polynomial_form fs s ≡ total x y → x ≡ a → y ≡ b → 64 < length s → alone (sum_atom a b) ≡ norm_add a b
+pub sum_large : (fs : List Normal) (a b x y : Polynomial) (s : List Term) → AreOver fs s → polynomial_form fs s ≡ total x y → x ≡ a → y ≡ b → 64 < length s → alone (operation_atom Add a b) ≡ norm_add a b
 sum_large fs a b x y s o v e f l = norm_add_large a b (polynomial_form fs s) (length s) (v ∙ (ap (λ z. total z y) e ∙ ap (total a) f)) (terms_over fs s o) l
 
--- a product within the limits has few terms
-pub product_count : (fs : List Normal) (p q : List Term) (t d : Bool) (n : ℕ) → AreOver fs p → AreOver fs q → t ≡ (nat_le (terms (polynomial_form fs p) * terms (polynomial_form fs q)) 64 && d) → t ≡ true → n ≤ length p * length q → n ≤ 64
-product_count fs p q t d n o w h k l =
-    let b = and_parts (nat_le (terms (polynomial_form fs p) * terms (polynomial_form fs q)) 64) d (sym h ∙ k) in
-    let u : terms (polynomial_form fs p) * terms (polynomial_form fs q) ≤ 64 = leb-true (terms (polynomial_form fs p) * terms (polynomial_form fs q)) 64 b.0 in
-    let v : length p * length q ≤ 64 = rw (terms_over fs p o, terms_over fs q w) at u in
-    omega (arith, l, v)
-
 -- a product beyond the limits
-pub product_large : (a b x y : Polynomial) (t : Bool) → t ≡ (nat_le (terms x * terms y) 64 && nat_le (degree x + degree y) 4) → t ≡ false → x ≡ a → y ≡ b → alone (product_atom a b) ≡ norm_mul a b
+pub product_large : (a b x y : Polynomial) (t : Bool) → t ≡ (nat_le (terms x * terms y) 64 && nat_le (degree x + degree y) 4) → t ≡ false → x ≡ a → y ≡ b → alone (operation_atom Mul a b) ≡ norm_mul a b
 product_large a b x y t h k e f =
     let n : (nat_le (terms a * terms b) 64 && nat_le (degree a + degree b) 4) ≡ false = rw (sym e, sym f) (sym h ∙ k) in
     rw n refl

@@ -79,10 +79,6 @@ module _ (ps : List Polynomial) (u : Updates) (ns : List Node) (h : AreNodes ns)
   pub record Stands (fs : List Normal) (look : ℕ → Option Form) : Type 0 where
     pub each : (j : ℕ) (f : Form) → look j ≡ Some f → held fs f ≡ Some (tree_form j)
 
-  -- nothing is made yet
-  pub stands_none : (fs : List Normal) (look : ℕ → Option Form) → ((j : ℕ) → look j ≡ None) → Stands fs look
-  stands_none fs look n = record { each = λ (j : ℕ) (f : Form) e. let z : Some f ≡ None = sym e ∙ n j in cc }
-
   -- what was held stays
   pub stands_kept : (fs gs : List Normal) (look : ℕ → Option Form) → Keeps fs gs → Stands fs look → Stands gs look
   stands_kept fs gs look k s = record { each = λ (j : ℕ) (f : Form) e. k.forms_stay f (tree_form j) (s.each j f e) }

@@ -1,5 +1,5 @@
 -- Places of an interner's list, seen from its entries.
-use Rattle.std.proofs.Common.{ℕ, suc, ◌≡◌, ◌<◌, ◌≤◌, List, [], ◌∷◌, ◌++◌, length, refl, sym, ap, ◌∙◌, subst, arith, Option, Some, Result, Ok, Err, get_or, slice_get}
+use Rattle.std.proofs.Common.{ℕ, suc, ◌≡◌, ◌+◌, ◌<◌, ◌≤◌, List, [], ◌∷◌, ◌++◌, length, refl, sym, ap, ◌∙◌, subst, arith, Option, Some, Result, Ok, Err, get_or, slice_get}
 use Rattle.std.specs.Prelude.{IfOk}
 use Rattle.std.specs.Option.{unwrap_or}
 use Rattle.std.proofs.lemmas.Option.{slice_get_within}
@@ -96,13 +96,13 @@ pub memory_seen : (es xs : List Entry) (fs : List Normal) (f : Form) → forms_o
 memory_seen es xs fs f v e h = let g : forms_of xs ≡ fs = ap forms_of e ∙ v in rw g h.found
 
 -- terms of an entry, seen from the list
-pub over_seen : (es xs : List Entry) (fs : List Normal) (ts : List Term) (i : ℕ) → AreEntries es → forms_of es ≡ fs → xs ≡ es → AreTerms ts → reach_of_terms (forms_of xs) ts ≤ i → i < length xs → AreOver fs ts
+pub over_seen : (es xs : List Entry) (fs : List Normal) (ts : List Term) (i : ℕ) → AreEntries es → forms_of es ≡ fs → xs ≡ es → AreTerms ts → reach_of_terms (forms_of xs) ts ≤ i + 1 → i < length xs → AreOver fs ts
 over_seen es xs fs ts i h v e t r l = record {
   terms = t;
   distinct = subst IsDistinct v h.distinct;
   reach =
       let g : forms_of xs ≡ fs = ap forms_of e ∙ v in
-      let q : reach_of_terms fs ts ≤ i = rw g at r in
+      let q : reach_of_terms fs ts ≤ i + 1 = rw g at r in
       let n = as_many es xs fs v e in
       omega (arith, q, l, n);
 }
@@ -116,7 +116,7 @@ entry_seen es xs fs i e h v k l r =
 
 -- the terms of an integer that were read, seen from the list
 pub terms_seen : (es xs : List Entry) (fs : List Normal) (ts : List Term) (f : Form) → AreEntries es → forms_of es ≡ fs → xs ≡ es → IsInteger fs f
-    → polynomial_form (forms_of xs) ts ≡ polynomial_at (forms_of xs) f.0 → AreTerms ts → reach_of_terms (forms_of xs) ts ≤ f.0 → AreOver fs ts × (polynomial_form fs ts ≡ polynomial fs f)
+    → polynomial_form (forms_of xs) ts ≡ polynomial_at (forms_of xs) f.0 → AreTerms ts → reach_of_terms (forms_of xs) ts ≤ f.0 + 1 → AreOver fs ts × (polynomial_form fs ts ≡ polynomial fs f)
 terms_seen es xs fs ts f h v e i p t r =
     let g : forms_of xs ≡ fs = ap forms_of e ∙ v in
     (over_seen es xs fs ts f.0 h v e t r (within es xs fs f.0 _ v e i.found), rw g at p)

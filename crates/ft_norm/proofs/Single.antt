@@ -1,73 +1,97 @@
--- Over distinct forms, one monomial has one list of factors in order, and one polynomial one list of terms in order.
-use Rattle.std.proofs.Common.{ℕ, suc, zero, ◌≡◌, ◌≢◌, ◌+◌, ◌%◌, ◌^◌, ◌<◌, ◌≤◌, ◌==◌, List, [], ◌∷◌, ◌++◌, length, get_or, take, refl, sym, ap, ◌∙◌, arith, lit<, max, map, None, Some}
-use Rattle.std.proofs.lemmas.Cmp.{tied_itself}
+-- Over distinct forms, one monomial has one list of numbers in order, and one polynomial one list of terms in order.
+use Rattle.std.proofs.Common.{ℕ, suc, zero, ◌≡◌, ◌≢◌, ◌+◌, ◌%◌, ◌^◌, ◌<◌, ◌≤◌, ◌==◌, Bool, true, false, if◌then◌else◌, List, [], ◌∷◌, ◌++◌, length, get_or, take, refl, sym, ap, ◌∙◌, arith, lit<, max, None, Some, inl, inr}
+use Rattle.std.proofs.lemmas.Bool.{cases_lt, eqb-true}
+use Rattle.std.proofs.lemmas.Bool.Decides.{Decides-eqb}
+use Rattle.std.proofs.lemmas.Cmp.{nat_list_cmp_total, tied_itself}
 use Rattle.std.proofs.lemmas.List.{take_more}
-use Rattle.std.specs.declared.cmp.Ordering.{Ordering}
 use Rattle.std.specs.declared.cmp.Ordering.TheVariants.{Less, Equal, Greater}
-use Rattle.std.specs.Ordering.{ordering_reverse}
 use Rattle.ft_static.specs.Coefficient.{count, share}
 use Rattle.ft_static.specs.Form.{Atom, Form, Monomial, Polynomial, factors, integer_form, memory_form, nought, one, plus, terms, times}
 use Rattle.ft_static.specs.FormOrder.{cmp_atom, cmp_monomial}
-use Rattle.ft_static.specs.NormalForm.{add_term, by_order, constant_of, degree, led_by, with_factor}
+use Rattle.ft_static.specs.NormalForm.{add_term, alone, by_order, constant_of, degree, led_by, with_factor}
 use Rattle.ft_static.proofs.Cases.{by_cases, if_cases}
 use Rattle.ft_static.proofs.Counts.{count_join}
 use Rattle.ft_static.proofs.Spelled.{atom_equal, cmp_atom_total, cmp_monomial_total, monomial_equal}
-use Rattle.std.proofs.lemmas.Bool.{eqb-true}
 use Rattle.ft_norm.specs.declared.entry.Factor.{Factor}
-use Rattle.ft_norm.specs.declared.entry.Factor.TheVariants.{Variable, Ltu, Eq, Sel, Product, Sum}
+use Rattle.ft_norm.specs.declared.entry.Factor.TheVariants.{Variable, Operation, Sel}
 use Rattle.ft_norm.specs.declared.entry.Term.{Term}
 use Rattle.ft_norm.specs.Held.{polynomial_at, updates_at}
-use Rattle.ft_norm.specs.Entries.{IsDistinct, atom_form, integer_reach, memory_reach, monomial_form, parts, polynomial_form, reach, reach_of_factors, reach_of_terms}
-use Rattle.ft_norm.specs.Orders.{AreOrdered, AreTerms, Precedes, cmp_factor, cmp_factors}
+use Rattle.ft_norm.specs.Entries.{IsDistinct, alone_term, atom_at, atom_form, atom_reach, greatest, integer_reach, memory_reach, monomial_form, polynomial_form, reach, reach_of_atoms, reach_of_terms, size}
+use Rattle.ft_norm.specs.Orders.{AreOrdered, AreTerms, IsMonomial, Precedes, cmp_atoms}
 use Rattle.ft_norm.specs.Terms.{AreOver}
-use Rattle.ft_norm.proofs.Forms.{integer_reached, memory_reached}
+use Rattle.ft_norm.proofs.Forms.{atom_reached, integer_reached, memory_reached}
 use Rattle.ft_norm.proofs.Joining.{factors-monomial_form}
-use Rattle.ft_norm.proofs.Ordered.{cmp_factor_total, cmp_factors_total, factor_equal, factors_equal, factors_turned, precedes_through}
+use Rattle.ft_norm.proofs.Numbers.{one_number}
+use Rattle.ft_norm.proofs.Ordered.{atoms_equal, atoms_turned, precedes_through}
 use Rattle.ft_norm.proofs.Weights.{mods_both, mods_less, order_split, share_linear, weigh, weigh_add, words_same}
 
--- how often a factor stands among these
-abbrev times_in : Factor → List Factor → ℕ
+-- whether two numbers are the same
+abbrev pub alike : ℕ → ℕ → ℕ
+alike x y = if x == y then 1 else 0
+
+alike_itself : (x : ℕ) → alike x x ≡ 1
+alike_itself x = rw ((Decides-eqb x x).1 refl) refl
+
+alike_not : (x y : ℕ) → x ≢ y → alike x y ≡ 0
+alike_not x y n = go (x == y) refl
+  where
+    go : (b : Bool) → (x == y) ≡ b → (if◌then◌else◌ {A = ℕ} b 1 0) ≡ 0
+    go true e = absurd (n ((Decides-eqb x y).0 e))
+    go false e = refl
+
+-- how often a number stands among these
+abbrev pub times_in : ℕ → List ℕ → ℕ
 times_in x [] = 0
-times_in x (y ∷ ys) = by_order (cmp_factor x y) (times_in x ys) (suc (times_in x ys)) (times_in x ys)
+times_in x (y ∷ ys) = alike x y + times_in x ys
 
 -- how often an atom is another one
 abbrev meets : Atom → Atom → ℕ
 meets k a = by_order (cmp_atom k a) 0 1 0
 
--- a factor stands once more before the others
-times_first : (x : Factor) (xs : List Factor) → times_in x (x ∷ xs) ≡ suc (times_in x xs)
-times_first x xs = rw (tied_itself cmp_factor_total x) refl
+-- a number below those in order does not stand there
+times_none : (x y : ℕ) (ys : List ℕ) → x < y → AreOrdered (y ∷ ys) → times_in x (y ∷ ys) ≡ 0
+times_none x y [] e h = let a = alike_not x y (omega arith) in omega (arith, a)
+times_none x y (z ∷ ys) e h =
+    let a = alike_not x y (omega arith) in
+    let b = times_none x z ys (let w = h.0 in omega (arith, w, e)) h.1 in
+    omega (arith, a, b)
 
--- a factor below those in order does not stand there
-times_none : (x y : Factor) (ys : List Factor) → cmp_factor x y ≡ Less → AreOrdered (y ∷ ys) → times_in x (y ∷ ys) ≡ 0
-times_none x y [] e h = rw e refl
-times_none x y (z ∷ ys) e h = rw e (times_none x z ys (below (cmp_factor y z) refl) h.1)
-  where
-    below : (o : Ordering) → cmp_factor y z ≡ o → cmp_factor x z ≡ Less
-    below Less f = cmp_factor_total.trans x y z e f
-    below Equal f = ap (cmp_factor x) (sym (factor_equal y z f)) ∙ e
-    below Greater f = absurd (h.0 f)
+-- not more atoms than numbers
+size_bound : (xs : List ℕ) → size xs ≤ length xs
+size_bound [] = omega arith
+size_bound (zero ∷ xs) = let h = size_bound xs in omega (arith, h)
+size_bound (suc k ∷ xs) = let h = size_bound xs in omega (arith, h)
 
--- one factor more on both sides is taken away
-times_less : (o : Ordering) (m n : ℕ) → by_order o m (suc m) m ≡ by_order o n (suc n) n → m ≡ n
-times_less Less m n e = e
-times_less Equal m n e = omega (arith, e)
-times_less Greater m n e = e
+-- after an atom in order each number is one
+size_full : (k : ℕ) (xs : List ℕ) → AreOrdered (suc k ∷ xs) → size (suc k ∷ xs) ≡ length (suc k ∷ xs)
+size_full k [] h = refl
+size_full k (zero ∷ xs) h = absurd (let w = h.0 in omega (arith, w))
+size_full k (suc j ∷ xs) h = let r = size_full j xs h.1 in omega (arith, r)
 
--- factors in order that stand as often are the same
-same_times : (fs : List Form) (n : ℕ) (xs ys : List Factor) → AreOrdered xs → AreOrdered ys → reach_of_factors fs xs ≤ n → reach_of_factors fs ys ≤ n → ((z : Factor) → reach fs z ≤ n → times_in z xs ≡ times_in z ys) → xs ≡ ys
-same_times fs n [] [] h k a b e = refl
-same_times fs n [] (y ∷ ys) h k a b e = absurd (let x = e y (omega arith) in let z = times_first y ys in omega (arith, x, z))
-same_times fs n (x ∷ xs) [] h k a b e = absurd (let y = e x (omega arith) in let z = times_first x xs in omega (arith, y, z))
-same_times fs n (x ∷ xs) (y ∷ ys) h k a b e = order_split _ (cmp_factor x y)
-    (λ o. absurd (let u = e x (omega arith) in let v = times_first x xs in let w = times_none x y ys o k in omega (arith, u, v, w)))
-    (λ o.
-    let f : x ≡ y = factor_equal x y o in
-    let r : xs ≡ ys = same_times fs n xs ys h.1 k.1 (omega arith) (omega arith) (λ z l. times_less (cmp_factor z x) (times_in z xs) (times_in z ys) (e z l ∙ ap (λ t. times_in z (t ∷ ys)) (sym f))) in
-    rw (f, r) refl)
-    (λ o. absurd (
-    let q : cmp_factor y x ≡ Less = cmp_factor_total.antisymm y x ∙ ap ordering_reverse o in
-    let u = e y (omega arith) in let v = times_first y ys in let w = times_none y x xs q h in omega (arith, u, v, w)))
+-- so as many numbers with as many atoms begin alike
+begin_alike : (k : ℕ) (xs ys : List ℕ) → length xs ≡ length ys → AreOrdered (suc k ∷ ys) → size (zero ∷ xs) ≡ size (suc k ∷ ys) → ⊥
+begin_alike k xs ys l h e = let a = size_bound xs in let b = size_full k ys h in omega (arith, a, b, e, l)
+
+-- numbers in order in which each atom stands as often are the same
+same_times : (fs : List Form) (n : ℕ) (xs ys : List ℕ) → AreOrdered xs → AreOrdered ys → length xs ≡ length ys → size xs ≡ size ys → reach_of_atoms fs xs ≤ n → reach_of_atoms fs ys ≤ n
+    → ((k : ℕ) → atom_reach fs (suc k) ≤ n → times_in (suc k) xs ≡ times_in (suc k) ys) → xs ≡ ys
+same_times fs n [] [] h k l s a b e = refl
+same_times fs n [] (y ∷ ys) h k l s a b e = absurd (omega (arith, l))
+same_times fs n (x ∷ xs) [] h k l s a b e = absurd (omega (arith, l))
+same_times fs n (zero ∷ xs) (zero ∷ ys) h k l s a b e =
+    ap (λ zs. 0 ∷ zs) (same_times fs n xs ys h.1 k.1 (omega (arith, l)) (omega (arith, s)) (omega arith) (omega arith) (λ i r. let q = e i r in omega (arith, q)))
+same_times fs n (zero ∷ xs) (suc j ∷ ys) h k l s a b e = absurd (begin_alike j xs ys (omega (arith, l)) k s)
+same_times fs n (suc i ∷ xs) (zero ∷ ys) h k l s a b e = absurd (begin_alike i ys xs (omega (arith, l)) h (sym s))
+same_times fs n (suc i ∷ xs) (suc j ∷ ys) h k l s a b e = elim (cases_lt i j) [
+  | inl o ↦ absurd (let q = e i (omega arith) in let u = alike_itself (suc i) in let w = times_none (suc i) (suc j) ys (omega arith) k in omega (arith, q, u, w))
+  | inr o ↦ elim (cases_lt j i) [
+    | inl r ↦ absurd (let q = e j (omega arith) in let u = alike_itself (suc j) in let w = times_none (suc j) (suc i) xs (omega arith) h in omega (arith, q, u, w))
+    | inr r ↦
+        let f : i ≡ j = omega (arith, o, r) in
+        let g : xs ≡ ys = same_times fs n xs ys h.1 k.1 (omega (arith, l)) (omega (arith, s)) (omega arith) (omega arith) (λ t m. let q = e t m in let w = ap (λ z. alike (suc t) (suc z)) f in omega (arith, q, w)) in
+        rw (f, g) refl
+  ]
+]
 
 -- no monomial of a polynomial is this one
 abbrev pub Misses : Monomial → Polynomial → Type 0
@@ -101,13 +125,13 @@ degree_add m c (plus n d p) l w = by_cases (λ q. degree q ≡ max (factors m) (
 -- what a monomial gets of terms
 abbrev gives : List Form → Monomial → List Term → ℕ
 gives fs k [] = 0
-gives fs k (t ∷ ts) = share k (monomial_form fs t.factors.value.items) t.coefficient + gives fs k ts
+gives fs k (t ∷ ts) = share k (monomial_form fs t.atoms) t.coefficient + gives fs k ts
 
 -- it gets the same of their polynomial
 pub weigh_form : (fs : List Form) (k : Monomial) (ts : List Term) → weigh (share k) (polynomial_form fs ts) % 2 ^ 64 ≡ gives fs k ts % 2 ^ 64
 weigh_form fs k [] = refl
 weigh_form fs k (t ∷ ts) =
-    let m = monomial_form fs t.factors.value.items in
+    let m = monomial_form fs t.atoms in
     weigh_add (share k) (share_linear k) m t.coefficient (polynomial_form fs ts)
     ∙ mods_both (share k m t.coefficient) (share k m t.coefficient) (weigh (share k) (polynomial_form fs ts)) (gives fs k ts) refl (weigh_form fs k ts)
 
@@ -129,90 +153,93 @@ module _ (fs : List Form) (d : IsDistinct fs) where
   one_memory p r a b e = d.one p r (memory_form (updates_at fs r)) (memory_reached fs (length fs) p (omega arith) a ∙ ap (λ x. Some (memory_form x)) e) (memory_reached fs (length fs) r (omega arith) b)
 
   -- one atom has one factor
-  one_atom : (a b : Factor) → reach fs a ≤ length fs → reach fs b ≤ length fs → atom_form fs a ≡ atom_form fs b → a ≡ b
-  one_atom (Variable i) (Variable j) a b e = let t : i ≡ j = cc in ap Variable t
-  one_atom (Ltu p q) (Ltu r s) a b e = let t : polynomial_at fs p ≡ polynomial_at fs r = cc in let u : polynomial_at fs q ≡ polynomial_at fs s = cc in rw (one_integer p r (omega arith) (omega arith) t, one_integer q s (omega arith) (omega arith) u) refl
-  one_atom (Eq p q) (Eq r s) a b e = let t : polynomial_at fs p ≡ polynomial_at fs r = cc in let u : polynomial_at fs q ≡ polynomial_at fs s = cc in rw (one_integer p r (omega arith) (omega arith) t, one_integer q s (omega arith) (omega arith) u) refl
-  one_atom (Sel p q) (Sel r s) a b e = let t : updates_at fs p ≡ updates_at fs r = cc in let u : polynomial_at fs q ≡ polynomial_at fs s = cc in rw (one_memory p r (omega arith) (omega arith) t, one_integer q s (omega arith) (omega arith) u) refl
-  one_atom (Product p q) (Product r s) a b e = let t : polynomial_at fs p ≡ polynomial_at fs r = cc in let u : polynomial_at fs q ≡ polynomial_at fs s = cc in rw (one_integer p r (omega arith) (omega arith) t, one_integer q s (omega arith) (omega arith) u) refl
-  one_atom (Sum p q) (Sum r s) a b e = let t : polynomial_at fs p ≡ polynomial_at fs r = cc in let u : polynomial_at fs q ≡ polynomial_at fs s = cc in rw (one_integer p r (omega arith) (omega arith) t, one_integer q s (omega arith) (omega arith) u) refl
-  one_atom x y a b e = cc
+  pub one_factor : (a b : Factor) → reach fs a ≤ length fs → reach fs b ≤ length fs → atom_form fs a ≡ atom_form fs b → a ≡ b
+  one_factor (Variable i) (Variable j) a b e = let t : i ≡ j = cc in ap Variable t
+  one_factor (Operation o p q) (Operation n r s) a b e = let t : polynomial_at fs p ≡ polynomial_at fs r = cc in let u : polynomial_at fs q ≡ polynomial_at fs s = cc in let w : o ≡ n = cc in rw (w, one_integer p r (omega arith) (omega arith) t, one_integer q s (omega arith) (omega arith) u) refl
+  one_factor (Sel p q) (Sel r s) a b e = let t : updates_at fs p ≡ updates_at fs r = cc in let u : polynomial_at fs q ≡ polynomial_at fs s = cc in rw (one_memory p r (omega arith) (omega arith) t, one_integer q s (omega arith) (omega arith) u) refl
+  one_factor x y a b e = cc
 
-  -- factors that are not tied are different atoms
-  atoms_apart : (x y : Factor) → reach fs x ≤ length fs → reach fs y ≤ length fs → cmp_factor x y ≢ Equal → meets (atom_form fs x) (atom_form fs y) ≡ 0
-  atoms_apart x y a b n = order_split (meets (atom_form fs x) (atom_form fs y) ≡ 0) (cmp_atom (atom_form fs x) (atom_form fs y)) (λ o. rw o refl)
-      (λ o. absurd (n (ap (λ z. cmp_factor x z) (sym (one_atom x y a b (atom_equal (atom_form fs x) (atom_form fs y) o))) ∙ tied_itself cmp_factor_total x)))
-      (λ o. rw o refl)
+  -- and one number
+  one_atom : (i j : ℕ) → atom_reach fs (suc i) ≤ length fs → atom_reach fs (suc j) ≤ length fs → atom_at fs i ≡ atom_at fs j → i ≡ j
+  one_atom i j a b e = d.one i j (integer_form (alone (atom_at fs j))) (atom_reached fs (length fs) i (omega arith) a ∙ ap (λ x. Some (integer_form (alone x))) e) (atom_reached fs (length fs) j (omega arith) b)
 
-  -- an atom stands in a monomial as often as its factor among the factors
-  count_is : (x : Factor) (xs : List Factor) → reach fs x ≤ length fs → reach_of_factors fs xs ≤ length fs → count (atom_form fs x) (monomial_form fs xs) ≡ times_in x xs
-  count_is x [] a b = refl
-  count_is x (y ∷ ys) a b =
-      let k = atom_form fs x in
-      let h = atom_form fs y in
-      let m = monomial_form fs ys in
-      let r = count_is x ys a (omega arith) in
-      let c : count k (with_factor h m) ≡ meets k h + count k m = count_join k (times h one) m in
-      order_split (count k (with_factor h m) ≡ times_in x (y ∷ ys)) (cmp_factor x y)
-      (λ o. let z = atoms_apart x y a (omega arith) (λ q. let t : Less ≡ Equal = sym o ∙ q in cc) in rw o (omega (arith, c, z, r)))
-      (λ o. let t : cmp_atom k h ≡ Equal = ap (λ z. cmp_atom k (atom_form fs z)) (sym (factor_equal x y o)) ∙ tied_itself cmp_atom_total k in let z : meets k h ≡ 1 = rw t refl in rw o (omega (arith, c, z, r)))
-      (λ o. let z = atoms_apart x y a (omega arith) (λ q. let t : Greater ≡ Equal = sym o ∙ q in cc) in rw o (omega (arith, c, z, r)))
+  -- so an atom is another one where the numbers are the same
+  meets_alike : (i j : ℕ) → atom_reach fs (suc i) ≤ length fs → atom_reach fs (suc j) ≤ length fs → meets (atom_at fs i) (atom_at fs j) ≡ alike (suc i) (suc j)
+  meets_alike i j a b = order_split (meets (atom_at fs i) (atom_at fs j) ≡ alike (suc i) (suc j)) (cmp_atom (atom_at fs i) (atom_at fs j))
+      (λ o. rw o (sym (alike_not (suc i) (suc j) (unlike (λ q. let t : Less ≡ Equal = sym o ∙ q in cc)))))
+      (λ o. rw (o, one_atom i j a b (atom_equal (atom_at fs i) (atom_at fs j) o)) (sym (alike_itself (suc j))))
+      (λ o. rw o (sym (alike_not (suc i) (suc j) (unlike (λ q. let t : Greater ≡ Equal = sym o ∙ q in cc)))))
+    where
+      unlike : cmp_atom (atom_at fs i) (atom_at fs j) ≢ Equal → suc i ≢ suc j
+      unlike n e = n (let f : i ≡ j = omega (arith, e) in ap (λ k. cmp_atom (atom_at fs i) (atom_at fs k)) (sym f) ∙ tied_itself cmp_atom_total (atom_at fs i))
 
-  -- one monomial has one list of factors in order
-  one_monomial : (xs ys : List Factor) → AreOrdered xs → AreOrdered ys → reach_of_factors fs xs ≤ length fs → reach_of_factors fs ys ≤ length fs → monomial_form fs xs ≡ monomial_form fs ys → xs ≡ ys
-  one_monomial xs ys h k a b e = same_times fs (length fs) xs ys h k a b (λ z l. sym (count_is z xs l a) ∙ (ap (count (atom_form fs z)) e ∙ count_is z ys l b))
+  -- an atom stands in a monomial as often as its number among the numbers
+  count_is : (i : ℕ) (xs : List ℕ) → atom_reach fs (suc i) ≤ length fs → reach_of_atoms fs xs ≤ length fs → count (atom_at fs i) (monomial_form fs xs) ≡ times_in (suc i) xs
+  count_is i [] a b = refl
+  count_is i (zero ∷ ys) a b = let r = count_is i ys a (omega arith) in let z = alike_not (suc i) 0 (omega arith) in omega (arith, r, z)
+  count_is i (suc j ∷ ys) a b =
+      let r = count_is i ys a (omega arith) in
+      let c : count (atom_at fs i) (with_factor (atom_at fs j) (monomial_form fs ys)) ≡ meets (atom_at fs i) (atom_at fs j) + count (atom_at fs i) (monomial_form fs ys) = count_join (atom_at fs i) (times (atom_at fs j) one) (monomial_form fs ys) in
+      let z = meets_alike i j a (omega arith) in
+      omega (arith, c, z, r)
 
-  -- factors that are not tied are different monomials
-  monomials_apart : (xs ys : List Factor) → AreOrdered xs → AreOrdered ys → reach_of_factors fs xs ≤ length fs → reach_of_factors fs ys ≤ length fs → cmp_factors xs ys ≡ Less → monomial_form fs xs ≢ monomial_form fs ys
+  -- one monomial has one list of numbers
+  one_monomial : (xs ys : List ℕ) → IsMonomial xs → IsMonomial ys → reach_of_atoms fs xs ≤ length fs → reach_of_atoms fs ys ≤ length fs → monomial_form fs xs ≡ monomial_form fs ys → xs ≡ ys
+  one_monomial xs ys h k a b e = same_times fs (length fs) xs ys h.1 k.1 (h.0 ∙ sym k.0) (sym (factors-monomial_form fs xs) ∙ (ap factors e ∙ factors-monomial_form fs ys)) a b
+      (λ i l. sym (count_is i xs l a) ∙ (ap (count (atom_at fs i)) e ∙ count_is i ys l b))
+
+  -- numbers that are not tied are different monomials
+  monomials_apart : (xs ys : List ℕ) → IsMonomial xs → IsMonomial ys → reach_of_atoms fs xs ≤ length fs → reach_of_atoms fs ys ≤ length fs → cmp_atoms xs ys ≡ Less → monomial_form fs xs ≢ monomial_form fs ys
   monomials_apart xs ys h k a b o e =
-      let t : Less ≡ Equal = sym o ∙ (ap (cmp_factors xs) (sym (one_monomial xs ys h k a b e)) ∙ tied_itself cmp_factors_total xs) in cc
+      let t : Less ≡ Equal = sym o ∙ (ap (cmp_atoms xs) (sym (one_monomial xs ys h k a b e)) ∙ tied_itself nat_list_cmp_total xs) in cc
 
   -- a monomial below those of terms is none of theirs
-  misses_form : (xs : List Factor) (ts : List Term) → AreOrdered xs → reach_of_factors fs xs ≤ length fs → AreTerms ts → reach_of_terms fs ts ≤ length fs → Precedes xs ts → Misses (monomial_form fs xs) (polynomial_form fs ts)
+  misses_form : (xs : List ℕ) (ts : List Term) → IsMonomial xs → reach_of_atoms fs xs ≤ length fs → AreTerms ts → reach_of_terms fs ts ≤ length fs → Precedes xs ts → Misses (monomial_form fs xs) (polynomial_form fs ts)
   misses_form xs [] h a k b p = tt
-  misses_form xs (t ∷ ts) h a k b p = misses_add (monomial_form fs xs) (monomial_form fs t.factors.value.items) t.coefficient (polynomial_form fs ts)
-      (monomials_apart xs t.factors.value.items h k.0 a (omega arith) p)
-      (misses_form xs ts h a k.4 (omega arith) (precedes_through xs t.factors.value.items ts p k.3))
+  misses_form xs (t ∷ ts) h a k b p = misses_add (monomial_form fs xs) (monomial_form fs t.atoms) t.coefficient (polynomial_form fs ts)
+      (monomials_apart xs t.atoms h k.0 a (omega arith) p)
+      (misses_form xs ts h a k.4 (omega arith) (precedes_through xs t.atoms ts p k.3))
 
   -- nor does it get anything of them
-  pub gives_none : (xs : List Factor) (ts : List Term) → AreOrdered xs → reach_of_factors fs xs ≤ length fs → AreTerms ts → reach_of_terms fs ts ≤ length fs → Precedes xs ts → gives fs (monomial_form fs xs) ts ≡ 0
+  pub gives_none : (xs : List ℕ) (ts : List Term) → IsMonomial xs → reach_of_atoms fs xs ≤ length fs → AreTerms ts → reach_of_terms fs ts ≤ length fs → Precedes xs ts → gives fs (monomial_form fs xs) ts ≡ 0
   gives_none xs [] h a k b p = refl
   gives_none xs (t ∷ ts) h a k b p =
-      let x = share_other (monomial_form fs xs) (monomial_form fs t.factors.value.items) t.coefficient (monomials_apart xs t.factors.value.items h k.0 a (omega arith) p) in
-      let y = gives_none xs ts h a k.4 (omega arith) (precedes_through xs t.factors.value.items ts p k.3) in
+      let x = share_other (monomial_form fs xs) (monomial_form fs t.atoms) t.coefficient (monomials_apart xs t.atoms h k.0 a (omega arith) p) in
+      let y = gives_none xs ts h a k.4 (omega arith) (precedes_through xs t.atoms ts p k.3) in
       omega (arith, x, y)
 
   -- the first monomial gets its coefficient
-  gives_first : (t : Term) (ts : List Term) → AreTerms (t ∷ ts) → reach_of_terms fs (t ∷ ts) ≤ length fs → gives fs (monomial_form fs t.factors.value.items) (t ∷ ts) ≡ t.coefficient
+  gives_first : (t : Term) (ts : List Term) → AreTerms (t ∷ ts) → reach_of_terms fs (t ∷ ts) ≤ length fs → gives fs (monomial_form fs t.atoms) (t ∷ ts) ≡ t.coefficient
   gives_first t ts h b =
-      let x = share_same (monomial_form fs t.factors.value.items) t.coefficient in
-      let y = gives_none t.factors.value.items ts h.0 (omega arith) h.4 (omega arith) h.3 in
+      let x = share_same (monomial_form fs t.atoms) t.coefficient in
+      let y = gives_none t.atoms ts h.0 (omega arith) h.4 (omega arith) h.3 in
       omega (arith, x, y)
 
   -- terms that give each monomial the same are the same
-  same_gives : (ts us : List Term) → AreTerms ts → AreTerms us → reach_of_terms fs ts ≤ length fs → reach_of_terms fs us ≤ length fs → ((k : Monomial) → gives fs k ts % 2 ^ 64 ≡ gives fs k us % 2 ^ 64) → map parts ts ≡ map parts us
+  same_gives : (ts us : List Term) → AreTerms ts → AreTerms us → reach_of_terms fs ts ≤ length fs → reach_of_terms fs us ≤ length fs → ((k : Monomial) → gives fs k ts % 2 ^ 64 ≡ gives fs k us % 2 ^ 64) → ts ≡ us
   same_gives [] [] h k a b e = refl
-  same_gives [] (u ∷ us) h k a b e = absurd (let z = words_same 0 u.coefficient (e (monomial_form fs u.factors.value.items) ∙ ap (λ x. x % 2 ^ 64) (gives_first u us k b)) (lit< tt) k.2 in omega (arith, z, k.1))
-  same_gives (t ∷ ts) [] h k a b e = absurd (let z = words_same 0 t.coefficient (sym (e (monomial_form fs t.factors.value.items)) ∙ ap (λ x. x % 2 ^ 64) (gives_first t ts h a)) (lit< tt) h.2 in omega (arith, z, h.1))
-  same_gives (t ∷ ts) (u ∷ us) h k a b e = order_split _ (cmp_factors t.factors.value.items u.factors.value.items)
+  same_gives [] (u ∷ us) h k a b e = absurd (let z = words_same 0 u.coefficient (e (monomial_form fs u.atoms) ∙ ap (λ x. x % 2 ^ 64) (gives_first u us k b)) (lit< tt) k.2 in omega (arith, z, k.1))
+  same_gives (t ∷ ts) [] h k a b e = absurd (let z = words_same 0 t.coefficient (sym (e (monomial_form fs t.atoms)) ∙ ap (λ x. x % 2 ^ 64) (gives_first t ts h a)) (lit< tt) h.2 in omega (arith, z, h.1))
+  same_gives (t ∷ ts) (u ∷ us) h k a b e = order_split _ (cmp_atoms t.atoms u.atoms)
       (λ o. absurd (
-      let z = words_same t.coefficient 0 (ap (λ x. x % 2 ^ 64) (sym (gives_first t ts h a)) ∙ (e (monomial_form fs t.factors.value.items) ∙ ap (λ x. x % 2 ^ 64) (gives_none t.factors.value.items (u ∷ us) h.0 (omega arith) k b o))) h.2 (lit< tt) in
+      let z = words_same t.coefficient 0 (ap (λ x. x % 2 ^ 64) (sym (gives_first t ts h a)) ∙ (e (monomial_form fs t.atoms) ∙ ap (λ x. x % 2 ^ 64) (gives_none t.atoms (u ∷ us) h.0 (omega arith) k b o))) h.2 (lit< tt) in
       omega (arith, z, h.1)))
       (λ o.
-      let f : t.factors.value.items ≡ u.factors.value.items = factors_equal t.factors.value.items u.factors.value.items o in
-      let m = monomial_form fs t.factors.value.items in
+      let f : t.atoms ≡ u.atoms = atoms_equal t.atoms u.atoms o in
+      let m = monomial_form fs t.atoms in
       let y : gives fs m (u ∷ us) ≡ u.coefficient = ap (λ xs. gives fs (monomial_form fs xs) (u ∷ us)) f ∙ gives_first u us k b in
       let c : t.coefficient ≡ u.coefficient = words_same t.coefficient u.coefficient (ap (λ x. x % 2 ^ 64) (sym (gives_first t ts h a)) ∙ (e m ∙ ap (λ x. x % 2 ^ 64) y)) h.2 k.2 in
-      let s : (q : Monomial) → share q (monomial_form fs u.factors.value.items) u.coefficient ≡ share q m t.coefficient = λ q. ap (λ xs. share q (monomial_form fs xs) u.coefficient) (sym f) ∙ ap (share q m) (sym c) in
-      let r : map parts ts ≡ map parts us = same_gives ts us h.4 k.4 (omega arith) (omega arith) (λ q. mods_less (gives fs q ts) (gives fs q us) (share q m t.coefficient) (e q ∙ ap (λ x. (x + gives fs q us) % 2 ^ 64) (s q))) in
-      rw (f, c, r) refl)
+      let s : (q : Monomial) → share q (monomial_form fs u.atoms) u.coefficient ≡ share q m t.coefficient = λ q. ap (λ xs. share q (monomial_form fs xs) u.coefficient) (sym f) ∙ ap (share q m) (sym c) in
+      let r : ts ≡ us = same_gives ts us h.4 k.4 (omega arith) (omega arith) (λ q. mods_less (gives fs q ts) (gives fs q us) (share q m t.coefficient) (e q ∙ ap (λ x. (x + gives fs q us) % 2 ^ 64) (s q))) in
+      let w : t ≡ u = ap (λ (x : List ℕ). let y : Term = record { atoms = x; coefficient = t.coefficient } in y) f ∙ ap (λ (x : ℕ). let y : Term = record { atoms = u.atoms; coefficient = x } in y) c in
+      rw (w, r) refl)
       (λ o. absurd (
-      let p = factors_turned t.factors.value.items u.factors.value.items o in
-      let z = words_same u.coefficient 0 (ap (λ x. x % 2 ^ 64) (sym (gives_first u us k b)) ∙ (sym (e (monomial_form fs u.factors.value.items)) ∙ ap (λ x. x % 2 ^ 64) (gives_none u.factors.value.items (t ∷ ts) k.0 (omega arith) h a p))) k.2 (lit< tt) in
+      let p = atoms_turned t.atoms u.atoms o in
+      let z = words_same u.coefficient 0 (ap (λ x. x % 2 ^ 64) (sym (gives_first u us k b)) ∙ (sym (e (monomial_form fs u.atoms)) ∙ ap (λ x. x % 2 ^ 64) (gives_none u.atoms (t ∷ ts) k.0 (omega arith) h a p))) k.2 (lit< tt) in
       omega (arith, z, k.1)))
 
   -- one polynomial has one list of terms in order
-  pub one_polynomial : (ts us : List Term) → AreTerms ts → AreTerms us → reach_of_terms fs ts ≤ length fs → reach_of_terms fs us ≤ length fs → polynomial_form fs ts ≡ polynomial_form fs us → map parts ts ≡ map parts us
+  pub one_polynomial : (ts us : List Term) → AreTerms ts → AreTerms us → reach_of_terms fs ts ≤ length fs → reach_of_terms fs us ≤ length fs → polynomial_form fs ts ≡ polynomial_form fs us → ts ≡ us
   one_polynomial ts us h k a b e = same_gives ts us h k a b (λ q. sym (weigh_form fs q ts) ∙ (ap (λ p. weigh (share q) p % 2 ^ 64) e ∙ weigh_form fs q us))
 
 -- the terms after the first
@@ -220,30 +247,25 @@ pub rest_over : (fs : List Form) (t : Term) (ts : List Term) → AreOver fs (t �
 rest_over fs t ts h = record { terms = h.terms.4; distinct = h.distinct; reach = let r = h.reach in omega (arith, r) }
 
 -- the first monomial is not among those after it
-first_misses : (fs : List Form) (t : Term) (ts : List Term) → AreOver fs (t ∷ ts) → Misses (monomial_form fs t.factors.value.items) (polynomial_form fs ts)
-first_misses fs t ts h = let r = h.reach in misses_form fs h.distinct t.factors.value.items ts h.terms.0 (omega (arith, r)) h.terms.4 (omega (arith, r)) h.terms.3
+first_misses : (fs : List Form) (t : Term) (ts : List Term) → AreOver fs (t ∷ ts) → Misses (monomial_form fs t.atoms) (polynomial_form fs ts)
+first_misses fs t ts h = let r = h.reach in misses_form fs h.distinct t.atoms ts h.terms.0 (omega (arith, r)) h.terms.4 (omega (arith, r)) h.terms.3
 
 -- a polynomial has as many monomials as terms in order
 pub terms_over : (fs : List Form) (ts : List Term) → AreOver fs ts → terms (polynomial_form fs ts) ≡ length ts
 terms_over fs [] h = refl
-terms_over fs (t ∷ ts) h = terms_add (monomial_form fs t.factors.value.items) t.coefficient (polynomial_form fs ts) h.terms.1 (first_misses fs t ts h) ∙ ap suc (terms_over fs ts (rest_over fs t ts h))
+terms_over fs (t ∷ ts) h = terms_add (monomial_form fs t.atoms) t.coefficient (polynomial_form fs ts) h.terms.1 (first_misses fs t ts h) ∙ ap suc (terms_over fs ts (rest_over fs t ts h))
 
--- the greatest number of factors
-abbrev pub greatest : List Term → ℕ
-greatest [] = 0
-greatest (t ∷ ts) = max (length t.factors.value.items) (greatest ts)
-
--- that of two lists
+-- the greatest degree of two lists
 greatest-append : (xs ys : List Term) → greatest (xs ++ ys) ≡ max (greatest xs) (greatest ys)
 greatest-append [] ys = omega arith
 greatest-append (x ∷ xs) ys = let h = greatest-append xs ys in omega (arith, h)
 
 -- with one more term
-pub greatest_more : (xs : List Term) (x : Term) (i n : ℕ) → i < length xs → x ≡ get_or xs i x → n ≡ greatest (take i xs) → max n (length x.factors.value.items) ≡ greatest (take (i + 1) xs)
+pub greatest_more : (xs : List Term) (x : Term) (i n : ℕ) → i < length xs → x ≡ get_or xs i x → n ≡ greatest (take i xs) → max n (size x.atoms) ≡ greatest (take (i + 1) xs)
 greatest_more xs x i n l r e =
     let a = greatest-append (take i xs) (get_or xs i x ∷ []) in
-    let c : length x.factors.value.items ≡ length (get_or xs i x).factors.value.items = ap (λ (t : Term). length t.factors.value.items) r in
-    let m : max n (length x.factors.value.items) ≡ greatest (take i xs ++ get_or xs i x ∷ []) = omega (arith, a, c, e) in
+    let c : size x.atoms ≡ size (get_or xs i x).atoms = ap (λ (t : Term). size t.atoms) r in
+    let m : max n (size x.atoms) ≡ greatest (take i xs ++ get_or xs i x ∷ []) = omega (arith, a, c, e) in
     m ∙ ap greatest (sym (take_more xs i x l))
 
 -- of all terms
@@ -251,14 +273,14 @@ pub greatest_all : (xs : List Term) (i : ℕ) → length xs ≤ i → greatest (
 greatest_all [] zero h = refl
 greatest_all [] (suc i) h = refl
 greatest_all (x ∷ xs) zero h = absurd (omega (arith, h))
-greatest_all (x ∷ xs) (suc i) h = ap (max (length x.factors.value.items)) (greatest_all xs i (omega (arith, h)))
+greatest_all (x ∷ xs) (suc i) h = ap (max (size x.atoms)) (greatest_all xs i (omega (arith, h)))
 
 -- that is the degree
 pub degree_over : (fs : List Form) (ts : List Term) → AreOver fs ts → degree (polynomial_form fs ts) ≡ greatest ts
 degree_over fs [] h = refl
 degree_over fs (t ∷ ts) h =
-    let x = degree_add (monomial_form fs t.factors.value.items) t.coefficient (polynomial_form fs ts) h.terms.1 (first_misses fs t ts h) in
-    let y = factors-monomial_form fs t.factors.value.items in
+    let x = degree_add (monomial_form fs t.atoms) t.coefficient (polynomial_form fs ts) h.terms.1 (first_misses fs t ts h) in
+    let y = factors-monomial_form fs t.atoms in
     let z = degree_over fs ts (rest_over fs t ts h) in
     omega (arith, x, y, z)
 
@@ -272,3 +294,17 @@ not_constant (plus (times a m) c p) l = refl
 -- so are two terms or more
 pub many_constant : (fs : List Form) (ts : List Term) → AreOver fs ts → 2 ≤ length ts → None ≡ constant_of (polynomial_form fs ts)
 many_constant fs ts h l = not_constant (polynomial_form fs ts) (let e = terms_over fs ts h in omega (arith, e, l))
+
+-- terms of degree at most 1 that are an atom alone are one term with the coefficient 1
+pub alone_is : (fs : List Form) (a : Atom) (ts : List Term) → AreOver fs ts → greatest ts ≤ 1 → alone a ≡ polynomial_form fs ts → (k : ℕ) × (ts ≡ alone_term (k + 1) ∷ [])
+alone_is fs a [] h g e = cc
+alone_is fs a (t ∷ u ∷ us) h g e = absurd (let n = terms_over fs (t ∷ u ∷ us) h in let w : 1 ≡ terms (polynomial_form fs (t ∷ u ∷ us)) = ap terms e in omega (arith, n, w))
+alone_is fs a (t ∷ []) h g e =
+    let m = monomial_form fs t.atoms in
+    let led : add_term m t.coefficient nought ≡ plus m t.coefficient nought = if_cases (λ q. q ≡ plus m t.coefficient nought) (t.coefficient == 0) nought (plus m t.coefficient nought) (λ z. absurd (let y = eqb-true t.coefficient 0 z in let w = h.terms.1 in omega (arith, w, y))) (λ z. refl) in
+    let p : alone a ≡ plus m t.coefficient nought = e ∙ led in
+    let c : 1 ≡ t.coefficient = cc in
+    let n : times a one ≡ m = cc in
+    let s : size t.atoms ≡ 1 = sym (factors-monomial_form fs t.atoms) ∙ ap factors (sym n) in
+    let q = one_number t.atoms h.terms.0 s in
+    (q.0, ap (λ (y : Term). y ∷ []) (ap (λ (x : List ℕ). let y : Term = record { atoms = x; coefficient = t.coefficient } in y) q.1 ∙ ap (λ (x : ℕ). let y : Term = record { atoms = 0 ∷ 0 ∷ 0 ∷ (q.0 + 1) ∷ []; coefficient = x } in y) (sym c)))

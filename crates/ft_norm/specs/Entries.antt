@@ -1,40 +1,63 @@
 -- The forms that a list of entries stands for.
-use Rattle.std.specs.Prelude.{ℕ, ◌+◌, ◌-◌, ◌%◌, ◌^◌, ◌≡◌, ◌≢◌, ◌<◌, ◌≤◌, Bool, true, false, if◌then◌else◌, List, [], ◌∷◌, ◌++◌, Option, None, Some, max, length, slice_get, slice_index_or}
-use Rattle.ft_static.specs.Form.{Form, integer_form, memory_form, Atom, Monomial, Polynomial, variable_atom, ltu_atom, eq_atom, sel_atom, product_atom, sum_atom, one, nought, unchanged, update}
-use Rattle.ft_static.specs.NormalForm.{add_term, with_factor}
+use Rattle.std.specs.Prelude.{ℕ, zero, suc, ◌+◌, ◌^◌, ◌≡◌, ◌≢◌, ◌<◌, ◌≤◌, Bool, true, false, if◌then◌else◌, List, [], ◌∷◌, ◌++◌, Option, None, Some, max, length, map, slice_get, slice_index_or}
+use Rattle.ft_static.specs.Form.{Form, integer_form, memory_form, Atom, Monomial, Polynomial, variable_atom, operation_atom, sel_atom, one, times, nought, plus, unchanged, update}
+use Rattle.ft_static.specs.NormalForm.{add_term, alone, with_factor}
 use Rattle.ft_norm.specs.Held.{polynomial_at, updates_at}
 use Rattle.ft_norm.specs.declared.entry.Factor.{Factor}
-use Rattle.ft_norm.specs.declared.entry.Factor.TheVariants.{Variable, Ltu, Eq, Sel, Product, Sum}
+use Rattle.ft_norm.specs.declared.entry.Factor.TheVariants.{Variable, Operation, Sel}
+use Rattle.ft_norm.specs.declared.entry.LinearTerm.{LinearTerm}
 use Rattle.ft_norm.specs.declared.entry.Term.{Term}
 use Rattle.ft_norm.specs.declared.entry.Entry.{Entry}
-use Rattle.ft_norm.specs.declared.entry.Entry.TheVariants.{Single, Several, Unchanged, Update}
+use Rattle.ft_norm.specs.declared.entry.Entry.TheVariants as entry
 use Rattle.ft_norm.specs.Orders.{AreTerms}
+use Rattle.ft_norm.specs.Packing.{ArePacked, HaveSmall, unpacked}
 
 -- the atom of a factor, where the forms of the entries are these
 abbrev pub atom_form : List Form → Factor → Atom
 atom_form fs (Variable i) = variable_atom i
-atom_form fs (Ltu p q) = ltu_atom (polynomial_at fs p) (polynomial_at fs q)
-atom_form fs (Eq p q) = eq_atom (polynomial_at fs p) (polynomial_at fs q)
+atom_form fs (Operation o p q) = operation_atom o (polynomial_at fs p) (polynomial_at fs q)
 atom_form fs (Sel m p) = sel_atom (updates_at fs m) (polynomial_at fs p)
-atom_form fs (Product p q) = product_atom (polynomial_at fs p) (polynomial_at fs q)
-atom_form fs (Sum p q) = sum_atom (polynomial_at fs p) (polynomial_at fs q)
 
--- the monomial of factors, whatever their order
-abbrev pub monomial_form : List Form → List Factor → Monomial
+-- the atom that a polynomial is alone
+abbrev pub atom_of : Polynomial → Atom
+atom_of (plus (times a one) c nought) = a
+atom_of p = variable_atom 0
+
+-- the atom in one place of a list
+abbrev pub atom_at : List Form → ℕ → Atom
+atom_at fs i = atom_of (polynomial_at fs i)
+
+-- a monomial with the atom of one more number; 0 is none, and k + 1 is the atom in place k
+abbrev pub with_atom : List Form → ℕ → Monomial → Monomial
+with_atom fs zero m = m
+with_atom fs (suc k) m = with_factor (atom_at fs k) m
+
+-- the monomial of atoms, whatever their order
+abbrev pub monomial_form : List Form → List ℕ → Monomial
 monomial_form fs [] = one
-monomial_form fs (x ∷ xs) = with_factor (atom_form fs x) (monomial_form fs xs)
+monomial_form fs (x ∷ xs) = with_atom fs x (monomial_form fs xs)
 
 -- the polynomial of terms, whatever their order
 abbrev pub polynomial_form : List Form → List Term → Polynomial
 polynomial_form fs [] = nought
-polynomial_form fs (t ∷ ts) = add_term (monomial_form fs t.factors.value.items) t.coefficient (polynomial_form fs ts)
+polynomial_form fs (t ∷ ts) = add_term (monomial_form fs t.atoms) t.coefficient (polynomial_form fs ts)
+
+-- the term that a term of at most one atom stands for
+abbrev pub full : LinearTerm → Term
+full t = record { atoms = 0 ∷ 0 ∷ 0 ∷ t.atom ∷ []; coefficient = t.coefficient }
+
+-- the term of one atom with the coefficient 1
+abbrev pub alone_term : ℕ → Term
+alone_term x = record { atoms = 0 ∷ 0 ∷ 0 ∷ x ∷ []; coefficient = 1 }
 
 -- the form of an entry
 abbrev pub entry_form : List Form → Entry → Form
-entry_form fs (Single t) = integer_form (polynomial_form fs (t ∷ []))
-entry_form fs (Several ts) = integer_form (polynomial_form fs ts.items)
-entry_form fs Unchanged = memory_form unchanged
-entry_form fs (Update at value older) = memory_form (update (polynomial_at fs at) (polynomial_at fs value) (updates_at fs older))
+entry_form fs (entry.Atom a) = integer_form (alone (atom_form fs a))
+entry_form fs (entry.Linear ts) = integer_form (polynomial_form fs (map full ts.items))
+entry_form fs (entry.Packed ts) = integer_form (polynomial_form fs (map unpacked ts.items))
+entry_form fs (entry.Full ts) = integer_form (polynomial_form fs ts.items)
+entry_form fs entry.Unchanged = memory_form unchanged
+entry_form fs (entry.Update at value older) = memory_form (update (polynomial_at fs at) (polynomial_at fs value) (updates_at fs older))
 
 -- the forms so far, and then those of these entries
 abbrev pub forms_onto : List Form → List Entry → List Form
@@ -65,31 +88,40 @@ integer_reach fs i = i + 1 + (if is_integer_form (slice_get fs i) then 0 else le
 abbrev pub memory_reach : List Form → ℕ → ℕ
 memory_reach fs i = i + 1 + (if is_memory_form (slice_get fs i) then 0 else length fs)
 
+-- whether the polynomial of one atom alone is there
+abbrev pub is_atom_form : Option Form → Bool
+is_atom_form (Some (integer_form (plus (times a one) (suc zero) nought))) = true
+is_atom_form o = false
+
+-- the same of a number of an atom
+abbrev pub atom_reach : List Form → ℕ → ℕ
+atom_reach fs zero = 0
+atom_reach fs (suc k) = k + 1 + (if is_atom_form (slice_get fs k) then 0 else length fs)
+
 -- one more than the greatest number that a factor names, each of its sort
 abbrev pub reach : List Form → Factor → ℕ
 reach fs (Variable i) = 0
-reach fs (Ltu p q) = max (integer_reach fs p) (integer_reach fs q)
-reach fs (Eq p q) = max (integer_reach fs p) (integer_reach fs q)
+reach fs (Operation o p q) = max (integer_reach fs p) (integer_reach fs q)
 reach fs (Sel m p) = max (memory_reach fs m) (integer_reach fs p)
-reach fs (Product p q) = max (integer_reach fs p) (integer_reach fs q)
-reach fs (Sum p q) = max (integer_reach fs p) (integer_reach fs q)
 
--- the same of factors
-abbrev pub reach_of_factors : List Form → List Factor → ℕ
-reach_of_factors fs [] = 0
-reach_of_factors fs (x ∷ xs) = max (reach fs x) (reach_of_factors fs xs)
+-- the same of the atoms of a monomial
+abbrev pub reach_of_atoms : List Form → List ℕ → ℕ
+reach_of_atoms fs [] = 0
+reach_of_atoms fs (x ∷ xs) = max (atom_reach fs x) (reach_of_atoms fs xs)
 
 -- the same of terms
 abbrev pub reach_of_terms : List Form → List Term → ℕ
 reach_of_terms fs [] = 0
-reach_of_terms fs (t ∷ ts) = max (reach_of_factors fs t.factors.value.items) (reach_of_terms fs ts)
+reach_of_terms fs (t ∷ ts) = max (reach_of_atoms fs t.atoms) (reach_of_terms fs ts)
 
 -- the same of an entry
 abbrev pub reach_of_entry : List Form → Entry → ℕ
-reach_of_entry fs (Single t) = reach_of_terms fs (t ∷ [])
-reach_of_entry fs (Several ts) = reach_of_terms fs ts.items
-reach_of_entry fs Unchanged = 0
-reach_of_entry fs (Update at value older) = max (max (integer_reach fs at) (integer_reach fs value)) (memory_reach fs older)
+reach_of_entry fs (entry.Atom a) = reach fs a
+reach_of_entry fs (entry.Linear ts) = reach_of_terms fs (map full ts.items)
+reach_of_entry fs (entry.Packed ts) = reach_of_terms fs (map unpacked ts.items)
+reach_of_entry fs (entry.Full ts) = reach_of_terms fs ts.items
+reach_of_entry fs entry.Unchanged = 0
+reach_of_entry fs (entry.Update at value older) = max (max (integer_reach fs at) (integer_reach fs value)) (memory_reach fs older)
 
 -- each entry names only earlier ones, each of its sort
 abbrev pub NamesEarlier : List Entry → Type 0
@@ -99,6 +131,10 @@ NamesEarlier es = (k : ℕ) (e : Entry) → k < length es → reach_of_entry (fo
 abbrev pub IsIntegerAt : List Form → ℕ → Type 0
 IsIntegerAt fs i = slice_get fs i ≡ Some (integer_form (polynomial_at fs i))
 
+-- the form in this place is one atom alone
+abbrev pub IsAtomAt : List Form → ℕ → Type 0
+IsAtomAt fs i = slice_get fs i ≡ Some (integer_form (alone (atom_at fs i)))
+
 -- the form in this place is a memory's
 abbrev pub IsMemoryAt : List Form → ℕ → Type 0
 IsMemoryAt fs i = slice_get fs i ≡ Some (memory_form (updates_at fs i))
@@ -107,12 +143,29 @@ IsMemoryAt fs i = slice_get fs i ≡ Some (memory_form (updates_at fs i))
 pub record IsDistinct (fs : List Form) : Type 0 where
   pub one : (i j : ℕ) (x : Form) → slice_get fs i ≡ Some x → slice_get fs j ≡ Some x → i ≡ j
 
+-- how many atoms a number is
+abbrev pub present : ℕ → ℕ
+present zero = 0
+present (suc k) = 1
+
+-- how many atoms a monomial has
+abbrev pub size : List ℕ → ℕ
+size [] = 0
+size (x ∷ xs) = present x + size xs
+
+-- the greatest number of atoms of a term
+abbrev pub greatest : List Term → ℕ
+greatest [] = 0
+greatest (t ∷ ts) = max (size t.atoms) (greatest ts)
+
 -- an entry as an interner keeps it
 abbrev pub IsCanonical : Entry → Type 0
-IsCanonical (Single t) = AreTerms (t ∷ [])
-IsCanonical (Several ts) = AreTerms ts.items × (length ts.items ≤ 64) × (length ts.items ≢ 1)
-IsCanonical Unchanged = Unit {0}
-IsCanonical (Update at value older) = Unit {0}
+IsCanonical (entry.Atom a) = Unit {0}
+IsCanonical (entry.Linear ts) = AreTerms (map full ts.items) × (length ts.items ≤ 64) × ((k : ℕ) → map full ts.items ≢ alone_term (k + 1) ∷ [])
+IsCanonical (entry.Packed ts) = AreTerms (map unpacked ts.items) × (length ts.items ≤ 64) × (2 ≤ greatest (map unpacked ts.items)) × ArePacked ts.items
+IsCanonical (entry.Full ts) = AreTerms ts.items × (length ts.items ≤ 64) × (2 ≤ greatest ts.items) × (HaveSmall ts.items → ⊥)
+IsCanonical entry.Unchanged = Unit {0}
+IsCanonical (entry.Update at value older) = Unit {0}
 
 -- so is each entry
 abbrev pub AreCanonical : List Entry → Type 0
@@ -123,11 +176,4 @@ pub record AreEntries (es : List Entry) : Type 0 where
   pub earlier : NamesEarlier es
   pub distinct : IsDistinct (forms_of es)
   pub canonical : AreCanonical es
-
--- what a term says, whatever memory holds it
-abbrev pub parts : Term → List Factor × ℕ
-parts t = (t.factors.value.items, t.coefficient)
-
--- the same of a term with its coefficient negated
-abbrev pub negated_parts : Term → List Factor × ℕ
-negated_parts t = (t.factors.value.items, (2 ^ 64 - t.coefficient % 2 ^ 64) % 2 ^ 64)
+  pub few : length es < 2 ^ 32

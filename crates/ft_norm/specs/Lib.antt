@@ -1,6 +1,7 @@
 pub mod Held
 pub mod Hashing
 pub mod Orders
+pub mod Packing
 pub mod Entries
 pub mod Terms
 pub mod Walks

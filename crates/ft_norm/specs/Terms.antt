@@ -1,28 +1,42 @@
--- Places of factors and terms, and what the functions on terms know of them: private to the code.
-use Rattle.std.specs.Prelude.{ℕ, ◌+◌, ◌<◌, ◌≤◌, ◌≡◌, ◌≢◌, List, [], ◌∷◌, length, slice_index_or}
-use Rattle.std.specs.declared.cmp.Ordering.TheVariants.{Less, Greater}
+-- The terms of a polynomial and their places, and what the functions on them know: private to the code.
+use Rattle.std.specs.Prelude.{ℕ, ◌+◌, ◌-◌, ◌%◌, ◌^◌, ◌<◌, ◌≤◌, ◌≡◌, ◌==◌, List, [], ◌∷◌, if◌then◌else◌, length, map, slice_index_or}
+use Rattle.std.specs.declared.cmp.Ordering.TheVariants.{Less}
 use Rattle.ft_static.specs.Form.{Form}
-use Rattle.ft_norm.specs.declared.entry.Factor.{Factor}
 use Rattle.ft_norm.specs.declared.entry.Term.{Term}
-use Rattle.ft_norm.specs.Orders.{AreTerms, cmp_factor, cmp_factors}
-use Rattle.ft_norm.specs.Entries.{IsDistinct, reach_of_terms}
+use Rattle.ft_norm.specs.declared.terms.Terms.{Terms}
+use Rattle.ft_norm.specs.declared.terms.Terms.TheVariants as view
+use Rattle.ft_norm.specs.Orders.{AreTerms, cmp_atoms}
+use Rattle.ft_norm.specs.Packing.{ArePacked, HaveSmall, unpacked}
+use Rattle.ft_norm.specs.Entries.{IsDistinct, alone_term, full, greatest, reach_of_terms, size}
 
--- where a factor keeps the order
-pub record IsFactorPlace (xs : List Factor) (a : Factor) (i : ℕ) : Type 0 where
-  pub within : i ≤ length xs
-  pub after : (j : ℕ) → j + 1 ≡ i → cmp_factor (slice_index_or xs j a) a ≢ Greater
-  pub before : i < length xs → cmp_factor a (slice_index_or xs i a) ≢ Greater
+-- the terms, whichever way they are kept
+abbrev pub terms_of : Terms → List Term
+terms_of (view.Atom x) = alone_term x ∷ []
+terms_of (view.Linear ts) = map full ts.now
+terms_of (view.Packed ts) = map unpacked ts.now
+terms_of (view.Full ts) = ts.now
 
--- where a term of these factors stands
-pub record IsThere (ts : List Term) (xs : List Factor) (i : ℕ) : Type 0 where
+-- they are kept as entries keep them
+abbrev pub IsView : Terms → Type 0
+IsView (view.Atom x) = 0 < x
+IsView (view.Linear ts) = Unit {0}
+IsView (view.Packed ts) = (2 ≤ greatest (map unpacked ts.now)) × ArePacked ts.now
+IsView (view.Full ts) = (2 ≤ greatest ts.now) × (HaveSmall ts.now → ⊥)
+
+-- a term with its coefficient negated
+abbrev pub negated_term : Term → Term
+negated_term t = record { atoms = t.atoms; coefficient = (2 ^ 64 - t.coefficient % 2 ^ 64) % 2 ^ 64 }
+
+-- where a term of these atoms stands
+pub record IsThere (ts : List Term) (xs : List ℕ) (i : ℕ) : Type 0 where
   pub within : i < length ts
-  pub same : (t : Term) → (slice_index_or ts i t).factors.value.items ≡ xs
+  pub same : (t : Term) → (slice_index_or ts i t).atoms ≡ xs
 
 -- where it keeps the order, if none stands
-pub record IsPlace (ts : List Term) (xs : List Factor) (i : ℕ) : Type 0 where
+pub record IsPlace (ts : List Term) (xs : List ℕ) (i : ℕ) : Type 0 where
   pub within : i ≤ length ts
-  pub after : (t : Term) (j : ℕ) → j + 1 ≡ i → cmp_factors (slice_index_or ts j t).factors.value.items xs ≡ Less
-  pub before : (t : Term) → i < length ts → cmp_factors xs (slice_index_or ts i t).factors.value.items ≡ Less
+  pub after : (t : Term) (j : ℕ) → j + 1 ≡ i → cmp_atoms (slice_index_or ts j t).atoms xs ≡ Less
+  pub before : (t : Term) → i < length ts → cmp_atoms xs (slice_index_or ts i t).atoms ≡ Less
 
 -- terms as entries keep them, over forms that are distinct and hold what the terms name
 pub record AreOver (fs : List Form) (ts : List Term) : Type 0 where
@@ -30,22 +44,12 @@ pub record AreOver (fs : List Form) (ts : List Term) : Type 0 where
   pub distinct : IsDistinct fs
   pub reach : reach_of_terms fs ts ≤ length fs
 
--- the coefficient of a term of these factors, if there is none
-abbrev pub constant_with : List Factor → ℕ → ℕ
-constant_with [] c = c
-constant_with (x ∷ xs) c = 0
-
 -- the constant among terms in order: it comes first
 abbrev pub constant_among : List Term → ℕ
 constant_among [] = 0
-constant_among (t ∷ ts) = constant_with t.factors.value.items t.coefficient
-
--- terms after one of these factors if it is a constant, and otherwise all terms
-abbrev pub others_with : List Factor → List Term → List Term → List Term
-others_with [] ts us = ts
-others_with (x ∷ xs) ts us = us
+constant_among (t ∷ ts) = if size t.atoms == 0 then t.coefficient else 0
 
 -- terms in order without the constant among them
 abbrev pub others : List Term → List Term
 others [] = []
-others (t ∷ ts) = others_with t.factors.value.items ts (t ∷ ts)
+others (t ∷ ts) = if size t.atoms == 0 then ts else t ∷ ts

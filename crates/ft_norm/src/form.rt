@@ -2,4 +2,4 @@
 
 /// A normal form that an interner holds: its place in the interner's list.
 #[derive(Clone, Copy, Debug)]
-pub struct Form(pub(crate) usize);
+pub struct Form(pub(crate) u32);

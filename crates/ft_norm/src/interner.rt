@@ -5,20 +5,21 @@ ghost use Rattle.ft_static.specs.Form.{integer_form, memory_form, unchanged, upd
 ghost use Rattle.ft_static.specs.FormUnder.{form_under};
 ghost use Rattle.ft_static.specs.NodeRules.{AreNodes, is_memory};
 ghost use Rattle.ft_static.specs.NodeTree.{tree_at};
-ghost use Rattle.ft_static.specs.NormalForm.{alone, constant, constant_of, norm, norm_add, norm_mul, norm_op, norm_sel, norm_sub, norm_upd, tested};
+ghost use Rattle.ft_static.specs.NormalForm.{alone, constant, norm, norm_add, norm_folded, norm_mul, norm_op, norm_sel, norm_sub, norm_upd};
 ghost use Rattle.ft_static.specs.declared.node.Node.{Node as Numbered};
 ghost use Rattle.ft_norm.specs.Held.{AreIntegers, IsHeld, IsInteger, IsMemory, Keeps, held, polynomial, polynomials, updates_held};
 ghost use Rattle.ft_norm.specs.Entries.{IsCanonical, atom_form, entry_form, polynomial_form, reach, reach_of_entry, reach_of_terms};
 ghost use Rattle.ft_norm.specs.Orders.{AreTerms};
-ghost use Rattle.ft_norm.specs.Terms.{AreOver};
+ghost use Rattle.ft_norm.specs.Terms.{AreOver, terms_of};
 
-use crate::entry::{Entry, Factor, MONOMIALS, Term, entry_of, is_word, terms_at};
+use crate::built::{entry_of, place_of_atom};
+use crate::entry::{Entry, Factor, LinearTerm, MONOMIALS, Term, is_word};
 use crate::form::Form;
 use crate::keys::Keys;
-use crate::monomials::Monomials;
 use crate::product::{is_small, product_terms};
 use crate::substitution::Memo;
 use crate::sum::{difference_terms, negated_terms, sum_terms};
+use crate::terms::{Terms, terms_at};
 use crate::walk::{Walk, below_newest, constant_in, walk_from};
 use ft_isa::{NoMemory, Op, apply};
 use ft_static::Nodes;
@@ -27,23 +28,24 @@ use indexmap::IndexSet;
 use smallvec::SmallVec;
 use std::alloc::{AllocError, Global};
 use std::marker::Model;
-use std::rc::Rc;
 use std::sync::ledger::Ledger;
 
 /// How many words the interner remembers places for.
 const RECENT: usize = 64;
 
+/// The greatest number of forms: one more than the number of each fits a `u32`, and so does that number.
+const FORMS: usize = 4_294_967_294;
+
 /// Normal forms, of integers and of memories. The list of them only grows, and a `Form` stands for
-/// one of them through all later calls. A call that makes a form answers `NoMemory` where memory runs
-/// out; all that was held stays then, too.
+/// one of them through all later calls. It holds at most 4,294,967,294 forms. A call that makes a form
+/// answers `NoMemory` where memory runs out and where that many are held; all that was held stays then,
+/// too.
 #[derive(Drop)]
 pub struct Interner {
     alloc: Global,
     entries: IndexSet<Entry, Keys>,
     /// Where a word may be among the entries, by its remainder. It is looked at before the table.
-    recent: [usize; RECENT],
-    /// Monomials whose factors new products share.
-    monomials: Monomials,
+    recent: [u32; RECENT],
 }
 
 impl Model for Interner {
@@ -80,7 +82,6 @@ impl Interner {
             alloc,
             entries: IndexSet::with_hasher(alloc, keys),
             recent: [0; RECENT],
-            monomials: Monomials::new(alloc, keys),
         })
     }
 
@@ -132,8 +133,8 @@ impl Interner {
             Op::Add => self.add(a, b)?,
             Op::Sub => self.sub(a, b)?,
             Op::Mul => self.mul(a, b)?,
-            Op::Ltu => self.test(op, a, b, Factor::Ltu(a.0, b.0))?,
-            Op::Eq => self.test(op, a, b, Factor::Eq(a.0, b.0))?,
+            Op::Ltu => self.folded(op, a, b)?,
+            Op::Eq => self.folded(op, a, b)?,
         };
         Ok(form)
     }
@@ -224,15 +225,19 @@ impl Interner {
         ensures kept { Keeps self.old self.new }
         ensures form { IfOk result (λ f. held self.new f ≡ Some (entry_form self.old entry)) }
     {
+        if self.entries.len() >= FORMS {
+            return Err(AllocError);
+        }
         let (number, _) = self.entries.insert_full(entry)?;
-        Ok(Form(number))
+        Ok(Form(number as u32))
     }
 
     /// Whether the entry in this place is a word's. A `false` says nothing.
-    fn is_word_at(&self, place: usize, w: u64) -> bool
+    fn is_word_at(&self, place: u32, w: u64) -> bool
         ensures { result ≡ true → slice_get self.now place ≡ Some (integer_form (constant w)) }
     {
         let entries = self.entries.as_slice();
+        let place = place as usize;
         if place < entries.len() {
             is_word(&entries[place], w)
         } else {
@@ -241,24 +246,30 @@ impl Interner {
     }
 
     /// The terms of an integer.
-    fn terms(&self, form: Form) -> &[Term]
+    fn terms(&self, form: Form) -> Terms<'_>
         requires { IsInteger self.now form }
-        ensures form { polynomial_form self.now result.now ≡ polynomial self.now form }
-        ensures over { AreOver self.now result.now }
-        ensures count { length result.now ≤ 64 }
+        ensures form { polynomial_form self.now (terms_of result) ≡ polynomial self.now form }
+        ensures over { AreOver self.now (terms_of result) }
+        ensures count { length (terms_of result) ≤ 64 }
     {
         terms_at(self.entries.as_slice(), form.0)
     }
 
     /// The form of these terms.
-    fn integer(&mut self, terms: Vec<Term>) -> Result<Form, AllocError>
-        requires terms { AreTerms terms.items }
-        requires reach { reach_of_terms self.old terms.items ≤ length self.old }
-        requires count { length terms.items ≤ 64 }
+    fn integer(&mut self, terms: &[Term]) -> Result<Form, AllocError>
+        requires terms { AreTerms terms.now }
+        requires reach { reach_of_terms self.old terms.now ≤ length self.old }
+        requires count { length terms.now ≤ 64 }
         ensures kept { Keeps self.old self.new }
-        ensures form { IfOk result (λ f. held self.new f ≡ Some (integer_form (polynomial_form self.old terms.items))) }
+        ensures form { IfOk result (λ f. held self.new f ≡ Some (integer_form (polynomial_form self.old terms.now))) }
     {
-        self.put(entry_of(terms))
+        match place_of_atom(terms) {
+            Some(place) => Ok(Form(place)),
+            None => {
+                let entry = entry_of(self.alloc, terms)?;
+                self.put(entry)
+            }
+        }
     }
 
     /// The form of a word.
@@ -266,14 +277,16 @@ impl Interner {
         ensures kept { Keeps self.old self.new }
         ensures form { IfOk result (λ f. held self.new f ≡ Some (integer_form (constant w))) }
     {
-        if w == 0 {
-            return self.put(Entry::Several(Vec::new(self.alloc)));
-        }
-        let factors = Rc::new(self.alloc, SmallVec::new(self.alloc))?;
-        self.put(Entry::Single(Term {
-            factors,
-            coefficient: w,
-        }))
+        let terms = if w == 0 {
+            SmallVec::new(self.alloc)
+        } else {
+            let term = LinearTerm {
+                atom: 0,
+                coefficient: w,
+            };
+            SmallVec::from_buf(self.alloc, [term])
+        };
+        self.put(Entry::Linear(terms))
     }
 
     /// The form of an atom with the coefficient 1.
@@ -282,13 +295,7 @@ impl Interner {
         ensures kept { Keeps self.old self.new }
         ensures form { IfOk result (λ f. held self.new f ≡ Some (integer_form (alone (atom_form self.old factor)))) }
     {
-        let mut list = SmallVec::new(self.alloc);
-        list.push(factor)?;
-        let factors = Rc::new(self.alloc, list)?;
-        self.put(Entry::Single(Term {
-            factors,
-            coefficient: 1,
-        }))
+        self.put(Entry::Atom(factor))
     }
 
     /// The form of a sum. It is one of the two where the other is 0.
@@ -308,9 +315,9 @@ impl Interner {
         }
         let sum = sum_terms(self.alloc, p, q)?;
         if sum.len() <= MONOMIALS {
-            return self.integer(sum);
+            return self.integer(sum.as_slice());
         }
-        self.alone(Factor::Sum(a.0, b.0))
+        self.alone(Factor::Operation(Op::Add, a.0, b.0))
     }
 
     /// The form of a difference. The negation becomes a form of its own only where the atom names it.
@@ -327,11 +334,11 @@ impl Interner {
         }
         let difference = difference_terms(self.alloc, p, q)?;
         if difference.len() <= MONOMIALS {
-            return self.integer(difference);
+            return self.integer(difference.as_slice());
         }
         let negated = negated_terms(self.alloc, q, 0)?;
-        let negation = self.integer(negated)?;
-        self.alone(Factor::Sum(a.0, negation.0))
+        let negation = self.integer(negated.as_slice())?;
+        self.alone(Factor::Operation(Op::Add, a.0, negation.0))
     }
 
     /// The form of a product.
@@ -341,28 +348,28 @@ impl Interner {
         ensures kept { Keeps self.old self.new }
         ensures form { IfOk result (λ f. held self.new f ≡ Some (integer_form (norm_mul (polynomial self.old a) (polynomial self.old b)))) }
     {
-        let p = terms_at(self.entries.as_slice(), a.0);
-        let q = terms_at(self.entries.as_slice(), b.0);
+        let p = self.terms(a);
+        let q = self.terms(b);
         if !is_small(p, q) {
-            return self.alone(Factor::Product(a.0, b.0));
+            return self.alone(Factor::Operation(Op::Mul, a.0, b.0));
         }
-        let product = product_terms(self.alloc, &mut self.monomials, p, q)?;
-        self.integer(product)
+        let product = product_terms(self.alloc, p, q)?;
+        self.integer(product.as_slice())
     }
 
-    /// The form of a test: what the operation gives where both are constants, and the atom otherwise.
-    fn test(&mut self, op: Op, a: Form, b: Form, factor: Factor) -> Result<Form, AllocError>
+    /// The form of an operation that no polynomial tells: what it gives where both are constants, and the
+    /// atom otherwise.
+    fn folded(&mut self, op: Op, a: Form, b: Form) -> Result<Form, AllocError>
         requires first { IsInteger self.old a }
         requires second { IsInteger self.old b }
-        requires factor { reach self.old factor ≤ length self.old }
         ensures kept { Keeps self.old self.new }
-        ensures form { IfOk result (λ f. held self.new f ≡ Some (integer_form (tested op (constant_of (polynomial self.old a)) (constant_of (polynomial self.old b)) (atom_form self.old factor)))) }
+        ensures form { IfOk result (λ f. held self.new f ≡ Some (integer_form (norm_folded op (polynomial self.old a) (polynomial self.old b)))) }
     {
         let c = constant_in(self.terms(a));
         let d = constant_in(self.terms(b));
         match (c, d) {
             (Some(c), Some(d)) => self.constant(apply(op, c, d)),
-            _ => self.alone(factor),
+            _ => self.alone(Factor::Operation(op, a.0, b.0)),
         }
     }
 }

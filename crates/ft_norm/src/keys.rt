@@ -75,6 +75,10 @@ impl Hasher for KeyedFold {
             ]));
             return;
         }
+        if bytes.len() == 4 {
+            self.note(u64::from(u32::from_le_bytes([bytes[0], bytes[1], bytes[2], bytes[3]])));
+            return;
+        }
         for byte in bytes {
             self.note(u64::from(*byte));
         }
@@ -83,6 +87,13 @@ impl Hasher for KeyedFold {
     #[inline(always)]
     fn write_u8(&mut self, i: u8)
         ensures { self.new ≡ fold written self.old (fed.u8 i) }
+    {
+        self.note(u64::from(i));
+    }
+
+    #[inline(always)]
+    fn write_u32(&mut self, i: u32)
+        ensures { self.new ≡ fold written self.old (fed.u32 i) }
     {
         self.note(u64::from(i));
     }

@@ -7,20 +7,19 @@
 //! those of `ft_static`.
 #![tactic(auto)]
 
+mod built;
 mod entry;
 mod form;
 mod interner;
 mod keys;
-mod monomials;
+mod packed;
 mod parts;
 mod product;
 mod substitution;
 mod sum;
+mod terms;
 mod walk;
 
 pub use form::Form;
 pub use interner::Interner;
 pub use substitution::Memo;
-
-#[cfg(test)]
-mod tests;

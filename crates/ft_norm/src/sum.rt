@@ -2,31 +2,47 @@
 ghost use Rattle.std.specs.Prelude.{◌≡◌, ◌<◌, ◌≤◌, ◌+◌, ◌-◌, ◌%◌, ◌^◌, ℕ, List, length, map, slice_index_or, IfErr, IfOk};
 ghost use Rattle.ft_static.specs.Form.{Form as Normal};
 ghost use Rattle.ft_static.specs.NormalForm.{add_term as sum_with, negation, total};
-ghost use Rattle.ft_norm.specs.Entries.{monomial_form, negated_parts, parts, polynomial_form, reach_of_factors, reach_of_terms};
-ghost use Rattle.ft_norm.specs.Orders.{AreOrdered, AreTerms, cmp_factors};
-ghost use Rattle.ft_norm.specs.Terms.{IsPlace, IsThere};
+ghost use Rattle.ft_norm.specs.Entries.{monomial_form, polynomial_form, reach_of_atoms, reach_of_terms};
+ghost use Rattle.ft_norm.specs.Orders.{AreTerms, IsMonomial, cmp_atoms};
+ghost use Rattle.ft_norm.specs.Terms.{IsPlace, IsThere, negated_term, terms_of};
 
-use crate::entry::{Factor, Factors, Term};
+use crate::entry::{Atoms, Term, TermList};
+use crate::terms::Terms;
+use smallvec::SmallVec;
 use std::alloc::{AllocError, Global};
 use std::cmp::Ordering;
 
-/// Compares two lists of factors by their numbers.
-fn compare(a: &[Factor], b: &[Factor]) -> Ordering
-    ensures { result ≡ cmp_factors a.now b.now }
+/// Compares two monomials by the numbers of their atoms.
+#[inline(always)]
+fn compare(a: Atoms, b: Atoms) -> Ordering
+    requires first { length a ≡ 4 }
+    requires second { length b ≡ 4 }
+    ensures { result ≡ cmp_atoms a b }
 {
-    a.cmp(&b)
+    if a[0] != b[0] {
+        return a[0].cmp(&b[0]);
+    }
+    if a[1] != b[1] {
+        return a[1].cmp(&b[1]);
+    }
+    if a[2] != b[2] {
+        return a[2].cmp(&b[2]);
+    }
+    a[3].cmp(&b[3])
 }
 
-/// Where the term of these factors stands, or where it would stand.
-fn place_of(sum: &[Term], factors: &[Factor]) -> Result<usize, usize>
-    ensures there { IfOk result (IsThere sum.now factors.now) }
-    ensures place { IfErr result (IsPlace sum.now factors.now) }
+/// Where the term of these atoms stands, or where it would stand.
+fn place_of(sum: &[Term], atoms: Atoms) -> Result<usize, usize>
+    requires sum { AreTerms sum.now }
+    requires atoms { length atoms ≡ 4 }
+    ensures there { IfOk result (IsThere sum.now atoms) }
+    ensures place { IfErr result (IsPlace sum.now atoms) }
 {
     let mut low = 0;
     let mut high = sum.len();
     while low < high {
         let middle = low + (high - low) / 2;
-        match compare(sum[middle].list(), factors) {
+        match compare(sum[middle].atoms, atoms) {
             Ordering::Equal => return Ok(middle),
             Ordering::Less => low = middle + 1,
             Ordering::Greater => high = middle,
@@ -36,10 +52,10 @@ fn place_of(sum: &[Term], factors: &[Factor]) -> Result<usize, usize>
 }
 
 /// Adds to the coefficient in place `i`; a term whose coefficient becomes 0 is dropped.
-fn raise(sum: &mut Vec<Term>, i: usize, coefficient: u64)
+fn raise(sum: &mut TermList, i: usize, coefficient: u64)
     requires within { i < length sum.old.items }
     requires terms { AreTerms sum.old.items }
-    ensures value { (fs : List Normal) (t : Term) → polynomial_form fs sum.new.items ≡ sum_with (monomial_form fs (slice_index_or sum.old.items i t).factors.value.items) coefficient (polynomial_form fs sum.old.items) }
+    ensures value { (fs : List Normal) (t : Term) → polynomial_form fs sum.new.items ≡ sum_with (monomial_form fs (slice_index_or sum.old.items i t).atoms) coefficient (polynomial_form fs sum.old.items) }
     ensures terms { AreTerms sum.new.items }
     ensures reach { (fs : List Normal) (n : ℕ) → reach_of_terms fs sum.old.items ≤ n → reach_of_terms fs sum.new.items ≤ n }
     ensures count { length sum.new.items ≤ length sum.old.items }
@@ -54,129 +70,97 @@ fn raise(sum: &mut Vec<Term>, i: usize, coefficient: u64)
 }
 
 /// Puts a term in place `i`, unless its coefficient is 0.
-fn insert(
-    sum: &mut Vec<Term>,
-    i: usize,
-    factors: Factors,
-    coefficient: u64,
-) -> Result<(), AllocError>
+fn insert(sum: &mut TermList, i: usize, atoms: Atoms, coefficient: u64) -> Result<(), AllocError>
     requires terms { AreTerms sum.old.items }
-    requires place { IsPlace sum.old.items factors.value.items i }
-    requires factors { AreOrdered factors.value.items }
-    ensures value { IfOk result (λ _. (fs : List Normal) → polynomial_form fs sum.new.items ≡ sum_with (monomial_form fs factors.value.items) coefficient (polynomial_form fs sum.old.items)) }
+    requires place { IsPlace sum.old.items atoms i }
+    requires atoms { IsMonomial atoms }
+    ensures value { IfOk result (λ _. (fs : List Normal) → polynomial_form fs sum.new.items ≡ sum_with (monomial_form fs atoms) coefficient (polynomial_form fs sum.old.items)) }
     ensures terms { AreTerms sum.new.items }
-    ensures reach { (fs : List Normal) (n : ℕ) → reach_of_terms fs sum.old.items ≤ n → reach_of_factors fs factors.value.items ≤ n → reach_of_terms fs sum.new.items ≤ n }
+    ensures reach { (fs : List Normal) (n : ℕ) → reach_of_terms fs sum.old.items ≤ n → reach_of_atoms fs atoms ≤ n → reach_of_terms fs sum.new.items ≤ n }
     ensures count { length sum.new.items ≤ length sum.old.items + 1 }
 {
     if coefficient == 0 {
         return Ok(());
     }
-    sum.insert(
-        i,
-        Term {
-            factors,
-            coefficient,
-        },
-    )?;
+    sum.insert(i, Term { atoms, coefficient })?;
     Ok(())
 }
 
-/// Adds a term, which is handed over.
-pub fn add_term(sum: &mut Vec<Term>, factors: Factors, coefficient: u64) -> Result<(), AllocError>
+/// Adds a term.
+pub fn add_term(sum: &mut TermList, atoms: Atoms, coefficient: u64) -> Result<(), AllocError>
     requires terms { AreTerms sum.old.items }
-    requires factors { AreOrdered factors.value.items }
-    ensures value { IfOk result (λ _. (fs : List Normal) → polynomial_form fs sum.new.items ≡ sum_with (monomial_form fs factors.value.items) coefficient (polynomial_form fs sum.old.items)) }
+    requires atoms { IsMonomial atoms }
+    ensures value { IfOk result (λ _. (fs : List Normal) → polynomial_form fs sum.new.items ≡ sum_with (monomial_form fs atoms) coefficient (polynomial_form fs sum.old.items)) }
     ensures terms { AreTerms sum.new.items }
-    ensures reach { (fs : List Normal) (n : ℕ) → reach_of_terms fs sum.old.items ≤ n → reach_of_factors fs factors.value.items ≤ n → reach_of_terms fs sum.new.items ≤ n }
+    ensures reach { (fs : List Normal) (n : ℕ) → reach_of_terms fs sum.old.items ≤ n → reach_of_atoms fs atoms ≤ n → reach_of_terms fs sum.new.items ≤ n }
     ensures count { length sum.new.items ≤ length sum.old.items + 1 }
 {
-    match place_of(sum, factors.as_ref().as_slice()) {
+    match place_of(sum.as_slice(), atoms) {
         Ok(i) => {
             raise(sum, i, coefficient);
             Ok(())
         }
-        Err(i) => insert(sum, i, factors, coefficient),
-    }
-}
-
-/// Adds a term, which is copied only where it becomes a term of the sum.
-fn add_copy(sum: &mut Vec<Term>, term: &Term) -> Result<(), AllocError>
-    requires terms { AreTerms sum.old.items }
-    requires factors { AreOrdered term.now.factors.value.items }
-    ensures value { IfOk result (λ _. (fs : List Normal) → polynomial_form fs sum.new.items ≡ sum_with (monomial_form fs term.now.factors.value.items) term.now.coefficient (polynomial_form fs sum.old.items)) }
-    ensures terms { AreTerms sum.new.items }
-    ensures reach { (fs : List Normal) (n : ℕ) → reach_of_terms fs sum.old.items ≤ n → reach_of_factors fs term.now.factors.value.items ≤ n → reach_of_terms fs sum.new.items ≤ n }
-{
-    match place_of(sum, term.list()) {
-        Ok(i) => {
-            raise(sum, i, term.coefficient);
-            Ok(())
-        }
-        Err(i) => {
-            let factors = term.factors.clone()?;
-            insert(sum, i, factors, term.coefficient)
-        }
+        Err(i) => insert(sum, i, atoms, coefficient),
     }
 }
 
 /// Adds each term.
-fn add_terms(sum: &mut Vec<Term>, terms: &[Term]) -> Result<(), AllocError>
+fn add_terms(sum: &mut TermList, terms: Terms<'_>) -> Result<(), AllocError>
     requires sum { AreTerms sum.old.items }
-    requires terms { AreTerms terms.now }
-    ensures value { IfOk result (λ _. (fs : List Normal) → polynomial_form fs sum.new.items ≡ total (polynomial_form fs terms.now) (polynomial_form fs sum.old.items)) }
+    requires terms { AreTerms (terms_of terms) }
+    ensures value { IfOk result (λ _. (fs : List Normal) → polynomial_form fs sum.new.items ≡ total (polynomial_form fs (terms_of terms.entry)) (polynomial_form fs sum.old.items)) }
     ensures terms { AreTerms sum.new.items }
-    ensures reach { (fs : List Normal) (n : ℕ) → reach_of_terms fs sum.old.items ≤ n → reach_of_terms fs terms.now ≤ n → reach_of_terms fs sum.new.items ≤ n }
+    ensures reach { (fs : List Normal) (n : ℕ) → reach_of_terms fs sum.old.items ≤ n → reach_of_terms fs (terms_of terms.entry) ≤ n → reach_of_terms fs sum.new.items ≤ n }
 {
-    for t in terms {
-        add_copy(sum, t)?;
+    for i in 0..terms.len() {
+        let term = terms.term(i);
+        add_term(sum, term.atoms, term.coefficient)?;
     }
     Ok(())
 }
 
 /// A copy of these terms, with room for `more` beside them.
-fn copy_terms(alloc: Global, terms: &[Term], more: usize) -> Result<Vec<Term>, AllocError>
-    ensures { IfOk result (λ v. map parts v.items ≡ map parts terms.now) }
+fn copy_terms(alloc: Global, terms: Terms<'_>, more: usize) -> Result<TermList, AllocError>
+    ensures { IfOk result (λ v. v.items ≡ terms_of terms.entry) }
 {
-    let mut copies = Vec::with_capacity(alloc, terms.len().saturating_add(more))?;
-    for t in terms {
-        let factors = t.factors.clone()?;
-        copies.push(Term {
-            factors,
-            coefficient: t.coefficient,
-        })?;
+    let mut copies = SmallVec::with_capacity(alloc, terms.len().saturating_add(more))?;
+    for i in 0..terms.len() {
+        let term = terms.term(i);
+        copies.push(term)?;
     }
     Ok(copies)
 }
 
-/// A coefficient negated.
-fn negated(coefficient: u64) -> u64
-    ensures { result ≡ (2 ^ 64 - coefficient % 2 ^ 64) % 2 ^ 64 }
+/// A term with its coefficient negated.
+fn negated(term: Term) -> Term
+    ensures { result ≡ negated_term term }
 {
-    coefficient.wrapping_neg()
+    let atoms = term.atoms;
+    Term {
+        atoms,
+        coefficient: term.coefficient.wrapping_neg(),
+    }
 }
 
 /// These terms with each coefficient negated, with room for `more` beside them.
-pub fn negated_terms(alloc: Global, terms: &[Term], more: usize) -> Result<Vec<Term>, AllocError>
-    ensures { IfOk result (λ v. map parts v.items ≡ map negated_parts terms.now) }
+pub fn negated_terms(alloc: Global, terms: Terms<'_>, more: usize) -> Result<TermList, AllocError>
+    ensures { IfOk result (λ v. v.items ≡ map negated_term (terms_of terms.entry)) }
 {
-    let mut negation = Vec::with_capacity(alloc, terms.len().saturating_add(more))?;
-    for t in terms {
-        let factors = t.factors.clone()?;
-        negation.push(Term {
-            factors,
-            coefficient: negated(t.coefficient),
-        })?;
+    let mut negation = SmallVec::with_capacity(alloc, terms.len().saturating_add(more))?;
+    for i in 0..terms.len() {
+        let term = terms.term(i);
+        negation.push(negated(term))?;
     }
     Ok(negation)
 }
 
 /// The terms of the sum of `p` and `q`.
-pub fn sum_terms(alloc: Global, p: &[Term], q: &[Term]) -> Result<Vec<Term>, AllocError>
-    requires first { AreTerms p.now }
-    requires second { AreTerms q.now }
-    ensures value { IfOk result (λ v. (fs : List Normal) → polynomial_form fs v.items ≡ total (polynomial_form fs p.now) (polynomial_form fs q.now)) }
+pub fn sum_terms(alloc: Global, p: Terms<'_>, q: Terms<'_>) -> Result<TermList, AllocError>
+    requires first { AreTerms (terms_of p) }
+    requires second { AreTerms (terms_of q) }
+    ensures value { IfOk result (λ v. (fs : List Normal) → polynomial_form fs v.items ≡ total (polynomial_form fs (terms_of p.entry)) (polynomial_form fs (terms_of q.entry))) }
     ensures terms { IfOk result (λ v. AreTerms v.items) }
-    ensures reach { IfOk result (λ v. (fs : List Normal) (n : ℕ) → reach_of_terms fs p.now ≤ n → reach_of_terms fs q.now ≤ n → reach_of_terms fs v.items ≤ n) }
+    ensures reach { IfOk result (λ v. (fs : List Normal) (n : ℕ) → reach_of_terms fs (terms_of p.entry) ≤ n → reach_of_terms fs (terms_of q.entry) ≤ n → reach_of_terms fs v.items ≤ n) }
 {
     let mut sum = copy_terms(alloc, q, p.len())?;
     add_terms(&mut sum, p)?;
@@ -184,12 +168,12 @@ pub fn sum_terms(alloc: Global, p: &[Term], q: &[Term]) -> Result<Vec<Term>, All
 }
 
 /// The terms of `p` and of the negation of `q`, added up.
-pub fn difference_terms(alloc: Global, p: &[Term], q: &[Term]) -> Result<Vec<Term>, AllocError>
-    requires first { AreTerms p.now }
-    requires second { AreTerms q.now }
-    ensures value { IfOk result (λ v. (fs : List Normal) → polynomial_form fs v.items ≡ total (polynomial_form fs p.now) (negation (polynomial_form fs q.now))) }
+pub fn difference_terms(alloc: Global, p: Terms<'_>, q: Terms<'_>) -> Result<TermList, AllocError>
+    requires first { AreTerms (terms_of p) }
+    requires second { AreTerms (terms_of q) }
+    ensures value { IfOk result (λ v. (fs : List Normal) → polynomial_form fs v.items ≡ total (polynomial_form fs (terms_of p.entry)) (negation (polynomial_form fs (terms_of q.entry)))) }
     ensures terms { IfOk result (λ v. AreTerms v.items) }
-    ensures reach { IfOk result (λ v. (fs : List Normal) (n : ℕ) → reach_of_terms fs p.now ≤ n → reach_of_terms fs q.now ≤ n → reach_of_terms fs v.items ≤ n) }
+    ensures reach { IfOk result (λ v. (fs : List Normal) (n : ℕ) → reach_of_terms fs (terms_of p.entry) ≤ n → reach_of_terms fs (terms_of q.entry) ≤ n → reach_of_terms fs v.items ≤ n) }
 {
     let mut difference = negated_terms(alloc, q, p.len())?;
     add_terms(&mut difference, p)?;

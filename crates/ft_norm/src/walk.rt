@@ -1,94 +1,137 @@
 //! Constants, and the walk of `sel`.
-ghost use Rattle.std.specs.Prelude.{◌≡◌, ◌+◌, ◌<◌, ◌≤◌, List, length};
+ghost use Rattle.std.specs.Prelude.{◌≡◌, ◌+◌, ◌<◌, ◌≤◌, List, [], ◌∷◌, length, map};
+ghost use Rattle.std.specs.Bool.{Decides};
 ghost use Rattle.ft_static.specs.Form.{Form as Normal, Polynomial, nought, plus, update, updates};
 ghost use Rattle.ft_static.specs.NormalForm.{constant_of, is_not_zero, norm_sel, norm_sub, norm_upd};
 ghost use Rattle.ft_norm.specs.Held.{polynomial_at, updates_at};
-ghost use Rattle.ft_norm.specs.Entries.{AreEntries, IsIntegerAt, IsMemoryAt, forms_of, memory_reach, monomial_form, polynomial_form};
-ghost use Rattle.ft_norm.specs.Terms.{AreOver, constant_among, others};
+ghost use Rattle.ft_norm.specs.Entries.{AreEntries, IsIntegerAt, IsMemoryAt, alone_term, forms_of, full, memory_reach, monomial_form, polynomial_form};
+ghost use Rattle.ft_norm.specs.Terms.{AreOver, IsView, constant_among, others, terms_of};
 ghost use Rattle.ft_norm.specs.Walks.{EndsWithin, form_of_walk};
 
-use crate::entry::{Entry, Factor, Term, terms_at};
+use crate::entry::{Atoms, Entry, LinearTerm, degree};
+use crate::terms::{Terms, terms_at};
 use ft_steps::Steps;
 use std::sync::ledger::Ledger;
 
 /// Where a walk ends: at the value of an update, or at the entry from which nothing more is known.
 #[derive(Clone, Copy)]
 pub enum Walk {
-    Value(usize),
-    Stop(usize),
+    Value(u32),
+    Stop(u32),
 }
 
-/// The number that a polynomial of one term is, where that has no factor.
-fn constant_of_term(factors: &[Factor], coefficient: u64) -> Option<u64>
-    ensures { (fs : List Normal) → result ≡ constant_of (plus (monomial_form fs factors.now) coefficient nought) }
+/// The number that a polynomial with no monomial but the empty one is.
+pub fn constant_in(terms: Terms<'_>) -> Option<u64>
+    ensures { (fs : List Normal) → AreOver fs (terms_of terms.entry) → result ≡ constant_of (polynomial_form fs (terms_of terms.entry)) }
 {
-    if factors.is_empty() {
+    if terms.is_empty() {
+        return Some(0);
+    }
+    if terms.len() != 1 {
+        return None;
+    }
+    let term = terms.term(0);
+    constant_of_term(term.atoms, term.coefficient)
+}
+
+/// The number that a polynomial of one term is, where that has no atom.
+fn constant_of_term(atoms: Atoms, coefficient: u64) -> Option<u64>
+    ensures { (fs : List Normal) → result ≡ constant_of (plus (monomial_form fs atoms) coefficient nought) }
+{
+    if degree(atoms) == 0 {
         Some(coefficient)
     } else {
         None
     }
 }
 
-/// The number that a polynomial with no monomial but the empty one is.
-pub fn constant_in(terms: &[Term]) -> Option<u64>
-    ensures { (fs : List Normal) → AreOver fs terms.now → result ≡ constant_of (polynomial_form fs terms.now) }
+/// The constant among these terms, which comes first.
+#[inline(always)]
+fn constant_among(terms: Terms<'_>) -> u64
+    requires { IsView terms }
+    ensures { result ≡ constant_among (terms_of terms.entry) }
 {
     match terms {
-        [] => Some(0),
-        [term] => constant_of_term(term.list(), term.coefficient),
-        _ => None,
-    }
-}
-
-/// The constant among these terms.
-fn constant_among(terms: &[Term]) -> u64
-    ensures { result ≡ constant_among terms.now }
-{
-    match terms {
-        [first, ..] if first.list().is_empty() => first.coefficient,
+        Terms::Linear([first, ..]) if first.atom == 0 => first.coefficient,
+        Terms::Packed([first, ..]) if degree(first.full().atoms) == 0 => first.full().coefficient,
+        Terms::Full([first, ..]) if degree(first.atoms) == 0 => first.coefficient,
         _ => 0,
     }
 }
 
 /// These terms without the constant among them.
-fn others(terms: &[Term]) -> &[Term]
-    ensures { result.now ≡ others terms.now }
+#[inline(always)]
+fn others(terms: Terms<'_>) -> Terms<'_>
+    requires { IsView terms }
+    ensures terms { terms_of result ≡ others (terms_of terms.entry) }
+    ensures view { IsView result }
 {
     match terms {
-        [first, others @ ..] if first.list().is_empty() => others,
+        Terms::Linear([first, others @ ..]) if first.atom == 0 => Terms::Linear(others),
+        Terms::Packed([first, others @ ..]) if degree(first.full().atoms) == 0 => {
+            Terms::Packed(others)
+        }
+        Terms::Full([first, others @ ..]) if degree(first.atoms) == 0 => Terms::Full(others),
         _ => terms,
+    }
+}
+
+/// Whether these terms are one atom with the coefficient 1.
+fn are_atom(terms: &[LinearTerm], atom: u32) -> bool
+    ensures { Decides result (map full terms.now ≡ alone_term atom ∷ []) }
+{
+    match terms {
+        [term] if term.atom == atom => term.coefficient == 1,
+        _ => false,
+    }
+}
+
+/// Whether these are the same terms.
+#[inline(always)]
+fn are_same(p: Terms<'_>, q: Terms<'_>) -> bool
+    requires first { IsView p }
+    requires second { IsView q }
+    ensures { Decides result (terms_of p.entry ≡ terms_of q.entry) }
+{
+    match (p, q) {
+        (Terms::Atom(a), Terms::Atom(b)) => a == b,
+        (Terms::Atom(a), Terms::Linear(q)) => are_atom(q, a),
+        (Terms::Linear(p), Terms::Atom(b)) => are_atom(p, b),
+        (Terms::Linear(p), Terms::Linear(q)) => p == q,
+        (Terms::Packed(p), Terms::Packed(q)) => p == q,
+        (Terms::Full(p), Terms::Full(q)) => p == q,
+        _ => false,
     }
 }
 
 /// Whether two polynomials differ by a constant other than 0: their other terms are the same, and their
 /// constants are not.
-fn are_apart(p: &[Term], q: &[Term]) -> bool
-    ensures { (fs : List Normal) → AreOver fs p.now → AreOver fs q.now → result ≡ is_not_zero (constant_of (norm_sub (polynomial_form fs p.now) (polynomial_form fs q.now))) }
+fn are_apart(p: Terms<'_>, q: Terms<'_>) -> bool
+    requires first { IsView p }
+    requires second { IsView q }
+    ensures { (fs : List Normal) → AreOver fs (terms_of p.entry) → AreOver fs (terms_of q.entry) → result ≡ is_not_zero (constant_of (norm_sub (polynomial_form fs (terms_of p.entry)) (polynomial_form fs (terms_of q.entry)))) }
 {
     if constant_among(p) == constant_among(q) {
         return false;
     }
-    others(p) == others(q)
+    are_same(others(p), others(q))
 }
 
-/// Whether `p` less `a` is a constant other than 0.
-fn differs(entries: &[Entry], p: usize, a: usize) -> bool
-    requires first { p < length entries.now }
-    requires second { a < length entries.now }
+/// Whether these terms less those of `a` are a constant other than 0.
+#[inline(always)]
+fn differs(entries: &[Entry], terms: Terms<'_>, a: u32) -> bool
+    requires view { IsView terms }
+    requires terms { AreOver (forms_of entries.now) (terms_of terms) }
+    requires address { a < length entries.now }
     requires entries { AreEntries entries.now }
-    ensures { result ≡ is_not_zero (constant_of (norm_sub (polynomial_at (forms_of entries.now) p) (polynomial_at (forms_of entries.now) a))) }
+    ensures { result ≡ is_not_zero (constant_of (norm_sub (polynomial_form (forms_of entries.now) (terms_of terms.entry)) (polynomial_at (forms_of entries.now) a))) }
 {
-    are_apart(terms_at(entries, p), terms_at(entries, a))
+    are_apart(terms, terms_at(entries, a))
 }
 
 /// Walks from the newest update of `memory` to the one that is known to have the address `p`, past
 /// updates whose addresses are known to differ from it. It counts a step for each update passed.
-pub fn walk_from<L: Ledger>(
-    entries: &[Entry],
-    memory: usize,
-    p: usize,
-    steps: &mut Steps<L>,
-) -> Walk
+pub fn walk_from<L: Ledger>(entries: &[Entry], memory: u32, p: u32, steps: &mut Steps<L>) -> Walk
     requires memory { IsMemoryAt (forms_of entries.now) memory }
     requires at { IsIntegerAt (forms_of entries.now) p }
     requires entries { AreEntries entries.now }
@@ -96,15 +139,16 @@ pub fn walk_from<L: Ledger>(
     ensures form { form_of_walk (forms_of entries.now) p result ≡ norm_sel (updates_at (forms_of entries.now) memory) (polynomial_at (forms_of entries.now) p) }
     ensures steps { steps.new ≤ steps.old + updates (updates_at (forms_of entries.now) memory) }
 {
+    let terms = terms_at(entries, p);
     let mut m = memory;
     loop {
-        let Entry::Update { at, value, older } = &entries[m] else {
+        let Entry::Update { at, value, older } = &entries[m as usize] else {
             return Walk::Stop(m);
         };
         if *at == p {
             return Walk::Value(*value);
         }
-        if !differs(entries, p, *at) {
+        if !differs(entries, terms, *at) {
             return Walk::Stop(m);
         }
         steps.tick();
@@ -114,7 +158,7 @@ pub fn walk_from<L: Ledger>(
 
 /// What an update at the address `at` goes over: `memory` itself, or, where its newest update has that
 /// address, what is below it.
-pub fn below_newest(entries: &[Entry], memory: usize, at: usize) -> usize
+pub fn below_newest(entries: &[Entry], memory: u32, at: u32) -> u32
     requires within { memory < length entries.now }
     requires memory { IsMemoryAt (forms_of entries.now) memory }
     requires at { IsIntegerAt (forms_of entries.now) at }
@@ -126,7 +170,7 @@ pub fn below_newest(entries: &[Entry], memory: usize, at: usize) -> usize
         at: newest,
         value: _,
         older,
-    } = &entries[memory]
+    } = &entries[memory as usize]
     else {
         return memory;
     };

@@ -1,11 +1,24 @@
-use Rattle.std.proofs.Common.{◌∙◌, sym, ap, length}
-use Rattle.std.proofs.lemmas.Bool.{eqb-true}
-use Rattle.smallvec.specs.SmallVec.{SmallVec}
-use Rattle.ft_norm.specs.declared.entry.Factor.{Factor}
-use Rattle.ft_norm.proofs.Joining.{join_last_none}
+use Rattle.std.proofs.Common.{ℕ, List, ◌∙◌, ap, arith, get_or, sym}
+use Rattle.ft_static.specs.NormalForm.{join}
+use Rattle.ft_norm.specs.Entries.{monomial_form, reach_of_atoms, with_atom}
+use Rattle.ft_norm.proofs.Joining.{join_atoms}
+use Rattle.ft_norm.proofs.Numbers.{numbers}
 use Rattle.ft_norm.proofs.product.joined.Goals as goal
 
-pub returns-then-is_empty-2-clause-value : goal.returns-then-is_empty-2-clause-value
-returns-then-is_empty-2-clause-value c = λ fs.
-    let e = eqb-true _ _ (sym c.is_empty-2.ensures ∙ c.if-is_empty-2.true) in
-    join_last_none fs c.args.t.now.factors.value.items c.args.u.now.factors.value.items c.in_ok-factors-2.factors.value.items (ap length (sym c.list-n.ensures) ∙ e) (ap (λ (l : SmallVec Factor). l.items) c.in_ok-factors-2.ensures.cases)
+pub returns-clause-value : goal.returns-clause-value
+returns-clause-value c = λ fs.
+    let m = c.args.m in
+    let n = monomial_form fs c.args.n in
+    c.with_atom.ensures.value fs
+    ∙ (ap (with_atom fs (get_or m 0 0)) (c.with_atom-product-3.ensures.value fs
+    ∙ ap (with_atom fs (get_or m 1 0)) (c.with_atom-product-2.ensures.value fs ∙ ap (with_atom fs (get_or m 2 0)) (c.with_atom-product.ensures.value fs)))
+    ∙ (sym (join_atoms fs (get_or m 0 0) (get_or m 1 0) (get_or m 2 0) (get_or m 3 0) n) ∙ ap (λ (xs : List ℕ). join (monomial_form fs xs) n) (sym (numbers m c.requires.first.0))))
+
+pub returns-clause-reach : goal.returns-clause-reach
+returns-clause-reach c = λ fs k h j.
+    let e = ap (reach_of_atoms fs) (numbers c.args.m c.requires.first.0) in
+    let p = c.with_atom.ensures.reach fs in
+    let q = c.with_atom-product-3.ensures.reach fs in
+    let r = c.with_atom-product-2.ensures.reach fs in
+    let s = c.with_atom-product.ensures.reach fs in
+    omega (arith, e, p, q, r, s, h, j)

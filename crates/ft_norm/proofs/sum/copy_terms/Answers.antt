@@ -1,13 +1,7 @@
-use Rattle.std.proofs.Common.{rules, ◌≡◌, ap, ◌∙◌, map, List, ℕ}
-use Rattle.std.proofs.lemmas.List.Elements.{same_from_all_zip}
-use Rattle.ft_norm.specs.declared.entry.Factor.{Factor}
-use Rattle.ft_norm.specs.Entries.{parts}
+use Rattle.std.proofs.Common.{◌∙◌, arith}
+use Rattle.ft_norm.specs.Terms.{terms_of}
 use Rattle.ft_norm.proofs.Sums.{taken_more}
 use Rattle.ft_norm.proofs.sum.copy_terms.Goals as goal
 
-pub loop-t-preserved : goal.loop-t-preserved
-loop-t-preserved c =
-    let k = c.in_ok-factors.ensures.cases in
-    let f : c.in_ok-factors.factors.value.items ≡ c.t-item.result.factors.value.items = search (rules, same_from_all_zip) in
-    ap (map parts) c.in_ok-push.ensures.items ∙ taken_more parts c.args.terms.now c.loop-t.copies.items c.t-item.result (record { factors = c.in_ok-factors.factors; coefficient = c.t-item.result.coefficient }) c.loop-t.t-index c.loop-t.invariant c.loop-t-test.true c.t-item.is
-    (ap (λ (ks : List Factor). let p : List Factor × ℕ = (ks, c.t-item.result.coefficient) in p) f)
+pub loop-i-preserved : goal.loop-i-preserved
+loop-i-preserved c = c.in_ok-push.ensures.ok ∙ taken_more (terms_of c.args.terms) c.loop-i.copies.items c.term-term.result c.loop-i.i c.loop-i.invariant (omega (arith, c.loop-i-test.true, c.len-i-end.ensures)) c.term-term.ensures

@@ -1,15 +1,21 @@
-use Rattle.std.proofs.Common.{◌∙◌, ◌+◌, ◌%◌, ◌^◌, ap, refl, arith, lit<}
+use Rattle.std.proofs.Common.{◌∙◌, ◌+◌, ◌%◌, ◌^◌, [], List, ap, get_or, arith, lit<}
 use Rattle.std.proofs.Math.Nat.{mod-lt}
 use Rattle.std.proofs.lemmas.List.{get_or_default}
-use Rattle.ft_norm.specs.Entries.{polynomial_form}
+use Rattle.ft_norm.specs.Entries.{polynomial_form, reach_of_atoms}
 use Rattle.ft_norm.specs.declared.entry.Term.{Term}
 use Rattle.ft_norm.proofs.Ordered.{positive, terms_remove, terms_set}
-use Rattle.ft_norm.proofs.Sums.{gone, raised, reach-remove, reach-set, term_reach_read}
+use Rattle.ft_norm.proofs.Sums.{form_remove, form_set, reach-remove, reach-set, set_filled, term_reach}
 use Rattle.ft_norm.proofs.sum.raise.Goals as goal
+
+-- what is read beyond a list
+abbrev none : Term
+none = record { atoms = []; coefficient = 0 }
 
 pub returns-then-vanishes-clause-value : goal.returns-then-vanishes-clause-value
 returns-then-vanishes-clause-value c = λ fs t.
-    ap (polynomial_form fs) c.remove.ensures.items ∙ gone fs c.args.sum.now.items c.args.i c.index.result.now t c.args.coefficient c.requires.terms c.requires.within c.ranges.coefficient.fits c.index.ensures c.if-vanishes.true
+    let xs = c.args.sum.now.items in
+    let z = ap (λ (u : Term). (c.args.coefficient + u.coefficient) % 2 ^ 64) (get_or_default xs c.args.i t none c.requires.within) ∙ (rw c.deref.ensures at c.if-vanishes.true) in
+    ap (polynomial_form fs) c.remove.ensures.items ∙ form_remove fs xs c.args.i t c.args.coefficient c.requires.terms c.requires.within c.ranges.coefficient.fits z
 
 pub returns-then-vanishes-clause-terms : goal.returns-then-vanishes-clause-terms
 returns-then-vanishes-clause-terms c = rw c.remove.ensures.items (terms_remove c.args.sum.now.items c.args.i c.requires.terms)
@@ -19,17 +25,25 @@ returns-then-vanishes-clause-reach c = λ fs n h. rw c.remove.ensures.items (rea
 
 pub returns-else-vanishes-clause-value : goal.returns-else-vanishes-clause-value
 returns-else-vanishes-clause-value c = λ fs t.
-    let g = ap (λ (u : Term). u.factors.value.items) (c.index_mut.ensures.value ∙ get_or_default c.args.sum.now.items c.args.i c.index_mut.result.now c.index.result.now c.requires.within) in
-    raised fs c.args.sum.now.items c.args.i c.index.result.now t
-    (record { factors = c.index_mut.result.now.factors; coefficient = (c.args.coefficient + c.index.result.now.coefficient) % 2 ^ 64 }) c.args.coefficient c.requires.terms c.requires.within c.ranges.coefficient.fits c.index.ensures g refl
+    let xs = c.args.sum.now.items in
+    let y : Term = record { atoms = (get_or c.deref_mut.result.now c.args.i none).atoms; coefficient = (c.args.coefficient + (get_or c.deref.result.now c.args.i none).coefficient) % 2 ^ 64 } in
+    let r = get_or_default xs c.args.i none t c.requires.within in
+    ap (polynomial_form fs) (set_filled xs c.deref_mut.result.now c.args.i y c.deref_mut.ensures.value)
+    ∙ form_set fs xs c.args.i y t c.args.coefficient c.requires.terms c.requires.within c.ranges.coefficient.fits
+    (ap (λ (zs : List Term). (get_or zs c.args.i none).atoms) c.deref_mut.ensures.value ∙ ap (λ (u : Term). u.atoms) r)
+    (ap (λ (zs : List Term). (c.args.coefficient + (get_or zs c.args.i none).coefficient) % 2 ^ 64) c.deref.ensures ∙ ap (λ (u : Term). (c.args.coefficient + u.coefficient) % 2 ^ 64) r)
 
 pub returns-else-vanishes-clause-terms : goal.returns-else-vanishes-clause-terms
 returns-else-vanishes-clause-terms c =
-    let g = ap (λ (u : Term). u.factors.value.items) c.index_mut.ensures.value in
-    terms_set c.args.sum.now.items c.args.i (record { factors = c.index_mut.result.now.factors; coefficient = (c.args.coefficient + c.index.result.now.coefficient) % 2 ^ 64 }) c.index_mut.result.now
-    c.requires.terms c.requires.within g (positive ((c.args.coefficient + c.index.result.now.coefficient) % 2 ^ 64) c.if-vanishes.false) (mod-lt _ (lit< tt))
+    let xs = c.args.sum.now.items in
+    let y : Term = record { atoms = (get_or c.deref_mut.result.now c.args.i none).atoms; coefficient = (c.args.coefficient + (get_or c.deref.result.now c.args.i none).coefficient) % 2 ^ 64 } in
+    rw (set_filled xs c.deref_mut.result.now c.args.i y c.deref_mut.ensures.value)
+    (terms_set xs c.args.i y none c.requires.terms c.requires.within (ap (λ (zs : List Term). (get_or zs c.args.i none).atoms) c.deref_mut.ensures.value) (positive y.coefficient c.if-vanishes.false) (mod-lt _ (lit< tt)))
 
 pub returns-else-vanishes-clause-reach : goal.returns-else-vanishes-clause-reach
 returns-else-vanishes-clause-reach c = λ fs n h.
-    let r = term_reach_read fs c.args.sum.now.items c.index_mut.result.now c.args.i c.requires.within c.index_mut.ensures.value in
-    reach-set fs c.args.sum.now.items c.args.i n (record { factors = c.index_mut.result.now.factors; coefficient = (c.args.coefficient + c.index.result.now.coefficient) % 2 ^ 64 }) h (omega (arith, r, h))
+    let xs = c.args.sum.now.items in
+    let y : Term = record { atoms = (get_or c.deref_mut.result.now c.args.i none).atoms; coefficient = (c.args.coefficient + (get_or c.deref.result.now c.args.i none).coefficient) % 2 ^ 64 } in
+    let e = ap (λ (zs : List Term). reach_of_atoms fs (get_or zs c.args.i none).atoms) c.deref_mut.ensures.value in
+    let r = term_reach fs xs none c.args.i c.requires.within in
+    rw (set_filled xs c.deref_mut.result.now c.args.i y c.deref_mut.ensures.value) (reach-set fs xs c.args.i n y h (omega (arith, e, r, h)))

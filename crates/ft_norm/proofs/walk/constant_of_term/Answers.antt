@@ -1,10 +1,9 @@
-use Rattle.std.proofs.Common.{◌≡◌, ◌∙◌, sym, false, true}
-use Rattle.std.proofs.lemmas.Bool.{eqb-true, eq-eqb}
-use Rattle.ft_norm.proofs.Limits.{no_factor, some_factor}
+use Rattle.std.proofs.Common.{◌∙◌, sym}
+use Rattle.ft_norm.proofs.Limits.{no_atom_constant, some_atom_constant}
 use Rattle.ft_norm.proofs.walk.constant_of_term.Goals as goal
 
-pub returns-then-is_empty : goal.returns-then-is_empty
-returns-then-is_empty c = λ fs. no_factor fs c.args.factors.now c.args.coefficient (eqb-true _ _ (sym c.is_empty.ensures ∙ c.if-is_empty.true)) c.ranges.coefficient.fits
+pub returns-then-degree-eq0 : goal.returns-then-degree-eq0
+returns-then-degree-eq0 c = λ fs. no_atom_constant fs c.args.atoms c.args.coefficient (sym c.degree.ensures ∙ c.if-degree-eq0.true) c.ranges.coefficient.fits
 
-pub returns-else-is_empty : goal.returns-else-is_empty
-returns-else-is_empty c = λ fs. some_factor fs c.args.factors.now c.args.coefficient (λ e. let t : false ≡ true = sym c.if-is_empty.false ∙ (c.is_empty.ensures ∙ eq-eqb _ _ e) in cc)
+pub returns-else-degree-eq0 : goal.returns-else-degree-eq0
+returns-else-degree-eq0 c = λ fs. some_atom_constant fs c.args.atoms c.args.coefficient (λ e. c.if-degree-eq0.false (c.degree.ensures ∙ e))

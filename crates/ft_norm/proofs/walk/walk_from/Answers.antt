@@ -1,7 +1,8 @@
-use Rattle.std.proofs.Common.{arith, refl, ◌∙◌}
+use Rattle.std.proofs.Common.{ap, arith, refl, ◌∙◌}
+use Rattle.ft_static.specs.NormalForm.{constant_of, is_not_zero, norm_sub}
 use Rattle.ft_norm.specs.Held.{polynomial_at, updates_at}
 use Rattle.ft_norm.specs.Entries.{forms_of}
-use Rattle.ft_norm.proofs.Forms.{link, link_address, link_reach, link_value, no_link}
+use Rattle.ft_norm.proofs.Forms.{length-forms_of, link, link_address, link_reach, link_value, no_link}
 use Rattle.ft_norm.proofs.Walking.{address_differs, integer_bound, memory_bound, memory_reached_at, older_count, older_reach, one_is_same, walk_end, walk_value, walk_stop, walk_on}
 use Rattle.ft_norm.proofs.walk.walk_from.Goals as goal
 
@@ -31,11 +32,17 @@ returns-then-at-p g c =
       steps = omega (arith, c.loop-m.invariant.steps);
     }
 
-pub differs-requires-clause-first : goal.differs-requires-clause-first
-differs-requires-clause-first g c = integer_bound c.args.entries.now c.args.p c.requires.at
+pub terms_at-terms-requires-clause-named : goal.terms_at-terms-requires-clause-named
+terms_at-terms-requires-clause-named g c = integer_bound c.args.entries.now c.args.p c.requires.at
 
-pub differs-requires-clause-second : goal.differs-requires-clause-second
-differs-requires-clause-second g c =
+pub differs-requires-clause-terms : goal.differs-requires-clause-terms
+differs-requires-clause-terms g c =
+    let b = integer_bound c.args.entries.now c.args.p c.requires.at in
+    let l = length-forms_of c.args.entries.now in
+    record { terms = c.terms_at-terms.ensures.terms; distinct = c.requires.entries.distinct; reach = omega (arith, b, l, c.terms_at-terms.ensures.reach) }
+
+pub differs-requires-clause-address : goal.differs-requires-clause-address
+differs-requires-clause-address g c =
     let es = c.args.entries.now in
     integer_bound es c.in-Update.at (link_address es c.loop-m.m c.index-entries-m.result c.in-Update.at c.in-Update.value c.in-Update.older c.requires.entries.earlier c.loop-m.invariant.bound c.index-entries-m.is c.in-Update.is)
 
@@ -44,10 +51,11 @@ returns-then-not-differs g c =
     let es = c.args.entries.now in
     let l = c.loop-m.invariant.bound in
     let a = link es c.loop-m.m c.index-entries-m.result c.in-Update.at c.in-Update.value c.in-Update.older c.requires.entries.earlier l c.index-entries-m.is c.in-Update.is in
+    let d = c.differs.ensures ∙ ap (λ q. is_not_zero (constant_of (norm_sub q (polynomial_at (forms_of es) c.in-Update.at)))) c.terms_at-terms.ensures.form in
     let f = address_differs es c.loop-m.m c.index-entries-m.result c.in-Update.at c.in-Update.value c.in-Update.older c.args.p c.requires.entries l c.index-entries-m.is c.in-Update.is c.requires.at c.if-at-p.false in
     record {
       ends = c.loop-m.invariant.sort;
-      form = walk_stop _ _ _ _ _ _ c.differs.result a refl f c.differs.ensures c.if-not-differs.true ∙ c.loop-m.invariant.form;
+      form = walk_stop _ _ _ _ _ _ c.differs.result a refl f d c.if-not-differs.true ∙ c.loop-m.invariant.form;
       steps = omega (arith, c.loop-m.invariant.steps);
     }
 
@@ -57,12 +65,13 @@ loop-m-preserved g c =
     let l = c.loop-m.invariant.bound in
     let a = link es c.loop-m.m c.index-entries-m.result c.in-Update.at c.in-Update.value c.in-Update.older c.requires.entries.earlier l c.index-entries-m.is c.in-Update.is in
     let r = link_reach es c.loop-m.m c.index-entries-m.result c.in-Update.at c.in-Update.value c.in-Update.older c.requires.entries.earlier l c.index-entries-m.is c.in-Update.is in
+    let d = c.differs.ensures ∙ ap (λ q. is_not_zero (constant_of (norm_sub q (polynomial_at (forms_of es) c.in-Update.at)))) c.terms_at-terms.ensures.form in
     let f = address_differs es c.loop-m.m c.index-entries-m.result c.in-Update.at c.in-Update.value c.in-Update.older c.args.p c.requires.entries l c.index-entries-m.is c.in-Update.is c.requires.at c.if-at-p.false in
     let n = older_count es c.loop-m.m c.index-entries-m.result c.in-Update.at c.in-Update.value c.in-Update.older c.requires.entries l c.index-entries-m.is c.in-Update.is in
     record {
       bound = omega (arith, l, r);
       sort = older_reach es c.loop-m.m c.index-entries-m.result c.in-Update.at c.in-Update.value c.in-Update.older c.requires.entries l c.index-entries-m.is c.in-Update.is;
-      form = walk_on _ _ _ _ _ _ c.differs.result a refl f c.differs.ensures c.if-not-differs.false ∙ c.loop-m.invariant.form;
+      form = walk_on _ _ _ _ _ _ c.differs.result a refl f d c.if-not-differs.false ∙ c.loop-m.invariant.form;
       steps = omega (arith, c.loop-m.invariant.steps, n, c.tick.ensures);
     }
 

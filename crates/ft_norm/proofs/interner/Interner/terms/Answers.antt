@@ -1,5 +1,6 @@
 use Rattle.std.proofs.Common.{◌≡◌, ◌∙◌, ap}
 use Rattle.ft_norm.specs.Entries.{forms_of}
+use Rattle.ft_norm.specs.Terms.{terms_of}
 use Rattle.ft_norm.proofs.Places.{over_seen, within}
 use Rattle.ft_norm.proofs.interner.Interner.terms.Goals as goal
 
@@ -14,4 +15,4 @@ returns-clause-form c =
 pub returns-clause-over : goal.returns-clause-over
 returns-clause-over c =
     let l = within c.self.inside.entries.keys c.as_slice.result.now c.args.self.now c.args.form.0 _ c.self.view_is c.as_slice.ensures.keys c.requires.found in
-    over_seen c.self.inside.entries.keys c.as_slice.result.now c.args.self.now c.terms_at.result.now c.args.form.0 c.self.invariant c.self.view_is c.as_slice.ensures.keys c.terms_at.ensures.terms c.terms_at.ensures.reach l
+    over_seen c.self.inside.entries.keys c.as_slice.result.now c.args.self.now (terms_of c.terms_at.result) c.args.form.0 c.self.invariant c.self.view_is c.as_slice.ensures.keys c.terms_at.ensures.terms c.terms_at.ensures.reach l

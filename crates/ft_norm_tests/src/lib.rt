@@ -1,0 +1,9 @@
+//! Tests of the interner: forms whose equality is known by hand.
+//!
+//! The crate holds tests alone, since a crate with tests is proved twice.
+#![tactic(auto)]
+
+#[cfg(test)]
+mod edges;
+#[cfg(test)]
+mod tests;

@@ -1,0 +1,323 @@
+ghost use Rattle.std.specs.Prelude.{◌≡◌, ◌+◌, ◌<◌, ◌≤◌, IfOk};
+ghost use Rattle.ft_norm.specs.Held.{IsInteger, IsMemory, Keeps};
+
+use ft_isa::{NoMemory, Op};
+use ft_norm::{Form, Interner};
+use ft_static::{Node, Nodes, Shape, examples_of_nodes};
+use ft_steps::Steps;
+use std::marker::Brand;
+use std::sync::ledger::{Blank, Ledger};
+use std::test::Fail;
+
+/// The sum of `count` variables from `first` on, each added on the right or on the left.
+#[tactic(auto, using(ft_norm::proofs::Places::keeps_both))]
+fn sum(forms: &mut Interner, first: u8, count: u8, on_right: bool) -> Result<Form, NoMemory>
+    requires { first + count ≤ 255 }
+    ensures kept { Keeps forms.old forms.new }
+    ensures sort { IfOk result (λ f. IsInteger forms.new f) }
+{
+    let mut total = forms.word(0)?;
+    for i in 0..count {
+        let variable = forms.var(first + i)?;
+        total = if on_right {
+            forms.op(Op::Add, total, variable)?
+        } else {
+            forms.op(Op::Add, variable, total)?
+        };
+    }
+    Ok(total)
+}
+
+/// The word of a memory at an address, by a counter of its own.
+fn counted<L: Ledger>(
+    forms: &mut Interner,
+    memory: Form,
+    at: Form,
+    blank: Blank,
+) -> Result<Form, NoMemory>
+    requires name { blank.name ≡ L.name }
+    requires parts { blank.parts ≡ L.parts }
+    requires some { 0 < L.parts }
+    requires memory { IsMemory forms.old memory }
+    requires address { IsInteger forms.old at }
+    ensures kept { Keeps forms.old forms.new }
+    ensures sort { IfOk result (λ f. IsInteger forms.new f) }
+{
+    let mut steps = Steps::<L>::new(blank);
+    forms.sel(memory, at, &mut steps)
+}
+
+/// The same, whatever the counter.
+pub fn sel(forms: &mut Interner, memory: Form, at: Form) -> Result<Form, NoMemory>
+    requires memory { IsMemory forms.old memory }
+    requires address { IsInteger forms.old at }
+    ensures kept { Keeps forms.old forms.new }
+    ensures sort { IfOk result (λ f. IsInteger forms.new f) }
+{
+    counted::<Brand>(forms, memory, at, Blank::new(1))
+}
+
+/// A tower of comparisons over a variable, each of the one below with itself.
+#[tactic(auto, using(ft_norm::proofs::Places::keeps_both))]
+fn tower(forms: &mut Interner, variable: u8, height: u32) -> Result<Form, NoMemory>
+    ensures kept { Keeps forms.old forms.new }
+    ensures sort { IfOk result (λ f. IsInteger forms.new f) }
+{
+    let mut top = forms.var(variable)?;
+    for _ in 0..height {
+        top = forms.op(Op::Ltu, top, top)?;
+    }
+    Ok(top)
+}
+
+#[test]
+fn towers_are_compared_by_number(rt: HostRuntime) -> Result<(), Fail> {
+    let mut forms = Interner::new(rt.alloc())?;
+    let x = tower(&mut forms, 0, 100_000)?;
+    let again = tower(&mut forms, 0, 100_000)?;
+    assert!(rt; forms.same(x, again));
+    let y = tower(&mut forms, 1, 100_000)?;
+    let up = forms.op(Op::Add, x, y)?;
+    let down = forms.op(Op::Add, y, x)?;
+    assert!(rt; forms.same(up, down));
+    Ok(())
+}
+
+/// A tower of tests, with a sum at each level, over the two towers that are added there.
+#[tactic(auto, using(ft_norm::proofs::Places::keeps_both))]
+fn levels(forms: &mut Interner, height: u32) -> Result<Form, NoMemory>
+    ensures kept { Keeps forms.old forms.new }
+    ensures sort { IfOk result (λ f. IsInteger forms.new f) }
+{
+    let mut left = forms.var(0)?;
+    let mut right = forms.var(1)?;
+    let mut sum = forms.op(Op::Add, left, right)?;
+    for _ in 0..height {
+        left = forms.op(Op::Ltu, left, sum)?;
+        right = forms.op(Op::Ltu, right, sum)?;
+        sum = forms.op(Op::Add, right, left)?;
+    }
+    Ok(sum)
+}
+
+#[test]
+fn sums_at_many_levels_do_not_go_down(rt: HostRuntime) -> Result<(), Fail> {
+    let mut forms = Interner::keyed(rt.alloc(), 1, 2)?;
+    let top = levels(&mut forms, 100_000)?;
+    let again = levels(&mut forms, 100_000)?;
+    assert!(rt; forms.same(top, again));
+    Ok(())
+}
+
+/// Whether the product of the sum and the difference of two forms is the difference of their squares.
+fn is_binomial(forms: &mut Interner, p: Form, q: Form) -> Result<bool, NoMemory>
+    requires first { IsInteger forms.old p }
+    requires second { IsInteger forms.old q }
+    ensures { Keeps forms.old forms.new }
+{
+    let sum = forms.op(Op::Add, p, q)?;
+    let difference = forms.op(Op::Sub, p, q)?;
+    let product = forms.op(Op::Mul, sum, difference)?;
+    let square = forms.op(Op::Mul, p, p)?;
+    let other = forms.op(Op::Mul, q, q)?;
+    let squares = forms.op(Op::Sub, square, other)?;
+    Ok(forms.same(product, squares))
+}
+
+#[test]
+fn forms_do_not_depend_on_the_order_of_making(rt: HostRuntime) -> Result<(), Fail> {
+    let mut forms = Interner::new(rt.alloc())?;
+    let x = forms.var(0)?;
+    let y = forms.var(1)?;
+    let p = forms.op(Op::Ltu, x, y)?;
+    let q = forms.op(Op::Eq, x, y)?;
+    assert!(rt; is_binomial(&mut forms, p, q)?);
+    assert!(rt; is_binomial(&mut forms, q, p)?);
+    Ok(())
+}
+
+#[test]
+fn sums_drop_zeros_and_order_terms(rt: HostRuntime) -> Result<(), Fail> {
+    let mut forms = Interner::new(rt.alloc())?;
+    let x = forms.var(0)?;
+    let y = forms.var(1)?;
+    let up = forms.op(Op::Add, x, y)?;
+    let down = forms.op(Op::Add, y, x)?;
+    assert!(rt; forms.same(up, down));
+    let less = forms.op(Op::Sub, up, y)?;
+    assert!(rt; forms.same(less, x));
+    assert!(rt; !forms.same(less, y));
+    let turned = forms.op(Op::Sub, y, up)?;
+    assert!(rt; !forms.same(less, turned));
+    Ok(())
+}
+
+#[test]
+fn words_wrap(rt: HostRuntime) -> Result<(), Fail> {
+    let mut forms = Interner::new(rt.alloc())?;
+    let most = forms.word(u64::MAX)?;
+    let one = forms.word(1)?;
+    let sum = forms.op(Op::Add, most, one)?;
+    let zero = forms.word(0)?;
+    assert!(rt; forms.same(sum, zero));
+    assert!(rt; !forms.same(sum, one));
+    let memory = forms.memory()?;
+    assert!(rt; !forms.same(memory, zero));
+    Ok(())
+}
+
+#[test]
+fn limits_are_64_monomials_and_64_products(rt: HostRuntime) -> Result<(), Fail> {
+    let mut forms = Interner::new(rt.alloc())?;
+    let right = sum(&mut forms, 0, 64, true)?;
+    let left = sum(&mut forms, 0, 64, false)?;
+    assert!(rt; forms.same(right, left));
+    let nothing = forms.op(Op::Sub, right, left)?;
+    let zero = forms.word(0)?;
+    assert!(rt; forms.same(nothing, zero));
+    let right = sum(&mut forms, 0, 65, true)?;
+    let left = sum(&mut forms, 0, 65, false)?;
+    assert!(rt; !forms.same(right, left));
+    Ok(())
+}
+
+#[test]
+fn products_within_the_limits_commute(rt: HostRuntime) -> Result<(), Fail> {
+    let mut forms = Interner::new(rt.alloc())?;
+    let p = sum(&mut forms, 0, 8, true)?;
+    let q = sum(&mut forms, 8, 8, true)?;
+    let pq = forms.op(Op::Mul, p, q)?;
+    let qp = forms.op(Op::Mul, q, p)?;
+    assert!(rt; forms.same(pq, qp));
+    let p = sum(&mut forms, 0, 5, true)?;
+    let q = sum(&mut forms, 5, 13, true)?;
+    let pq = forms.op(Op::Mul, p, q)?;
+    let qp = forms.op(Op::Mul, q, p)?;
+    assert!(rt; !forms.same(pq, qp));
+    Ok(())
+}
+
+#[test]
+fn constants_are_tested(rt: HostRuntime) -> Result<(), Fail> {
+    let mut forms = Interner::new(rt.alloc())?;
+    let one = forms.word(1)?;
+    let two = forms.word(2)?;
+    let less = forms.op(Op::Ltu, one, two)?;
+    assert!(rt; forms.same(less, one));
+    let more = forms.op(Op::Ltu, two, one)?;
+    assert!(rt; !forms.same(more, one));
+    let x = forms.var(0)?;
+    let equal = forms.op(Op::Eq, x, x)?;
+    assert!(rt; !forms.same(equal, one));
+    Ok(())
+}
+
+#[test]
+fn walk_goes_past_a_known_difference(rt: HostRuntime) -> Result<(), Fail> {
+    let mut forms = Interner::new(rt.alloc())?;
+    let memory = forms.memory()?;
+    let seven = forms.word(7)?;
+    let x = forms.var(0)?;
+    let at_x = forms.upd(memory, x, seven)?;
+    let next = forms.op(Op::Add, x, seven)?;
+    let past_x = forms.upd(at_x, next, x)?;
+    let found = sel(&mut forms, past_x, x)?;
+    assert!(rt; forms.same(found, seven));
+    Ok(())
+}
+
+#[test]
+fn walk_stops_at_the_unknown(rt: HostRuntime) -> Result<(), Fail> {
+    let mut forms = Interner::new(rt.alloc())?;
+    let memory = forms.memory()?;
+    let seven = forms.word(7)?;
+    let y = forms.var(1)?;
+    let x = forms.var(0)?;
+    let at_x = forms.upd(memory, x, seven)?;
+    let then_y = forms.upd(at_x, y, x)?;
+    let unknown = sel(&mut forms, then_y, x)?;
+    assert!(rt; !forms.same(unknown, seven));
+    Ok(())
+}
+
+#[test]
+fn newest_update_is_replaced(rt: HostRuntime) -> Result<(), Fail> {
+    let mut forms = Interner::new(rt.alloc())?;
+    let x = forms.var(0)?;
+    let y = forms.var(1)?;
+    let memory = forms.memory()?;
+    let at_y = forms.upd(memory, x, y)?;
+    let at_x = forms.upd(memory, x, x)?;
+    assert!(rt; !forms.same(at_x, at_y));
+    let again = forms.upd(at_y, x, x)?;
+    assert!(rt; forms.same(again, at_x));
+    Ok(())
+}
+
+/// The nodes of `ft_static`'s examples: the memory variable, variable 0, the word 5, the sum of the
+/// two, and the word of the memory there.
+struct Example;
+
+impl Nodes for Example {
+    ghost use Rattle.ft_static.specs.Examples.{nodes as example};
+
+    ghost nodes = { λ _. example };
+
+    fn node_count(&self) -> u32 {
+        5
+    }
+
+    fn node(&self, n: u32) -> Node {
+        match n {
+            0 => Node {
+                scope: 0,
+                shape: Shape::Memory,
+            },
+            1 => Node {
+                scope: 1,
+                shape: Shape::Var(0),
+            },
+            2 => Node {
+                scope: 0,
+                shape: Shape::Word(5),
+            },
+            3 => Node {
+                scope: 1,
+                shape: Shape::Op {
+                    op: Op::Add,
+                    a: 1,
+                    b: 2,
+                },
+            },
+            _ => Node {
+                scope: 1,
+                shape: Shape::Sel { memory: 0, at: 3 },
+            },
+        }
+    }
+}
+
+/// The sum and the word of the example, under a substitution, and how many steps they took.
+fn found<L: Ledger>(forms: &mut Interner, blank: Blank) -> Result<bool, NoMemory>
+    requires name { blank.name ≡ L.name }
+    requires parts { blank.parts ≡ L.parts }
+    requires some { 0 < L.parts }
+{
+    examples_of_nodes();
+    let mut steps = Steps::<L>::new(blank);
+    let two = forms.word(2)?;
+    let seven = forms.word(7)?;
+    let memory = forms.memory()?;
+    let memory = forms.upd(memory, seven, two)?;
+    let sum = forms.under(&Example, 3, &[two], memory, &mut steps)?;
+    let word = forms.under(&Example, 4, &[two], memory, &mut steps)?;
+    Ok(forms.same(sum, seven) && forms.same(word, two))
+}
+
+#[test]
+fn node_is_found_under_a_substitution(rt: HostRuntime) -> Result<(), Fail> {
+    let mut forms = Interner::new(rt.alloc())?;
+    let right = found::<Brand>(&mut forms, Blank::new(1))?;
+    assert!(rt; right);
+    Ok(())
+}
