@@ -1,14 +1,14 @@
 -- The limits on a source: its bytes, the brackets and braces that are open, and the operators of an assignment or a test.
 use Rattle.std.specs.Prelude.{◌≡◌, ℕ, ◌+◌, ◌-◌, Bool, false, List, [], ◌∷◌, nat_le}
 use Rattle.ft_lexer.specs.declared.kind.Kind.{Kind}
-use Rattle.ft_lexer.specs.declared.kind.Kind.TheVariants.{While, If, Assign, LParen, RParen, LBrace, RBrace, Plus, Minus, Star, Less, EqEq}
+use Rattle.ft_lexer.specs.declared.kind.Kind.TheVariants.{While, If, Semi, LParen, RParen, LBrace, RBrace, Plus, Minus, Star, Less, EqEq}
 use Rattle.ft_lexer.specs.Scan.{Lexeme}
 
 -- the most bytes of a source text
 abbrev pub text_limit : ℕ
 text_limit = 1048576
 
--- how many brackets and braces are open, and how many operators this assignment or test has so far
+-- how many brackets and braces are open, and how many operators this statement or test has so far
 pub record Tally : Type 0 where
   pub opened : ℕ
   pub ops : ℕ
@@ -16,10 +16,10 @@ pub record Tally : Type 0 where
 -- the counts after a lexeme of this kind
 abbrev pub tally : Kind → Tally → Tally
 tally LParen c = record { opened = c.opened + 1; ops = c.ops }
-tally LBrace c = record { opened = c.opened + 1; ops = c.ops }
+tally LBrace c = record { opened = c.opened + 1; ops = 0 }
 tally RParen c = record { opened = c.opened - 1; ops = c.ops }
-tally RBrace c = record { opened = c.opened - 1; ops = c.ops }
-tally Assign c = record { opened = c.opened; ops = 0 }
+tally RBrace c = record { opened = c.opened - 1; ops = 0 }
+tally Semi c = record { opened = c.opened; ops = 0 }
 tally While c = record { opened = c.opened; ops = 0 }
 tally If c = record { opened = c.opened; ops = 0 }
 tally Plus c = record { opened = c.opened; ops = c.ops + 1 }
@@ -29,7 +29,7 @@ tally Less c = record { opened = c.opened; ops = c.ops + 1 }
 tally EqEq c = record { opened = c.opened; ops = c.ops + 1 }
 tally _ c = c
 
--- the lexeme opens a 101st bracket or brace, or is the 201st operator of its assignment or test
+-- the lexeme opens a 101st bracket or brace, or is the 201st operator of its statement or test
 abbrev pub deep : Kind → Tally → Bool
 deep LParen c = nat_le 100 c.opened
 deep LBrace c = nat_le 100 c.opened

@@ -73,6 +73,7 @@ impl<'a, 't> Parser<'a, 't> {
         if t.kind != Kind::Semi {
             return Err(SourceError::Syntax { at: t.at });
         }
+        self.ops = 0;
         self.rest = rest;
         Ok(())
     }

@@ -12,7 +12,7 @@ pub const OPEN_LIMIT: usize = 100;
 pub const OPERATOR_LIMIT: usize = 200;
 
 /// The tokens that are left, how many brackets and braces are open, how many operators this
-/// assignment or test has so far, and the length of the text.
+/// statement or test has so far, and the length of the text.
 #[derive(Drop)]
 pub struct Parser<'a, 't> {
     pub rest: &'t [Token<'a>],
@@ -39,7 +39,6 @@ impl Parser<'_, '_> {
         if t.kind != Kind::Assign {
             return Err(SourceError::Syntax { at: t.at });
         }
-        self.ops = 0;
         self.rest = rest;
         Ok(())
     }

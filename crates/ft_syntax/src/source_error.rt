@@ -1,8 +1,8 @@
 //! Why a source is refused.
 use thiserror::Error;
 
-/// The first refusal of a source, in the order of the variants; places count bytes from 0. Want of
-/// memory may come in the place of any.
+/// The first refusal of a source, in the order of the variants; places count bytes from 0. `NoMemory`,
+/// out of memory, may come in the place of any.
 #[derive(Clone, Copy, Debug, PartialEq, Eq, Error)]
 pub enum SourceError {
     /// The text has more than 1,048,576 bytes.

@@ -62,6 +62,7 @@ impl<'a, 't> Parser<'a, 't> {
                     return Err(SourceError::Deep { at: t.at });
                 }
                 self.opened += 1;
+                self.ops = 0;
                 self.rest = rest;
                 Ok(())
             }
@@ -100,6 +101,7 @@ impl<'a, 't> Parser<'a, 't> {
         if t.kind != Kind::Semi {
             return Err(SourceError::Syntax { at: t.at });
         }
+        self.ops = 0;
         self.rest = rest;
         Ok(())
     }
@@ -139,6 +141,7 @@ impl<'a, 't> Parser<'a, 't> {
             return Err(SourceError::Syntax { at: t.at });
         }
         self.opened -= 1;
+        self.ops = 0;
         self.rest = rest;
         Ok(())
     }
