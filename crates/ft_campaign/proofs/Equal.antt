@@ -1,5 +1,5 @@
 -- What the tests of two outcomes say.
-use Rattle.std.proofs.Common.{◌≡◌, ℕ, Bool, true, false, ◌&&◌, List, length, take, drop, Decides, refl, ap, sym, ◌∙◌, eqb}
+use Rattle.std.proofs.Common.{◌≡◌, ℕ, Bool, false, ◌&&◌, List, length, take, drop, Decides, refl, ap, sym, ◌∙◌, eqb}
 use Rattle.std.specs.Prelude.{not}
 use Rattle.std.proofs.lemmas.Bool.Decides.{Decides-eqb, Decides-and, Decides-like}
 use Rattle.std.proofs.lemmas.Slice.Eq.{slice_eq-Decides, starts_is}
@@ -31,17 +31,6 @@ same_status Done Detected h = cc
 same_status Detected Running h = cc
 same_status Detected Done h = cc
 same_status Detected Detected h = refl
-
-other_status : (a b : Status) → not (sameb status.the_type a b) ≡ true → ¬ (a ≡ b)
-other_status Running Running h e = cc
-other_status Running Done h e = cc
-other_status Running Detected h e = cc
-other_status Done Running h e = cc
-other_status Done Done h e = cc
-other_status Done Detected h e = cc
-other_status Detected Running h e = cc
-other_status Detected Done h e = cc
-other_status Detected Detected h e = cc
 
 -- outputs that begin others
 pub prefix_decides : (all front : List Output) (r : Bool) → r ≡ pointwise same_output front (take (length front) all) → Decides r (IsPrefix front all)

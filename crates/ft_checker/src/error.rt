@@ -1,5 +1,5 @@
 //! Why an object is not accepted.
-use ft_isa::NoMemory as WantOfMemory;
+use ft_isa::NoMemory as OutOfMemory;
 use ft_rules::Why;
 use thiserror::Error;
 
@@ -18,13 +18,13 @@ pub enum CheckError {
     NoMemory,
 }
 
-impl From<WantOfMemory> for CheckError {
+impl From<OutOfMemory> for CheckError {
     ghost use Rattle.std.specs.Prelude.{◌≡◌};
     ghost use Rattle.ft_checker.specs.declared.error.CheckError.TheVariants.{NoMemory};
 
     ghost from_gives = { λ _ e. e ≡ NoMemory };
 
-    fn from(_error: WantOfMemory) -> CheckError {
+    fn from(_error: OutOfMemory) -> CheckError {
         CheckError::NoMemory
     }
 }

@@ -48,11 +48,7 @@ pairs_row : (vars scope : ℕ) (w : Noted) (is : List Step3) → length (row_not
 pairs_row vars scope w [] = refl
 pairs_row vars scope w (i ∷ is) = pairs_row vars scope (step_noted vars scope w i) is ∙ pairs_step vars scope w i
 
--- room for a row is room for its first step
-pub room_first : (w : Noted) (i : Step3) (is : List Step3) → HasRoom w (row_size (i ∷ is)) → HasRoom w (size i)
-room_first w i is h = record { nodes = omega (arith, h.nodes); rows = omega (arith, h.rows); pairs = h.pairs }
-
--- and for the others after it
+-- room for a row is room for the steps after its first
 pub room_next : (vars scope : ℕ) (w : Noted) (i : Step3) (is : List Step3) → vars ≤ 32 → HasRoom w (row_size (i ∷ is)) → HasRoom (step_noted vars scope w i) (row_size is)
 room_next vars scope w i is few h = record {
   nodes = omega (arith, h.nodes, nodes_step vars scope w i);
@@ -60,11 +56,7 @@ room_next vars scope w i is few h = record {
   pairs = pairs_step vars scope w i ∙ h.pairs;
 }
 
--- room for blocks is room for the first, and for the others after it
-pub room_block : (w : Noted) (x : List Step3) (xs : Blocks) → HasRoom w (blocks_size (x ∷ xs)) → HasRoom (begun w) (row_size x)
-room_block w x xs h = record { nodes = omega (arith, h.nodes); rows = omega (arith, h.rows); pairs = refl }
-
--- and for the others after it
+-- room for blocks is room for those after the first
 pub room_blocks : (vars scope : ℕ) (w : Noted) (x : List Step3) (xs : Blocks) → vars ≤ 32 → HasRoom w (blocks_size (x ∷ xs)) → HasRoom (row_noted vars scope (begun w) x) (blocks_size xs)
 room_blocks vars scope w x xs few h = record {
   nodes = omega (arith, h.nodes, nodes_row vars scope (begun w) x);

@@ -37,8 +37,8 @@ fn compile_program(alloc: Global, prog: &Prog<'_>) -> Result<Object, NoMemory>
 /// instructions than the program weighs and no pair at or above its need. Code type 0 is the entry's, and
 /// code type 1, with a row for each variable in both colours, that of all other blocks.
 ///
-/// A text that is no program is refused by its first refusal, as `parse` and `resolve` say. Want of
-/// memory may come in the place of any answer.
+/// A text that is no program is refused by its first refusal, as `parse` and `resolve` say. The error
+/// `NoMemory`, out of memory, may come in the place of any answer.
 pub fn compile(alloc: Global, text: &[u8]) -> Result<Object, SourceError>
     ensures ok { IfOk result (λ o. (p : Program) × IsProgramOf text.now p × StandsFor p o) }
     ensures emitted { IfOk result (λ o. (p : Program) × IsProgramOf text.now p × IsEmitted p o) }

@@ -4,7 +4,7 @@ use Rattle.std.specs.Prelude.{slice_get, if◌then◌else◌, All, codes}
 use Rattle.std.specs.List.{AllByRecursion}
 use Rattle.std.proofs.lemmas.Bool.{cases_lt}
 use Rattle.std.proofs.lemmas.List.{length-drop}
-use Rattle.std.proofs.lemmas.List.Elements.{All-weaker, All-same, All-push, All-drop, All-cons, All-take, All-get_or}
+use Rattle.std.proofs.lemmas.List.Elements.{All-weaker, All-same, All-cons, All-take, All-get_or}
 use Rattle.std.proofs.lemmas.Option.{get_or_from_slice_get, slice_get_within}
 use Rattle.circular_buffer.proofs.Places.{slice_get-last, slice_get-append_left, slice_get-drop, slice_get-take}
 use Rattle.ft_isa.specs.declared.plan.Site.{Site}
@@ -190,15 +190,7 @@ holds_struck o w s d e site value full h em ew ep eh eb = struck_by o w s d e si
 pub same_cells : (o : Object) (d : Debugger) → Ready o d → All (HasCellsOf d.present) d.history.moments.items
 same_cells o d h = All-weaker (HasMomentCells (length o.cells)) (HasCellsOf d.present) (λ x i a. i a ∙ sym (h.cells a)) d.history.moments.items h.past
 
-pub ready_further : (o : Object) (d e : Debugger) → Ready o d → IsFull e.history → HasCells (length o.cells) e.present.machine → e.history.moments.items ≡ drop 1 d.history.moments.items ++ d.present ∷ [] → Ready o e
-ready_further o d e h full cells items =
-    let P = HasMomentCells (length o.cells) in
-    record {
-      full = full;
-      past = All-same P _ _ items (All-push P (drop 1 d.history.moments.items) d.present (All-drop P 1 d.history.moments.items h.past) h.cells);
-      cells = cells;
-    }
-
+-- the debugger is ready after a step back into the ring
 pub ready_back : (o : Object) (d e : Debugger) → Ready o d → IsFull e.history → slice_get d.history.moments.items 4095 ≡ Some e.present → e.history.moments.items ≡ d.present ∷ take 4095 d.history.moments.items → Ready o e
 ready_back o d e h full newest items =
     let P = HasMomentCells (length o.cells) in

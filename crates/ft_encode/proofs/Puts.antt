@@ -1,9 +1,9 @@
 -- A loop that puts bytes at the end: what is there and what the rest gives is what all give.
-use Rattle.std.proofs.Common.{◌≡◌, ℕ, ◌+◌, ◌<◌, ◌≤◌, List, [], ◌∷◌, ◌++◌, length, drop, get_or, map, refl, sym, ap, ◌∙◌, append_assoc}
+use Rattle.std.proofs.Common.{◌≡◌, ℕ, ◌+◌, ◌<◌, List, [], ◌∷◌, ◌++◌, length, drop, get_or, map, refl, sym, ap, ◌∙◌, append_assoc}
 use Rattle.std.specs.Int.{Width}
 use Rattle.std.specs.List.{flat_map}
 use Rattle.std.proofs.lemmas.List.Concat.{flat_map-append}
-use Rattle.std.proofs.lemmas.List.{append-nil, map-append, at_drop_more, at_drop_all}
+use Rattle.std.proofs.lemmas.List.{map-append, at_drop_more}
 use Rattle.ft_format.specs.Layout.{written, spelled}
 use Rattle.ft_format.specs.Puts.{Puts}
 
@@ -14,11 +14,6 @@ put_goes gives after xs i x piece out out' all lt is more p h =
     let rest = drop (i + 1) xs in
     let first : gives (drop i xs) ≡ piece ++ after rest = at_drop_more gives xs i x lt ∙ ap (λ y. gives (y ∷ rest)) (sym is) ∙ more rest in
     ap (λ l. l ++ after rest) p.added ∙ append_assoc out piece (after rest) ∙ ap (λ l. out ++ l) (sym first) ∙ h
-
--- all pieces were put
-pub put_ends : {X : Type 0} (gives : List X → List ℕ) (xs : List X) (i : ℕ) (out all : List ℕ) → length xs ≤ i → gives [] ≡ [] → out ++ gives (drop i xs) ≡ all → out ≡ all
-put_ends gives xs i out all le none h =
-    sym (append-nil out) ∙ ap (λ l. out ++ l) (sym (at_drop_all gives xs i le ∙ none)) ∙ h
 
 -- the records of values, one after the other
 pub spelled_map : {X : Type 0} (ws : List Width) (row : X → List ℕ) (xs : List X) → flat_map (λ x. written ws (row x)) xs ≡ spelled ws (map row xs)

@@ -1,13 +1,6 @@
 -- Lists of so many numbers.
 use Rattle.std.proofs.Common.{◌≡◌, ℕ, List, [], ◌∷◌, length, arith}
 
--- a list of 2 numbers
-pub shape_2 : (P : List ℕ → Type 0) → ((a b : ℕ) → P (a ∷ b ∷ [])) → (row : List ℕ) → length row ≡ 2 → P row
-shape_2 P make [] same = absurd (omega arith)
-shape_2 P make (a ∷ []) same = absurd (omega arith)
-shape_2 P make (a ∷ b ∷ []) same = make a b
-shape_2 P make (a ∷ b ∷ x ∷ xs) same = absurd (omega arith)
-
 -- a list of 5 numbers
 pub shape_5 : (P : List ℕ → Type 0) → ((a b c d e : ℕ) → P (a ∷ b ∷ c ∷ d ∷ e ∷ [])) → (row : List ℕ) → length row ≡ 5 → P row
 shape_5 P make [] same = absurd (omega arith)

@@ -13,11 +13,6 @@ pub both : (a b : Option ObjectError) → (a next b) ≡ None → (a ≡ None) �
 both None b h = (refl, h)
 both (Some e) b h = absurd (cc)
 
--- the first rule holds, and the next ones
-pub first_held : (b : Bool) (e : ObjectError) (rest : Option ObjectError) → (must b e next rest) ≡ None → (b ≡ true) × (rest ≡ None)
-first_held true e rest h = (refl, h)
-first_held false e rest h = absurd (cc)
-
 -- none of the rules after three is broken
 pub after_three : (a b c rest : Option ObjectError) → (a next b next c next rest) ≡ None → rest ≡ None
 after_three a b c rest h = (both c rest (both b (c next rest) (both a (b next c next rest) h).1).1).1

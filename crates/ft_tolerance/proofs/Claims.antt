@@ -27,13 +27,6 @@ pub after_ends : (G : Context → Type 0) (E : Type 0) → E → After G E Ends
 unfolding After
 after_ends G E h = h
 
--- a weaker claim
-pub weaken : (G H : Context → Type 0) (E F : Type 0) (x : Outcome) → ((c : Context) → G c → H c) → (E → F) → After G E x → After H F x
-unfolding After
-weaken G H E F (Goes c) g e h = g c h
-weaken G H E F Ends g e h = e h
-weaken G H E F (Fails p) g e h = tt
-
 -- a test holds
 pub after_need : (G : Context → Type 0) (E : Type 0) (p : Premise) (b : Bool) (x : Outcome) → (b ≡ true → After G E x) → After G E (need p b x)
 unfolding After need

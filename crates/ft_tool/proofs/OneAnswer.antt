@@ -26,7 +26,7 @@ use Rattle.ft_scope.specs.Outcome.{IsOutcome}
 use Rattle.ft_meaning.specs.Meaning.{outputs, meaning}
 use Rattle.ft_meaning.specs.Lines.{output_lines}
 use Rattle.ft_compile.specs.StandsFor.{StandsFor}
-use Rattle.ft_compile.specs.Laws.{object_lines, DoneRunsWriteTheMeaning, RunningRunsBeginTheMeaning}
+use Rattle.ft_compile.specs.Laws.{object_lines, LinesBegin, DoneRunsWriteTheMeaning, RunningRunsBeginTheMeaning}
 use Rattle.ft_sample.specs.Sample.{sample_object}
 use Rattle.ft_demo.specs.Demonstrations.{first_faults, demo_lines}
 use Rattle.ft_command.specs.Options.{Word}
@@ -38,7 +38,7 @@ use Rattle.ft_tool.specs.Sources.{OverText, CompilesProgram, ExecutesProgram, Me
 use Rattle.ft_tool.specs.Scripts.{DebugsObject, too_long, debugged}
 use Rattle.ft_tool.specs.Demonstrations.{ShowsSample}
 use Rattle.ft_tool.specs.Answers.{refused as object_refused, ChecksObject, RunsUnless, TrialsObject, RunsObject, OverBytes, OverFile, OverListFile, SurveysObject, CampaignsUnless, CampaignsAccepted, CampaignsObject, OverSource, Answers, IsAnswer}
-use Rattle.ft_tool.specs.OneAnswer.{Begins, AreCompilations, AreExecutions, AreAnswers}
+use Rattle.ft_tool.specs.OneAnswer.{AreCompilations, AreExecutions, AreAnswers}
 use Rattle.ft_tool.specs.OneAnswer as one
 use Rattle.ft_tool.proofs.Mapped.{some_same, none_some}
 
@@ -177,12 +177,12 @@ two_objects : (p : Program) (a b : Answer) → CompilesProgram p a → CompilesP
 two_objects p a b x y = one.compiled_both (ap (λ (r : Answer). r.status) x.answer) (ap (λ (r : Answer). r.status) y.answer)
 
 -- the same before both
-begins_both : (x y : List ℕ) (xs ys : List (List ℕ)) → x ≡ y → Begins xs ys ⊎ Begins ys xs → Begins (x ∷ xs) (y ∷ ys) ⊎ Begins (y ∷ ys) (x ∷ xs)
+begins_both : (x y : List ℕ) (xs ys : List (List ℕ)) → x ≡ y → LinesBegin xs ys ⊎ LinesBegin ys xs → LinesBegin (x ∷ xs) (y ∷ ys) ⊎ LinesBegin (y ∷ ys) (x ∷ xs)
 begins_both x y xs ys e (inl h) = inl (h.0, ap (λ z. z ∷ (xs ++ h.0)) e ∙ ap (λ zs. y ∷ zs) h.1)
 begins_both x y xs ys e (inr h) = inr (h.0, ap (λ z. z ∷ (ys ++ h.0)) (sym e) ∙ ap (λ zs. x ∷ zs) h.1)
 
 -- of two lists that begin a third one, one begins the other
-begins_either : (xs ys zs : List (List ℕ)) → Begins xs zs → Begins ys zs → Begins xs ys ⊎ Begins ys xs
+begins_either : (xs ys zs : List (List ℕ)) → LinesBegin xs zs → LinesBegin ys zs → LinesBegin xs ys ⊎ LinesBegin ys xs
 begins_either [] ys zs h g = inl (ys, refl)
 begins_either (x ∷ xs) [] zs h g = inr (x ∷ xs, refl)
 begins_either (x ∷ xs) (y ∷ ys) zs h g =
@@ -205,10 +205,10 @@ executed_both done running p o u h g n Done Done e f =
     one.both_done (ap status_of_run e) (answers_same (execution o n) (execution u n) lines (ap status_of_run (e ∙ sym f)))
 executed_both done running p o u h g n Done Running e f =
     let x = done p o h n e in
-    one.first_done (ap status_of_run e) (ap status_of_run f) (subst (Begins (object_lines u (outputs_after u None [] n))) (ap (λ m. output_lines p.names (outputs m)) x.1 ∙ sym x.2) (running p u g n f))
+    one.first_done (ap status_of_run e) (ap status_of_run f) (subst (LinesBegin (object_lines u (outputs_after u None [] n))) (ap (λ m. output_lines p.names (outputs m)) x.1 ∙ sym x.2) (running p u g n f))
 executed_both done running p o u h g n Running Done e f =
     let y = done p u g n f in
-    one.second_done (ap status_of_run e) (ap status_of_run f) (subst (Begins (object_lines o (outputs_after o None [] n))) (ap (λ m. output_lines p.names (outputs m)) y.1 ∙ sym y.2) (running p o h n e))
+    one.second_done (ap status_of_run e) (ap status_of_run f) (subst (LinesBegin (object_lines o (outputs_after o None [] n))) (ap (λ m. output_lines p.names (outputs m)) y.1 ∙ sym y.2) (running p o h n e))
 executed_both done running p o u h g n Running Running e f =
     one.none_done (ap status_of_run e) (ap status_of_run f)
     (begins_either (object_lines o (outputs_after o None [] n)) (object_lines u (outputs_after u None [] n)) (output_lines p.names (outputs (meaning p n))) (running p o h n e) (running p u g n f))

@@ -51,7 +51,7 @@ abbrev pub LoadsCampaign : Campaign → Type 0 → Type 0 → Option LoadList �
 LoadsCampaign c Comes Early asked asked' = LoadsNoList c Comes Early asked asked' ⊎ LoadsList c Comes asked asked'
 
 -- the loads of a request: one of each file that it names, in their order. The fault list of a campaign is loaded exactly
--- where its object is accepted, that of a survey exactly where its object's bytes spell one, unless the call ended early
+-- when its object is accepted, that of a survey exactly when its object's bytes spell one, unless the call ended early
 abbrev pub LoadsFor : Request → Files → Type 0 → Option LoadList → Option LoadList → Type 0
 LoadsFor Usage files Early asked asked' = HasMade [] asked asked'
 LoadsFor (Checks object) files Early asked asked' = HasMade (object_load object ∷ []) asked asked'

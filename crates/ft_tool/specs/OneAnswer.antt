@@ -1,11 +1,8 @@
 -- How two answers to the same words over the same files and script agree.
-use Rattle.std.specs.Prelude.{◌≡◌, ◌⊎◌, ℕ, List, ◌++◌}
+use Rattle.std.specs.Prelude.{◌≡◌, ◌⊎◌}
 use Rattle.ft_command.specs.Commands.{Request, Compiles, Executes}
+use Rattle.ft_compile.specs.Laws.{LinesBegin}
 use Rattle.ft_tool.specs.Replies.{Answer}
-
--- the one list of pieces begins the other
-abbrev pub Begins : List (List ℕ) → List (List ℕ) → Type 0
-Begins front all = (rest : List (List ℕ)) × (front ++ rest ≡ all)
 
 -- of a compilation: one refusal of the source, or an object each
 pub data AreCompilations (a b : Answer) : Type 0 where
@@ -17,9 +14,9 @@ pub data AreCompilations (a b : Answer) : Type 0 where
 pub data AreExecutions (a b : Answer) : Type 0 where
   both_refused : a.status ≡ 6 → a ≡ b → AreExecutions a b
   both_done : a.status ≡ 0 → a ≡ b → AreExecutions a b
-  first_done : a.status ≡ 0 → b.status ≡ 9 → Begins b.pieces a.pieces → AreExecutions a b
-  second_done : a.status ≡ 9 → b.status ≡ 0 → Begins a.pieces b.pieces → AreExecutions a b
-  none_done : a.status ≡ 9 → b.status ≡ 9 → Begins a.pieces b.pieces ⊎ Begins b.pieces a.pieces → AreExecutions a b
+  first_done : a.status ≡ 0 → b.status ≡ 9 → LinesBegin b.pieces a.pieces → AreExecutions a b
+  second_done : a.status ≡ 9 → b.status ≡ 0 → LinesBegin a.pieces b.pieces → AreExecutions a b
+  none_done : a.status ≡ 9 → b.status ≡ 9 → LinesBegin a.pieces b.pieces ⊎ LinesBegin b.pieces a.pieces → AreExecutions a b
 
 -- of any other request both are one answer
 abbrev pub AreAnswers : Request → Answer → Answer → Type 0

@@ -96,7 +96,7 @@ pub fn tool<F: Shelf, I: Source, K: Sink>(
 
     // The counts of failed loads and takes stay where the answer is another. The script is taken only in a session over
     // an object, at most 1,048,577 bytes of it, and never again after its end or a failure. Each file is loaded once, in the
-    // order of the request and up to its limit, and a fault list exactly where the command comes to it; with statuses 3 and 5
+    // order of the request and up to its limit, and a fault list exactly when the command comes to it; with statuses 3 and 5
     // it may be that it is not, and with status 5 that nothing is.
     ensures load_failures { result ≢ 3 → (F.failures shelf.new ≡ F.failures shelf.old) × (F.failed_name shelf.new ≡ F.failed_name shelf.old) }
     ensures script { TakesFrom (map string_bytes words.now) (F.files shelf.old) (I.takes script.old) (I.takes script.new) (I.left script.old) (I.left script.new) ⊎ (script.new ≡ script.old) }
