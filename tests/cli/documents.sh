@@ -3,3 +3,17 @@
 report 'the list of crates' '' "$(bash "$top/docs/crates.sh" | diff - "$top/docs/CRATES.md")"
 report 'the list of definitions that the headline reaches' '' "$(python3 "$top/docs/reading.py" | diff - "$top/docs/READING.md")"
 report 'the manual pages' '' "$(bash "$top/man/make.sh" --stale)"
+
+# The lines `In FOLDER: FILE (NAME, ..)` of the promises: each file is there and has each name.
+named() {
+  awk '/^In `crates\//, /\.$/' "$top/docs/PROMISES.md" | grep -o '`[^`]*`\|[()]' | tr -d '`' | while read -r word; do
+    case $word in
+      crates/*) folder=$word ;;
+      *.rt) file=$folder/$word; [ -f "$top/$file" ] || echo "$file is missing" ;;
+      '(') inside=1 ;;
+      ')') inside= ;;
+      *) [ -z "${inside-}" ] || grep -qE "\b(fn|struct|enum|trait) $word\b" "$top/$file" || echo "$file does not have $word" ;;
+    esac
+  done
+}
+report 'the files that the promises name' '' "$(named)"
