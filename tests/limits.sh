@@ -95,8 +95,8 @@ A time is the least of three, but of fewer where they take more than three secon
 The script fails where a row has another status or last line than the documents say, at a message of a crash, where the
 program takes more than 1.5 GB, and where time or memory grow faster than the work. In most rows the work is the size. In the
 rows of cells' names and of words that are sought through updates it is the square of the size: each name is compared with each
-earlier one, and each word is sought through all updates. A form has at most 64 terms of at most
-20 bytes each, as long as the atoms of its terms are among the first 16,777,215 forms; after them a term may take 24 bytes.
+earlier one, and each word is sought through all updates. The form of an integer has at most 64 terms. A term takes 20 bytes or
+less while its atoms are among the first 16,777,215 forms, and 24 bytes after them.
 
 The steps of a check have a bound, but no limit (`TYPING.md`): each jump handles the nodes of its target anew, and forms that
 are unlike are all kept to the end. So a small object can ask for long work: the rows of jumps with unlike words show how the
