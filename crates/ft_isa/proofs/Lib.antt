@@ -6,3 +6,4 @@ pub mod SiteRead
 pub mod StrikeRead
 pub mod WildRead
 pub mod NumberText
+pub mod Operations

@@ -71,4 +71,11 @@ pub enum Instr {
     },
     /// `halt`
     Halt,
+    /// `idx rd, rs, first, length`: the address of the cell at `first` plus `rs` modulo `length`.
+    Idx {
+        rd: Reg,
+        rs: Reg,
+        first: u32,
+        length: u32,
+    },
 }

@@ -1,9 +1,9 @@
 //! The words, instructions and plans of the machine.
 //!
-//! The crate promises that operations are arithmetic modulo 2^64, that a register's number is below
-//! 64, that an output's line is its cell's name and its value in decimal digits, and that the texts
-//! of sites, strikes and wild answers are read exactly. Its definitions: `specs/Words.antt`,
-//! `specs/Registers.antt`, `specs/PlanText.antt`.
+//! The crate promises that operations are arithmetic modulo 2^64, bit by bit or shifts, that a
+//! register's number is below 64, that an output's line is its cell's name and its value in decimal
+//! digits, and that the texts of sites, strikes and wild answers are read exactly. Its definitions:
+//! `specs/Words.antt`, `specs/Registers.antt`, `specs/PlanText.antt`.
 #![tactic(auto)]
 
 mod basic;

@@ -15,6 +15,16 @@ pub enum Op {
     Ltu,
     /// 1 where the words are equal, and 0 otherwise.
     Eq,
+    /// The bits that both words have.
+    And,
+    /// The bits that one of the words has, or both.
+    Or,
+    /// The bits that exactly one of the words has.
+    Xor,
+    /// The first word times 2 to the second, modulo 2^64: 0 where the second is 64 or more.
+    Shl,
+    /// The first word divided by 2 to the second, rounded down: 0 where the second is 64 or more.
+    Shr,
 }
 
 /// What the operation gives of two words.
@@ -28,5 +38,10 @@ pub fn apply(op: Op, a: u64, b: u64) -> u64
         Op::Mul => a.wrapping_mul(b),
         Op::Ltu => u64::from(a < b),
         Op::Eq => u64::from(a == b),
+        Op::And => a & b,
+        Op::Or => a | b,
+        Op::Xor => a ^ b,
+        Op::Shl => if b < 64 { a << b } else { 0 },
+        Op::Shr => if b < 64 { a >> b } else { 0 },
     }
 }

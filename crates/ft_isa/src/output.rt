@@ -17,8 +17,8 @@ pub const FIRST_CELL: u64 = 1_048_576;
 /// The most bytes that a line has beside its name: a space, 20 digits and a line feed.
 pub const VALUE_ROOM: usize = 22;
 
-/// The most bytes that an output's line takes where the name has at most 32 bytes.
-pub const LINE_ROOM: usize = 54;
+/// The most bytes that an output's line takes where the name has at most 40 bytes.
+pub const LINE_ROOM: usize = 62;
 
 /// Puts a piece into a buffer at a place, and tells the place after it.
 fn put_at(buf: &mut [u8], at: usize, piece: &[u8]) -> usize

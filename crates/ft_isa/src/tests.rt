@@ -1,5 +1,59 @@
-use crate::{Form, Reg, Site, Strike, Wild, WildError, read_strike, read_wild};
+use crate::{Form, Op, Reg, Site, Strike, Wild, WildError, apply, read_strike, read_wild};
 use std::test::Fail;
+
+/// The word of the highest bit alone.
+const TOP: u64 = 0x8000_0000_0000_0000;
+
+/// Operations on two words, and the words that they give.
+const RESULTS: [(Op, u64, u64, u64); 35] = [
+    (Op::Add, u64::MAX, 2, 1),
+    (Op::Sub, 1, 2, u64::MAX),
+    (Op::Mul, TOP, 3, TOP),
+    (Op::Ltu, 1, TOP, 1),
+    (Op::Ltu, TOP, TOP, 0),
+    (Op::Eq, TOP, TOP, 1),
+    (Op::Eq, 0, TOP, 0),
+    (
+        Op::And,
+        0x8000_0000_0000_000c,
+        0x8000_0000_0000_000a,
+        0x8000_0000_0000_0008,
+    ),
+    (Op::And, u64::MAX, TOP, TOP),
+    (Op::And, TOP, 1, 0),
+    (Op::Or, 0x8000_0000_0000_000c, 0xa, 0x8000_0000_0000_000e),
+    (Op::Or, TOP, 1, 0x8000_0000_0000_0001),
+    (Op::Or, 0, 0, 0),
+    (Op::Xor, 0x8000_0000_0000_000c, 0xa, 0x8000_0000_0000_0006),
+    (Op::Xor, u64::MAX, TOP, 0x7fff_ffff_ffff_ffff),
+    (Op::Xor, TOP, TOP, 0),
+    (Op::Shl, 0x8000_0000_0000_0001, 0, 0x8000_0000_0000_0001),
+    (Op::Shl, 0x8000_0000_0000_0001, 1, 2),
+    (Op::Shl, 5, 2, 20),
+    (Op::Shl, 3, 63, TOP),
+    (Op::Shl, 2, 63, 0),
+    (Op::Shl, u64::MAX, 64, 0),
+    (Op::Shl, u64::MAX, 65, 0),
+    (Op::Shl, 1, u64::MAX, 0),
+    (Op::Shl, 1, TOP, 0),
+    (Op::Shr, 0x8000_0000_0000_0001, 0, 0x8000_0000_0000_0001),
+    (Op::Shr, 0x8000_0000_0000_0001, 1, 0x4000_0000_0000_0000),
+    (Op::Shr, 23, 2, 5),
+    (Op::Shr, TOP, 63, 1),
+    (Op::Shr, 0x7fff_ffff_ffff_ffff, 63, 0),
+    (Op::Shr, u64::MAX, 64, 0),
+    (Op::Shr, u64::MAX, 65, 0),
+    (Op::Shr, u64::MAX, u64::MAX, 0),
+    (Op::Shr, u64::MAX, TOP, 0),
+    (Op::Shr, 0, 0, 0),
+];
+
+#[test]
+fn operates_on_two_words(rt: HostRuntime) {
+    for (op, a, b, given) in RESULTS {
+        assert_eq!(rt; apply(op, a, b), given, "{op:?} of {a} and {b}");
+    }
+}
 
 #[test]
 fn reads_the_texts_of_strikes(rt: HostRuntime) {
