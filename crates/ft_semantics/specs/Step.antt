@@ -6,11 +6,11 @@ use Rattle.ft_isa.specs.declared.colour.Colour.TheVariants.{Green, Blue}
 use Rattle.ft_isa.specs.declared.colour.Coloured.{Coloured}
 use Rattle.ft_isa.specs.declared.reg.Reg.{Reg}
 use Rattle.ft_isa.specs.declared.instr.Instr.{Instr}
-use Rattle.ft_isa.specs.declared.instr.Instr.TheVariants.{OpReg, OpWord, Mov, Ld, St, JmpG, JmpB, BzG, BzB, Halt}
+use Rattle.ft_isa.specs.declared.instr.Instr.TheVariants.{OpReg, OpWord, Mov, Ld, St, JmpG, JmpB, BzG, BzB, Halt, Idx}
 use Rattle.ft_isa.specs.declared.plan.Wild.{Wild}
 use Rattle.ft_isa.specs.declared.plan.Wild.TheVariants.{Word, Stop}
 use Rattle.ft_isa.specs.declared.output.Output.{Output}
-use Rattle.ft_isa.specs.Words.{apply}
+use Rattle.ft_isa.specs.Words.{apply, cell_in_run}
 use Rattle.ft_isa.specs.Pending.{is_oldest, newest_at}
 use Rattle.ft_semantics.specs.declared.status.Status.{Status}
 use Rattle.ft_semantics.specs.declared.status.Status.TheVariants.{Running, Done, Detected}
@@ -125,6 +125,7 @@ execute (JmpB rd subst) s w = jump_blue (word s rd) s w
 execute (BzG rz rd) s w = if word s rz == 0 then jump_green (word s rd) s w else pass s w
 execute (BzB rz rd subst) s w = if word s rz == 0 then jump_blue (word s rd) s w else pass s w
 execute Halt s w = quiet (record s { status = Done }) w
+execute (Idx rd rs first m) s w = writes rd (colour s rs) (cell_in_run first m (word s rs)) s w
 
 -- a running machine fetches where nothing is fetched, and else does what is fetched
 abbrev pub advance : Object → Option Instr → State → List Wild → Stepping

@@ -4,10 +4,10 @@ use Rattle.std.specs.Option.{unwrap_or}
 use Rattle.ft_isa.specs.declared.colour.Colour.{Colour}
 use Rattle.ft_isa.specs.declared.colour.Colour.TheVariants.{Green, Blue}
 use Rattle.ft_isa.specs.declared.instr.Instr.{Instr}
-use Rattle.ft_isa.specs.declared.instr.Instr.TheVariants.{OpReg, OpWord, Mov, Ld, St, JmpG, JmpB, BzG, BzB, Halt}
+use Rattle.ft_isa.specs.declared.instr.Instr.TheVariants.{OpReg, OpWord, Mov, Ld, St, JmpG, JmpB, BzG, BzB, Halt, Idx}
 use Rattle.ft_isa.specs.declared.plan.Wild.{Wild}
 use Rattle.ft_isa.specs.declared.plan.Wild.TheVariants.{Word, Stop}
-use Rattle.ft_isa.specs.Words.{apply}
+use Rattle.ft_isa.specs.Words.{apply, cell_in_run}
 use Rattle.ft_isa.specs.Pending.{Pending, is_oldest, newest_at}
 use Rattle.ft_semantics.specs.declared.status.Status.TheVariants.{Done, Detected}
 use Rattle.ft_types.specs.declared.object.Object.{Object}
@@ -181,6 +181,11 @@ abbrev pub halt_row : Row
 halt_row (Some Halt) o s w = Some (quiet (record s { status = Done }) w)
 halt_row other o s w = None
 
+-- idx rd, rs, first, length | always | rd gets the colour of rs and 1048576 + first + (rs modulo length); goes on
+abbrev pub index_row : Row
+index_row (Some (Idx rd rs first m)) o s w = Some (writes rd (colour s rs) (cell_in_run first m (word s rs)) s w)
+index_row other o s w = None
+
 -- the table
 abbrev pub steps_table : List Row
 steps_table =
@@ -191,7 +196,7 @@ steps_table =
     ∷ jump_green_row ∷ jump_green_again_row ∷ jump_blue_row ∷ jump_blue_otherwise_row
     ∷ branch_green_row ∷ branch_green_passes_row ∷ branch_green_again_row
     ∷ branch_blue_row ∷ branch_blue_passes_row ∷ branch_blue_otherwise_row
-    ∷ halt_row ∷ []
+    ∷ halt_row ∷ index_row ∷ []
 
 -- the steps that the table's rows give here
 abbrev pub given_steps : Option Instr → Object → State → List Wild → List Stepping

@@ -1,9 +1,9 @@
 -- Each node of a lawful list stands for one tree, whose numbers are words and whose variables are within the node's scope.
 use Rattle.std.proofs.Common.{ℕ, suc, zero, ◌≡◌, ◌<◌, ◌≤◌, ◌+◌, true, false, List, [], ◌∷◌, ◌++◌, length, get_or, slice_get, Some, refl, sym, ap, ◌∙◌, arith, subst}
 use Rattle.std.proofs.lemmas.List.{get_or_append_left, get_or_push, length_push}
-use Rattle.ft_static.specs.Expression.{Integer, Memory, Expression, word, variable, operation, sel, memory_variable, upd, integer, memory, HasWords, HasVariablesBelow, AreWords, AreWordsOfMemory, IsWithin, IsMemoryWithin}
+use Rattle.ft_static.specs.Expression.{Integer, Memory, Expression, word, variable, operation, sel, rem, memory_variable, upd, integer, memory, HasWords, HasVariablesBelow, AreWords, AreWordsOfMemory, IsWithin, IsMemoryWithin}
 use Rattle.ft_static.specs.NodeRules.{is_memory, MayName, IsShape, AreNodes}
-use Rattle.ft_static.specs.NodeTree.{integer_part, memory_part, integer_at, memory_at, tree_of, trees_onto, trees, tree_at, HasShape, StandsFor, word_node, variable_node, operation_node, sel_node, memory_node, upd_node}
+use Rattle.ft_static.specs.NodeTree.{integer_part, memory_part, integer_at, memory_at, tree_of, trees_onto, trees, tree_at, HasShape, StandsFor, word_node, variable_node, operation_node, sel_node, rem_node, memory_node, upd_node}
 use Rattle.ft_static.specs.declared.node.Node.{Node}
 use Rattle.ft_static.specs.declared.node.Shape.{Shape}
 use Rattle.ft_static.specs.declared.node.Shape.TheVariants as shape
@@ -20,6 +20,7 @@ HasPartsBelow n (shape.Op o a b) = (a < n) × (b < n)
 HasPartsBelow n (shape.Sel m a) = (m < n) × (a < n)
 HasPartsBelow n shape.Memory = Unit {0}
 HasPartsBelow n (shape.Upd m a v) = (m < n) × (a < n) × (v < n)
+HasPartsBelow n (shape.Rem a m) = a < n
 
 -- the parts of a lawful node have lower numbers
 parts_below : (nodes : List Node) (n scope : ℕ) (x : Shape) → IsShape nodes n scope x → HasPartsBelow n x
@@ -29,6 +30,7 @@ parts_below nodes n scope (shape.Op o a b) h = (h.0.lower, h.1.lower)
 parts_below nodes n scope (shape.Sel m a) h = (h.0.lower, h.1.lower)
 parts_below nodes n scope shape.Memory h = tt
 parts_below nodes n scope (shape.Upd m a v) h = (h.0.lower, h.1.lower, h.2.lower)
+parts_below nodes n scope (shape.Rem a m) h = h.0.lower
 
 -- two lists of trees that agree below n give one tree to a node whose parts are below n
 tree_of-agrees : (n : ℕ) (ts us : List Expression) (x : Shape) → ((k : ℕ) → k < n → get_or ts k none ≡ get_or us k none) → HasPartsBelow n x → tree_of ts x ≡ tree_of us x
@@ -38,6 +40,7 @@ tree_of-agrees n ts us (shape.Op o a b) e h = rw (e a h.0, e b h.1) refl
 tree_of-agrees n ts us (shape.Sel m a) e h = rw (e m h.0, e a h.1) refl
 tree_of-agrees n ts us shape.Memory e h = refl
 tree_of-agrees n ts us (shape.Upd m a v) e h = rw (e m h.0, e a h.1, e v h.2) refl
+tree_of-agrees n ts us (shape.Rem a m) e h = rw (e a h) refl
 
 -- further nodes keep the trees so far
 trees_onto-keeps : (ts : List Expression) (ns : List Node) (k : ℕ) → k < length ts → get_or (trees_onto ts ns) k none ≡ get_or ts k none
@@ -73,6 +76,7 @@ integer_tree ts (shape.Op o a b) e = refl
 integer_tree ts (shape.Sel m a) e = refl
 integer_tree ts shape.Memory e = cc
 integer_tree ts (shape.Upd m a v) e = cc
+integer_tree ts (shape.Rem a m) e = refl
 
 -- a memory's node has a memory's tree
 memory_tree : (ts : List Expression) (x : Shape) → is_memory x ≡ true → tree_of ts x ≡ memory (memory_part (tree_of ts x))
@@ -82,6 +86,7 @@ memory_tree ts (shape.Op o a b) e = cc
 memory_tree ts (shape.Sel m a) e = cc
 memory_tree ts shape.Memory e = refl
 memory_tree ts (shape.Upd m a v) e = refl
+memory_tree ts (shape.Rem a m) e = cc
 
 -- the tree of a node that is named as an integer
 integer_named : (nodes : List Node) (n scope m : ℕ) → AreNodes nodes → MayName nodes n scope false m → tree_at nodes m ≡ integer (integer_at (trees nodes) m)
@@ -112,6 +117,7 @@ stands_shape nodes n scope x h s p lower = go x s p
     go (shape.Sel m a) s p = sel_node n m a (memory_at (trees nodes) m) (integer_at (trees nodes) a) s (stored m p.0) (whole a p.1)
     go shape.Memory s p = memory_node n s
     go (shape.Upd m a v) s p = upd_node n m a v (memory_at (trees nodes) m) (integer_at (trees nodes) a) (integer_at (trees nodes) v) s (stored m p.0) (whole a p.1) (whole v p.2)
+    go (shape.Rem a m) s p = rem_node n a m (integer_at (trees nodes) a) s (whole a p.0)
 
 -- so do all nodes below a bound
 stands_below : (nodes : List Node) (bound n : ℕ) (x : Node) → AreNodes nodes → n < bound → slice_get nodes n ≡ Some x → StandsFor nodes n (tree_at nodes n)
@@ -135,6 +141,8 @@ stands_for_one nodes _ _ h (operation_node n o j k a b s p q) =
     shaped nodes n (shape.Op o j k) h s ∙ rw (stands_for_one nodes j (integer a) h p, stands_for_one nodes k (integer b) h q) refl
 stands_for_one nodes _ _ h (sel_node n j k m a s p q) =
     shaped nodes n (shape.Sel j k) h s ∙ rw (stands_for_one nodes j (memory m) h p, stands_for_one nodes k (integer a) h q) refl
+stands_for_one nodes _ _ h (rem_node n j m a s p) =
+    shaped nodes n (shape.Rem j m) h s ∙ rw (stands_for_one nodes j (integer a) h p) refl
 stands_for_one nodes _ _ h (memory_node n s) = shaped nodes n shape.Memory h s
 stands_for_one nodes _ _ h (upd_node n j k l m a v s p q r) =
     shaped nodes n (shape.Upd j k l) h s ∙ rw (stands_for_one nodes j (memory m) h p, stands_for_one nodes k (integer a) h q, stands_for_one nodes l (integer v) h r) refl
@@ -146,6 +154,7 @@ mutual
   within_more (variable i) m n l h = omega (arith, h)
   within_more (operation o a b) m n l h = (within_more a m n l h.0, within_more b m n l h.1)
   within_more (sel k a) m n l h = (memory_within_more k m n l h.0, within_more a m n l h.1)
+  within_more (rem a k) m n l h = within_more a m n l h
 
   -- those of a memory too
   memory_within_more : (k : Memory) (m n : ℕ) → m ≤ n → IsMemoryWithin m k → IsMemoryWithin n k
@@ -177,6 +186,7 @@ fits_shape nodes n scope x h p lower = go x p
     go (shape.Sel m a) p = let f = stored m p.0 in let g = whole a p.1 in ((f.0, g.0), (f.1, g.1))
     go shape.Memory p = (tt, tt)
     go (shape.Upd m a v) p = let f = stored m p.0 in let g = whole a p.1 in let k = whole v p.2 in ((f.0, g.0, k.0), (f.1, g.1, k.1))
+    go (shape.Rem a m) p = let f = whole a p.0 in ((f.0, p.1), f.1)
 
 -- so do the trees of all nodes below a bound
 fits_below : (nodes : List Node) (bound n : ℕ) (x : Node) → AreNodes nodes → n < bound → slice_get nodes n ≡ Some x → Fits x.scope (tree_at nodes n)

@@ -3,15 +3,15 @@ use Rattle.std.proofs.Common.{ℕ, suc, ◌≡◌, ◌≢◌, ◌+◌, ◌*◌, 
 use Rattle.std.proofs.Math.Nat.{mod-lt, mod-eq_of_lt}
 use Rattle.std.proofs.Common.{Option, Some, None, List, slice_index_or}
 use Rattle.ft_isa.specs.declared.op.Op.{Op}
-use Rattle.ft_isa.specs.declared.op.Op.TheVariants.{Add, Sub, Mul, Ltu, Eq}
+use Rattle.ft_isa.specs.declared.op.Op.TheVariants.{Add, Sub, Mul, Ltu, Eq, And, Or, Xor, Shl, Shr}
 use Rattle.ft_isa.specs.Words.{apply}
-use Rattle.ft_static.specs.Expression.{Integer, Memory, word, variable, operation, sel, memory_variable, upd}
-use Rattle.ft_static.specs.NormalForm.{constant, constant_of, folded, norm_folded, norm_op, norm_sel, norm_upd, norm_integer, norm_memory, is_not_zero}
+use Rattle.ft_static.specs.Expression.{Integer, Memory, word, variable, operation, sel, rem, memory_variable, upd}
+use Rattle.ft_static.specs.NormalForm.{constant, constant_of, folded, norm_folded, norm_op, remainder, norm_rem, norm_sel, norm_upd, norm_integer, norm_memory, is_not_zero}
 use Rattle.std.specs.Ordering.{ordering_reverse}
 use Rattle.std.specs.declared.cmp.Ordering.{Ordering}
 use Rattle.std.specs.declared.cmp.Ordering.TheVariants.{Less, Equal, Greater}
 use Rattle.std.proofs.lemmas.Bool.{eqb-false, leb-true, and_parts}
-use Rattle.ft_static.specs.Form.{factors, terms, Atom, Monomial, Polynomial, Updates, variable_atom, operation_atom, sel_atom, one, times, nought, plus, unchanged, update}
+use Rattle.ft_static.specs.Form.{factors, terms, Atom, Monomial, Polynomial, Updates, variable_atom, operation_atom, sel_atom, rem_atom, one, times, nought, plus, unchanged, update}
 use Rattle.ft_static.specs.FormOrder.{cmp_atom, cmp_monomial, same_polynomial}
 use Rattle.ft_static.specs.NormalForm.{with_factor, join, led_by, add_term, total, add_multiple, add_products, degree, alone, negation, norm_add, norm_sub, norm_mul}
 use Rattle.ft_static.specs.Proper.{Leads, Below, IsProperAtom, IsProperMonomial, IsProper, AreProperUpdates, IsNormal}
@@ -185,7 +185,7 @@ normal_choice o (Some c) (Some d) a h = normal_constant (apply o c d)
 normal_choice o None y a h = normal_alone a h
 normal_choice o (Some c) None a h = normal_alone a h
 
--- the form of ltu or eq is normal
+-- the form of an operation that folds is normal
 normal_folded : (o : Op) (p q : Polynomial) → IsNormal p → IsNormal q → IsNormal (norm_folded o p q)
 normal_folded o p q h k = normal_choice o (constant_of p) (constant_of q) (operation_atom o p q) (h.0, k.0, h.1, k.1)
 
@@ -196,6 +196,19 @@ normal_op Sub p q h k = normal_sub p q h k
 normal_op Mul p q h k = proper_norm_mul p q h.0 k.0 h.1 k.1
 normal_op Ltu p q h k = normal_folded Ltu p q h k
 normal_op Eq p q h k = normal_folded Eq p q h k
+normal_op And p q h k = normal_folded And p q h k
+normal_op Or p q h k = normal_folded Or p q h k
+normal_op Xor p q h k = normal_folded Xor p q h k
+normal_op Shl p q h k = normal_folded Shl p q h k
+normal_op Shr p q h k = normal_folded Shr p q h k
+
+-- the form of rem is normal
+pub normal_rem : (p : Polynomial) (m : ℕ) → IsNormal p → IsNormal (norm_rem p m)
+normal_rem p m h = go (constant_of p)
+  where
+    go : (x : Option ℕ) → IsNormal (remainder x m (rem_atom p m))
+    go (Some c) = normal_constant (c % m)
+    go None = normal_alone (rem_atom p m) h
 
 -- the form of a sel is normal
 pub normal_sel : (u : Updates) (p : Polynomial) → AreProperUpdates u → IsNormal p → IsNormal (norm_sel u p)
@@ -219,6 +232,7 @@ mutual
   norm_is_normal (variable i) = normal_alone (variable_atom i) tt
   norm_is_normal (operation o a b) = normal_op o (norm_integer a) (norm_integer b) (norm_is_normal a) (norm_is_normal b)
   norm_is_normal (sel m a) = normal_sel (norm_memory m) (norm_integer a) (norm_memory_is_proper m) (norm_is_normal a)
+  norm_is_normal (rem a m) = normal_rem (norm_integer a) m (norm_is_normal a)
 
   -- the form of a memory is in order
   pub norm_memory_is_proper : (m : Memory) → AreProperUpdates (norm_memory m)
@@ -232,6 +246,7 @@ mutual
   under_is_normal (variable i) ps u h k = h i
   under_is_normal (operation o a b) ps u h k = normal_op o (norm_under a ps u) (norm_under b ps u) (under_is_normal a ps u h k) (under_is_normal b ps u h k)
   under_is_normal (sel m a) ps u h k = normal_sel (norm_memory_under m ps u) (norm_under a ps u) (memory_under_is_proper m ps u h k) (under_is_normal a ps u h k)
+  under_is_normal (rem a m) ps u h k = normal_rem (norm_under a ps u) m (under_is_normal a ps u h k)
 
   -- that of a memory is in order
   pub memory_under_is_proper : (m : Memory) (ps : List Polynomial) (u : Updates) → ((i : ℕ) → IsNormal (slice_index_or ps i nought)) → AreProperUpdates u → AreProperUpdates (norm_memory_under m ps u)

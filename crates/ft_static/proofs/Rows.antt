@@ -1,20 +1,21 @@
 -- The forms of operations, updates and selections denote what they stand for, and so do the forms of expressions.
-use Rattle.std.proofs.Common.{ℕ, suc, ◌≡◌, ◌+◌, ◌*◌, ◌-◌, ◌%◌, ◌^◌, ◌<◌, ◌≤◌, ◌==◌, true, false, refl, sym, ap, ◌∙◌, arith, Option, Some, None}
-use Rattle.std.proofs.Math.Nat.{add-mod-mod, mod-add-mod, mod-lt, mod-eq_of_lt, mod-mod, mul-add, mul-one, add-zero, add-mod_right, mul-add-mod_self_left}
+use Rattle.std.proofs.Common.{ℕ, suc, ◌≡◌, ◌+◌, ◌*◌, ◌-◌, ◌%◌, ◌^◌, ◌<◌, ◌≤◌, ◌==◌, true, false, refl, sym, ap, ◌∙◌, subst, arith, Option, Some, None}
+use Rattle.std.proofs.Math.Nat.{add-mod-mod, mod-add-mod, mod-le, mod-lt, mod-eq_of_lt, mod-mod, mul-add, mul-one, add-zero, add-mod_right, mul-add-mod_self_left}
 use Rattle.std.proofs.lemmas.Bool.{eqb-true, eq-eqb, ne_eqb}
 use Rattle.std.proofs.lemmas.Nat.{mul-mod_first, mul-mod_second}
 use Rattle.ft_isa.specs.declared.op.Op.{Op}
-use Rattle.ft_isa.specs.declared.op.Op.TheVariants.{Add, Sub, Mul, Ltu, Eq}
+use Rattle.ft_isa.specs.declared.op.Op.TheVariants.{Add, Sub, Mul, Ltu, Eq, And, Or, Xor, Shl, Shr}
 use Rattle.ft_isa.specs.Words.{apply, IsWord}
-use Rattle.ft_static.specs.Expression.{Integer, Memory, word, variable, operation, sel, memory_variable, upd, word_at, with_word, Valuation, value, memory_value, IsLawful, AreWords, AreWordsOfMemory}
-use Rattle.ft_static.specs.Form.{Polynomial, Updates, variable_atom, operation_atom, sel_atom, one, times, nought, plus, unchanged, update}
+use Rattle.ft_isa.proofs.Operations.{apply_is_word}
+use Rattle.ft_static.specs.Expression.{Integer, Memory, word, variable, operation, sel, rem, memory_variable, upd, word_at, with_word, Valuation, value, memory_value, IsLawful, AreWords, AreWordsOfMemory}
+use Rattle.ft_static.specs.Form.{Polynomial, Updates, variable_atom, operation_atom, sel_atom, rem_atom, one, times, nought, plus, unchanged, update}
 use Rattle.ft_static.specs.FormOrder.{same_polynomial}
-use Rattle.ft_static.specs.NormalForm.{constant, negation, norm_sub, constant_of, folded, norm_folded, norm_sel, norm_upd, norm_op, norm_integer, norm_memory, is_not_zero}
+use Rattle.ft_static.specs.NormalForm.{constant, negation, norm_sub, constant_of, folded, norm_folded, remainder, norm_rem, norm_sel, norm_upd, norm_op, norm_integer, norm_memory, is_not_zero}
 use Rattle.ft_static.specs.FormValue.{value_monomial, value_polynomial, value_updates}
 use Rattle.ft_static.proofs.Cases.{if_cases}
 use Rattle.ft_static.proofs.Equal.{equal_polynomials}
 use Rattle.ft_static.proofs.Words.{word_at-with_word, with_word-with_word}
-use Rattle.ft_static.proofs.Sums.{apply_is_word, value_polynomial_is_word, value_alone, value_add, value_mul}
+use Rattle.ft_static.proofs.Sums.{value_polynomial_is_word, value_alone, value_add, value_mul}
 
 -- minus v is 2^64 - v
 negative : (k v : ℕ) → v ≤ suc k → (k * v) % suc k ≡ (suc k - v) % suc k
@@ -68,12 +69,15 @@ value_constant_of (plus one d nought) c s e = let h : d % 2 ^ 64 ≡ c = cc in s
 value_constant_of (plus one d (plus n b q)) c s e = cc
 value_constant_of (plus (times a m) d p) c s e = cc
 
--- the form of ltu or eq denotes what the operation gives
+-- the form of an operation that folds denotes what the operation gives
 value_folded : (o : Op) (p q : Polynomial) (s : Valuation) → IsLawful s → value_polynomial (norm_folded o p q) s ≡ apply o (value_polynomial p s) (value_polynomial q s)
 value_folded o p q s lawful = go (constant_of p) (constant_of q) refl refl
   where
     go : (x y : Option ℕ) → constant_of p ≡ x → constant_of q ≡ y → value_polynomial (folded o x y (operation_atom o p q)) s ≡ apply o (value_polynomial p s) (value_polynomial q s)
-    go (Some c) (Some d) e g = rw (value_constant_of p c s e, value_constant_of q d s g) (value_constant (apply o c d) s ∙ mod-eq_of_lt (apply_is_word o c d))
+    go (Some c) (Some d) e g =
+        let x = value_constant_of p c s e in
+        let y = value_constant_of q d s g in
+        rw (x, y) (value_constant (apply o c d) s ∙ mod-eq_of_lt (apply_is_word o c d (subst IsWord x (value_polynomial_is_word p s)) (subst IsWord y (value_polynomial_is_word q s))))
     go None y e g = value_alone (operation_atom o p q) s lawful
     go (Some c) None e g = value_alone (operation_atom o p q) s lawful
 
@@ -84,6 +88,23 @@ value_op Sub p q s lawful = value_sub p q s lawful
 value_op Mul p q s lawful = value_mul p q s lawful
 value_op Ltu p q s lawful = value_folded Ltu p q s lawful
 value_op Eq p q s lawful = value_folded Eq p q s lawful
+value_op And p q s lawful = value_folded And p q s lawful
+value_op Or p q s lawful = value_folded Or p q s lawful
+value_op Xor p q s lawful = value_folded Xor p q s lawful
+value_op Shl p q s lawful = value_folded Shl p q s lawful
+value_op Shr p q s lawful = value_folded Shr p q s lawful
+
+-- the form of rem denotes the remainder
+pub value_rem : (p : Polynomial) (m : ℕ) (s : Valuation) → IsLawful s → value_polynomial (norm_rem p m) s ≡ value_polynomial p s % m
+value_rem p m s lawful = go (constant_of p) refl
+  where
+    go : (x : Option ℕ) → constant_of p ≡ x → value_polynomial (remainder x m (rem_atom p m)) s ≡ value_polynomial p s % m
+    go (Some c) e =
+        let x = value_constant_of p c s e in
+        let w : IsWord c = subst IsWord x (value_polynomial_is_word p s) in
+        let l = mod-le c m in
+        rw x (value_constant (c % m) s ∙ mod-eq_of_lt (omega (arith, w, l)))
+    go None e = value_alone (rem_atom p m) s lawful
 
 -- updates
 pub value_upd : (u : Updates) (p v : Polynomial) (s : Valuation) → value_updates (norm_upd u p v) s ≡ with_word (value_updates u s) (value_polynomial p s) (value_polynomial v s)
@@ -127,6 +148,7 @@ mutual
   norm_value (variable i) s lawful h = value_alone (variable_atom i) s lawful
   norm_value (operation o a b) s lawful h = value_op o (norm_integer a) (norm_integer b) s lawful ∙ rw (norm_value a s lawful h.0, norm_value b s lawful h.1) refl
   norm_value (sel m a) s lawful h = value_sel (norm_memory m) (norm_integer a) s lawful ∙ rw (norm_value a s lawful h.1, value_norm_memory m s lawful h.0) refl
+  norm_value (rem a m) s lawful h = value_rem (norm_integer a) m s lawful ∙ rw (norm_value a s lawful h.0) refl
 
   -- the form of a memory too
   pub value_norm_memory : (m : Memory) (s : Valuation) → IsLawful s → AreWordsOfMemory m → value_updates (norm_memory m) s ≡ memory_value m s

@@ -10,8 +10,8 @@ use base.Stored.{Coded, coded_ℕ, coded_list, coded_via}
 use Rattle.std.proofs.lemmas.Cmp.{tied_itself, nat_list_cmp_total}
 use Rattle.std.proofs.lemmas.List.{append-nil}
 use Rattle.ft_isa.specs.declared.op.Op.{Op}
-use Rattle.ft_isa.specs.declared.op.Op.TheVariants.{Add, Sub, Mul, Ltu, Eq}
-use Rattle.ft_static.specs.Form.{Form, integer_form, memory_form, factors, terms, updates, Atom, Monomial, Polynomial, Updates, variable_atom, operation_atom, sel_atom, one, times, nought, plus, unchanged, update}
+use Rattle.ft_isa.specs.declared.op.Op.TheVariants.{Add, Sub, Mul, Ltu, Eq, And, Or, Xor, Shl, Shr}
+use Rattle.ft_static.specs.Form.{Form, integer_form, memory_form, factors, terms, updates, Atom, Monomial, Polynomial, Updates, variable_atom, operation_atom, sel_atom, rem_atom, one, times, nought, plus, unchanged, update}
 use Rattle.ft_static.specs.FormOrder.{operation_kind, cmp_atom, cmp_monomial, cmp_polynomial, cmp_updates}
 
 abbrev mutual
@@ -20,6 +20,7 @@ abbrev mutual
   spell_atom (variable_atom i) = 0 ∷ (i ∷ [])
   spell_atom (operation_atom o p q) = operation_kind o ∷ (spell_polynomial p ++ spell_polynomial q)
   spell_atom (sel_atom u p) = 3 ∷ (spell_updates u ++ spell_polynomial p)
+  spell_atom (rem_atom p m) = 11 ∷ (spell_polynomial p ++ (m ∷ []))
 
   -- a monomial
   pub spell_monomial : Monomial → List ℕ
@@ -55,13 +56,18 @@ unlike i j x y h = go (nat_cmp i j) refl
     go Equal e = absurd (h (nat_cmp_equal i j e))
     go Greater e = refl
 
--- no operation has the kind of the variables or of sel
-other_kind : (o : Op) → (0 ≢ operation_kind o) × (3 ≢ operation_kind o)
-other_kind Add = (λ e. cc, λ e. cc)
-other_kind Sub = (λ e. cc, λ e. cc)
-other_kind Mul = (λ e. cc, λ e. cc)
-other_kind Ltu = (λ e. cc, λ e. cc)
-other_kind Eq = (λ e. cc, λ e. cc)
+-- no operation has the kind of the variables, of sel or of rem
+other_kind : (o : Op) → (0 ≢ operation_kind o) × (3 ≢ operation_kind o) × (11 ≢ operation_kind o)
+other_kind Add = (λ e. cc, λ e. cc, λ e. cc)
+other_kind Sub = (λ e. cc, λ e. cc, λ e. cc)
+other_kind Mul = (λ e. cc, λ e. cc, λ e. cc)
+other_kind Ltu = (λ e. cc, λ e. cc, λ e. cc)
+other_kind Eq = (λ e. cc, λ e. cc, λ e. cc)
+other_kind And = (λ e. cc, λ e. cc, λ e. cc)
+other_kind Or = (λ e. cc, λ e. cc, λ e. cc)
+other_kind Xor = (λ e. cc, λ e. cc, λ e. cc)
+other_kind Shl = (λ e. cc, λ e. cc, λ e. cc)
+other_kind Shr = (λ e. cc, λ e. cc, λ e. cc)
 
 -- no two operations have one kind
 same_kind : (o k : Op) → operation_kind o ≡ operation_kind k → o ≡ k
@@ -70,6 +76,11 @@ same_kind Sub Sub e = refl
 same_kind Mul Mul e = refl
 same_kind Ltu Ltu e = refl
 same_kind Eq Eq e = refl
+same_kind And And e = refl
+same_kind Or Or e = refl
+same_kind Xor Xor e = refl
+same_kind Shl Shl e = refl
+same_kind Shr Shr e = refl
 same_kind o k e = cc
 
 -- lists of numbers, by the first that differ
@@ -82,10 +93,13 @@ mutual
   lex_atom (variable_atom i) (variable_atom j) xs ys = refl
   lex_atom (operation_atom o p q) (operation_atom k r s) xs ys = simp (append_assoc, lex_polynomial p r, lex_polynomial q s, then_assoc)
   lex_atom (sel_atom u q) (sel_atom w s) xs ys = simp (append_assoc, lex_updates u w, lex_polynomial q s, then_assoc)
+  lex_atom (rem_atom p m) (rem_atom r n) xs ys = simp (append_assoc, lex_polynomial p r, then_assoc)
   lex_atom (variable_atom i) (operation_atom o p q) xs ys = unlike _ _ _ _ (other_kind o).0
   lex_atom (operation_atom o p q) (variable_atom i) xs ys = unlike _ _ _ _ (λ e. (other_kind o).0 (sym e))
   lex_atom (sel_atom u r) (operation_atom o p q) xs ys = unlike _ _ _ _ (other_kind o).1
   lex_atom (operation_atom o p q) (sel_atom u r) xs ys = unlike _ _ _ _ (λ e. (other_kind o).1 (sym e))
+  lex_atom (rem_atom r m) (operation_atom o p q) xs ys = unlike _ _ _ _ (other_kind o).2
+  lex_atom (operation_atom o p q) (rem_atom r m) xs ys = unlike _ _ _ _ (λ e. (other_kind o).2 (sym e))
   lex_atom a b xs ys = refl
 
   -- so do monomials
@@ -167,10 +181,13 @@ mutual
   atom_equal (variable_atom i) (variable_atom j) e = ap variable_atom (nat_cmp_equal i j e)
   atom_equal (operation_atom o p q) (operation_atom k r s) e = let h = then_both _ _ e in let i = then_both _ _ h.1 in let j = same_kind o k (nat_cmp_equal _ _ h.0) in let x = polynomial_equal p r i.0 in let y = polynomial_equal q s i.1 in cc
   atom_equal (sel_atom u q) (sel_atom w s) e = let h = then_both _ _ e in let x = updates_equal u w h.0 in let y = polynomial_equal q s h.1 in cc
+  atom_equal (rem_atom p m) (rem_atom r n) e = let h = then_both _ _ e in let x = polynomial_equal p r h.0 in let y = nat_cmp_equal m n h.1 in cc
   atom_equal (variable_atom i) (operation_atom o p q) e = absurd ((other_kind o).0 (nat_cmp_equal _ _ e))
   atom_equal (operation_atom o p q) (variable_atom i) e = absurd ((other_kind o).0 (sym (nat_cmp_equal _ _ e)))
   atom_equal (sel_atom u r) (operation_atom o p q) e = absurd ((other_kind o).1 (nat_cmp_equal _ _ e))
   atom_equal (operation_atom o p q) (sel_atom u r) e = absurd ((other_kind o).1 (sym (nat_cmp_equal _ _ e)))
+  atom_equal (rem_atom r m) (operation_atom o p q) e = absurd ((other_kind o).2 (nat_cmp_equal _ _ e))
+  atom_equal (operation_atom o p q) (rem_atom r m) e = absurd ((other_kind o).2 (sym (nat_cmp_equal _ _ e)))
   atom_equal a b e = cc
 
   -- tied monomials are the same

@@ -1,13 +1,13 @@
 -- Sums and products of polynomials denote sums and products.
-use Rattle.std.proofs.Common.{ℕ, ◌≡◌, ◌+◌, ◌*◌, ◌%◌, ◌^◌, ◌<◌, ◌==◌, refl, nat_lt, sym, ap, ◌∙◌, arith, lit<, zero-add, ◌&&◌, nat_le}
-use Rattle.std.proofs.Math.Nat.{add-mod-mod, mod-add-mod, mod-lt, mod-eq_of_lt, mod-mod, mul-add, add-mul, zero-mul, mul-zero, one-mul, mul-one, add-zero}
+use Rattle.std.proofs.Common.{ℕ, ◌≡◌, ◌+◌, ◌*◌, ◌%◌, ◌^◌, ◌<◌, ◌==◌, refl, sym, ap, ◌∙◌, arith, lit<, zero-add, ◌&&◌, nat_le}
+use Rattle.std.proofs.Math.Nat.{add-mod-mod, mod-add-mod, mod-le, mod-lt, mod-eq_of_lt, mod-mod, mul-add, add-mul, zero-mul, mul-zero, one-mul, mul-one, add-zero}
 use Rattle.std.proofs.lemmas.Bool.{eqb-true}
 use Rattle.std.proofs.lemmas.Nat.{mul-mod_first, mul-mod_second}
-use Rattle.ft_isa.specs.declared.op.Op.{Op}
-use Rattle.ft_isa.specs.declared.op.Op.TheVariants.{Add, Sub, Mul, Ltu, Eq}
+use Rattle.ft_isa.proofs.Operations.{apply_is_word}
+use Rattle.ft_isa.specs.declared.op.Op.TheVariants.{Add, Mul}
 use Rattle.ft_isa.specs.Words.{apply, IsWord}
 use Rattle.ft_static.specs.Expression.{word_at, Valuation, IsLawful}
-use Rattle.ft_static.specs.Form.{terms, Atom, Monomial, Polynomial, Updates, variable_atom, operation_atom, sel_atom, one, times, nought, plus, unchanged, update}
+use Rattle.ft_static.specs.Form.{terms, Atom, Monomial, Polynomial, Updates, variable_atom, operation_atom, sel_atom, rem_atom, one, times, nought, plus, unchanged, update}
 use Rattle.ft_static.specs.FormOrder.{cmp_atom, cmp_monomial}
 use Rattle.ft_static.specs.NormalForm.{with_factor, join, led_by, add_term, total, add_multiple, add_products, degree, alone, norm_add, norm_mul}
 use Rattle.ft_static.specs.FormValue.{value_atom, value_monomial, value_polynomial, value_updates}
@@ -64,15 +64,6 @@ product_more w c x p q r =
     ∙ (ap (λ t. (t + r) % w) (sym right)
     ∙ mod-add-mod ((c * x + p) % w * q) w r)))
 
--- every value is a word
-pub apply_is_word : (o : Op) (a b : ℕ) → IsWord (apply o a b)
-unfolding apply
-apply_is_word Add a b = mod-lt _ (lit< tt)
-apply_is_word Sub a b = mod-lt _ (lit< tt)
-apply_is_word Mul a b = mod-lt _ (lit< tt)
-apply_is_word Ltu a b = if_cases IsWord (nat_lt a b) 1 0 (λ e. lit< tt) (λ e. lit< tt)
-apply_is_word Eq a b = if_cases IsWord (a == b) 1 0 (λ e. lit< tt) (λ e. lit< tt)
-
 -- a polynomial denotes a word
 pub value_polynomial_is_word : (p : Polynomial) (s : Valuation) → value_polynomial p s < 2 ^ 64
 value_polynomial_is_word nought s = lit< tt
@@ -91,8 +82,9 @@ value_updates_are_words (update p v u) s lawful x = with_word_is_word (value_upd
 -- an atom denotes a word
 pub value_atom_is_word : (a : Atom) (s : Valuation) (lawful : IsLawful s) → value_atom a s < 2 ^ 64
 value_atom_is_word (variable_atom i) s lawful = lawful.integers i
-value_atom_is_word (operation_atom o p q) s lawful = apply_is_word _ _ _
+value_atom_is_word (operation_atom o p q) s lawful = apply_is_word o _ _ (value_polynomial_is_word p s) (value_polynomial_is_word q s)
 value_atom_is_word (sel_atom u p) s lawful = value_updates_are_words u s lawful _
+value_atom_is_word (rem_atom p m) s lawful = let h = value_polynomial_is_word p s in let k = mod-le (value_polynomial p s) m in omega (arith, h, k)
 
 -- sums
 value_led : (m : Monomial) (c : ℕ) (p : Polynomial) (s : Valuation) → value_polynomial (led_by m c p) s ≡ (c * value_monomial m s + value_polynomial p s) % 2 ^ 64

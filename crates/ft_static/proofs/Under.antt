@@ -3,7 +3,7 @@ use Rattle.std.proofs.Common.{ℕ, suc, zero, ◌≡◌, ◌<◌, List, [], ◌�
 use Rattle.std.proofs.Math.Nat.{mod-eq_of_lt}
 use Rattle.std.proofs.lemmas.List.{map-append}
 use Rattle.ft_isa.specs.Words.{IsWord}
-use Rattle.ft_static.specs.Expression.{Integer, Memory, Expression, word, variable, operation, sel, memory_variable, upd, integer, memory, Valuation, value, memory_value, IsLawful, AreWords, AreWordsOfMemory, IsWithin, IsMemoryWithin, substitute, substitute_memory, valuation_after}
+use Rattle.ft_static.specs.Expression.{Integer, Memory, Expression, word, variable, operation, sel, rem, memory_variable, upd, integer, memory, Valuation, value, memory_value, IsLawful, AreWords, AreWordsOfMemory, IsWithin, IsMemoryWithin, substitute, substitute_memory, valuation_after}
 use Rattle.ft_static.specs.NodeTree.{integer_part, memory_part, integer_at, memory_at, tree_of, trees_onto}
 use Rattle.ft_static.specs.Form.{polynomial_of, Polynomial, Updates, variable_atom, nought, unchanged}
 use Rattle.ft_static.specs.NormalForm.{alone, norm_integer, norm_memory}
@@ -12,7 +12,7 @@ use Rattle.ft_static.specs.FormUnder.{norm_under, norm_memory_under, form_under,
 use Rattle.ft_static.specs.declared.node.Node.{Node}
 use Rattle.ft_static.specs.declared.node.Shape.{Shape}
 use Rattle.ft_static.specs.declared.node.Shape.TheVariants as shape
-use Rattle.ft_static.proofs.Rows.{value_op, value_sel, value_upd, value_constant}
+use Rattle.ft_static.proofs.Rows.{value_op, value_rem, value_sel, value_upd, value_constant}
 use Rattle.ft_static.proofs.Sums.{value_polynomial_is_word, value_updates_are_words}
 
 -- what is at a place of a list after a function, with its value at the default
@@ -28,6 +28,7 @@ mutual
   norm-substitute (variable i) es m = sym (get_or-map norm_integer es i (word 0))
   norm-substitute (operation o a b) es m = rw (norm-substitute a es m, norm-substitute b es m) refl
   norm-substitute (sel k a) es m = rw (norm-substitute a es m, norm_memory-substitute k es m) refl
+  norm-substitute (rem a n) es m = rw (norm-substitute a es m) refl
 
   -- that of a substituted memory too
   pub norm_memory-substitute : (k : Memory) (es : List Integer) (m : Memory) → norm_memory (substitute_memory k es m) ≡ norm_memory_under k (map norm_integer es) (norm_memory m)
@@ -41,6 +42,7 @@ mutual
   value-substitute (variable i) es m s = sym (get_or-map (λ (e : Integer). value e s) es i (word 0))
   value-substitute (operation o a b) es m s = rw (value-substitute a es m s, value-substitute b es m s) refl
   value-substitute (sel k a) es m s = rw (value-substitute a es m s, memory_value-substitute k es m s) refl
+  value-substitute (rem a n) es m s = rw (value-substitute a es m s) refl
 
   -- and a substituted memory
   pub memory_value-substitute : (k : Memory) (es : List Integer) (m : Memory) (s : Valuation) → memory_value (substitute_memory k es m) s ≡ memory_value k (valuation_after es m s)
@@ -61,6 +63,7 @@ mutual
   value_under (variable i) ps u s lawful h = sym (get_or-map (λ (p : Polynomial). value_polynomial p s) ps i nought)
   value_under (operation o a b) ps u s lawful h = value_op o (norm_under a ps u) (norm_under b ps u) s lawful ∙ rw (value_under a ps u s lawful h.0, value_under b ps u s lawful h.1) refl
   value_under (sel m a) ps u s lawful h = value_sel (norm_memory_under m ps u) (norm_under a ps u) s lawful ∙ rw (value_under a ps u s lawful h.1, value_memory_under m ps u s lawful h.0) refl
+  value_under (rem a m) ps u s lawful h = value_rem (norm_under a ps u) m s lawful ∙ rw (value_under a ps u s lawful h.0) refl
 
   -- and that of a memory
   pub value_memory_under : (m : Memory) (ps : List Polynomial) (u : Updates) (s : Valuation) → IsLawful s → AreWordsOfMemory m → value_updates (norm_memory_under m ps u) s ≡ memory_value m (valuation_under ps u s)
@@ -74,6 +77,7 @@ mutual
   norm_under_itself (variable i) n ps own h = own i h
   norm_under_itself (operation o a b) n ps own h = rw (norm_under_itself a n ps own h.0, norm_under_itself b n ps own h.1) refl
   norm_under_itself (sel m a) n ps own h = rw (norm_memory_under_itself m n ps own h.0, norm_under_itself a n ps own h.1) refl
+  norm_under_itself (rem a m) n ps own h = rw (norm_under_itself a n ps own h) refl
 
   -- and so has a memory
   pub norm_memory_under_itself : (m : Memory) (n : ℕ) (ps : List Polynomial) → ((i : ℕ) → i < n → slice_index_or ps i nought ≡ alone (variable_atom i)) → IsMemoryWithin n m → norm_memory_under m ps unchanged ≡ norm_memory m
@@ -103,6 +107,7 @@ form_of-map ps u ts (shape.Var i) = refl
 form_of-map ps u ts (shape.Op o a b) = rw (integer_in-map ps u ts a, integer_in-map ps u ts b) refl
 form_of-map ps u ts (shape.Sel m a) = rw (memory_in-map ps u ts m, integer_in-map ps u ts a) refl
 form_of-map ps u ts shape.Memory = refl
+form_of-map ps u ts (shape.Rem a m) = rw (integer_in-map ps u ts a) refl
 form_of-map ps u ts (shape.Upd m a v) = rw (memory_in-map ps u ts m, integer_in-map ps u ts a, integer_in-map ps u ts v) refl
 
 -- the forms of nodes in rising order are those of their trees

@@ -1,6 +1,6 @@
 -- Short words for the expressions of examples.
 use Rattle.std.specs.Prelude.{ℕ, zero, suc, ◌+◌, List, [], ◌∷◌}
-use Rattle.ft_isa.specs.declared.op.Op.TheVariants.{Add, Sub, Mul, Ltu, Eq}
+use Rattle.ft_isa.specs.declared.op.Op.TheVariants.{Add, Sub, Mul, Ltu, Eq, And, Or, Xor, Shl, Shr}
 use Rattle.ft_static.specs.declared.node.Node.{Node}
 use Rattle.ft_static.specs.declared.node.Shape.TheVariants as shape
 use Rattle.ft_static.specs.Expression.{Integer, Memory, word, variable, operation, memory_variable, upd}
@@ -26,6 +26,21 @@ ltu a b = operation Ltu a b
 
 abbrev pub eq : Integer → Integer → Integer
 eq a b = operation Eq a b
+
+abbrev pub and : Integer → Integer → Integer
+and a b = operation And a b
+
+abbrev pub or : Integer → Integer → Integer
+or a b = operation Or a b
+
+abbrev pub xor : Integer → Integer → Integer
+xor a b = operation Xor a b
+
+abbrev pub shl : Integer → Integer → Integer
+shl a b = operation Shl a b
+
+abbrev pub shr : Integer → Integer → Integer
+shr a b = operation Shr a b
 
 -- the sum of the variables i to i + n, from left to right
 abbrev pub sum_up : ℕ → ℕ → Integer

@@ -1,19 +1,22 @@
 -- Expressions as trees, what they denote, and substitution.
-use Rattle.std.specs.Prelude.{ℕ, ◌<◌, List, map, slice_index_or}
+use Rattle.std.specs.Prelude.{ℕ, ◌%◌, ◌<◌, List, map, slice_index_or}
 use Rattle.std.specs.Option.{unwrap_or}
 use Rattle.std.specs.Ordering.{nat_cmp}
 use Rattle.std.specs.FinMap as words
 use Rattle.std.specs.FinMap.{FinMap}
 use Rattle.ft_isa.specs.declared.op.Op.{Op}
 use Rattle.ft_isa.specs.Words.{apply, IsWord}
+use Rattle.ft_static.specs.NodeRules.{IsLength}
 
 mutual
-  -- an integer: a word, the variable of a number, an operation on two integers, or the word of a memory at an address
+  -- an integer: a word, the variable of a number, an operation on two integers, the word of a memory at an address, or
+  -- the remainder of an integer by a length
   pub data Integer : Type 0 where
     word : ℕ → Integer
     variable : ℕ → Integer
     operation : Op → Integer → Integer → Integer
     sel : Memory → Integer → Integer
+    rem : Integer → ℕ → Integer
 
   -- a memory: the memory variable, or a memory with another word (the last part) at one address
   pub data Memory : Type 0 where
@@ -53,6 +56,7 @@ abbrev mutual
   value (variable i) s = integer_of s i
   value (operation o a b) s = apply o (value a s) (value b s)
   value (sel m a) s = word_at (memory_value m s) (value a s)
+  value (rem a m) s = value a s % m
 
   -- what a memory denotes
   pub memory_value : Memory → Valuation → WordMap
@@ -65,12 +69,13 @@ pub record IsLawful (s : Valuation) : Type 0 where
   pub memory : (a : ℕ) → IsWord (word_at s.memory a)
 
 abbrev mutual
-  -- the numbers in an integer are words
+  -- the numbers in an integer are words, and lengths where they are lengths
   pub AreWords : Integer → Type 0
   AreWords (word w) = IsWord w
   AreWords (variable i) = Unit {0}
   AreWords (operation o a b) = AreWords a × AreWords b
   AreWords (sel m a) = AreWordsOfMemory m × AreWords a
+  AreWords (rem a m) = AreWords a × IsLength m
 
   -- the numbers in a memory are words
   pub AreWordsOfMemory : Memory → Type 0
@@ -84,6 +89,7 @@ abbrev mutual
   IsWithin n (variable i) = i < n
   IsWithin n (operation o a b) = IsWithin n a × IsWithin n b
   IsWithin n (sel m a) = IsMemoryWithin n m × IsWithin n a
+  IsWithin n (rem a m) = IsWithin n a
 
   -- the integer variables of a memory have numbers below n
   pub IsMemoryWithin : ℕ → Memory → Type 0
@@ -97,6 +103,7 @@ abbrev mutual
   substitute (variable i) es k = slice_index_or es i (word 0)
   substitute (operation o a b) es k = operation o (substitute a es k) (substitute b es k)
   substitute (sel m a) es k = sel (substitute_memory m es k) (substitute a es k)
+  substitute (rem a m) es k = rem (substitute a es k) m
 
   -- a memory with the same
   pub substitute_memory : Memory → List Integer → Memory → Memory

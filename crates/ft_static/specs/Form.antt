@@ -8,6 +8,7 @@ mutual
     variable_atom : ℕ → Atom
     operation_atom : Op → Polynomial → Polynomial → Atom
     sel_atom : Updates → Polynomial → Atom
+    rem_atom : Polynomial → ℕ → Atom
 
   -- a product of atoms: the list of them, in rising order
   pub data Monomial : Type 0 where

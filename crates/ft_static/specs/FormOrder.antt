@@ -6,8 +6,8 @@ use Rattle.std.specs.Cmp.Lexicographic.{slice_cmp}
 use Rattle.std.specs.declared.cmp.Ordering.{Ordering}
 use Rattle.std.specs.declared.cmp.Ordering.TheVariants.{Less, Equal, Greater}
 use Rattle.ft_isa.specs.declared.op.Op.{Op}
-use Rattle.ft_isa.specs.declared.op.Op.TheVariants.{Add, Sub, Mul, Ltu, Eq}
-use Rattle.ft_static.specs.Form.{factors, terms, updates, Atom, Monomial, Polynomial, Updates, variable_atom, operation_atom, sel_atom, one, times, nought, plus, unchanged, update}
+use Rattle.ft_isa.specs.declared.op.Op.TheVariants.{Add, Sub, Mul, Ltu, Eq, And, Or, Xor, Shl, Shr}
+use Rattle.ft_static.specs.Form.{factors, terms, updates, Atom, Monomial, Polynomial, Updates, variable_atom, operation_atom, sel_atom, rem_atom, one, times, nought, plus, unchanged, update}
 
 -- the place of an operation's atoms among the kinds; no normal form has an atom of sub
 abbrev pub operation_kind : Op → ℕ
@@ -15,13 +15,19 @@ operation_kind Ltu = 1
 operation_kind Eq = 2
 operation_kind Mul = 4
 operation_kind Add = 5
-operation_kind Sub = 6
+operation_kind And = 6
+operation_kind Or = 7
+operation_kind Xor = 8
+operation_kind Shl = 9
+operation_kind Shr = 10
+operation_kind Sub = 12
 
 -- the place of an atom's kind among the kinds
 abbrev pub kind : Atom → ℕ
 kind (variable_atom i) = 0
 kind (operation_atom o p q) = operation_kind o
 kind (sel_atom u p) = 3
+kind (rem_atom p m) = 11
 
 -- Lengths are compared at each level; below the outermost they are equal.
 abbrev mutual
@@ -30,6 +36,7 @@ abbrev mutual
   cmp_atom (variable_atom i) (variable_atom j) = nat_cmp i j
   cmp_atom (operation_atom o p q) (operation_atom k r s) = ordering_then (nat_cmp (operation_kind o) (operation_kind k)) (ordering_then (cmp_polynomial p r) (cmp_polynomial q s))
   cmp_atom (sel_atom u q) (sel_atom w s) = ordering_then (cmp_updates u w) (cmp_polynomial q s)
+  cmp_atom (rem_atom p m) (rem_atom r n) = ordering_then (cmp_polynomial p r) (nat_cmp m n)
   cmp_atom a b = nat_cmp (kind a) (kind b)
 
   -- lists of atoms

@@ -1,8 +1,8 @@
 -- The normal form after forms are put for the variables: of a tree, and of numbered nodes from the forms of their parts.
 use Rattle.std.specs.Prelude.{ℕ, List, [], ◌∷◌, ◌++◌, slice_index_or}
-use Rattle.ft_static.specs.Expression.{Integer, Memory, Expression, word, variable, operation, sel, memory_variable, upd, integer, memory}
+use Rattle.ft_static.specs.Expression.{Integer, Memory, Expression, word, variable, operation, sel, rem, memory_variable, upd, integer, memory}
 use Rattle.ft_static.specs.Form.{Form, integer_form, memory_form, polynomial_of, Polynomial, Updates, nought}
-use Rattle.ft_static.specs.NormalForm.{constant, norm_op, norm_sel, norm_upd}
+use Rattle.ft_static.specs.NormalForm.{constant, norm_op, norm_rem, norm_sel, norm_upd}
 use Rattle.ft_static.specs.declared.node.Node.{Node}
 use Rattle.ft_static.specs.declared.node.Shape.{Shape}
 use Rattle.ft_static.specs.declared.node.Shape.TheVariants as shape
@@ -14,6 +14,7 @@ abbrev mutual
   norm_under (variable i) ps u = slice_index_or ps i nought
   norm_under (operation o a b) ps u = norm_op o (norm_under a ps u) (norm_under b ps u)
   norm_under (sel m a) ps u = norm_sel (norm_memory_under m ps u) (norm_under a ps u)
+  norm_under (rem a m) ps u = norm_rem (norm_under a ps u) m
 
   -- the form of a memory after the same
   pub norm_memory_under : Memory → List Polynomial → Updates → Updates
@@ -46,6 +47,7 @@ form_of ps u fs (shape.Op o a b) = integer_form (norm_op o (integer_in fs a) (in
 form_of ps u fs (shape.Sel m a) = integer_form (norm_sel (memory_in u fs m) (integer_in fs a))
 form_of ps u fs shape.Memory = memory_form u
 form_of ps u fs (shape.Upd m a v) = memory_form (norm_upd (memory_in u fs m) (integer_in fs a) (integer_in fs v))
+form_of ps u fs (shape.Rem a m) = integer_form (norm_rem (integer_in fs a) m)
 
 -- the forms so far, and then those of these nodes in rising order
 abbrev pub forms_of_nodes : List Polynomial → Updates → List Form → List Node → List Form

@@ -2,7 +2,7 @@
 use Rattle.std.specs.Prelude.{ℕ, ◌+◌, ◌*◌, ◌%◌, ◌^◌, List, map}
 use Rattle.ft_isa.specs.Words.{apply}
 use Rattle.ft_static.specs.Expression.{WordMap, Denotation, denoted_word, denoted_memory, Valuation, integer_of, word_at, with_word}
-use Rattle.ft_static.specs.Form.{Form, integer_form, memory_form, Atom, Monomial, Polynomial, Updates, variable_atom, operation_atom, sel_atom, one, times, nought, plus, unchanged, update}
+use Rattle.ft_static.specs.Form.{Form, integer_form, memory_form, Atom, Monomial, Polynomial, Updates, variable_atom, operation_atom, sel_atom, rem_atom, one, times, nought, plus, unchanged, update}
 
 abbrev mutual
   -- an atom denotes what its operation gives
@@ -10,6 +10,7 @@ abbrev mutual
   value_atom (variable_atom i) s = integer_of s i
   value_atom (operation_atom o p q) s = apply o (value_polynomial p s) (value_polynomial q s)
   value_atom (sel_atom u p) s = word_at (value_updates u s) (value_polynomial p s)
+  value_atom (rem_atom p m) s = value_polynomial p s % m
 
   -- the product of the atoms
   pub value_monomial : Monomial → Valuation → ℕ

@@ -3,7 +3,7 @@ use Rattle.std.specs.Prelude.{◌≡◌, ℕ, ◌<◌, ◌≤◌, Bool, true, fa
 use Rattle.ft_isa.specs.Words.{IsWord}
 use Rattle.ft_static.specs.declared.node.Node.{Node}
 use Rattle.ft_static.specs.declared.node.Shape.{Shape}
-use Rattle.ft_static.specs.declared.node.Shape.TheVariants.{Word, Var, Op, Sel, Memory, Upd}
+use Rattle.ft_static.specs.declared.node.Shape.TheVariants.{Word, Var, Op, Sel, Memory, Upd, Rem}
 
 -- whether a node stands for a memory; the others stand for integers
 abbrev pub is_memory : Shape → Bool
@@ -13,6 +13,7 @@ is_memory (Op op a b) = false
 is_memory (Sel memory at) = false
 is_memory Memory = true
 is_memory (Upd memory at value) = true
+is_memory (Rem a m) = false
 
 -- node m may be named where a node of this sort is wanted, below number n and within this scope
 pub record MayName (nodes : List Node) (n scope : ℕ) (memory : Bool) (m : ℕ) : Type 0 where
@@ -22,6 +23,10 @@ pub record MayName (nodes : List Node) (n scope : ℕ) (memory : Bool) (m : ℕ)
   pub sort : is_memory node.shape ≡ memory
   pub scope_within : node.scope ≤ scope
 
+-- the length of a run of cells
+abbrev pub IsLength : ℕ → Type 0
+IsLength m = (1 ≤ m) × (m ≤ 1024)
+
 -- what is asked of the shape of node n
 abbrev pub IsShape : List Node → ℕ → ℕ → Shape → Type 0
 IsShape nodes n scope (Word w) = IsWord w
@@ -30,6 +35,7 @@ IsShape nodes n scope (Op op a b) = MayName nodes n scope false a × MayName nod
 IsShape nodes n scope (Sel memory at) = MayName nodes n scope true memory × MayName nodes n scope false at
 IsShape nodes n scope Memory = Unit {0}
 IsShape nodes n scope (Upd memory at value) = MayName nodes n scope true memory × MayName nodes n scope false at × MayName nodes n scope false value
+IsShape nodes n scope (Rem a m) = MayName nodes n scope false a × IsLength m
 
 -- node n obeys the rules: its scope is at most 128, and its parts are lower nodes of their sorts, within its scope
 pub record IsNode (nodes : List Node) (n : ℕ) (node : Node) : Type 0 where

@@ -1,6 +1,6 @@
 -- The tree for which a numbered node stands.
 use Rattle.std.specs.Prelude.{◌≡◌, ℕ, List, [], ◌∷◌, ◌++◌, Some, slice_get, slice_index_or}
-use Rattle.ft_static.specs.Expression.{Integer, Memory, Expression, word, variable, operation, sel, memory_variable, upd, integer, memory}
+use Rattle.ft_static.specs.Expression.{Integer, Memory, Expression, word, variable, operation, sel, rem, memory_variable, upd, integer, memory}
 use Rattle.ft_isa.specs.declared.op.Op.{Op}
 use Rattle.ft_static.specs.declared.node.Node.{Node}
 use Rattle.ft_static.specs.declared.node.Shape.{Shape}
@@ -32,6 +32,7 @@ tree_of ts (shape.Op o a b) = integer (operation o (integer_at ts a) (integer_at
 tree_of ts (shape.Sel m a) = integer (sel (memory_at ts m) (integer_at ts a))
 tree_of ts shape.Memory = memory memory_variable
 tree_of ts (shape.Upd m a v) = memory (upd (memory_at ts m) (integer_at ts a) (integer_at ts v))
+tree_of ts (shape.Rem a m) = integer (rem (integer_at ts a) m)
 
 -- the trees so far, and then those of these nodes in rising order
 abbrev pub trees_onto : List Expression → List Node → List Expression
@@ -58,5 +59,6 @@ pub data StandsFor (nodes : List Node) : ℕ → Expression → Type 0 where
   variable_node : (n i : ℕ) → HasShape nodes n (shape.Var i) → StandsFor nodes n (integer (variable i))
   operation_node : (n : ℕ) (o : Op) (j k : ℕ) (a b : Integer) → HasShape nodes n (shape.Op o j k) → StandsFor nodes j (integer a) → StandsFor nodes k (integer b) → StandsFor nodes n (integer (operation o a b))
   sel_node : (n j k : ℕ) (m : Memory) (a : Integer) → HasShape nodes n (shape.Sel j k) → StandsFor nodes j (memory m) → StandsFor nodes k (integer a) → StandsFor nodes n (integer (sel m a))
+  rem_node : (n j m : ℕ) (a : Integer) → HasShape nodes n (shape.Rem j m) → StandsFor nodes j (integer a) → StandsFor nodes n (integer (rem a m))
   memory_node : (n : ℕ) → HasShape nodes n shape.Memory → StandsFor nodes n (memory memory_variable)
   upd_node : (n j k l : ℕ) (m : Memory) (a v : Integer) → HasShape nodes n (shape.Upd j k l) → StandsFor nodes j (memory m) → StandsFor nodes k (integer a) → StandsFor nodes l (integer v) → StandsFor nodes n (memory (upd m a v))

@@ -3,10 +3,10 @@ use Rattle.std.specs.Prelude.{ℕ, ◌+◌, ◌*◌, ◌-◌, ◌%◌, ◌^◌, 
 use Rattle.std.specs.declared.cmp.Ordering.{Ordering}
 use Rattle.std.specs.declared.cmp.Ordering.TheVariants.{Less, Equal, Greater}
 use Rattle.ft_isa.specs.declared.op.Op.{Op}
-use Rattle.ft_isa.specs.declared.op.Op.TheVariants.{Add, Sub, Mul, Ltu, Eq}
+use Rattle.ft_isa.specs.declared.op.Op.TheVariants.{Add, Sub, Mul, Ltu, Eq, And, Or, Xor, Shl, Shr}
 use Rattle.ft_isa.specs.Words.{apply}
-use Rattle.ft_static.specs.Expression.{Integer, Memory, Expression, word, variable, operation, sel, memory_variable, upd, integer, memory}
-use Rattle.ft_static.specs.Form.{Form, integer_form, memory_form, factors, terms, Atom, Monomial, Polynomial, Updates, variable_atom, operation_atom, sel_atom, one, times, nought, plus, unchanged, update}
+use Rattle.ft_static.specs.Expression.{Integer, Memory, Expression, word, variable, operation, sel, rem, memory_variable, upd, integer, memory}
+use Rattle.ft_static.specs.Form.{Form, integer_form, memory_form, factors, terms, Atom, Monomial, Polynomial, Updates, variable_atom, operation_atom, sel_atom, rem_atom, one, times, nought, plus, unchanged, update}
 use Rattle.ft_static.specs.FormOrder.{cmp_atom, cmp_monomial, same_polynomial, same_updates}
 
 -- the first, second or third by what a comparison gave
@@ -95,7 +95,7 @@ abbrev pub folded : Op → Option ℕ → Option ℕ → Atom → Polynomial
 folded o (Some c) (Some d) a = constant (apply o c d)
 folded o c d a = alone a
 
--- ltu or eq of p and q: folded to a constant where both are constants, and an atom otherwise
+-- an operation that folds, of p and q: a constant where both are constants, and an atom otherwise
 abbrev pub norm_folded : Op → Polynomial → Polynomial → Polynomial
 norm_folded o p q = folded o (constant_of p) (constant_of q) (operation_atom o p q)
 
@@ -120,6 +120,20 @@ norm_op Sub p q = norm_sub p q
 norm_op Mul p q = norm_mul p q
 norm_op Ltu p q = norm_folded Ltu p q
 norm_op Eq p q = norm_folded Eq p q
+norm_op And p q = norm_folded And p q
+norm_op Or p q = norm_folded Or p q
+norm_op Xor p q = norm_folded Xor p q
+norm_op Shl p q = norm_folded Shl p q
+norm_op Shr p q = norm_folded Shr p q
+
+-- the remainder of a number that is known, and the atom otherwise
+abbrev pub remainder : Option ℕ → ℕ → Atom → Polynomial
+remainder (Some c) m a = constant (c % m)
+remainder None m a = alone a
+
+-- the remainder of p by m: a constant where p is one, and an atom otherwise
+abbrev pub norm_rem : Polynomial → ℕ → Polynomial
+norm_rem p m = remainder (constant_of p) m (rem_atom p m)
 
 abbrev mutual
   -- the normal form of an integer
@@ -128,6 +142,7 @@ abbrev mutual
   norm_integer (variable i) = alone (variable_atom i)
   norm_integer (operation o a b) = norm_op o (norm_integer a) (norm_integer b)
   norm_integer (sel m a) = norm_sel (norm_memory m) (norm_integer a)
+  norm_integer (rem a m) = norm_rem (norm_integer a) m
 
   -- the normal form of a memory
   pub norm_memory : Memory → Updates

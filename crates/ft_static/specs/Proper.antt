@@ -2,7 +2,7 @@
 use Rattle.std.specs.Prelude.{◌≡◌, ◌≢◌, ◌<◌, ◌≤◌}
 use Rattle.std.specs.declared.cmp.Ordering.TheVariants.{Less, Greater}
 use Rattle.ft_isa.specs.Words.{IsWord}
-use Rattle.ft_static.specs.Form.{factors, terms, Atom, Monomial, Polynomial, Updates, variable_atom, operation_atom, sel_atom, one, times, nought, plus, unchanged, update}
+use Rattle.ft_static.specs.Form.{factors, terms, Atom, Monomial, Polynomial, Updates, variable_atom, operation_atom, sel_atom, rem_atom, one, times, nought, plus, unchanged, update}
 use Rattle.ft_static.specs.FormOrder.{cmp_atom, cmp_monomial}
 
 -- the atom is not above the monomial's first
@@ -21,6 +21,7 @@ abbrev mutual
   IsProperAtom (variable_atom i) = Unit {0}
   IsProperAtom (operation_atom o p q) = IsProper p × IsProper q × (terms p ≤ 64) × (terms q ≤ 64)
   IsProperAtom (sel_atom u p) = AreProperUpdates u × IsProper p × (terms p ≤ 64)
+  IsProperAtom (rem_atom p m) = IsProper p × (terms p ≤ 64)
 
   -- its atoms are proper and in rising order
   pub IsProperMonomial : Monomial → Type 0

@@ -1,13 +1,14 @@
 //! Examples of expressions that have one normal form, and of others that don't. Each function does
 //! nothing: its clauses are computed from the definitions.
 ghost use Rattle.std.specs.Prelude.{◌≡◌, ◌-◌, ◌^◌, true, false, [], ◌∷◌};
-ghost use Rattle.ft_static.specs.Examples.{x, y, add, sub, mul, ltu, eq, sum_up, sum_down, at_x, past_x, then_y, nodes};
-ghost use Rattle.ft_static.specs.Expression.{integer, memory, word, variable, sel, upd, memory_variable};
-ghost use Rattle.ft_static.specs.Form.{unchanged};
+ghost use Rattle.ft_isa.specs.declared.op.Op.TheVariants.{And};
+ghost use Rattle.ft_static.specs.Examples.{x, y, add, sub, mul, ltu, eq, and, or, xor, shl, shr, sum_up, sum_down, at_x, past_x, then_y, nodes};
+ghost use Rattle.ft_static.specs.Expression.{integer, memory, word, variable, sel, rem, upd, memory_variable};
+ghost use Rattle.ft_static.specs.Form.{integer_form, nought, one, operation_atom, plus, rem_atom, times, unchanged};
 ghost use Rattle.ft_static.specs.FormUnder.{form_under};
 ghost use Rattle.ft_static.specs.NodeRules.{AreNodes};
 ghost use Rattle.ft_static.specs.NodeTree.{tree_at};
-ghost use Rattle.ft_static.specs.NormalForm.{constant, norm, same};
+ghost use Rattle.ft_static.specs.NormalForm.{alone, constant, norm, norm_add, norm_integer, norm_rem, same};
 
 /// Words and variables.
 pub fn examples_of_words()
@@ -55,6 +56,37 @@ pub fn examples_of_tests()
     ensures equal_differences { same (integer (eq (sub x x) (word 0))) (integer (word 1)) ≡ true }
     ensures equal_to_itself { same (integer (eq x x)) (integer (word 1)) ≡ false }
     ensures equal_turned_round { same (integer (eq x y)) (integer (eq y x)) ≡ false }
+{}
+
+/// Operations on bits.
+pub fn examples_of_bits()
+    ensures and_of_words { same (integer (and (word 12) (word 10))) (integer (word 8)) ≡ true }
+    ensures or_of_words { same (integer (or (word 12) (word 10))) (integer (word 14)) ≡ true }
+    ensures xor_of_words { same (integer (xor (word 12) (word 10))) (integer (word 6)) ≡ true }
+    ensures left { same (integer (shl (word 3) (word 2))) (integer (word 12)) ≡ true }
+    ensures left_out_of_a_word { same (integer (shl (word (2 ^ 63)) (word 1))) (integer (word 0)) ≡ true }
+    ensures left_by_64 { same (integer (shl (word 1) (word 64))) (integer (word 0)) ≡ true }
+    ensures right { same (integer (shr (word 13) (word 2))) (integer (word 3)) ≡ true }
+    ensures right_by_64 { same (integer (shr (word (2 ^ 64 - 1)) (word 64))) (integer (word 0)) ≡ true }
+    ensures an_atom { norm (integer (and x y)) ≡ integer_form (alone (operation_atom And (norm_integer x) (norm_integer y))) }
+    ensures bits_of_forms { same (integer (or (add x y) x)) (integer (or (add y x) x)) ≡ true }
+    ensures turned_round { same (integer (and x y)) (integer (and y x)) ≡ false }
+    ensures with_itself { same (integer (xor x x)) (integer (word 0)) ≡ false }
+    ensures left_by_one { same (integer (shl x (word 1))) (integer (mul x (word 2))) ≡ false }
+    ensures right_by_none { same (integer (shr x (word 0))) (integer x) ≡ false }
+{}
+
+/// Remainders, and the form of the address of a cell in a run.
+pub fn examples_of_remainders()
+    ensures of_a_word { same (integer (rem (word 7) 3)) (integer (word 1)) ≡ true }
+    ensures of_a_difference { same (integer (rem (sub (add x (word 7)) x) 3)) (integer (word 1)) ≡ true }
+    ensures of_a_sum { norm (integer (rem (add x y) 3)) ≡ integer_form (alone (rem_atom (norm_integer (add x y)) 3)) }
+    ensures of_forms { same (integer (rem (add x y) 3)) (integer (rem (add y x) 3)) ≡ true }
+    ensures another_length { same (integer (rem x 3)) (integer (rem x 4)) ≡ false }
+    ensures of_a_remainder { same (integer (rem (rem x 3) 3)) (integer (rem x 3)) ≡ false }
+    ensures by_one { same (integer (rem x 1)) (integer (word 0)) ≡ false }
+    ensures in_a_run { norm_add (constant 1048578) (norm_rem (norm_integer x) 3) ≡ plus one 1048578 (plus (times (rem_atom (norm_integer x) 3) one) 1 nought) }
+    ensures in_a_run_at_a_word { norm_add (constant 1048578) (norm_rem (constant 7) 3) ≡ constant 1048579 }
 {}
 
 /// Memories.

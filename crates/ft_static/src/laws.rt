@@ -12,7 +12,7 @@ ghost use Rattle.ft_static.specs.FormUnder.{form_of, form_under, forms_of_nodes,
 ghost use Rattle.ft_static.specs.FormValue.{form_denotation, value_polynomial, value_updates, valuation_under};
 ghost use Rattle.ft_static.specs.NodeRules.{AreNodes};
 ghost use Rattle.ft_static.specs.NodeTree.{StandsFor, tree_at, trees};
-ghost use Rattle.ft_static.specs.NormalForm.{add_products, alone, constant, degree, join, norm, norm_integer, norm_memory, norm_op, norm_sel, norm_upd, same, total};
+ghost use Rattle.ft_static.specs.NormalForm.{add_products, alone, constant, degree, join, norm, norm_integer, norm_memory, norm_op, norm_rem, norm_sel, norm_upd, same, total};
 ghost use Rattle.ft_static.specs.Proper.{AreProperUpdates, IsNormal, IsProper};
 ghost use Rattle.ft_static.specs.declared.node.Node.{Node};
 
@@ -43,6 +43,7 @@ pub fn forms_are_in_order()
     ensures memories { (m : Memory) → AreProperUpdates (norm_memory m) }
     ensures operations { (o : Op) (p q : Polynomial) → IsNormal p → IsNormal q → IsNormal (norm_op o p q) }
     ensures selections { (u : Updates) (p : Polynomial) → AreProperUpdates u → IsNormal p → IsNormal (norm_sel u p) }
+    ensures remainders { (p : Polynomial) (m : ℕ) → IsNormal p → IsNormal (norm_rem p m) }
     ensures updates { (u : Updates) (p v : Polynomial) → AreProperUpdates u → IsNormal p → IsNormal v → AreProperUpdates (norm_upd u p v) }
     ensures integers_under { (e : Integer) (ps : List Polynomial) (u : Updates) → ((i : ℕ) → IsNormal (slice_index_or ps i nought)) → AreProperUpdates u → IsNormal (norm_under e ps u) }
     ensures memories_under { (m : Memory) (ps : List Polynomial) (u : Updates) → ((i : ℕ) → IsNormal (slice_index_or ps i nought)) → AreProperUpdates u → AreProperUpdates (norm_memory_under m ps u) }
@@ -75,6 +76,7 @@ pub fn rows_denote()
     ensures variables { (i : ℕ) (s : Valuation) → IsLawful s → value_polynomial (alone (variable_atom i)) s ≡ integer_of s i }
     ensures operations { (o : Op) (p q : Polynomial) (s : Valuation) → IsLawful s → value_polynomial (norm_op o p q) s ≡ apply o (value_polynomial p s) (value_polynomial q s) }
     ensures selections { (u : Updates) (p : Polynomial) (s : Valuation) → IsLawful s → value_polynomial (norm_sel u p) s ≡ word_at (value_updates u s) (value_polynomial p s) }
+    ensures remainders { (p : Polynomial) (m : ℕ) (s : Valuation) → IsLawful s → value_polynomial (norm_rem p m) s ≡ value_polynomial p s % m }
     ensures updates { (u : Updates) (p v : Polynomial) (s : Valuation) → value_updates (norm_upd u p v) s ≡ with_word (value_updates u s) (value_polynomial p s) (value_polynomial v s) }
     ensures memory_variables { (s : Valuation) → value_updates unchanged s ≡ s.memory }
     ensures words_only { (p : Polynomial) (s : Valuation) → IsWord (value_polynomial p s) }

@@ -11,8 +11,9 @@ mod laws;
 mod node;
 
 pub use examples::{
-    examples_of_memories, examples_of_nodes, examples_of_products, examples_of_selections,
-    examples_of_sums, examples_of_tests, examples_of_words,
+    examples_of_bits, examples_of_memories, examples_of_nodes, examples_of_products,
+    examples_of_remainders, examples_of_selections, examples_of_sums, examples_of_tests,
+    examples_of_words,
 };
 pub use laws::{
     forms_are_in_order, forms_are_known_by_coefficients, forms_are_ordered,

@@ -18,6 +18,8 @@ pub enum Shape {
     Memory,
     /// A memory with another word at one address.
     Upd { memory: u32, at: u32, value: u32 },
+    /// The remainder of an integer by a length, from 1 to 1,024.
+    Rem { a: u32, length: u32 },
 }
 
 /// A node: what it is, and its scope. Among nodes that obey the rules, a scope is at most 128 and above

@@ -1,4 +1,5 @@
--- The rules that an object's tables obey; an object that obeys them is spelled by some bytes.
+-- The rules that an object's tables obey, those of version 2 of the format; an object that obeys them is spelled by
+-- some bytes.
 use Rattle.std.specs.Prelude.{◌≡◌, ◌≢◌, ℕ, suc, ◌+◌, ◌<◌, ◌≤◌, Bool, true, false, ◌&&◌, ◌||◌, ◌==◌, nat_le, List, [], ◌∷◌, length, map, sum_by, Option, Some, None, All}
 use Rattle.std.specs.List.{list_all, AllPairs}
 use Rattle.ft_isa.specs.Words.{IsWord}
@@ -7,9 +8,9 @@ use Rattle.ft_isa.specs.declared.basic.Base.TheVariants.{Int, Code}
 use Rattle.ft_isa.specs.declared.basic.Basic.{Basic}
 use Rattle.ft_isa.specs.declared.instr.Subst.{Subst}
 use Rattle.ft_isa.specs.declared.instr.Instr.{Instr}
-use Rattle.ft_isa.specs.declared.instr.Instr.TheVariants.{OpReg, OpWord, Mov, Ld, St, JmpG, JmpB, BzG, BzB, Halt}
+use Rattle.ft_isa.specs.declared.instr.Instr.TheVariants.{OpReg, OpWord, Mov, Ld, St, JmpG, JmpB, BzG, BzB, Halt, Idx}
 use Rattle.ft_static.specs.declared.node.Node.{Node}
-use Rattle.ft_static.specs.NodeRules.{MayName, AreNodes}
+use Rattle.ft_static.specs.NodeRules.{MayName, AreNodes, IsLength}
 use Rattle.ft_types.specs.declared.object.Object.{Object}
 use Rattle.ft_types.specs.declared.object.Cell.{Cell}
 use Rattle.ft_types.specs.declared.object.Block.{Block}
@@ -25,11 +26,15 @@ is_letter b = (nat_le 65 b && nat_le b 90) || (nat_le 97 b && nat_le b 122) || (
 abbrev pub is_digit : ℕ → Bool
 is_digit b = nat_le 48 b && nat_le b 57
 
+-- a square bracket
+abbrev pub is_bracket : ℕ → Bool
+is_bracket b = (b == 91) || (b == 93)
+
 -- a byte that may stand in a name
 abbrev pub is_name_byte : ℕ → Bool
-is_name_byte b = is_letter b || is_digit b
+is_name_byte b = is_letter b || is_digit b || is_bracket b
 
--- a letter or a low line, and then letters, digits and low lines
+-- a letter or a low line, and then letters, digits, low lines and square brackets
 abbrev pub is_name : List ℕ → Bool
 is_name [] = false
 is_name (b ∷ bs) = is_letter b && list_all is_name_byte bs
@@ -44,10 +49,10 @@ pub record IsBasic (types : ℕ) (b : Basic) : Type 0 where
   pub refs : b.refs ≤ 8
   pub base : IsBase types b.base
 
--- a cell has a name of 1 to 32 bytes, a basic type and a word
+-- a cell has a name of 1 to 40 bytes, a basic type and a word
 pub record IsCell (types : ℕ) (c : Cell) : Type 0 where
   pub name : is_name c.name ≡ true
-  pub name_length : length c.name ≤ 32
+  pub name_length : length c.name ≤ 40
   pub basic : IsBasic types c.basic
   pub init : IsWord c.init
 
@@ -94,18 +99,25 @@ abbrev pub BeginAtZero : List Block → Type 0
 BeginAtZero [] = ⊥
 BeginAtZero (b ∷ bs) = b.start ≡ 0
 
--- what is asked of an instruction alone: its number is a word, and its basic type is one
-abbrev pub IsInstr : ℕ → Instr → Type 0
-IsInstr types (OpReg op rd rs rt) = Unit {0}
-IsInstr types (OpWord op rd rs value) = IsWord value.word
-IsInstr types (Mov rd value basic) = IsWord value.word × IsBasic types basic
-IsInstr types (Ld colour rd rs) = Unit {0}
-IsInstr types (St colour rd rs) = Unit {0}
-IsInstr types (JmpG rd) = Unit {0}
-IsInstr types (JmpB rd subst) = Unit {0}
-IsInstr types (BzG rz rd) = Unit {0}
-IsInstr types (BzB rz rd subst) = Unit {0}
-IsInstr types Halt = Unit {0}
+-- a run of so many cells from the first one on, where there are so many cells
+pub record IsRun (cells first m : ℕ) : Type 0 where
+  pub begins : first < cells
+  pub length : IsLength m
+  pub ends : first + m ≤ cells
+
+-- what is asked of an instruction alone: its number is a word, its basic type is one, and its cells are there
+abbrev pub IsInstr : ℕ → ℕ → Instr → Type 0
+IsInstr types cells (OpReg op rd rs rt) = Unit {0}
+IsInstr types cells (OpWord op rd rs value) = IsWord value.word
+IsInstr types cells (Mov rd value basic) = IsWord value.word × IsBasic types basic
+IsInstr types cells (Ld colour rd rs) = Unit {0}
+IsInstr types cells (St colour rd rs) = Unit {0}
+IsInstr types cells (JmpG rd) = Unit {0}
+IsInstr types cells (JmpB rd subst) = Unit {0}
+IsInstr types cells (BzG rz rd) = Unit {0}
+IsInstr types cells (BzB rz rd subst) = Unit {0}
+IsInstr types cells Halt = Unit {0}
+IsInstr types cells (Idx rd rs first m) = IsRun cells first m
 
 -- the substitution that an instruction carries
 abbrev pub subst_of : Instr → Option Subst
@@ -119,6 +131,7 @@ subst_of (JmpB rd subst) = Some subst
 subst_of (BzG rz rd) = None
 subst_of (BzB rz rd subst) = Some subst
 subst_of Halt = None
+subst_of (Idx rd rs first m) = None
 
 -- a substitution takes the rows that follow the first ones, at most 128 of so many, and names a memory
 pub record IsSubst (nodes : List Node) (rows first : ℕ) (s : Subst) : Type 0 where
@@ -167,7 +180,7 @@ pub record IsSpellable (o : Object) : Type 0 where
   pub block_types : All (HasCodeType (length o.types)) o.blocks
   pub some_instr : 0 < length o.instrs
   pub few_instrs : length o.instrs ≤ 65536
-  pub instrs : All (IsInstr (length o.types)) o.instrs
+  pub instrs : All (IsInstr (length o.types) (length o.cells)) o.instrs
   pub few_substs : length o.substs ≤ 1048576
   pub covered : Cover o.nodes (length o.substs) 0 (substs_of o.instrs)
   pub substs : All (IsNodeIn o.nodes 128 false) o.substs

@@ -32,7 +32,7 @@ pub struct Block {
     pub code_type: u32,
 }
 
-/// A named word of memory: a name of 1 to 32 bytes, the basic type that its word keeps, and the word
+/// A named word of memory: a name of 1 to 40 bytes, the basic type that its word keeps, and the word
 /// that it has at the start.
 #[derive(Drop)]
 pub struct Cell {

@@ -32,6 +32,11 @@ pub fn op_code(op: Op) -> u8
         Op::Mul => 2,
         Op::Ltu => 3,
         Op::Eq => 4,
+        Op::And => 5,
+        Op::Or => 6,
+        Op::Xor => 7,
+        Op::Shl => 8,
+        Op::Shr => 9,
     }
 }
 
@@ -47,5 +52,6 @@ pub(crate) fn node_words(node: Node) -> (u64, u64)
         Shape::Sel { memory, at } => row_words(3, 0, scope, 0, memory, at, 0),
         Shape::Memory => row_words(4, 0, scope, 0, 0, 0, 0),
         Shape::Upd { memory, at, value } => row_words(5, 0, scope, 0, memory, at, value),
+        Shape::Rem { a, length } => row_words(6, 0, scope, 0, a, length, 0),
     }
 }

@@ -31,6 +31,7 @@ is_variable_is (shape.Op op a b) = (λ e. cc, λ e. cc)
 is_variable_is (shape.Sel m a) = (λ e. cc, λ e. cc)
 is_variable_is shape.Memory = (λ e. refl, λ e. refl)
 is_variable_is (shape.Upd m a v) = (λ e. cc, λ e. cc)
+is_variable_is (shape.Rem a m) = (λ e. cc, λ e. cc)
 
 is_memory_variable_is : (o : Object) (n : ℕ) (x : Option Node) → slice_get o.nodes n ≡ x → Decides (is_memory_variable x) (HasShape o.nodes n shape.Memory)
 is_memory_variable_is o n None f = (λ e. cc, λ h. let g = h.found in cc)

@@ -1,3 +1,4 @@
 pub mod TypedWords
+pub mod Runs
 pub mod Acceptance
 pub mod TypingRows

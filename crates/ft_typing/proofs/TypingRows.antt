@@ -6,14 +6,14 @@ use Rattle.ft_isa.specs.declared.basic.Base.TheVariants.{Int, Code}
 use Rattle.ft_isa.specs.declared.basic.Basic.{Basic}
 use Rattle.ft_isa.specs.declared.colour.Colour.TheVariants.{Green, Blue}
 use Rattle.ft_isa.specs.declared.instr.Instr.{Instr}
-use Rattle.ft_isa.specs.declared.instr.Instr.TheVariants.{OpReg, OpWord, Mov, Ld, St, JmpG, JmpB, BzG, BzB, Halt}
+use Rattle.ft_isa.specs.declared.instr.Instr.TheVariants.{OpReg, OpWord, Mov, Ld, St, JmpG, JmpB, BzG, BzB, Halt, Idx}
 use Rattle.ft_static.specs.Form.{Polynomial, nought}
 use Rattle.ft_types.specs.declared.object.Object.{Object}
 use Rattle.ft_isa.specs.BasicTypes.{int}
 use Rattle.ft_typing.specs.declared.why.Why.TheVariants as premise
 use Rattle.ft_typing.specs.Premise.{Premise}
 use Rattle.ft_typing.specs.Context.{Typed, StateOfD, d_zero, d_code, d_conditional, FormPair, Context}
-use Rattle.ft_typing.specs.TypingRow.{Outcome, need, for_typed, for_ref_over, for_code_over, for_zero, for_target, for_conditional, for_oldest, is_empty, leads, row}
+use Rattle.ft_typing.specs.TypingRow.{Outcome, need, for_typed, for_ref_over, for_code_over, for_zero, for_target, for_conditional, for_oldest, for_run, is_empty, leads, row}
 use Rattle.ft_typing.specs.TypingTable.{Test, premise_of, refers, referred, leads_to_code, code_led_to, is_zero, is_code, is_conditional, code_of_d, form_of_d, test_of_d, oldest, others, holds, tests, effect, first_failing, refused_or, IsTheRow}
 
 -- what is known of a register, where nothing is
@@ -93,8 +93,14 @@ unfolding need for_oldest is_empty
 oldest_next [] f e = refl
 oldest_next (p ∷ r) f e = e
 
+-- Array
+run_next : (x : Option Basic) (f : Basic → Outcome) {y : Outcome} → f (unwrap_or x int) ≡ y → for_run x f ≡ need premise.Array (is_some x) y
+unfolding need for_run
+run_next None f e = refl
+run_next (Some b) f e = e
+
 -- the row is the chain of its tests
-row_is_judged : (o : Object) (c : Context) (i : Instr) → row o c i ≡ judged o c (tests i) (effect c i)
+row_is_judged : (o : Object) (c : Context) (i : Instr) → row o c i ≡ judged o c (tests i) (effect o c i)
 unfolding leads judged
 row_is_judged o c (OpReg op rd rs rt) = typed_next _ _ (typed_next _ _ refl)
 row_is_judged o c (OpWord op rd rs value) = typed_next _ _ refl
@@ -107,7 +113,8 @@ row_is_judged o c (JmpB rd u) = typed_next _ _ (need_next _ _ (code_next _ _ _ (
 row_is_judged o c (BzG rz rd) = typed_next _ _ (typed_next _ _ (need_both _ _ _ (code_next _ _ _ (zero_next _ refl))))
 row_is_judged o c (BzB rz rd u) = typed_next _ _ (typed_next _ _ (need_both _ _ _ (code_next _ _ _ (conditional_next _ _ refl))))
 row_is_judged o c Halt = zero_next _ refl
+row_is_judged o c (Idx rd rs first m) = typed_next _ _ (run_next _ _ refl)
 
 -- the row gives the premise of the first of its tests that fails, and else its effect
 pub row_is : (o : Object) (c : Context) (i : Instr) → IsTheRow o c i
-row_is o c i = row_is_judged o c i ∙ judged_is o c (tests i) (effect c i)
+row_is o c i = row_is_judged o c i ∙ judged_is o c (tests i) (effect o c i)

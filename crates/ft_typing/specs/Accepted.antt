@@ -55,6 +55,7 @@ is_variable (shape.Op op a b) = false
 is_variable (shape.Sel memory at) = false
 is_variable shape.Memory = true
 is_variable (shape.Upd memory at value) = false
+is_variable (shape.Rem a m) = false
 
 -- whether a node is there and is the memory variable
 abbrev pub is_memory_variable : Option Node → Bool

@@ -1,10 +1,10 @@
 -- Short words for the objects of examples.
-use Rattle.std.specs.Prelude.{ℕ, List, [], ◌∷◌, slice_set, codes}
+use Rattle.std.specs.Prelude.{ℕ, zero, suc, ◌+◌, List, [], ◌∷◌, slice_set, codes}
 use Rattle.std.proofs.Common.{lit<}
 use Rattle.ft_isa.specs.declared.colour.Colour.TheVariants.{Green, Blue}
 use Rattle.ft_isa.specs.declared.colour.Coloured.{Coloured}
 use Rattle.ft_isa.specs.declared.instr.Instr.{Instr}
-use Rattle.ft_isa.specs.declared.instr.Instr.TheVariants.{OpReg, OpWord, Mov, Ld, St, JmpG, JmpB, BzG, BzB, Halt}
+use Rattle.ft_isa.specs.declared.instr.Instr.TheVariants.{OpReg, OpWord, Mov, Ld, St, JmpG, JmpB, BzG, BzB, Halt, Idx}
 use Rattle.ft_isa.specs.declared.instr.Subst.{Subst}
 use Rattle.ft_isa.specs.declared.op.Op.TheVariants.{Add, Mul}
 use Rattle.ft_isa.specs.declared.reg.Reg.{Reg}
@@ -13,6 +13,8 @@ use Rattle.ft_static.specs.declared.node.Shape.TheVariants as shape
 use Rattle.ft_types.specs.declared.object.Object.{Object}
 use Rattle.ft_types.specs.declared.object.Cell.{Cell}
 use Rattle.ft_types.specs.declared.object.CodeType.{CodeType}
+use Rattle.ft_isa.specs.declared.basic.Basic.{Basic}
+use Rattle.ft_isa.specs.declared.basic.Base.TheVariants.{Int}
 use Rattle.ft_isa.specs.BasicTypes.{int, code, ref}
 
 -- registers, r0 on of the green computation and r32 on of the blue one
@@ -84,6 +86,20 @@ one_block init instrs = record {
   entry = 0;
 }
 
+-- these instructions as one block over these cells
+abbrev pub over_cells : List Cell → List Instr → Object
+over_cells cells instrs = record (one_block 0 instrs) { cells = cells }
+
+-- a run of three cells, of which the second has this basic type and initial word
+abbrev pub run_of_three : Basic → ℕ → List Cell
+run_of_three basic init =
+    int_cell (codes "a[0]") 0 ∷ record { name = codes "a[1]"; basic = basic; init = init } ∷ int_cell (codes "a[2]") 0 ∷ []
+
+-- so many cells from this one on, of which each holds the address of the one before it; cell k has k refs
+abbrev pub refs_upwards : ℕ → ℕ → List Cell
+refs_upwards k zero = []
+refs_upwards k (suc n) = record { name = (97 + k) ∷ []; basic = record { refs = k; base = Int }; init = 1048575 + k } ∷ refs_upwards (suc k) n
+
 -- these instructions as two blocks, of which the second begins here and has the variable's code type; the node 5 is put
 -- for the variable
 abbrev pub two_blocks : ℕ → List Instr → Object
@@ -125,6 +141,16 @@ doubles =
     Mov r0 (green out) (ref int) ∷ Ld Green r1 r0 ∷ OpWord Mul r2 r1 (green 2)
     ∷ Mov r32 (blue out) (ref int) ∷ Ld Blue r33 r32 ∷ OpReg Add r34 r33 r33
     ∷ St Green r0 r2 ∷ St Blue r32 r34 ∷ Halt ∷ []
+
+-- nine is stored in the cell of a run of three that 4 names, the second one
+abbrev pub stores_in_run : List Instr
+stores_in_run =
+    Mov r0 (green 4) int ∷ Idx r1 r0 0 3 ∷ Mov r2 (green 9) int ∷ Mov r32 (blue 4) int ∷ Idx r33 r32 0 3 ∷ Mov r34 (blue 9) int
+    ∷ St Green r1 r2 ∷ St Blue r33 r34 ∷ Halt ∷ []
+
+-- the address of the cell of a run is taken and left
+abbrev pub takes_address : ℕ → ℕ → List Instr
+takes_address first length = Mov r0 (green 4) int ∷ Idx r1 r0 first length ∷ Halt ∷ []
 
 -- nine green stores
 abbrev pub stores_nine_times : List Instr

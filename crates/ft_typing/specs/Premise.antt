@@ -1,7 +1,7 @@
 -- The premises of the typing rules, numbered from 1.
 use Rattle.std.specs.Prelude.{ℕ}
 use Rattle.ft_typing.specs.declared.why.Why.{Why}
-use Rattle.ft_typing.specs.declared.why.Why.TheVariants.{Untyped, Colour, BasicType, NotRef, NotCode, StateOfD, QueueFull, QueueEmpty, Addresses, Values, Conditions, Targets, RegisterUnlike, QueueUnlike, MemoryUnlike, Annotation, BlockEnd}
+use Rattle.ft_typing.specs.declared.why.Why.TheVariants.{Untyped, Colour, BasicType, NotRef, NotCode, StateOfD, QueueFull, QueueEmpty, Addresses, Values, Conditions, Targets, RegisterUnlike, QueueUnlike, MemoryUnlike, Annotation, BlockEnd, Array}
 
 -- a premise: the first one that fails is why a rule does not apply
 abbrev pub Premise : Type 0
@@ -26,3 +26,4 @@ number_of QueueUnlike = 14
 number_of MemoryUnlike = 15
 number_of Annotation = 16
 number_of BlockEnd = 17
+number_of Array = 18

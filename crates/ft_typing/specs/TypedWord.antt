@@ -1,5 +1,6 @@
 -- The types of words: what a basic type says of a word, and when a basic type is seen as another.
-use Rattle.std.specs.Prelude.{◌≡◌, ◌⊎◌, ℕ, zero, suc, ◌-◌, Bool, true, false, ◌&&◌, ◌||◌, ◌==◌, nat_le, if◌then◌else◌, Option, None, Some, slice_get, find}
+use Rattle.std.specs.Prelude.{◌≡◌, ◌⊎◌, ◌<◌, ℕ, zero, suc, ◌+◌, ◌-◌, Bool, true, false, ◌&&◌, ◌||◌, ◌==◌, nat_le, nat_lt, if◌then◌else◌, List, [], ◌∷◌, map, Option, None, Some, slice_get, slice_range, find}
+use Rattle.std.specs.List.{list_all}
 use Rattle.std.specs.Option.{option_map}
 use Rattle.ft_isa.specs.Words.{code_address, cell_address}
 use Rattle.ft_isa.specs.BasicTypes.{int}
@@ -56,6 +57,29 @@ same_basic a b = (a.refs == b.refs) && same_base a.base b.base
 -- whether a basic type is seen as another
 unfoldable pub is_seen_as : Basic → Basic → Bool
 is_seen_as a b = same_basic a b || same_basic b int
+
+-- the type of these basic types where all are equal; none where there are none
+unfoldable pub common_type : List Basic → Option Basic
+common_type [] = None
+common_type (b ∷ bs) = if list_all (same_basic b) bs then Some b else None
+
+-- the basic types of the cells of a run
+abbrev pub types_of_run : Object → ℕ → ℕ → List Basic
+types_of_run o first m = map basic_of (slice_range o.cells first (first + m))
+
+-- a type to which a `ref` can refer: it has fewer than 8 itself
+abbrev pub only_referable : Option Basic → Option Basic
+only_referable None = None
+only_referable (Some b) = if nat_lt b.refs 8 then Some b else None
+
+-- the type of the cells of a run, where they are of one type and a `ref` can refer to it
+unfoldable pub run_type : Object → ℕ → ℕ → Option Basic
+run_type o first m = only_referable (common_type (types_of_run o first m))
+
+-- the cells of a run are all of one basic type, and a `ref` can refer to it
+pub record IsRunOf (o : Object) (first m : ℕ) (b : Basic) : Type 0 where
+  pub each : (k : ℕ) → k < m → cell_type o (cell_address (first + k)) ≡ Some b
+  pub referable : b.refs < 8
 
 -- whether a block was found and has code type t
 abbrev pub is_code_type : Option ℕ → ℕ → Bool

@@ -8,15 +8,16 @@ use Rattle.ft_isa.specs.declared.basic.Base.TheVariants.{Int, Code}
 use Rattle.ft_isa.specs.declared.basic.Basic.{Basic}
 use Rattle.ft_isa.specs.declared.instr.Subst.{Subst}
 use Rattle.ft_isa.specs.declared.instr.Instr.{Instr}
-use Rattle.ft_isa.specs.declared.instr.Instr.TheVariants.{OpReg, OpWord, Mov, Ld, St, JmpG, JmpB, BzG, BzB, Halt}
+use Rattle.ft_isa.specs.declared.instr.Instr.TheVariants.{OpReg, OpWord, Mov, Ld, St, JmpG, JmpB, BzG, BzB, Halt, Idx}
+use Rattle.ft_isa.specs.Words.{cell_address}
 use Rattle.ft_static.specs.Form.{Polynomial, Updates}
 use Rattle.ft_static.specs.FormOrder.{same_polynomial, same_updates}
-use Rattle.ft_static.specs.NormalForm.{constant, norm_op, norm_sel, norm_upd}
+use Rattle.ft_static.specs.NormalForm.{constant, norm_add, norm_op, norm_rem, norm_sel, norm_upd}
 use Rattle.ft_types.specs.declared.object.Object.{Object}
 use Rattle.ft_types.specs.declared.object.RegType.{RegType}
 use Rattle.ft_types.specs.Objects.{reg_rows, queue_rows, ints_of, memory_of, scope_of}
-use Rattle.ft_isa.specs.BasicTypes.{int}
-use Rattle.ft_typing.specs.TypedWord.{has_type, is_seen_as}
+use Rattle.ft_isa.specs.BasicTypes.{int, ref}
+use Rattle.ft_typing.specs.TypedWord.{has_type, is_seen_as, run_type}
 use Rattle.ft_typing.specs.declared.why.Why.TheVariants as premise
 use Rattle.ft_typing.specs.Premise.{Premise}
 use Rattle.ft_typing.specs.Context.{Typed, StateOfD, d_zero, d_code, d_conditional, FormPair, Context, typed, with_type, Replacement, replacement, rows_of, integer_form_after, memory_form_after}
@@ -83,6 +84,15 @@ unfoldable pub for_oldest : List FormPair → (FormPair → List FormPair → Ou
 for_oldest [] next = Fails premise.QueueEmpty
 for_oldest (e ∷ q) next = next e q
 
+-- premise Array: what comes after, by the type of the cells of a run
+unfoldable pub for_run : Option Basic → (Basic → Outcome) → Outcome
+for_run None next = Fails premise.Array
+for_run (Some b) next = next b
+
+-- the form of the address of a run's cell, by the form of the word that names it
+abbrev pub run_form : ℕ → ℕ → Polynomial → Polynomial
+run_form first m p = norm_add (constant (cell_address first)) (norm_rem p m)
+
 -- whether nothing waits in the static queue
 unfoldable pub is_empty : List FormPair → Bool
 is_empty [] = true
@@ -140,6 +150,8 @@ leads o u t c next =
 -- bz_G rz, rd | 1 (both), 2 (green), 5 (rd), 6 (Zero) | d: Conditional with rz's form, T and rd's form
 -- bz_B rz, rd | 1 (both), 2 (blue), 5 (rd), 6 (Conditional), 11, 12, 16, 13, 14, 15 | d: Zero
 -- halt | 6 (Zero), 14 | the block ends
+-- idx rd, rs, first, length | 1 (rs), 18 | rd: colour of rs, `ref b` for the cells' type b, add of the word
+-- 1048576 + first and rem of rs's form by length
 -- What a row doesn't name stays. BlockEnd, 17, comes after these: it needs the instruction's place in its block.
 abbrev pub row : Object → Context → Instr → Outcome
 row o c (OpReg op rd rs rt) =
@@ -211,3 +223,7 @@ row o c Halt =
     for_zero c.d (
     need premise.QueueUnlike (is_empty c.queue) (
     Ends))
+row o c (Idx rd rs first m) =
+    for_typed (typed c rs.number) (λ s.
+    for_run (run_type o first m) (λ b.
+    Goes (with_type rd.number (record { colour = s.colour; basic = ref b; form = run_form first m s.form }) c)))

@@ -10,18 +10,18 @@ use Rattle.ft_isa.specs.declared.colour.Colour.TheVariants.{Green, Blue}
 use Rattle.ft_isa.specs.declared.reg.Reg.{Reg}
 use Rattle.ft_isa.specs.declared.instr.Subst.{Subst}
 use Rattle.ft_isa.specs.declared.instr.Instr.{Instr}
-use Rattle.ft_isa.specs.declared.instr.Instr.TheVariants.{OpReg, OpWord, Mov, Ld, St, JmpG, JmpB, BzG, BzB, Halt}
+use Rattle.ft_isa.specs.declared.instr.Instr.TheVariants.{OpReg, OpWord, Mov, Ld, St, JmpG, JmpB, BzG, BzB, Halt, Idx}
 use Rattle.ft_static.specs.Form.{Polynomial, nought}
 use Rattle.ft_static.specs.FormOrder.{same_polynomial, same_updates}
 use Rattle.ft_static.specs.NormalForm.{constant, norm_op, norm_sel, norm_upd}
 use Rattle.ft_types.specs.declared.object.Object.{Object}
 use Rattle.ft_types.specs.Objects.{reg_rows, queue_rows, memory_of}
-use Rattle.ft_isa.specs.BasicTypes.{int}
-use Rattle.ft_typing.specs.TypedWord.{has_type, is_seen_as}
+use Rattle.ft_isa.specs.BasicTypes.{int, ref}
+use Rattle.ft_typing.specs.TypedWord.{has_type, is_seen_as, run_type}
 use Rattle.ft_typing.specs.declared.why.Why.TheVariants as premise
 use Rattle.ft_typing.specs.Premise.{Premise}
 use Rattle.ft_typing.specs.Context.{Typed, StateOfD, d_zero, d_code, d_conditional, FormPair, Context, typed, with_type, replacement, memory_form_after}
-use Rattle.ft_typing.specs.TypingRow.{Outcome, Goes, Ends, Fails, same_colour, is_empty, seen_memory, are_like, is_queue_like, is_annotated, row}
+use Rattle.ft_typing.specs.TypingRow.{Outcome, Goes, Ends, Fails, same_colour, is_empty, seen_memory, are_like, is_queue_like, is_annotated, run_form, row}
 
 -- THE TESTS
 
@@ -66,6 +66,8 @@ pub data Test : Type 0 where
   has_memory : Reg → Subst → Test
   -- the static queue is empty
   has_empty_queue : Test
+  -- the cells of the run are of one type, to which a `ref` can refer
+  is_array : ℕ → ℕ → Test
 
 -- the premise that fails where a test does not hold
 abbrev pub premise_of : Test → Premise
@@ -91,6 +93,7 @@ premise_of (has_registers r u) = premise.RegisterUnlike
 premise_of (has_queue r u) = premise.QueueUnlike
 premise_of (has_memory r u) = premise.MemoryUnlike
 premise_of has_empty_queue = premise.QueueUnlike
+premise_of (is_array first m) = premise.Array
 
 -- WHAT TESTS READ; where it is not there, an earlier test of each row fails, and what is given instead plays no part
 
@@ -124,6 +127,10 @@ type_referred c r = referred (known c r).basic.refs (known c r).basic.base
 
 abbrev pub code_of : Context → Reg → ℕ
 code_of c r = code_led_to (known c r).basic.refs (known c r).basic.base
+
+-- the type of the cells of a run
+abbrev pub array_type : Object → ℕ → ℕ → Basic
+array_type o first m = unwrap_or (run_type o first m) int
 
 -- whether d is Zero, Code, Conditional
 abbrev pub is_zero : StateOfD → Bool
@@ -190,6 +197,7 @@ holds o c (has_registers r u) = are_like o (replacement o u) c (reg_rows o (code
 holds o c (has_queue r u) = is_queue_like o (replacement o u) c.queue (queue_rows o (code_of c r))
 holds o c (has_memory r u) = same_updates c.memory (memory_form_after o (replacement o u) (memory_of o (code_of c r)))
 holds o c has_empty_queue = is_empty c.queue
+holds o c (is_array first m) = is_some (run_type o first m)
 
 -- THE TABLE
 
@@ -214,23 +222,25 @@ tests (BzB rz rd u) =
     is_typed rz ∷ is_typed rd ∷ is_coloured rz Blue ∷ is_coloured rd Blue ∷ is_target rd ∷ is_d_conditional ∷ is_tested rz ∷ is_announced rd
     ∷ is_substitution rd u ∷ has_registers rd u ∷ has_queue rd u ∷ has_memory rd u ∷ []
 tests Halt = is_d_zero ∷ has_empty_queue ∷ []
+tests (Idx rd rs first m) = is_typed rs ∷ is_array first m ∷ []
 
 -- what an instruction's row gives where all its tests hold
-abbrev pub effect : Context → Instr → Outcome
-effect c (OpReg op rd rs rt) =
+abbrev pub effect : Object → Context → Instr → Outcome
+effect o c (OpReg op rd rs rt) =
     Goes (with_type rd.number (record { colour = (known c rs).colour; basic = int; form = norm_op op (known c rs).form (known c rt).form }) c)
-effect c (OpWord op rd rs value) =
+effect o c (OpWord op rd rs value) =
     Goes (with_type rd.number (record { colour = (known c rs).colour; basic = int; form = norm_op op (known c rs).form (constant value.word) }) c)
-effect c (Mov rd value basic) = Goes (with_type rd.number (record { colour = value.colour; basic = basic; form = constant value.word }) c)
-effect c (Ld colour rd rs) =
+effect o c (Mov rd value basic) = Goes (with_type rd.number (record { colour = value.colour; basic = basic; form = constant value.word }) c)
+effect o c (Ld colour rd rs) =
     Goes (with_type rd.number (record { colour = colour; basic = type_referred c rs; form = norm_sel (seen_memory colour c) (known c rs).form }) c)
-effect c (St Green rd rs) = Goes (record c { queue = c.queue ++ ((known c rd).form, (known c rs).form) ∷ [] })
-effect c (St Blue rd rs) = Goes (record c { queue = others c.queue; memory = norm_upd c.memory (known c rd).form (known c rs).form })
-effect c (JmpG rd) = Goes (record c { d = d_code (code_of c rd) (known c rd).form })
-effect c (JmpB rd u) = Ends
-effect c (BzG rz rd) = Goes (record c { d = d_conditional (known c rz).form (code_of c rd) (known c rd).form })
-effect c (BzB rz rd u) = Goes (record c { d = d_zero })
-effect c Halt = Ends
+effect o c (St Green rd rs) = Goes (record c { queue = c.queue ++ ((known c rd).form, (known c rs).form) ∷ [] })
+effect o c (St Blue rd rs) = Goes (record c { queue = others c.queue; memory = norm_upd c.memory (known c rd).form (known c rs).form })
+effect o c (JmpG rd) = Goes (record c { d = d_code (code_of c rd) (known c rd).form })
+effect o c (JmpB rd u) = Ends
+effect o c (BzG rz rd) = Goes (record c { d = d_conditional (known c rz).form (code_of c rd) (known c rd).form })
+effect o c (BzB rz rd u) = Goes (record c { d = d_zero })
+effect o c Halt = Ends
+effect o c (Idx rd rs first m) = Goes (with_type rd.number (record { colour = (known c rs).colour; basic = ref (array_type o first m); form = run_form first m (known c rs).form }) c)
 
 -- the premise of the first test that does not hold
 abbrev pub first_failing : Object → Context → List Test → Option Premise
@@ -244,4 +254,4 @@ refused_or (Some p) e = Fails p
 
 -- the row of an instruction gives the premise of the first of its tests that fails, and where none fails its effect
 abbrev pub IsTheRow : Object → Context → Instr → Type 0
-IsTheRow o c i = row o c i ≡ refused_or (first_failing o c (tests i)) (effect c i)
+IsTheRow o c i = row o c i ≡ refused_or (first_failing o c (tests i)) (effect o c i)

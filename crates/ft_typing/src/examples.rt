@@ -2,10 +2,10 @@
 //! premise. Each function does nothing: its clauses are computed from the definitions.
 ghost use Rattle.std.specs.Prelude.{◌≡◌, None, Some, [], ◌∷◌, codes, take};
 ghost use Rattle.ft_isa.specs.declared.colour.Colour.TheVariants.{Green, Blue};
-ghost use Rattle.ft_isa.specs.declared.instr.Instr.TheVariants.{JmpB, JmpG, Mov, OpReg, OpWord, St};
+ghost use Rattle.ft_isa.specs.declared.instr.Instr.TheVariants.{Idx, JmpB, JmpG, Mov, OpReg, OpWord, St};
 ghost use Rattle.ft_isa.specs.declared.op.Op.TheVariants.{Add, Mul};
 ghost use Rattle.ft_typing.specs.Accepted.{CellType, EntryType, Refused, refusal};
-ghost use Rattle.ft_typing.specs.Examples.{blue, branches, doubles, five, green, int_cell, jumps, nothing_known, one_block, out, r0, r1, r2, r9, r32, r33, r34, reads_pending, stores_and_jumps, stores_five, stores_nine_times, two, two_blocks, with_instr};
+ghost use Rattle.ft_typing.specs.Examples.{blue, branches, doubles, five, green, int_cell, jumps, nothing_known, one_block, out, over_cells, r0, r1, r2, r9, r32, r33, r34, reads_pending, refs_upwards, run_of_three, stores_and_jumps, stores_five, stores_in_run, stores_nine_times, takes_address, two, two_blocks, with_instr};
 ghost use Rattle.ft_typing.specs.declared.why.Why.TheVariants as premise;
 ghost use Rattle.ft_isa.specs.BasicTypes.{code, int, ref};
 
@@ -16,6 +16,9 @@ pub fn examples_of_acceptance()
     ensures equal_forms { refusal (one_block 3 doubles) ≡ None }
     ensures jump { refusal (two_blocks 6 jumps) ≡ None }
     ensures branch { refusal (two_blocks 7 branches) ≡ None }
+    ensures run { refusal (over_cells (run_of_three int 0) stores_in_run) ≡ None }
+    ensures run_of_7_refs { refusal (over_cells (refs_upwards 0 9) (takes_address 7 1)) ≡ None }
+    ensures part_of_a_run { refusal (over_cells (run_of_three (ref int) out) (takes_address 2 1)) ≡ None }
 {}
 
 /// Refused objects: the entry's code type, a cell, and an instruction by each premise in turn.
@@ -40,4 +43,7 @@ pub fn examples_of_refusal()
     ensures memory_unlike { refusal (two_blocks 10 stores_and_jumps) ≡ Some (Refused 0 9 premise.MemoryUnlike) }
     ensures annotation { refusal (record (two_blocks 6 (with_instr 5 (JmpB r33 (record five { past = 0 })) jumps)) { substs = [] }) ≡ Some (Refused 0 5 premise.Annotation) }
     ensures block_end { refusal (one_block 0 (take 6 stores_five)) ≡ Some (Refused 0 5 premise.BlockEnd) }
+    ensures untyped_in_run { refusal (over_cells (run_of_three int 0) (with_instr 1 (Idx r1 r9 0 3) stores_in_run)) ≡ Some (Refused 0 1 premise.Untyped) }
+    ensures array { refusal (over_cells (run_of_three (ref int) out) stores_in_run) ≡ Some (Refused 0 1 premise.Array) }
+    ensures array_of_8_refs { refusal (over_cells (refs_upwards 0 9) (takes_address 8 1)) ≡ Some (Refused 0 1 premise.Array) }
 {}

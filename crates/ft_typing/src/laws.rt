@@ -1,11 +1,11 @@
 //! Laws of typing, for all objects and contexts. Each function does nothing: its clause is the law.
-ghost use Rattle.std.specs.Prelude.{◌≡◌, ◌↔◌, ℕ, None, Decides};
+ghost use Rattle.std.specs.Prelude.{◌≡◌, ◌↔◌, ◌+◌, ◌≤◌, ℕ, None, Some, Decides, length};
 ghost use Rattle.ft_isa.specs.declared.basic.Basic.{Basic};
 ghost use Rattle.ft_isa.specs.declared.instr.Instr.{Instr};
 ghost use Rattle.ft_types.specs.declared.object.Object.{Object};
 ghost use Rattle.ft_typing.specs.Context.{Context};
 ghost use Rattle.ft_typing.specs.TypingTable.{IsTheRow};
-ghost use Rattle.ft_typing.specs.TypedWord.{HasType, IsSeenAs, has_type, is_seen_as};
+ghost use Rattle.ft_typing.specs.TypedWord.{HasType, IsRunOf, IsSeenAs, has_type, is_seen_as, run_type};
 ghost use Rattle.ft_typing.specs.Accepted.{IsAccepted, refusal};
 
 /// The typing rows are the table of typing rows: whatever the object and the context, the row of an
@@ -15,10 +15,12 @@ pub fn rows_are_the_table()
 {}
 
 /// The tests that the typing rows make of words and of basic types decide whether a word has a type
-/// and whether a type is seen as another.
+/// and whether a type is seen as another. The type of a run of cells is the one that all of them have,
+/// where a `ref` can refer to it.
 pub fn types_are_tested()
     ensures words { (o : Object) (w : ℕ) (b : Basic) → Decides (has_type o w b) (HasType o w b) }
     ensures seen { (a b : Basic) → Decides (is_seen_as a b) (IsSeenAs a b) }
+    ensures runs { (o : Object) (first m : ℕ) (b : Basic) → 1 ≤ m → first + m ≤ length o.cells → run_type o first m ≡ Some b ↔ IsRunOf o first m b }
 {}
 
 /// An object is accepted exactly when it has no refusal.

@@ -62,4 +62,7 @@ pub enum Why {
     /// one.
     #[error("the block does not end here")]
     BlockEnd,
+    /// The cells of a run are not all of one basic type, or that type has 8 `ref`.
+    #[error("the cells of a run are not of one type to which a ref can refer")]
+    Array,
 }

@@ -2,7 +2,7 @@ use Rattle.std.proofs.Common.{refl, ◌∙◌}
 use Rattle.std.proofs.Math.Nat.{mod-eq_of_lt}
 use Rattle.ft_static.specs.Form.{variable_atom}
 use Rattle.ft_static.proofs.Sums.{value_alone, value_polynomial_is_word, value_updates_are_words}
-use Rattle.ft_static.proofs.Rows.{value_constant, value_op, value_sel, value_upd}
+use Rattle.ft_static.proofs.Rows.{value_constant, value_op, value_rem, value_sel, value_upd}
 use Rattle.ft_static.proofs.laws.rows_denote.Goals as goal
 
 pub returns : goal.returns
@@ -11,6 +11,7 @@ returns c = record {
   variables = λ i s lawful. value_alone (variable_atom i) s lawful;
   operations = value_op;
   selections = value_sel;
+  remainders = value_rem;
   updates = value_upd;
   memory_variables = λ s. refl;
   words_only = value_polynomial_is_word;
