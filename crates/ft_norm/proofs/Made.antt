@@ -1,5 +1,5 @@
 -- The forms that were made of nodes are those of their trees.
-use Rattle.std.proofs.Common.{ℕ, suc, zero, ◌≡◌, ◌+◌, ◌<◌, ◌≤◌, ◌==◌, nat_eq, Bool, true, false, cond, List, map, refl, sym, ap, ◌∙◌, arith, Option, None, Some, slice_get, inl, inr}
+use Rattle.std.proofs.Common.{ℕ, suc, zero, ◌≡◌, ◌+◌, ◌<◌, ◌≤◌, ◌==◌, nat_eq, Bool, true, false, cond, List, map, refl, sym, ap, ◌∙◌, subst, arith, Option, Some, slice_get, inl, inr}
 use Rattle.std.specs.Option.{unwrap_or}
 use Rattle.std.proofs.lemmas.Bool.Decides.{Decides-eqb}
 use Rattle.indexmap.specs.IndexMap.{IndexMap, get}
@@ -8,7 +8,7 @@ use Rattle.ft_static.specs.Form.{Form as Normal, Polynomial, Updates, integer_fo
 use Rattle.ft_static.specs.FormOrder.{same_polynomial}
 use Rattle.ft_static.specs.FormUnder.{form_of, form_under, integer_in, memory_in, updates_or}
 use Rattle.ft_static.specs.NormalForm.{norm_upd}
-use Rattle.ft_static.specs.NodeRules.{AreNodes, IsShape, MayName, is_memory}
+use Rattle.ft_static.specs.NodeRules.{AreNodes, IsLength, IsShape, MayName, is_memory}
 use Rattle.ft_static.specs.NodeTree.{tree_at, trees}
 use Rattle.ft_static.specs.declared.node.Node.{Node}
 use Rattle.ft_static.specs.declared.node.Shape.{Shape}
@@ -30,6 +30,7 @@ integer_shape ps u fs (shape.Op o a b) e = refl
 integer_shape ps u fs (shape.Sel m a) e = refl
 integer_shape ps u fs shape.Memory e = cc
 integer_shape ps u fs (shape.Upd m a v) e = cc
+integer_shape ps u fs (shape.Rem a l) e = refl
 
 -- of a memory too
 memory_shape : (ps : List Polynomial) (u : Updates) (fs : List Normal) (s : Shape) → is_memory s ≡ true → form_of ps u fs s ≡ memory_form (updates_of (form_of ps u fs s))
@@ -39,6 +40,7 @@ memory_shape ps u fs (shape.Op o a b) e = cc
 memory_shape ps u fs (shape.Sel m a) e = cc
 memory_shape ps u fs shape.Memory e = refl
 memory_shape ps u fs (shape.Upd m a v) e = refl
+memory_shape ps u fs (shape.Rem a l) e = cc
 
 -- a part is a lower node
 pub part_lower : (ns : List Node) (k scope j : ℕ) (x : Shape) → IsShape ns k scope x → IsPart x j → j < k
@@ -48,6 +50,7 @@ part_lower ns k scope j (shape.Op o a b) h p = elim p [ inl e ↦ let l = h.0.lo
 part_lower ns k scope j (shape.Sel m a) h p = elim p [ inl e ↦ let l = h.0.lower in omega arith | inr e ↦ let l = h.1.lower in omega arith ]
 part_lower ns k scope j shape.Memory h p = absurd p
 part_lower ns k scope j (shape.Upd m a v) h p = elim p [ inl e ↦ let l = h.0.lower in omega arith | inr q ↦ elim q [ inl e ↦ let l = h.1.lower in omega arith | inr e ↦ let l = h.2.lower in omega arith ] ]
+part_lower ns k scope j (shape.Rem a m) h p = let l = h.0.lower in omega (arith, l, p)
 
 -- an update adds one at the most
 pub updates-norm_upd : (u : Updates) (p v : Polynomial) → updates (norm_upd u p v) ≤ updates u + 1
@@ -118,6 +121,7 @@ module _ (ps : List Polynomial) (u : Updates) (ns : List Node) (h : AreNodes ns)
   parts_sorts m fs s k scope (shape.Sel a b) (part.Sel f g) i e = (memory_from fs f _ (made_memory fs (get nat_eq m) s k scope a f i.0 e.0), integer_from fs g _ (made_integer fs (get nat_eq m) s k scope b g i.1 e.1))
   parts_sorts m fs s k scope shape.Memory part.Memory i e = tt
   parts_sorts m fs s k scope (shape.Upd a b c) (part.Upd f g d) i e = (memory_from fs f _ (made_memory fs (get nat_eq m) s k scope a f i.0 e.0), integer_from fs g _ (made_integer fs (get nat_eq m) s k scope b g i.1 e.1), integer_from fs d _ (made_integer fs (get nat_eq m) s k scope c d i.2 e.2))
+  parts_sorts m fs s k scope (shape.Rem a l) (part.Rem f n) i e = (integer_from fs f _ (made_integer fs (get nat_eq m) s k scope a f i.0 e.0), subst IsLength e.1 i.1)
   parts_sorts m fs s k scope x p i e = absurd e
 
   -- they make the form of the node
@@ -128,6 +132,7 @@ module _ (ps : List Polynomial) (u : Updates) (ns : List Node) (h : AreNodes ns)
   parts_form m fs s k scope (shape.Sel a b) (part.Sel f g) i e = rw (updates_found fs f.0 _ (made_memory fs (get nat_eq m) s k scope a f i.0 e.0), polynomial_found fs g.0 _ (made_integer fs (get nat_eq m) s k scope b g i.1 e.1)) refl
   parts_form m fs s k scope shape.Memory part.Memory i e = refl
   parts_form m fs s k scope (shape.Upd a b c) (part.Upd f g d) i e = rw (updates_found fs f.0 _ (made_memory fs (get nat_eq m) s k scope a f i.0 e.0), polynomial_found fs g.0 _ (made_integer fs (get nat_eq m) s k scope b g i.1 e.1), polynomial_found fs d.0 _ (made_integer fs (get nat_eq m) s k scope c d i.2 e.2)) refl
+  parts_form m fs s k scope (shape.Rem a l) (part.Rem f n) i e = rw (e.1, polynomial_found fs f.0 _ (made_integer fs (get nat_eq m) s k scope a f i.0 e.0)) refl
   parts_form m fs s k scope x p i e = absurd e
 
   -- so the form is that of the node's tree
@@ -140,6 +145,7 @@ module _ (ps : List Polynomial) (u : Updates) (ns : List Node) (h : AreNodes ns)
   shape_count k scope lower (shape.Var j) i = omega arith
   shape_count k scope lower (shape.Op o a c) i = omega arith
   shape_count k scope lower (shape.Sel m a) i = omega arith
+  shape_count k scope lower (shape.Rem a m) i = omega arith
   shape_count k scope lower shape.Memory i = omega arith
   shape_count k scope lower (shape.Upd m a v) i =
       let x = updates-norm_upd (memory_in u tree_forms m) (integer_in tree_forms a) (integer_in tree_forms v) in
@@ -170,4 +176,5 @@ module _ (ps : List Polynomial) (u : Updates) (ns : List Node) (h : AreNodes ns)
       omega (arith, z, c, w)
   parts_count m fs s k scope shape.Memory part.Memory i e = omega arith
   parts_count m fs s k scope (shape.Upd a b c) (part.Upd f g d) i e = omega arith
+  parts_count m fs s k scope (shape.Rem a l) (part.Rem f n) i e = omega arith
   parts_count m fs s k scope x p i e = absurd e

@@ -8,7 +8,7 @@ use Rattle.ft_norm.specs.declared.form.Form.{Form}
 use Rattle.ft_norm.specs.declared.entry.Entry.{Entry}
 use Rattle.ft_norm.specs.Held.{held, polynomial_at, updates_at, polynomial, polynomials, updates_held, IsInteger, IsMemory, AreIntegers, Keeps}
 use Rattle.ft_norm.specs.declared.entry.Term.{Term}
-use Rattle.ft_norm.specs.Entries.{AreEntries, IsDistinct, IsIntegerAt, IsMemoryAt, NamesEarlier, entry_form, forms_of, integer_reach, polynomial_form, reach_of_terms}
+use Rattle.ft_norm.specs.Entries.{AreEntries, IsDistinct, IsIntegerAt, IsMemoryAt, NamesEarlier, entry_form, forms_of, integer_reach, reach_of_terms}
 use Rattle.ft_norm.specs.Orders.{AreTerms}
 use Rattle.ft_norm.specs.Terms.{AreOver}
 use Rattle.ft_norm.proofs.Lists.{slice_get-append}
@@ -113,10 +113,3 @@ entry_seen es xs fs i e h v k l r =
     let g : forms_of xs ≡ fs = ap forms_of k ∙ v in
     let n : NamesEarlier xs = subst NamesEarlier (sym k) h.earlier in
     rw g at (form_read xs i e e n l r refl)
-
--- the terms of an integer that were read, seen from the list
-pub terms_seen : (es xs : List Entry) (fs : List Normal) (ts : List Term) (f : Form) → AreEntries es → forms_of es ≡ fs → xs ≡ es → IsInteger fs f
-    → polynomial_form (forms_of xs) ts ≡ polynomial_at (forms_of xs) f.0 → AreTerms ts → reach_of_terms (forms_of xs) ts ≤ f.0 + 1 → AreOver fs ts × (polynomial_form fs ts ≡ polynomial fs f)
-terms_seen es xs fs ts f h v e i p t r =
-    let g : forms_of xs ≡ fs = ap forms_of e ∙ v in
-    (over_seen es xs fs ts f.0 h v e t r (within es xs fs f.0 _ v e i.found), rw g at p)

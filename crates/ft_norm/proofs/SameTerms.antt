@@ -7,7 +7,7 @@ use lib.Pointwise.{pointwise}
 use Rattle.ft_isa.specs.contracts.op.Op as op
 use Rattle.ft_isa.specs.declared.op.Op.{Op}
 use Rattle.ft_norm.specs.declared.entry.Factor.{Factor}
-use Rattle.ft_norm.specs.declared.entry.Factor.TheVariants.{Variable, Operation, Sel}
+use Rattle.ft_norm.specs.declared.entry.Factor.TheVariants.{Variable, Operation, Sel, Rem}
 use Rattle.ft_norm.specs.declared.entry.LinearTerm.{LinearTerm}
 use Rattle.ft_norm.specs.declared.entry.Term.{Term}
 use Rattle.ft_norm.specs.declared.packed.PackedTerm.{PackedTerm}
@@ -25,6 +25,13 @@ pub factor_decides : (a b : Factor) → Decides ((factor.ghosts).eq a b) (a ≡ 
 factor_decides (Variable i) (Variable j) = Decides-like _ (λ e. ap Variable e) (λ e. cc) (Decides-eqb i j)
 factor_decides (Operation o p q) (Operation n r s) = Decides-like _ (λ h. rw (h.0, h.1.0, h.1.1) refl) (λ e. (cc, (cc, cc))) (Decides-and _ _ (op_decides o n) (Decides-and _ _ (Decides-eqb p r) (Decides-eqb q s)))
 factor_decides (Sel p q) (Sel r s) = Decides-like _ (λ h. rw (h.0, h.1) refl) (λ e. (cc, cc)) (Decides-and _ _ (Decides-eqb p r) (Decides-eqb q s))
+factor_decides (Rem p m) (Rem r n) = Decides-like _ (λ h. rw (h.0, h.1) refl) (λ e. (cc, cc)) (Decides-and _ _ (Decides-eqb p r) (Decides-eqb m n))
+factor_decides (Variable i) (Rem r s) = (λ t. absurd (true≢false (sym t)), λ e. cc)
+factor_decides (Operation o p q) (Rem r s) = (λ t. absurd (true≢false (sym t)), λ e. cc)
+factor_decides (Sel p q) (Rem r s) = (λ t. absurd (true≢false (sym t)), λ e. cc)
+factor_decides (Rem p q) (Variable j) = (λ t. absurd (true≢false (sym t)), λ e. cc)
+factor_decides (Rem p q) (Operation n r s) = (λ t. absurd (true≢false (sym t)), λ e. cc)
+factor_decides (Rem p q) (Sel r s) = (λ t. absurd (true≢false (sym t)), λ e. cc)
 factor_decides (Variable i) (Operation n r s) = (λ t. absurd (true≢false (sym t)), λ e. cc)
 factor_decides (Variable i) (Sel r s) = (λ t. absurd (true≢false (sym t)), λ e. cc)
 factor_decides (Operation o p q) (Variable j) = (λ t. absurd (true≢false (sym t)), λ e. cc)

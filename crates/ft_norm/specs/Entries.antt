@@ -1,10 +1,10 @@
 -- The forms that a list of entries stands for.
 use Rattle.std.specs.Prelude.{ℕ, zero, suc, ◌+◌, ◌^◌, ◌≡◌, ◌≢◌, ◌<◌, ◌≤◌, Bool, true, false, if◌then◌else◌, List, [], ◌∷◌, ◌++◌, Option, None, Some, max, length, map, slice_get, slice_index_or}
-use Rattle.ft_static.specs.Form.{Form, integer_form, memory_form, Atom, Monomial, Polynomial, variable_atom, operation_atom, sel_atom, one, times, nought, plus, unchanged, update}
+use Rattle.ft_static.specs.Form.{Form, integer_form, memory_form, Atom, Monomial, Polynomial, variable_atom, operation_atom, sel_atom, rem_atom, one, times, nought, plus, unchanged, update}
 use Rattle.ft_static.specs.NormalForm.{add_term, alone, with_factor}
 use Rattle.ft_norm.specs.Held.{polynomial_at, updates_at}
 use Rattle.ft_norm.specs.declared.entry.Factor.{Factor}
-use Rattle.ft_norm.specs.declared.entry.Factor.TheVariants.{Variable, Operation, Sel}
+use Rattle.ft_norm.specs.declared.entry.Factor.TheVariants.{Variable, Operation, Sel, Rem}
 use Rattle.ft_norm.specs.declared.entry.LinearTerm.{LinearTerm}
 use Rattle.ft_norm.specs.declared.entry.Term.{Term}
 use Rattle.ft_norm.specs.declared.entry.Entry.{Entry}
@@ -17,6 +17,7 @@ abbrev pub atom_form : List Form → Factor → Atom
 atom_form fs (Variable i) = variable_atom i
 atom_form fs (Operation o p q) = operation_atom o (polynomial_at fs p) (polynomial_at fs q)
 atom_form fs (Sel m p) = sel_atom (updates_at fs m) (polynomial_at fs p)
+atom_form fs (Rem p m) = rem_atom (polynomial_at fs p) m
 
 -- the atom that a polynomial is alone
 abbrev pub atom_of : Polynomial → Atom
@@ -103,6 +104,7 @@ abbrev pub reach : List Form → Factor → ℕ
 reach fs (Variable i) = 0
 reach fs (Operation o p q) = max (integer_reach fs p) (integer_reach fs q)
 reach fs (Sel m p) = max (memory_reach fs m) (integer_reach fs p)
+reach fs (Rem p m) = integer_reach fs p
 
 -- the same of the atoms of a monomial
 abbrev pub reach_of_atoms : List Form → List ℕ → ℕ

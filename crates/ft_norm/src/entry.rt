@@ -16,12 +16,14 @@ pub const MONOMIALS: usize = 64;
 /// The greatest number of atoms of a monomial.
 pub const ATOMS: usize = 4;
 
-/// An atom: a variable, an operation on the forms of these numbers, or the word of a memory there.
+/// An atom: a variable, an operation on the forms of these numbers, the word of a memory there, or the
+/// remainder of a form by a length.
 #[derive(Clone, Copy, PartialEq, Eq, Hash)]
 pub enum Factor {
     Variable(u8),
     Operation(Op, u32, u32),
     Sel(u32, u32),
+    Rem(u32, u32),
 }
 
 /// The atoms of a monomial, in rising order of their numbers, and zeros before them. The atom that

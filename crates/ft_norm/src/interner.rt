@@ -5,7 +5,7 @@ ghost use Rattle.ft_static.specs.Form.{integer_form, memory_form, unchanged, upd
 ghost use Rattle.ft_static.specs.FormUnder.{form_under};
 ghost use Rattle.ft_static.specs.NodeRules.{AreNodes, is_memory};
 ghost use Rattle.ft_static.specs.NodeTree.{tree_at};
-ghost use Rattle.ft_static.specs.NormalForm.{alone, constant, norm, norm_add, norm_folded, norm_mul, norm_op, norm_sel, norm_sub, norm_upd};
+ghost use Rattle.ft_static.specs.NormalForm.{alone, constant, norm, norm_add, norm_folded, norm_mul, norm_op, norm_rem, norm_sel, norm_sub, norm_upd};
 ghost use Rattle.ft_static.specs.declared.node.Node.{Node as Numbered};
 ghost use Rattle.ft_norm.specs.Held.{AreIntegers, IsHeld, IsInteger, IsMemory, Keeps, held, polynomial, polynomials, updates_held};
 ghost use Rattle.ft_norm.specs.Entries.{IsCanonical, atom_form, entry_form, polynomial_form, reach, reach_of_entry, reach_of_terms};
@@ -135,6 +135,27 @@ impl Interner {
             Op::Mul => self.mul(a, b)?,
             Op::Ltu => self.folded(op, a, b)?,
             Op::Eq => self.folded(op, a, b)?,
+            Op::And => self.folded(op, a, b)?,
+            Op::Or => self.folded(op, a, b)?,
+            Op::Xor => self.folded(op, a, b)?,
+            Op::Shl => self.folded(op, a, b)?,
+            Op::Shr => self.folded(op, a, b)?,
+        };
+        Ok(form)
+    }
+
+    /// The form of the remainder of an integer by a length.
+    pub fn rem(&mut self, a: Form, length: u32) -> Result<Form, NoMemory>
+        requires integer { IsInteger self.old a }
+        requires some { 1 ≤ length }
+        requires most { length ≤ 1024 }
+        ensures kept { Keeps self.old self.new }
+        ensures form { IfOk result (λ f. held self.new f ≡ Some (integer_form (norm_rem (polynomial self.old a) length))) }
+        ensures sort { IfOk result (λ f. IsInteger self.new f) }
+    {
+        let form = match constant_in(self.terms(a)) {
+            Some(c) => self.constant(c % u64::from(length))?,
+            None => self.alone(Factor::Rem(a.0, length))?,
         };
         Ok(form)
     }

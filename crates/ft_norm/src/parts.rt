@@ -17,6 +17,7 @@ pub enum Parts {
     Sel { memory: Form, at: Form },
     Memory,
     Upd { memory: Form, at: Form, value: Form },
+    Rem { a: Form, length: u32 },
 }
 
 /// The form of node `n`, or `n` where none was made.
@@ -52,6 +53,10 @@ pub fn parts_of(made: &IndexMap<u32, Form>, shape: Shape) -> Result<Parts, u32>
             memory: part(made, memory)?,
             at: part(made, at)?,
             value: part(made, value)?,
+        },
+        Shape::Rem { a, length } => Parts::Rem {
+            a: part(made, a)?,
+            length,
         },
     };
     Ok(parts)

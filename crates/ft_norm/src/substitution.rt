@@ -74,6 +74,7 @@ fn form_from<L: Ledger>(
             at,
             value,
         } => forms.upd(m, at, value),
+        Parts::Rem { a, length } => forms.rem(a, length),
     }
 }
 
