@@ -1,7 +1,7 @@
 -- Verdicts by what is kept: at the last step, and at a meeting.
 use Rattle.std.proofs.Common.{◌≡◌, ℕ, ◌+◌, ◌<◌, ◌≤◌, List, [], ◌++◌, length, take, drop, Some, None, Bool, true, false, ap, sym, subst, ◌∙◌, ⊎_elim, append_assoc, arith, Decides}
 use Rattle.std.proofs.lemmas.List.{append-nil, take_all, length-append, length-take-le, take-append-drop}
-use Rattle.std.proofs.Math.Seq.{drop-append_seam, take-append_seam}
+use Rattle.std.proofs.Math.Seq.{drop-append_seam}
 use Rattle.std.proofs.lemmas.Bool.{cases_lt}
 use Rattle.ft_isa.specs.declared.plan.Wild.{Wild}
 use Rattle.ft_isa.specs.declared.plan.Strike.{Strike}
@@ -54,9 +54,6 @@ module _ (o : Object) (x : Strike) (w : List Wild) (n at : ℕ) (status : Status
 cut_front : (xs zs ys : List Output) → xs ++ zs ≡ ys → zs ≡ drop (length xs) ys
 cut_front xs zs ys e = sym (drop-append_seam xs zs) ∙ ap (drop (length xs)) e
 
-same_front : (xs zs ys : List Output) → xs ++ zs ≡ ys → xs ≡ take (length xs) ys
-same_front xs zs ys e = sym (take-append_seam xs zs) ∙ ap (take (length xs)) e
-
 -- a front and what comes after it begins the whole where the later part begins the rest
 prefix_both : (ys zs : List Output) (at : ℕ) → IsPrefix zs (drop at ys) → IsPrefix (take at ys ++ zs) ys
 prefix_both ys zs at h = (h.0, append_assoc (take at ys) zs h.0 ∙ ap (λ t. take at ys ++ t) h.1 ∙ take-append-drop at ys)
@@ -67,9 +64,6 @@ prefix_rest ys zs at le h = (
   sym (drop-append_seam (take at ys) (zs ++ h.0)) ∙ ap (λ k. drop k (take at ys ++ (zs ++ h.0))) (length-take-le at ys le)
       ∙ ap (drop at) (sym (append_assoc (take at ys) zs h.0) ∙ h.1),
 )
-
-later_prefix : (a b : ℕ) → a + 1 ≤ b → a ≤ b
-later_prefix a b h = omega arith
 
 -- at a meeting
 module _ (o : Object) (x : Strike) (w : List Wild) (n at m count : ℕ) (c : Clean) (clean : IsClean o w n c) (h : IsAtMeeting o x w n at m count) where

@@ -11,7 +11,7 @@ use Rattle.ft_isa.specs.declared.plan.Site.{Site}
 use Rattle.ft_isa.specs.declared.plan.Strike.{Strike}
 use Rattle.ft_isa.specs.declared.plan.Wild.{Wild}
 use Rattle.ft_types.specs.declared.object.Object.{Object}
-use Rattle.ft_semantics.specs.State.{State, start, HasCells}
+use Rattle.ft_semantics.specs.State.{State, start}
 use Rattle.ft_semantics.specs.Step.{step}
 use Rattle.ft_semantics.specs.Strike.{is_there, struck_state, with_word}
 use Rattle.ft_debug.specs.declared.moment.Moment.{Moment}

@@ -41,12 +41,12 @@ found_name o name n k e same none =
     let at : position_or_len (is_named name) o.cells ≡ k = position_or_len_is (is_named name) o.cells k c.0 (omega arith) (λ j l. none j c.0 l) (λ l. named) in
     ap (λ m. cond (nat_lt m (length o.cells)) (Some m) None) at ∙ ap (λ t. cond t (Some k) None) (lt-ltb k (length o.cells) below)
 
-pub short_name : (o : Object) (name n : List ℕ) (k : ℕ) → IsSpellable o → option_map name_of (slice_get o.cells k) ≡ Some n → n ≡ name → length name ≤ 32
+pub short_name : (o : Object) (name n : List ℕ) (k : ℕ) → IsSpellable o → option_map name_of (slice_get o.cells k) ≡ Some n → n ≡ name → length name ≤ 40
 short_name o name n k ok e same =
     let c = has_name (slice_get o.cells k) n e in
     let x = All-get_or (IsCell (length o.types)) o.cells k c.0 (slice_get_within o.cells k c.0 c.1) ok.cells in
     let whole : (get_or o.cells k c.0).name ≡ name = ap name_of (get_or_from_slice_get o.cells k c.0 c.0 c.1) ∙ c.2 ∙ same in
-    subst (λ (l : List ℕ). length l ≤ 32) whole x.name_length
+    subst (λ (l : List ℕ). length l ≤ 40) whole x.name_length
 
 false_of : (b : Bool) → ¬ (b ≡ true) → b ≡ false
 false_of true h = absurd (h refl)

@@ -23,7 +23,7 @@ fn named_cell<P: Program>(program: &P, name: &[u8]) -> Option<u32>
     requires { IsSpellable (P.object program.now) }
     ensures found { result ≡ named_cell (P.object program.now) name.now }
     ensures there { IfSome result (λ k. k < length (P.object program.now).cells) }
-    ensures short { IfSome result (λ k. length name.now ≤ 32) }
+    ensures short { IfSome result (λ k. length name.now ≤ 40) }
 {
     for k in 0..program.counts().cells {
         if program.name(k) == name {

@@ -52,7 +52,7 @@ pub fn at_line(moment: &Moment<'_>) -> Line
 
 /// The line of a cell's name and a word.
 pub fn word_line(name: &[u8], word: u64) -> Line
-    requires { length name.now ≤ 32 }
+    requires { length name.now ≤ 40 }
     ensures { result ≡ line name.now word }
 {
     let mut line = Line::new();

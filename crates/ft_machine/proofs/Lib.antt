@@ -1,3 +1,4 @@
+pub mod Lengths
 pub mod Tabulated
 pub mod Arrayed
 pub mod Rows

@@ -2,10 +2,9 @@
 use Rattle.std.proofs.Common.{◌≡◌, ℕ, Bool, true, false, ◌&&◌, Option, Some, None, refl, ap, sym, ◌∙◌, Decides, eqb, true≢false}
 use Rattle.std.specs.Option.{option_eq}
 use Rattle.std.proofs.lemmas.Bool.Decides.{Decides-eqb, Decides-like}
-use denote.Enum.Bare.{sameb}
+use denote.Enum.Bare.{sameb, same_true, true_same}
 use Rattle.ft_isa.specs.contracts.colour.Colour as the_colour
 use Rattle.ft_isa.specs.declared.colour.Colour.{Colour}
-use Rattle.ft_isa.specs.declared.colour.Colour.TheVariants.{Green, Blue}
 use Rattle.ft_isa.specs.declared.colour.Coloured.{Coloured}
 use Rattle.ft_isa.specs.declared.basic.Basic.{Basic}
 use Rattle.ft_isa.specs.declared.basic.Base.{Base}
@@ -14,10 +13,9 @@ use Rattle.ft_isa.specs.contracts.basic.BasePartialEq.TheImpl as base
 use Rattle.ft_isa.specs.declared.instr.Subst.{Subst}
 use Rattle.ft_isa.specs.contracts.op.Op as the_op
 use Rattle.ft_isa.specs.declared.op.Op.{Op}
-use Rattle.ft_isa.specs.declared.op.Op.TheVariants.{Add, Sub, Mul, Ltu, Eq}
 use Rattle.ft_isa.specs.declared.reg.Reg.{Reg}
 use Rattle.ft_isa.specs.declared.instr.Instr.{Instr}
-use Rattle.ft_isa.specs.declared.instr.Instr.TheVariants.{OpReg, OpWord, Mov, Ld, St, JmpG, JmpB, BzG, BzB, Halt}
+use Rattle.ft_isa.specs.declared.instr.Instr.TheVariants.{OpReg, OpWord, Mov, Ld, St, JmpG, JmpB, BzG, BzB, Halt, Idx}
 use Rattle.ft_isa.specs.contracts.instr.InstrPartialEq.TheImpl as same
 use Rattle.ft_isa.specs.Registers.{reg_of}
 use Rattle.ft_isa.proofs.Registers.{reg_of-number}
@@ -42,10 +40,7 @@ and4 true b c d da db dc dd mk pa pb pc pd = and3 b c d db dc dd (mk (da.0 refl)
 and4 false b c d da db dc dd mk pa pb pc pd = (λ t. absurd (cc), λ r. da.1 (pa r))
 
 colour_decides : (a b : Colour) → Decides (sameb the_colour.the_type a b) (a ≡ b)
-colour_decides Green Green = (λ t. refl, λ e. refl)
-colour_decides Green Blue = (λ t. absurd (cc), λ e. absurd (cc))
-colour_decides Blue Green = (λ t. absurd (cc), λ e. absurd (cc))
-colour_decides Blue Blue = (λ t. refl, λ e. refl)
+colour_decides a b = (same_true the_colour.the_type tt a b, true_same the_colour.the_type a b)
 
 coloured_decides : (a b : Coloured) → Decides (sameb the_colour.the_type a.colour b.colour && eqb a.word b.word) (a ≡ b)
 coloured_decides a b = and2 _ _ (colour_decides a.colour b.colour) (Decides-eqb a.word b.word)
@@ -69,31 +64,7 @@ subst_decides a b = and3 _ _ _ (Decides-eqb a.first b.first) (Decides-eqb a.past
     (λ r. ap (λ (y : Subst). y.first) r) (λ r. ap (λ (y : Subst). y.past) r) (λ r. ap (λ (y : Subst). y.memory) r)
 
 op_decides : (a b : Op) → Decides (sameb the_op.the_type a b) (a ≡ b)
-op_decides Add Add = (λ t. refl, λ e. refl)
-op_decides Add Sub = (λ t. absurd (cc), λ e. absurd (cc))
-op_decides Add Mul = (λ t. absurd (cc), λ e. absurd (cc))
-op_decides Add Ltu = (λ t. absurd (cc), λ e. absurd (cc))
-op_decides Add Eq = (λ t. absurd (cc), λ e. absurd (cc))
-op_decides Sub Add = (λ t. absurd (cc), λ e. absurd (cc))
-op_decides Sub Sub = (λ t. refl, λ e. refl)
-op_decides Sub Mul = (λ t. absurd (cc), λ e. absurd (cc))
-op_decides Sub Ltu = (λ t. absurd (cc), λ e. absurd (cc))
-op_decides Sub Eq = (λ t. absurd (cc), λ e. absurd (cc))
-op_decides Mul Add = (λ t. absurd (cc), λ e. absurd (cc))
-op_decides Mul Sub = (λ t. absurd (cc), λ e. absurd (cc))
-op_decides Mul Mul = (λ t. refl, λ e. refl)
-op_decides Mul Ltu = (λ t. absurd (cc), λ e. absurd (cc))
-op_decides Mul Eq = (λ t. absurd (cc), λ e. absurd (cc))
-op_decides Ltu Add = (λ t. absurd (cc), λ e. absurd (cc))
-op_decides Ltu Sub = (λ t. absurd (cc), λ e. absurd (cc))
-op_decides Ltu Mul = (λ t. absurd (cc), λ e. absurd (cc))
-op_decides Ltu Ltu = (λ t. refl, λ e. refl)
-op_decides Ltu Eq = (λ t. absurd (cc), λ e. absurd (cc))
-op_decides Eq Add = (λ t. absurd (cc), λ e. absurd (cc))
-op_decides Eq Sub = (λ t. absurd (cc), λ e. absurd (cc))
-op_decides Eq Mul = (λ t. absurd (cc), λ e. absurd (cc))
-op_decides Eq Ltu = (λ t. absurd (cc), λ e. absurd (cc))
-op_decides Eq Eq = (λ t. refl, λ e. refl)
+op_decides a b = (same_true the_op.the_type tt a b, true_same the_op.the_type a b)
 
 basic_0 : Basic → Instr → Basic
 basic_0 z (Mov _ _ x) = x
@@ -124,6 +95,7 @@ reg_0 z (JmpG x) = x
 reg_0 z (JmpB x _) = x
 reg_0 z (BzG x _) = x
 reg_0 z (BzB x _ _) = x
+reg_0 z (Idx x _ _ _) = x
 reg_0 z _ = z
 
 reg_1 : Reg → Instr → Reg
@@ -133,6 +105,7 @@ reg_1 z (Ld _ _ x) = x
 reg_1 z (St _ _ x) = x
 reg_1 z (BzG _ x) = x
 reg_1 z (BzB _ x _) = x
+reg_1 z (Idx _ x _ _) = x
 reg_1 z _ = z
 
 reg_2 : Reg → Instr → Reg
@@ -143,6 +116,14 @@ subst_0 : Subst → Instr → Subst
 subst_0 z (JmpB _ x) = x
 subst_0 z (BzB _ _ x) = x
 subst_0 z _ = z
+
+first_0 : ℕ → Instr → ℕ
+first_0 z (Idx _ _ x _) = x
+first_0 z _ = z
+
+length_0 : ℕ → Instr → ℕ
+length_0 z (Idx _ _ _ x) = x
+length_0 z _ = z
 
 inside : Instr → Option Instr → Instr
 inside z (Some x) = x
@@ -184,6 +165,10 @@ same_bz_b : (a0 : Reg) (a1 : Reg) (a2 : Subst) (b0 : Reg) (b1 : Reg) (b2 : Subst
 unfolding reg_0 reg_1 subst_0
 same_bz_b a0 a1 a2 b0 b1 b2 = and3 _ _ _ (reg_decides a0 b0) (reg_decides a1 b1) (subst_decides a2 b2) (λ e0 e1 e2. ap (λ (x : Reg). BzB x a1 a2) e0 ∙ ap (λ (x : Reg). BzB b0 x a2) e1 ∙ ap (λ (x : Subst). BzB b0 b1 x) e2) (λ r. ap (reg_0 a0) r) (λ r. ap (reg_1 a1) r) (λ r. ap (subst_0 a2) r)
 
+same_idx : (a0 : Reg) (a1 : Reg) (a2 : ℕ) (a3 : ℕ) (b0 : Reg) (b1 : Reg) (b2 : ℕ) (b3 : ℕ) → Decides (same.eq-value.it (Idx a0 a1 a2 a3) (Idx b0 b1 b2 b3)) (Idx a0 a1 a2 a3 ≡ Idx b0 b1 b2 b3)
+unfolding reg_0 reg_1 first_0 length_0
+same_idx a0 a1 a2 a3 b0 b1 b2 b3 = and4 _ _ _ _ (reg_decides a0 b0) (reg_decides a1 b1) (Decides-eqb a2 b2) (Decides-eqb a3 b3) (λ e0 e1 e2 e3. ap (λ (x : Reg). Idx x a1 a2 a3) e0 ∙ ap (λ (x : Reg). Idx b0 x a2 a3) e1 ∙ ap (λ (x : ℕ). Idx b0 b1 x a3) e2 ∙ ap (λ (x : ℕ). Idx b0 b1 b2 x) e3) (λ r. ap (reg_0 a0) r) (λ r. ap (reg_1 a1) r) (λ r. ap (first_0 a2) r) (λ r. ap (length_0 a3) r)
+
 -- each kind has its number
 number : Instr → ℕ
 number (OpReg _ _ _ _) = 0
@@ -196,6 +181,7 @@ number (JmpB _ _) = 6
 number (BzG _ _) = 7
 number (BzB _ _ _) = 8
 number Halt = 9
+number (Idx _ _ _ _) = 10
 
 unlike : (a b : Instr) (t : Bool) → t ≡ false → eqb (number a) (number b) ≡ false → Decides t (a ≡ b)
 unlike a b t h k = (λ u. absurd (true≢false (sym u ∙ h)), λ e. absurd (true≢false (sym ((Decides-eqb (number a) (number b)).1 (ap number e)) ∙ k)))
@@ -203,105 +189,17 @@ unlike a b t h k = (λ u. absurd (true≢false (sym u ∙ h)), λ e. absurd (tru
 pub instr_decides : (a b : Instr) → Decides (same.eq-value.it a b) (a ≡ b)
 unfolding number
 instr_decides (OpReg a0 a1 a2 a3) (OpReg b0 b1 b2 b3) = same_op_reg a0 a1 a2 a3 b0 b1 b2 b3
-instr_decides (OpReg a0 a1 a2 a3) (OpWord b0 b1 b2 b3) = unlike _ _ _ refl refl
-instr_decides (OpReg a0 a1 a2 a3) (Mov b0 b1 b2) = unlike _ _ _ refl refl
-instr_decides (OpReg a0 a1 a2 a3) (Ld b0 b1 b2) = unlike _ _ _ refl refl
-instr_decides (OpReg a0 a1 a2 a3) (St b0 b1 b2) = unlike _ _ _ refl refl
-instr_decides (OpReg a0 a1 a2 a3) (JmpG b0) = unlike _ _ _ refl refl
-instr_decides (OpReg a0 a1 a2 a3) (JmpB b0 b1) = unlike _ _ _ refl refl
-instr_decides (OpReg a0 a1 a2 a3) (BzG b0 b1) = unlike _ _ _ refl refl
-instr_decides (OpReg a0 a1 a2 a3) (BzB b0 b1 b2) = unlike _ _ _ refl refl
-instr_decides (OpReg a0 a1 a2 a3) Halt = unlike _ _ _ refl refl
-instr_decides (OpWord a0 a1 a2 a3) (OpReg b0 b1 b2 b3) = unlike _ _ _ refl refl
 instr_decides (OpWord a0 a1 a2 a3) (OpWord b0 b1 b2 b3) = same_op_word a0 a1 a2 a3 b0 b1 b2 b3
-instr_decides (OpWord a0 a1 a2 a3) (Mov b0 b1 b2) = unlike _ _ _ refl refl
-instr_decides (OpWord a0 a1 a2 a3) (Ld b0 b1 b2) = unlike _ _ _ refl refl
-instr_decides (OpWord a0 a1 a2 a3) (St b0 b1 b2) = unlike _ _ _ refl refl
-instr_decides (OpWord a0 a1 a2 a3) (JmpG b0) = unlike _ _ _ refl refl
-instr_decides (OpWord a0 a1 a2 a3) (JmpB b0 b1) = unlike _ _ _ refl refl
-instr_decides (OpWord a0 a1 a2 a3) (BzG b0 b1) = unlike _ _ _ refl refl
-instr_decides (OpWord a0 a1 a2 a3) (BzB b0 b1 b2) = unlike _ _ _ refl refl
-instr_decides (OpWord a0 a1 a2 a3) Halt = unlike _ _ _ refl refl
-instr_decides (Mov a0 a1 a2) (OpReg b0 b1 b2 b3) = unlike _ _ _ refl refl
-instr_decides (Mov a0 a1 a2) (OpWord b0 b1 b2 b3) = unlike _ _ _ refl refl
 instr_decides (Mov a0 a1 a2) (Mov b0 b1 b2) = same_mov a0 a1 a2 b0 b1 b2
-instr_decides (Mov a0 a1 a2) (Ld b0 b1 b2) = unlike _ _ _ refl refl
-instr_decides (Mov a0 a1 a2) (St b0 b1 b2) = unlike _ _ _ refl refl
-instr_decides (Mov a0 a1 a2) (JmpG b0) = unlike _ _ _ refl refl
-instr_decides (Mov a0 a1 a2) (JmpB b0 b1) = unlike _ _ _ refl refl
-instr_decides (Mov a0 a1 a2) (BzG b0 b1) = unlike _ _ _ refl refl
-instr_decides (Mov a0 a1 a2) (BzB b0 b1 b2) = unlike _ _ _ refl refl
-instr_decides (Mov a0 a1 a2) Halt = unlike _ _ _ refl refl
-instr_decides (Ld a0 a1 a2) (OpReg b0 b1 b2 b3) = unlike _ _ _ refl refl
-instr_decides (Ld a0 a1 a2) (OpWord b0 b1 b2 b3) = unlike _ _ _ refl refl
-instr_decides (Ld a0 a1 a2) (Mov b0 b1 b2) = unlike _ _ _ refl refl
 instr_decides (Ld a0 a1 a2) (Ld b0 b1 b2) = same_ld a0 a1 a2 b0 b1 b2
-instr_decides (Ld a0 a1 a2) (St b0 b1 b2) = unlike _ _ _ refl refl
-instr_decides (Ld a0 a1 a2) (JmpG b0) = unlike _ _ _ refl refl
-instr_decides (Ld a0 a1 a2) (JmpB b0 b1) = unlike _ _ _ refl refl
-instr_decides (Ld a0 a1 a2) (BzG b0 b1) = unlike _ _ _ refl refl
-instr_decides (Ld a0 a1 a2) (BzB b0 b1 b2) = unlike _ _ _ refl refl
-instr_decides (Ld a0 a1 a2) Halt = unlike _ _ _ refl refl
-instr_decides (St a0 a1 a2) (OpReg b0 b1 b2 b3) = unlike _ _ _ refl refl
-instr_decides (St a0 a1 a2) (OpWord b0 b1 b2 b3) = unlike _ _ _ refl refl
-instr_decides (St a0 a1 a2) (Mov b0 b1 b2) = unlike _ _ _ refl refl
-instr_decides (St a0 a1 a2) (Ld b0 b1 b2) = unlike _ _ _ refl refl
 instr_decides (St a0 a1 a2) (St b0 b1 b2) = same_st a0 a1 a2 b0 b1 b2
-instr_decides (St a0 a1 a2) (JmpG b0) = unlike _ _ _ refl refl
-instr_decides (St a0 a1 a2) (JmpB b0 b1) = unlike _ _ _ refl refl
-instr_decides (St a0 a1 a2) (BzG b0 b1) = unlike _ _ _ refl refl
-instr_decides (St a0 a1 a2) (BzB b0 b1 b2) = unlike _ _ _ refl refl
-instr_decides (St a0 a1 a2) Halt = unlike _ _ _ refl refl
-instr_decides (JmpG a0) (OpReg b0 b1 b2 b3) = unlike _ _ _ refl refl
-instr_decides (JmpG a0) (OpWord b0 b1 b2 b3) = unlike _ _ _ refl refl
-instr_decides (JmpG a0) (Mov b0 b1 b2) = unlike _ _ _ refl refl
-instr_decides (JmpG a0) (Ld b0 b1 b2) = unlike _ _ _ refl refl
-instr_decides (JmpG a0) (St b0 b1 b2) = unlike _ _ _ refl refl
 instr_decides (JmpG a0) (JmpG b0) = same_jmp_g a0 b0
-instr_decides (JmpG a0) (JmpB b0 b1) = unlike _ _ _ refl refl
-instr_decides (JmpG a0) (BzG b0 b1) = unlike _ _ _ refl refl
-instr_decides (JmpG a0) (BzB b0 b1 b2) = unlike _ _ _ refl refl
-instr_decides (JmpG a0) Halt = unlike _ _ _ refl refl
-instr_decides (JmpB a0 a1) (OpReg b0 b1 b2 b3) = unlike _ _ _ refl refl
-instr_decides (JmpB a0 a1) (OpWord b0 b1 b2 b3) = unlike _ _ _ refl refl
-instr_decides (JmpB a0 a1) (Mov b0 b1 b2) = unlike _ _ _ refl refl
-instr_decides (JmpB a0 a1) (Ld b0 b1 b2) = unlike _ _ _ refl refl
-instr_decides (JmpB a0 a1) (St b0 b1 b2) = unlike _ _ _ refl refl
-instr_decides (JmpB a0 a1) (JmpG b0) = unlike _ _ _ refl refl
 instr_decides (JmpB a0 a1) (JmpB b0 b1) = same_jmp_b a0 a1 b0 b1
-instr_decides (JmpB a0 a1) (BzG b0 b1) = unlike _ _ _ refl refl
-instr_decides (JmpB a0 a1) (BzB b0 b1 b2) = unlike _ _ _ refl refl
-instr_decides (JmpB a0 a1) Halt = unlike _ _ _ refl refl
-instr_decides (BzG a0 a1) (OpReg b0 b1 b2 b3) = unlike _ _ _ refl refl
-instr_decides (BzG a0 a1) (OpWord b0 b1 b2 b3) = unlike _ _ _ refl refl
-instr_decides (BzG a0 a1) (Mov b0 b1 b2) = unlike _ _ _ refl refl
-instr_decides (BzG a0 a1) (Ld b0 b1 b2) = unlike _ _ _ refl refl
-instr_decides (BzG a0 a1) (St b0 b1 b2) = unlike _ _ _ refl refl
-instr_decides (BzG a0 a1) (JmpG b0) = unlike _ _ _ refl refl
-instr_decides (BzG a0 a1) (JmpB b0 b1) = unlike _ _ _ refl refl
 instr_decides (BzG a0 a1) (BzG b0 b1) = same_bz_g a0 a1 b0 b1
-instr_decides (BzG a0 a1) (BzB b0 b1 b2) = unlike _ _ _ refl refl
-instr_decides (BzG a0 a1) Halt = unlike _ _ _ refl refl
-instr_decides (BzB a0 a1 a2) (OpReg b0 b1 b2 b3) = unlike _ _ _ refl refl
-instr_decides (BzB a0 a1 a2) (OpWord b0 b1 b2 b3) = unlike _ _ _ refl refl
-instr_decides (BzB a0 a1 a2) (Mov b0 b1 b2) = unlike _ _ _ refl refl
-instr_decides (BzB a0 a1 a2) (Ld b0 b1 b2) = unlike _ _ _ refl refl
-instr_decides (BzB a0 a1 a2) (St b0 b1 b2) = unlike _ _ _ refl refl
-instr_decides (BzB a0 a1 a2) (JmpG b0) = unlike _ _ _ refl refl
-instr_decides (BzB a0 a1 a2) (JmpB b0 b1) = unlike _ _ _ refl refl
-instr_decides (BzB a0 a1 a2) (BzG b0 b1) = unlike _ _ _ refl refl
 instr_decides (BzB a0 a1 a2) (BzB b0 b1 b2) = same_bz_b a0 a1 a2 b0 b1 b2
-instr_decides (BzB a0 a1 a2) Halt = unlike _ _ _ refl refl
-instr_decides Halt (OpReg b0 b1 b2 b3) = unlike _ _ _ refl refl
-instr_decides Halt (OpWord b0 b1 b2 b3) = unlike _ _ _ refl refl
-instr_decides Halt (Mov b0 b1 b2) = unlike _ _ _ refl refl
-instr_decides Halt (Ld b0 b1 b2) = unlike _ _ _ refl refl
-instr_decides Halt (St b0 b1 b2) = unlike _ _ _ refl refl
-instr_decides Halt (JmpG b0) = unlike _ _ _ refl refl
-instr_decides Halt (JmpB b0 b1) = unlike _ _ _ refl refl
-instr_decides Halt (BzG b0 b1) = unlike _ _ _ refl refl
-instr_decides Halt (BzB b0 b1 b2) = unlike _ _ _ refl refl
 instr_decides Halt Halt = (λ t. refl, λ e. refl)
+instr_decides (Idx a0 a1 a2 a3) (Idx b0 b1 b2 b3) = same_idx a0 a1 a2 a3 b0 b1 b2 b3
+instr_decides a b = unlike a b _ refl refl
 
 pub fetched_decides : (a b : Option Instr) → Decides (option_eq same.eq-value.it a b) (a ≡ b)
 unfolding inside

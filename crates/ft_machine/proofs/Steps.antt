@@ -12,8 +12,8 @@ use Rattle.ft_isa.specs.declared.plan.Site.TheVariants.{R, D, PcG, PcB, QAddr, Q
 use Rattle.ft_isa.specs.declared.plan.Strike.{Strike}
 use Rattle.ft_isa.specs.declared.output.Output.{Output}
 use Rattle.ft_isa.specs.declared.instr.Instr.{Instr}
-use Rattle.ft_isa.specs.declared.instr.Instr.TheVariants.{OpReg, OpWord, Mov, Ld, St, JmpG, JmpB, BzG, BzB, Halt}
-use Rattle.ft_isa.specs.Words.{apply}
+use Rattle.ft_isa.specs.declared.instr.Instr.TheVariants.{OpReg, OpWord, Mov, Ld, St, JmpG, JmpB, BzG, BzB, Halt, Idx}
+use Rattle.ft_isa.specs.Words.{apply, cell_in_run}
 use Rattle.ft_isa.specs.Pending.{is_oldest}
 use Rattle.ft_types.specs.declared.object.Object.{Object}
 use Rattle.ft_semantics.specs.declared.status.Status.{Status}
@@ -103,6 +103,7 @@ execute_is_proper (JmpB rd subst) s w = jump_blue_is_proper (word s rd) s w
 execute_is_proper (BzG rz rd) s w = proper_if s (word s rz == 0) (jump_green (word s rd) s w) (pass s w) (λ _. jump_green_is_proper (word s rd) s w) (pass_is_proper s w)
 execute_is_proper (BzB rz rd subst) s w = proper_if s (word s rz == 0) (jump_blue (word s rd) s w) (pass s w) (λ _. jump_blue_is_proper (word s rd) s w) (pass_is_proper s w)
 execute_is_proper Halt s w = quiet_is_proper s _ w refl
+execute_is_proper (Idx rd rs first m) s w = writes_is_proper rd (colour s rs) (cell_in_run first m (word s rs)) s w
 
 advance_is_proper : (o : Object) (f : Option Instr) (s : State) (w : List Wild) → IsProper s (advance o f s w)
 advance_is_proper o None s w = proper_if s (s.pc_green == s.pc_blue) (fetch (instr_at o s.pc_green) s w) (detected s w) (λ _. fetch_is_proper (instr_at o s.pc_green) s w) (detected_is_proper s w)

@@ -1,16 +1,17 @@
 //! What instructions work on, and what each of them does to it.
-ghost use Rattle.std.specs.Prelude.{◌≡◌, ℕ, IsTrue, Option, ◌&&◌};
-ghost use Rattle.ft_isa.specs.Words.{apply};
+ghost use Rattle.std.specs.Prelude.{◌≡◌, ◌<◌, ℕ, IsTrue, Option, ◌&&◌};
+ghost use Rattle.ft_isa.specs.Words.{apply, cell_in_run};
 ghost use Rattle.ft_isa.specs.Pending.{is_oldest};
 ghost use Rattle.ft_isa.specs.declared.instr.Instr as instrs;
 ghost use Rattle.ft_semantics.specs.State.{held, is_cell};
 ghost use Rattle.ft_semantics.specs.Step.{execute, detected, writes, found, load, wild_load, store_green, store_blue, commit, jump_green, jump_blue, pass};
 ghost use Rattle.ft_machine.specs.Effects.{Does, DoesQuietly, doing};
+ghost use Rattle.ft_machine.specs.Lengths.{HasNoEmptyRun};
 
 use crate::cells::Cells;
 use crate::registers::Registers;
 use crate::wild::WildLeft;
-use ft_isa::{Colour, Coloured, Instr, Op, Output, Reg, Subst, Wild, apply};
+use ft_isa::{Colour, Coloured, FIRST_CELL, Instr, Op, Output, Reg, Subst, Wild, apply};
 use ft_queue::StoreQueue;
 
 /// What an instruction did beyond the bank.
@@ -41,6 +42,7 @@ impl Bank {
     /// Does an instruction.
     #[inline(always)]
     pub fn execute(&mut self, instr: Instr, wild: &mut WildLeft) -> Effect
+        requires { HasNoEmptyRun instr }
         ensures { Does (execute instr) self.old self.new result wild.old wild.new }
     {
         match instr {
@@ -70,6 +72,12 @@ impl Bank {
             Instr::BzG { rz, rd } => self.branch_green(rz, rd),
             Instr::BzB { rz, rd, subst } => self.branch_blue(rz, rd, subst),
             Instr::Halt => Effect::Done,
+            Instr::Idx {
+                rd,
+                rs,
+                first,
+                length,
+            } => self.index(rd, rs, first, length),
         }
     }
 
@@ -98,6 +106,18 @@ impl Bank {
     {
         let Coloured { colour, word } = self.registers.get(rs);
         let word = apply(op, word, other);
+        self.write(rd, Coloured { colour, word })
+    }
+
+    /// Writes the address of the cell of a run that a register names, in the colour of that register.
+    #[inline(always)]
+    fn index(&mut self, rd: Reg, rs: Reg, first: u32, length: u32) -> Effect
+        requires { 0 < length }
+        ensures { DoesQuietly (writes rd (held self.old.registers rs.number).colour (cell_in_run first length (held self.old.registers rs.number).word))
+            self.old self.new result }
+    {
+        let Coloured { colour, word } = self.registers.get(rs);
+        let word = cell_in_run(first, length, word);
         self.write(rd, Coloured { colour, word })
     }
 
@@ -233,6 +253,15 @@ impl Bank {
             self.pass()
         }
     }
+}
+
+/// The address of the cell of a run that a word names.
+#[inline(always)]
+fn cell_in_run(first: u32, length: u32, word: u64) -> u64
+    requires { 0 < length }
+    ensures { result ≡ cell_in_run first length word }
+{
+    FIRST_CELL + (first as u64 + word % length as u64)
 }
 
 /// Whether the oldest entry is this pair.

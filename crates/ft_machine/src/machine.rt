@@ -40,6 +40,11 @@ impl Model for Machine {
     ghost use Rattle.ft_machine.specs.Inside.{state_of};
 
     ghost view = { state_of };
+
+    ghost use Rattle.std.specs.Prelude.{IfSome};
+    ghost use Rattle.ft_machine.specs.Lengths.{HasNoEmptyRun};
+
+    ghost invariant = { λ m. IfSome m.fetched HasNoEmptyRun };
 }
 
 impl Machine {

@@ -1,5 +1,5 @@
 //! What a machine does: strikes, single steps, and steps in a row.
-ghost use Rattle.std.specs.Prelude.{◌≡◌, ℕ, ◌≤◌, ◌<◌, IsTrue, true, None};
+ghost use Rattle.std.specs.Prelude.{◌≡◌, ℕ, ◌≤◌, ◌<◌, IsTrue, true, None, IfSome};
 ghost use Rattle.ft_types.specs.Objects.{instr_at};
 ghost use Rattle.ft_types.specs.Spellable.{IsSpellable};
 ghost use Rattle.ft_semantics.specs.State.{is_cell, HasCells};
@@ -8,6 +8,7 @@ ghost use Rattle.ft_semantics.specs.Strike.{is_there, struck_state};
 ghost use Rattle.ft_machine.specs.Answers.{Takes, TakesQuietly};
 ghost use Rattle.ft_machine.specs.Advances.{Advances, fetched_where};
 ghost use Rattle.ft_machine.specs.Effects.{doing, followed, told_effect, bank_of};
+ghost use Rattle.ft_machine.specs.Lengths.{HasNoEmptyRun};
 ghost use Rattle.ft_isa.specs.declared.output.Output as outputs;
 
 use crate::bank::Effect;
@@ -247,7 +248,8 @@ impl Machine {
 #[tactic(auto, using(ft_types::proofs::Counted::spellable_counted))]
 fn instr_at<P: Program>(program: &P, pc: u64) -> Option<Instr>
     requires { IsSpellable (P.object program.now) }
-    ensures { result ≡ instr_at (P.object program.now) pc }
+    ensures found { result ≡ instr_at (P.object program.now) pc }
+    ensures length { IfSome result HasNoEmptyRun }
 {
     if pc == 0 || pc > program.counts().instrs as u64 {
         return None;
@@ -258,7 +260,8 @@ fn instr_at<P: Program>(program: &P, pc: u64) -> Option<Instr>
 /// What is fetched after the last step of whole instructions.
 fn fetched_where<P: Program>(program: &P, pc: u64, last: Stepped) -> Option<Instr>
     requires { IsSpellable (P.object program.now) }
-    ensures { result ≡ fetched_where (P.object program.now) pc last }
+    ensures found { result ≡ fetched_where (P.object program.now) pc last }
+    ensures length { IfSome result HasNoEmptyRun }
 {
     match last {
         Stepped::Quiet => None,

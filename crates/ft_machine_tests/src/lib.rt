@@ -5,6 +5,8 @@
 #![tactic(auto)]
 
 #[cfg(test)]
+mod indexed;
+#[cfg(test)]
 mod machine;
 #[cfg(test)]
 mod strikes;

@@ -42,7 +42,7 @@ all_in_turn P [] h = All-nil P
 all_in_turn P (x ∷ xs) h = All-cons P x xs h.0 (all_in_turn P xs h.1)
 
 -- the words of the turns are words
-turns_fit : (n i : ℕ) → i + n ≤ 20000 → AllByRecursion (IsInstr 1) (turns_from i n)
+turns_fit : (n i : ℕ) → i + n ≤ 20000 → AllByRecursion (IsInstr 1 1) (turns_from i n)
 turns_fit zero i h = (tt, tt)
 turns_fit (suc n) i h =
     let three = small 3 (omega arith) in
@@ -50,13 +50,13 @@ turns_fit (suc n) i h =
     (three, (turn_number, (three, (turn_number, (tt, (tt, turns_fit n (suc i) (omega (arith, h))))))))
 
 -- so are those of the opening
-opening_fits : (is : List Instr) → AllByRecursion (IsInstr 1) is → All (IsInstr 1) (opening ++ is)
+opening_fits : (is : List Instr) → AllByRecursion (IsInstr 1 1) is → All (IsInstr 1 1) (opening ++ is)
 opening_fits is more =
     let out = small 1048576 (omega arith) in
     let none = small 0 (omega arith) in
     let ref_int : IsBasic 1 (ref int) = record { refs = omega arith; base = tt } in
     let plain : IsBasic 1 int = record { refs = omega arith; base = tt } in
-    all_in_turn (IsInstr 1) (opening ++ is) ((out, ref_int), ((out, ref_int), ((none, plain), ((none, plain), more))))
+    all_in_turn (IsInstr 1 1) (opening ++ is) ((out, ref_int), ((out, ref_int), ((none, plain), ((none, plain), more))))
 
 -- what holds of the one value of a list
 all_of_one : {X : Type 0} (P : X → Type 0) (x : X) → P x → All P (x ∷ [])

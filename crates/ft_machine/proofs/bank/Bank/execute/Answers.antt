@@ -16,3 +16,6 @@ returns-in-OpWord c =
 
 pub returns-in-Mov : goal.returns-in-Mov
 returns-in-Mov c = subst (λ i. Does (execute i) c.args.self.now c.write.new.self c.write.result c.args.wild.now c.args.wild.now) (sym c.in-Mov.is) (record { does = λ g b f. c.write.ensures.does g b f c.args.wild.now })
+
+pub returns-in-Idx : goal.returns-in-Idx
+returns-in-Idx c = subst (λ i. Does (execute i) c.args.self.now c.index.new.self c.index.result c.args.wild.now c.args.wild.now) (sym c.in-Idx.is) (record { does = λ g b f. c.index.ensures.does g b f c.args.wild.now })
