@@ -97,6 +97,7 @@ fn shape_row(scope: u8, shape: Shape) -> NodeRow
         Shape::Sel { memory, at } => (3, 0, memory, at, 0),
         Shape::Memory => (4, 0, 0, 0, 0),
         Shape::Upd { memory, at, value } => (5, 0, memory, at, value),
+        Shape::Rem { a, length } => (6, 0, a, length, 0),
     };
     NodeRow {
         kind,
@@ -240,6 +241,12 @@ fn instr_row(instr: Instr) -> CodeRow
         Instr::BzG { rz, rd } => code_row(6, rz.number(), rd.number(), 0, 0, 0),
         Instr::BzB { rz, rd, subst } => blue_row(6, rz.number(), rd.number(), subst),
         Instr::Halt => code_row(7, 0, 0, 0, 0, 0),
+        Instr::Idx {
+            rd,
+            rs,
+            first,
+            length,
+        } => code_row(8, rd.number(), rs.number(), 0, first, u64::from(length)),
     }
 }
 

@@ -9,11 +9,13 @@ ghost use Rattle.ft_format.specs.Broken.{IsSmall, broken, object_of};
 ghost use Rattle.ft_format.specs.Rows.{cell_rows, type_rows, header_row, spelling};
 ghost use Rattle.ft_format.specs.Fields.{header_numbers};
 ghost use Rattle.ft_format.specs.Format.{Spells};
+ghost use Rattle.ft_format.specs.declared.version.Version.{Version};
+ghost use Rattle.ft_format.specs.declared.version.Version.TheVariants.{Second};
 ghost use Rattle.ft_format.specs.Puts.{Puts};
 ghost use Rattle.ft_encode.specs.Written.{reg_bytes, pair_bytes};
 
 use crate::record::{base_code, base_type, write_all};
-use ft_format::{CellRow, Header, MAGIC, Places, TypeRow};
+use ft_format::{CellRow, Header, Places, TypeRow, Version};
 use ft_isa::NoMemory;
 use ft_types::{Cell, CodeType, Object};
 use std::alloc::Global;
@@ -44,7 +46,7 @@ fn count_queue(types: &[CodeType]) -> u32
 
 /// How many bytes the names of cells have.
 fn count_names(cells: &[Cell]) -> u32
-    requires { sum_by (λ c. length (name_of c)) cells.now ≤ 32768 }
+    requires { sum_by (λ c. length (name_of c)) cells.now ≤ 40960 }
     ensures { result ≡ sum_by (λ c. length (name_of c)) cells.now }
 {
     let mut count: u32 = 0;
@@ -54,14 +56,14 @@ fn count_names(cells: &[Cell]) -> u32
     count
 }
 
-/// The header of an object.
+/// The header of an object, in version 2.
 fn header_of(object: &Object) -> Header
     requires { IsSpellable object.now }
-    ensures row { header_numbers result ≡ header_row object.now }
+    ensures row { header_numbers result ≡ header_row Second object.now }
     ensures small { IsSmall result }
 {
     Header {
-        magic: MAGIC,
+        magic: Version::Second.magic(),
         cells: object.cells.len() as u32,
         nodes: object.nodes.len() as u32,
         types: object.types.len() as u32,
@@ -77,7 +79,7 @@ fn header_of(object: &Object) -> Header
 
 /// Puts the records of cells at the end.
 fn write_cells(cells: &[Cell], out: &mut Vec<u8>) -> Result<(), NoMemory>
-    requires { sum_by (λ c. length (name_of c)) cells.now ≤ 32768 }
+    requires { sum_by (λ c. length (name_of c)) cells.now ≤ 40960 }
     ensures { OnOk result (Puts out.old.items out.new.items (spelled cell_layout (cell_rows 0 cells.now))) }
 {
     let mut past: u32 = 0;
@@ -150,16 +152,18 @@ fn write_names(cells: &[Cell], out: &mut Vec<u8>) -> Result<(), NoMemory>
     Ok(())
 }
 
-/// The one spelling of an object that obeys the rules of the format.
+/// The version 2 spelling of an object that obeys the rules of the format.
 pub fn encode(alloc: Global, object: &Object) -> Result<Vec<u8>, NoMemory>
     requires { IsSpellable object.now }
     // What is written is the object's spelling.
-    ensures spelled { IfOk result (λ bytes. bytes.items ≡ spelling object.now) }
+    ensures spelled { IfOk result (λ bytes. bytes.items ≡ spelling Second object.now) }
     // It breaks no rule, and decoding it gives the object back.
     ensures unbroken { IfOk result (λ bytes. broken bytes.items ≡ None) }
-    ensures back { IfOk result (λ bytes. Spells bytes.items object.now × (object_of bytes.items ≡ object.now)) }
+    ensures back { IfOk result (λ bytes. Spells bytes.items Second object.now × (object_of bytes.items ≡ object.now)) }
+    // Whatever bytes of version 2 spell the object, they are what is written.
+    ensures one { IfOk result (λ bytes. (other : List ℕ) → Spells other Second object.now → other ≡ bytes.items) }
     // It begins no other spelling.
-    ensures apart { IfOk result (λ bytes. (rest : List ℕ) (other : Object) → Spells (bytes.items ++ rest) other → rest ≡ []) }
+    ensures apart { IfOk result (λ bytes. (rest : List ℕ) (v : Version) (other : Object) → Spells (bytes.items ++ rest) v other → rest ≡ []) }
 {
     let header = header_of(object);
     let mut out = Vec::with_capacity(alloc, Places::of(header).end)?;

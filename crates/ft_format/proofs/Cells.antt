@@ -1,6 +1,6 @@
 -- Cells and their records and names, both ways.
 use Rattle.std.proofs.Common.{◌≡◌, ℕ, zero, suc, ◌+◌, ◌-◌, ◌<◌, ◌≤◌, Bool, true, false, List, [], ◌∷◌, ◌++◌, length, take, drop, map, get_or, None, refl, sym, ap, ◌∙◌, subst, append_assoc, arith}
-use Rattle.std.specs.Prelude.{◌≢◌, ◌&&◌, ◌||◌, not, nat_le, nat_lt}
+use Rattle.std.specs.Prelude.{◌≢◌, ◌||◌, not, nat_le, nat_lt}
 use Rattle.std.specs.List.{AllByRecursion, AllPairs, flat_map, list_all, list_any}
 use Rattle.std.specs.Str.{bytes_eq}
 use Rattle.std.proofs.lemmas.Bool.{true≢false}
@@ -13,6 +13,8 @@ use Rattle.ft_types.specs.Objects.{name_of}
 use Rattle.ft_types.specs.Spellable.{IsBasic, is_letter, is_name_byte, is_name}
 use Rattle.ft_format.specs.declared.object_error.ObjectError.TheVariants as errors
 use Rattle.ft_format.specs.declared.header.Header.{Header}
+use Rattle.ft_format.specs.declared.version.Version.{Version}
+use Rattle.ft_format.specs.Versions.{version_of, longest_name, may_follow}
 use Rattle.ft_format.specs.Layout.{cell_layout}
 use Rattle.ft_format.specs.Rules.{must, ◌next◌, basic_broken, cell_broken}
 use Rattle.ft_format.specs.Rows.{cell_row, cell_rows}
@@ -20,13 +22,13 @@ use Rattle.ft_format.specs.Values.{past_of, cell_of, cells_of}
 use Rattle.ft_format.specs.Broken.{cells_broken, name_rest_broken, name_bytes_broken, name_broken, names_broken}
 use Rattle.ft_format.proofs.Layouts.{Fit, AllFit}
 use Rattle.ft_format.proofs.Unbroken.{held, both}
-use Rattle.ft_format.proofs.Codes.{le_held, lt_held, eq_held, le_true, lt_true, eq_true, basic_again, basic_fine, basic_back}
-use Rattle.ft_format.proofs.Instrs.{type_small, base_small}
+use Rattle.ft_format.proofs.Codes.{le_held, lt_held, eq_held, le_true, lt_true, eq_true, basic_again, basic_fine, basic_back, base_small, type_small}
+use Rattle.ft_format.proofs.Versions.{letter_follows, both_true, are_bytes_of_name}
 
 -- what is asked of a cell, but for the bytes of its name
-pub record IsCellBut (types : ℕ) (c : Cell) : Type 0 where
+pub record IsCellBut (v : Version) (types : ℕ) (c : Cell) : Type 0 where
   pub some : 0 < length c.name
-  pub name_length : length c.name ≤ 32
+  pub name_length : length c.name ≤ longest_name v
   pub basic : IsBasic types c.basic
   pub init : IsWord c.init
 
@@ -37,7 +39,7 @@ same_five p q r s t = rw (p, q, r, s, t) refl
 -- what a cell's record that breaks no rule stands for
 pub record CellAgain (h : Header) (names : List ℕ) (start : ℕ) (row : List ℕ) : Type 0 where
   pub written : cell_row (past_of row) (cell_of names start row) ≡ row
-  pub cell : IsCellBut h.types (cell_of names start row)
+  pub cell : IsCellBut (version_of h) h.types (cell_of names start row)
   pub past : start + length (cell_of names start row).name ≡ past_of row
   pub within : past_of row ≤ h.names
   pub split : drop start names ≡ (cell_of names start row).name ++ drop (past_of row) names
@@ -45,12 +47,13 @@ pub record CellAgain (h : Header) (names : List ℕ) (start : ℕ) (row : List �
 cell_again : (h : Header) (names : List ℕ) (start at : ℕ) (row : List ℕ) → length names ≡ h.names → Fit cell_layout row → cell_broken h start at row ≡ None → CellAgain h names start row
 cell_again h names start at (past ∷ refs ∷ base ∷ code_type ∷ init ∷ []) all fit n =
     let basic_rule = basic_broken h.types (at + 4) refs base code_type in
-    let r1 = both (must (nat_lt start past) (errors.Order at)) (must (nat_le past h.names) (errors.Order at) next (must (nat_le past (start + 32)) (errors.Name at) next basic_rule)) n in
-    let r2 = both (must (nat_le past h.names) (errors.Order at)) (must (nat_le past (start + 32)) (errors.Name at) next basic_rule) r1.1 in
-    let r3 = both (must (nat_le past (start + 32)) (errors.Name at)) basic_rule r2.1 in
+    let longest = longest_name (version_of h) in
+    let r1 = both (must (nat_lt start past) (errors.Order at)) (must (nat_le past h.names) (errors.Order at) next (must (nat_le past (start + longest)) (errors.Name at) next basic_rule)) n in
+    let r2 = both (must (nat_le past h.names) (errors.Order at)) (must (nat_le past (start + longest)) (errors.Name at) next basic_rule) r1.1 in
+    let r3 = both (must (nat_le past (start + longest)) (errors.Name at)) basic_rule r2.1 in
     let after = lt_held start past (errors.Order at) r1.0 in
     let within = le_held past h.names (errors.Order at) r2.0 in
-    let short = le_held past (start + 32) (errors.Name at) r3.0 in
+    let short = le_held past (start + longest) (errors.Name at) r3.0 in
     let basic = basic_again h.types (at + 4) refs base code_type r3.1 in
     let long : length (take (past - start) (drop start names)) ≡ past - start = length-take-le (past - start) (drop start names) (omega (arith, length-drop start names)) in
     let place : start + (past - start) ≡ past = omega arith in
@@ -71,7 +74,7 @@ cell_again h names start at (a ∷ b ∷ c ∷ d ∷ e ∷ z ∷ zs) all fit n =
 -- what records of cells that break no rule stand for
 pub record CellsAgain (h : Header) (names : List ℕ) (start : ℕ) (rs : List (List ℕ)) : Type 0 where
   pub written : cell_rows start (cells_of names start rs) ≡ rs
-  pub cells : AllByRecursion (IsCellBut h.types) (cells_of names start rs)
+  pub cells : AllByRecursion (IsCellBut (version_of h) h.types) (cells_of names start rs)
   pub left : List ℕ
   pub split : drop start names ≡ flat_map name_of (cells_of names start rs) ++ left
 
@@ -97,7 +100,7 @@ pub record CellsFine (h : Header) (names : List ℕ) (start at : ℕ) (cs : List
   pub back : cells_of names start (cell_rows start cs) ≡ cs
   pub fit : AllFit cell_layout (cell_rows start cs)
 
-pub cells_fine : (h : Header) (names : List ℕ) (start at : ℕ) (cs : List Cell) → h.types ≤ 4096 → h.names ≤ 32768 → length names ≡ h.names → start ≤ h.names → AllByRecursion (IsCellBut h.types) cs → drop start names ≡ flat_map name_of cs → CellsFine h names start at cs
+pub cells_fine : (h : Header) (names : List ℕ) (start at : ℕ) (cs : List Cell) → h.types ≤ 4096 → h.names ≤ 40960 → length names ≡ h.names → start ≤ h.names → AllByRecursion (IsCellBut (version_of h) h.types) cs → drop start names ≡ flat_map name_of cs → CellsFine h names start at cs
 unfolding cells_broken
 cells_fine h names start at [] m k all le i e = record { unbroken = refl; back = refl; fit = tt }
 cells_fine h names start at (c ∷ cs) m k all le i e =
@@ -110,41 +113,46 @@ cells_fine h names start at (c ∷ cs) m k all le i e =
     let name : take (past - start) (drop start names) ≡ c.name = ap (λ n. take n (drop start names)) size ∙ ap (take (length c.name)) e ∙ take_at c.name (flat_map name_of cs) (length c.name) refl in
     let after = cells_fine h names past (at + 16) cs m k all within i.1 rest in
     record {
-      unbroken = rw (lt_true start past (omega (arith, own.some)), le_true past h.names within, le_true past (start + 32) (omega (arith, own.name_length)), basic_fine h.types (at + 4) c.basic own.basic, after.unbroken) refl;
+      unbroken = rw (lt_true start past (omega (arith, own.some)), le_true past h.names within, le_true past (start + longest_name (version_of h)) (omega (arith, own.name_length)), basic_fine h.types (at + 4) c.basic own.basic, after.unbroken) refl;
       back = rw (name, basic_back c.basic, after.back) refl;
       fit = ((omega arith, (omega (arith, own.basic.refs), (omega (arith, base_small c.basic.base), (type_small h.types c.basic.base m own.basic.base, (own.init, tt))))), after.fit);
     }
 
+-- a cell has a name that a version allows
+pub record IsNamed (v : Version) (c : Cell) : Type 0 where
+  pub name : is_name c.name ≡ true
+  pub bytes : list_all (may_follow v) c.name ≡ true
+
 -- the bytes of a name
-rest_again : (at : ℕ) (bs : List ℕ) → name_rest_broken at bs ≡ None → list_all is_name_byte bs ≡ true
+rest_again : (v : Version) (at : ℕ) (bs : List ℕ) → name_rest_broken v at bs ≡ None → list_all (may_follow v) bs ≡ true
 unfolding name_rest_broken
-rest_again at [] n = refl
-rest_again at (b ∷ bs) n =
-    let parts = both (must (is_name_byte b) (errors.Name at)) (name_rest_broken (at + 1) bs) n in
-    let here : is_name_byte b ≡ true = held (is_name_byte b) (errors.Name at) parts.0 in
-    rw (here, rest_again (at + 1) bs parts.1) refl
+rest_again v at [] n = refl
+rest_again v at (b ∷ bs) n =
+    let parts = both (must (may_follow v b) (errors.Name at)) (name_rest_broken v (at + 1) bs) n in
+    let here : may_follow v b ≡ true = held (may_follow v b) (errors.Name at) parts.0 in
+    rw (here, rest_again v (at + 1) bs parts.1) refl
 
-name_again : (at : ℕ) (name : List ℕ) → 0 < length name → name_bytes_broken at name ≡ None → is_name name ≡ true
+name_again : (v : Version) (at : ℕ) (name : List ℕ) → 0 < length name → name_bytes_broken v at name ≡ None → (is_name name ≡ true) × (list_all (may_follow v) name ≡ true)
 unfolding name_bytes_broken
-name_again at [] some n = absurd (omega arith)
-name_again at (b ∷ bs) some n =
-    let parts = both (must (is_letter b) (errors.Name at)) (name_rest_broken (at + 1) bs) n in
+name_again v at [] some n = absurd (omega arith)
+name_again v at (b ∷ bs) some n =
+    let parts = both (must (is_letter b) (errors.Name at)) (name_rest_broken v (at + 1) bs) n in
     let here : is_letter b ≡ true = held (is_letter b) (errors.Name at) parts.0 in
-    rw (here, rest_again (at + 1) bs parts.1) refl
+    let rest = rest_again v (at + 1) bs parts.1 in
+    (rw (here, are_bytes_of_name v bs rest) refl, rw (letter_follows v b here, rest) refl)
 
-both_true : (a b : Bool) → (a && b) ≡ true → (a ≡ true) × (b ≡ true)
-both_true true b h = (refl, h)
-both_true false b h = absurd (cc)
-
-rest_fine : (at : ℕ) (bs : List ℕ) → list_all is_name_byte bs ≡ true → name_rest_broken at bs ≡ None
+rest_fine : (v : Version) (at : ℕ) (bs : List ℕ) → list_all (may_follow v) bs ≡ true → name_rest_broken v at bs ≡ None
 unfolding name_rest_broken
-rest_fine at [] h = refl
-rest_fine at (b ∷ bs) h = let two = both_true (is_name_byte b) (list_all is_name_byte bs) h in rw (two.0, rest_fine (at + 1) bs two.1) refl
+rest_fine v at [] h = refl
+rest_fine v at (b ∷ bs) h = let two = both_true (may_follow v b) (list_all (may_follow v) bs) h in rw (two.0, rest_fine v (at + 1) bs two.1) refl
 
-name_fine : (at : ℕ) (name : List ℕ) → is_name name ≡ true → name_bytes_broken at name ≡ None
+name_fine : (v : Version) (at : ℕ) (name : List ℕ) → is_name name ≡ true → list_all (may_follow v) name ≡ true → name_bytes_broken v at name ≡ None
 unfolding name_bytes_broken
-name_fine at [] h = refl
-name_fine at (b ∷ bs) h = let two = both_true (is_letter b) (list_all is_name_byte bs) h in rw (two.0, rest_fine (at + 1) bs two.1) refl
+name_fine v at [] h k = refl
+name_fine v at (b ∷ bs) h k =
+    let letter = both_true (is_letter b) (list_all is_name_byte bs) h in
+    let rest = both_true (may_follow v b) (list_all (may_follow v) bs) k in
+    rw (letter.0, rest_fine v (at + 1) bs rest.1) refl
 
 -- a name that none of the cells has
 not_not : (b : Bool) → not b ≡ true → b ≡ false
@@ -171,35 +179,36 @@ has_none name (c ∷ cs) h =
     rw (here, has_none name cs (λ k d lt. h (suc k) d (omega arith))) refl
 
 -- what names that break no rule are
-pub record NamesAgain (end : ℕ) (earlier : List Cell) (at : ℕ) (cs : List Cell) : Type 0 where
-  pub named : AllByRecursion (λ (c : Cell). is_name c.name ≡ true) cs
+pub record NamesAgain (v : Version) (end : ℕ) (earlier : List Cell) (at : ℕ) (cs : List Cell) : Type 0 where
+  pub named : AllByRecursion (IsNamed v) cs
   pub apart : AllPairs (λ x y. x ≢ y) (map name_of (earlier ++ cs))
   pub ends : at + length (flat_map name_of cs) ≡ end
 
-pub names_again : (types end : ℕ) (earlier : List Cell) (at : ℕ) (cs : List Cell) → AllByRecursion (IsCellBut types) cs → AllPairs (λ x y. x ≢ y) (map name_of earlier) → names_broken end earlier at cs ≡ None → NamesAgain end earlier at cs
+pub names_again : (v : Version) (types end : ℕ) (earlier : List Cell) (at : ℕ) (cs : List Cell) → AllByRecursion (IsCellBut v types) cs → AllPairs (λ x y. x ≢ y) (map name_of earlier) → names_broken v end earlier at cs ≡ None → NamesAgain v end earlier at cs
 unfolding names_broken
-names_again types end earlier at [] i apart n =
+names_again v types end earlier at [] i apart n =
     record { named = tt; apart = subst (λ l. AllPairs (λ x y. x ≢ y) (map name_of l)) (sym (append-nil earlier)) apart; ends = omega (arith, eq_held at end (errors.Order at) n) }
-names_again types end earlier at (c ∷ cs) i apart n =
-    let rest = names_broken end (earlier ++ c ∷ []) (at + length c.name) cs in
-    let r0 = both (name_broken earlier at c.name) rest n in
-    let r1 = both (name_bytes_broken at c.name) (must (not (list_any (λ (x : Cell). bytes_eq c.name x.name) earlier)) (errors.Name at)) r0.0 in
+names_again v types end earlier at (c ∷ cs) i apart n =
+    let rest = names_broken v end (earlier ++ c ∷ []) (at + length c.name) cs in
+    let r0 = both (name_broken v earlier at c.name) rest n in
+    let r1 = both (name_bytes_broken v at c.name) (must (not (list_any (λ (x : Cell). bytes_eq c.name x.name) earlier)) (errors.Name at)) r0.0 in
     let fresh = not_not _ (held (not (list_any (λ (x : Cell). bytes_eq c.name x.name) earlier)) (errors.Name at) r1.1) in
     let more : AllPairs (λ x y. x ≢ y) (map name_of (earlier ++ c ∷ [])) =
     subst (AllPairs (λ x y. x ≢ y)) (sym (map-append name_of earlier (c ∷ []))) (all_pairs_push (λ x y. x ≢ y) (map name_of earlier) c.name apart (none_has c.name earlier fresh)) in
-    let after = names_again types end (earlier ++ c ∷ []) (at + length c.name) cs i.1 more r0.1 in
+    let own = name_again v at c.name i.0.some r1.0 in
+    let after = names_again v types end (earlier ++ c ∷ []) (at + length c.name) cs i.1 more r0.1 in
     record {
-      named = (name_again at c.name i.0.some r1.0, after.named);
+      named = (record { name = own.0; bytes = own.1 }, after.named);
       apart = subst (λ l. AllPairs (λ x y. x ≢ y) (map name_of l)) (append_assoc earlier (c ∷ []) cs) after.apart;
       ends = omega (arith, after.ends, length-append c.name (flat_map name_of cs));
     }
 
 -- names that are names and differ break no rule
-pub names_fine : (end : ℕ) (earlier : List Cell) (at : ℕ) (cs : List Cell) → AllByRecursion (λ (c : Cell). is_name c.name ≡ true) cs → AllPairs (λ x y. x ≢ y) (map name_of (earlier ++ cs)) → at + length (flat_map name_of cs) ≡ end
-    → names_broken end earlier at cs ≡ None
+pub names_fine : (v : Version) (end : ℕ) (earlier : List Cell) (at : ℕ) (cs : List Cell) → AllByRecursion (IsNamed v) cs → AllPairs (λ x y. x ≢ y) (map name_of (earlier ++ cs)) → at + length (flat_map name_of cs) ≡ end
+    → names_broken v end earlier at cs ≡ None
 unfolding names_broken
-names_fine end earlier at [] named apart e = rw (eq_true at end (omega (arith, e))) refl
-names_fine end earlier at (c ∷ cs) named apart e =
+names_fine v end earlier at [] named apart e = rw (eq_true at end (omega (arith, e))) refl
+names_fine v end earlier at (c ∷ cs) named apart e =
     let all = map name_of earlier ++ c.name ∷ map name_of cs in
     let is : map name_of (earlier ++ c ∷ cs) ≡ all = map-append name_of earlier (c ∷ cs) in
     let pairs : AllPairs (λ x y. x ≢ y) all = subst (AllPairs (λ x y. x ≢ y)) is apart in
@@ -207,6 +216,6 @@ names_fine end earlier at (c ∷ cs) named apart e =
     let fresh : list_any (λ (x : Cell). bytes_eq c.name x.name) earlier ≡ false =
     has_none c.name earlier (λ k d lt same. pairs k (length (map name_of earlier)) d lt (omega (arith, length-append (map name_of earlier) (c.name ∷ map name_of cs)))
     (get_or_append_left (map name_of earlier) (c.name ∷ map name_of cs) d k lt ∙ same ∙ sym (own d))) in
-    let after = names_fine end (earlier ++ c ∷ []) (at + length c.name) cs named.1 (subst (λ l. AllPairs (λ x y. x ≢ y) (map name_of l)) (sym (append_assoc earlier (c ∷ []) cs)) apart)
+    let after = names_fine v end (earlier ++ c ∷ []) (at + length c.name) cs named.1 (subst (λ l. AllPairs (λ x y. x ≢ y) (map name_of l)) (sym (append_assoc earlier (c ∷ []) cs)) apart)
     (omega (arith, e, length-append c.name (flat_map name_of cs))) in
-    rw (name_fine at c.name named.0, fresh, after) refl
+    rw (name_fine v at c.name named.0.name named.0.bytes, fresh, after) refl

@@ -9,7 +9,7 @@ use Rattle.ft_isa.specs.declared.reg.Reg.{Reg}
 use Rattle.ft_isa.specs.declared.colour.Colour.{Colour}
 use Rattle.ft_isa.specs.declared.colour.Colour.TheVariants.{Green, Blue}
 use Rattle.ft_isa.specs.declared.op.Op.{Op}
-use Rattle.ft_isa.specs.declared.op.Op.TheVariants.{Add, Sub, Mul, Ltu, Eq}
+use Rattle.ft_isa.specs.declared.op.Op.TheVariants.{Add, Sub, Mul, Ltu, Eq, And, Or, Xor, Shl, Shr}
 use Rattle.ft_isa.specs.declared.basic.Base.{Base}
 use Rattle.ft_isa.specs.declared.basic.Base.TheVariants.{Int, Code}
 use Rattle.ft_isa.specs.declared.basic.Basic.{Basic}
@@ -21,7 +21,11 @@ use Rattle.ft_format.specs.declared.object_error.ObjectError.TheVariants as erro
 use Rattle.ft_format.specs.Rules.{must, ◌next◌, colour_broken, op_broken, register_broken, code_type_broken, basic_broken}
 use Rattle.ft_format.specs.Rows.{colour_code, base_code, base_type}
 use Rattle.ft_format.specs.Values.{or_first, register_of, colour_of, op_of, base_of, basic_type_of}
+use Rattle.ft_format.specs.declared.version.Version.{Version}
+use Rattle.ft_format.specs.Versions.{last_op}
+use Rattle.ft_format.specs.Format.{SupportsOp}
 use Rattle.ft_format.proofs.Unbroken.{held, both}
+use Rattle.ft_format.proofs.Versions.{few_ops}
 
 -- what a test that must hold says, and that it holds
 pub le_held : (n m : ℕ) (e : ObjectError) → must (nat_le n m) e ≡ None → n ≤ m
@@ -51,33 +55,27 @@ up_to_1 P a b zero h = a
 up_to_1 P a b (suc zero) h = b
 up_to_1 P a b (suc (suc n)) h = absurd (omega arith)
 
-pub up_to_4 : (P : ℕ → Type 0) → P 0 → P 1 → P 2 → P 3 → P 4 → (n : ℕ) → n ≤ 4 → P n
-up_to_4 P a b c d e zero h = a
-up_to_4 P a b c d e (suc zero) h = b
-up_to_4 P a b c d e (suc (suc zero)) h = c
-up_to_4 P a b c d e (suc (suc (suc zero))) h = d
-up_to_4 P a b c d e (suc (suc (suc (suc zero)))) h = e
-up_to_4 P a b c d e (suc (suc (suc (suc (suc n))))) h = absurd (omega arith)
+pub up_to_6 : (P : ℕ → Type 0) → P 0 → P 1 → P 2 → P 3 → P 4 → P 5 → P 6 → (n : ℕ) → n ≤ 6 → P n
+up_to_6 P a b c d e f g zero h = a
+up_to_6 P a b c d e f g (suc zero) h = b
+up_to_6 P a b c d e f g (suc (suc zero)) h = c
+up_to_6 P a b c d e f g (suc (suc (suc zero))) h = d
+up_to_6 P a b c d e f g (suc (suc (suc (suc zero)))) h = e
+up_to_6 P a b c d e f g (suc (suc (suc (suc (suc zero))))) h = f
+up_to_6 P a b c d e f g (suc (suc (suc (suc (suc (suc zero)))))) h = g
+up_to_6 P a b c d e f g (suc (suc (suc (suc (suc (suc (suc n))))))) h = absurd (omega arith)
 
-pub up_to_5 : (P : ℕ → Type 0) → P 0 → P 1 → P 2 → P 3 → P 4 → P 5 → (n : ℕ) → n ≤ 5 → P n
-up_to_5 P a b c d e f zero h = a
-up_to_5 P a b c d e f (suc zero) h = b
-up_to_5 P a b c d e f (suc (suc zero)) h = c
-up_to_5 P a b c d e f (suc (suc (suc zero))) h = d
-up_to_5 P a b c d e f (suc (suc (suc (suc zero)))) h = e
-up_to_5 P a b c d e f (suc (suc (suc (suc (suc zero))))) h = f
-up_to_5 P a b c d e f (suc (suc (suc (suc (suc (suc n)))))) h = absurd (omega arith)
-
-pub up_to_7 : (P : ℕ → Type 0) → P 0 → P 1 → P 2 → P 3 → P 4 → P 5 → P 6 → P 7 → (n : ℕ) → n ≤ 7 → P n
-up_to_7 P a b c d e f g k zero h = a
-up_to_7 P a b c d e f g k (suc zero) h = b
-up_to_7 P a b c d e f g k (suc (suc zero)) h = c
-up_to_7 P a b c d e f g k (suc (suc (suc zero))) h = d
-up_to_7 P a b c d e f g k (suc (suc (suc (suc zero)))) h = e
-up_to_7 P a b c d e f g k (suc (suc (suc (suc (suc zero))))) h = f
-up_to_7 P a b c d e f g k (suc (suc (suc (suc (suc (suc zero)))))) h = g
-up_to_7 P a b c d e f g k (suc (suc (suc (suc (suc (suc (suc zero))))))) h = k
-up_to_7 P a b c d e f g k (suc (suc (suc (suc (suc (suc (suc (suc n)))))))) h = absurd (omega arith)
+pub up_to_8 : (P : ℕ → Type 0) → P 0 → P 1 → P 2 → P 3 → P 4 → P 5 → P 6 → P 7 → P 8 → (n : ℕ) → n ≤ 8 → P n
+up_to_8 P a b c d e f g k l zero h = a
+up_to_8 P a b c d e f g k l (suc zero) h = b
+up_to_8 P a b c d e f g k l (suc (suc zero)) h = c
+up_to_8 P a b c d e f g k l (suc (suc (suc zero))) h = d
+up_to_8 P a b c d e f g k l (suc (suc (suc (suc zero)))) h = e
+up_to_8 P a b c d e f g k l (suc (suc (suc (suc (suc zero))))) h = f
+up_to_8 P a b c d e f g k l (suc (suc (suc (suc (suc (suc zero)))))) h = g
+up_to_8 P a b c d e f g k l (suc (suc (suc (suc (suc (suc (suc zero))))))) h = k
+up_to_8 P a b c d e f g k l (suc (suc (suc (suc (suc (suc (suc (suc zero)))))))) h = l
+up_to_8 P a b c d e f g k l (suc (suc (suc (suc (suc (suc (suc (suc (suc n))))))))) h = absurd (omega arith)
 
 -- colours
 pub colour_again : (at n : ℕ) → colour_broken at n ≡ None → colour_code (colour_of n) ≡ n
@@ -91,9 +89,34 @@ pub colour_fine : (at : ℕ) (c : Colour) → colour_broken at (colour_code c) �
 colour_fine at Green = refl
 colour_fine at Blue = refl
 
+pub colour_small : (c : Colour) → colour_code c ≤ 1
+colour_small Green = omega arith
+colour_small Blue = omega arith
+
 -- operations
-pub op_again : (at n : ℕ) → op_broken at n ≡ None → op_code (op_of n) ≡ n
-op_again at n h = up_to_4 (λ k. op_code (op_of k) ≡ k) refl refl refl refl refl n (le_held n 4 (errors.Kind at) h)
+code_again : (n : ℕ) → n ≤ 9 → op_code (op_of n) ≡ n
+code_again zero h = refl
+code_again (suc zero) h = refl
+code_again (suc (suc zero)) h = refl
+code_again (suc (suc (suc zero))) h = refl
+code_again (suc (suc (suc (suc zero)))) h = refl
+code_again (suc (suc (suc (suc (suc zero))))) h = refl
+code_again (suc (suc (suc (suc (suc (suc zero)))))) h = refl
+code_again (suc (suc (suc (suc (suc (suc (suc zero))))))) h = refl
+code_again (suc (suc (suc (suc (suc (suc (suc (suc zero)))))))) h = refl
+code_again (suc (suc (suc (suc (suc (suc (suc (suc (suc zero))))))))) h = refl
+code_again (suc (suc (suc (suc (suc (suc (suc (suc (suc (suc n)))))))))) h = absurd (omega arith)
+
+-- what the code of an operation that breaks no rule stands for
+pub record OpAgain (v : Version) (n : ℕ) : Type 0 where
+  pub code : op_code (op_of n) ≡ n
+  pub has : SupportsOp v (op_of n)
+
+pub op_again : (v : Version) (at n : ℕ) → op_broken v at n ≡ None → OpAgain v n
+op_again v at n h =
+    let few : n ≤ last_op v = le_held n (last_op v) (errors.Kind at) h in
+    let code : op_code (op_of n) ≡ n = code_again n (omega (arith, few, few_ops v)) in
+    record { code = code; has = rw code few }
 
 pub op_back : (o : Op) → op_of (op_code o) ≡ o
 op_back Add = refl
@@ -101,13 +124,14 @@ op_back Sub = refl
 op_back Mul = refl
 op_back Ltu = refl
 op_back Eq = refl
+op_back And = refl
+op_back Or = refl
+op_back Xor = refl
+op_back Shl = refl
+op_back Shr = refl
 
-pub op_fine : (at : ℕ) (o : Op) → op_broken at (op_code o) ≡ None
-op_fine at Add = refl
-op_fine at Sub = refl
-op_fine at Mul = refl
-op_fine at Ltu = refl
-op_fine at Eq = refl
+pub op_fine : (v : Version) (at : ℕ) (o : Op) → SupportsOp v o → op_broken v at (op_code o) ≡ None
+op_fine v at o h = rw (le_true (op_code o) (last_op v) h) refl
 
 -- registers
 same_reg : (n : ℕ) (h : n < 64) (b : Bool) (e : nat_lt n 64 ≡ b) → b ≡ true → reg_if n b e ≡ Some (record { number = n; in_range = h })
@@ -155,6 +179,15 @@ base_back (Code t) = refl
 
 pub basic_back : (b : Basic) → basic_type_of b.refs (base_code b.base) (base_type b.base) ≡ b
 basic_back b = ap (λ x. record { refs = b.refs; base = x }) (base_back b.base)
+
+-- bounds of the parts of a basic type
+pub base_small : (b : Base) → base_code b ≤ 1
+base_small Int = omega arith
+base_small (Code t) = omega arith
+
+pub type_small : (types : ℕ) (b : Base) → types ≤ 4096 → IsBase types b → base_type b < 2 ^ 16
+type_small types Int m h = omega arith
+type_small types (Code t) m h = omega arith
 
 -- words in two halves
 pub high_back : (high low : ℕ) → low < 2 ^ 32 → high_half (joined high low) ≡ high

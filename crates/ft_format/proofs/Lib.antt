@@ -14,5 +14,6 @@ pub mod SpelledBytes
 pub mod Substitutions
 pub mod Types
 pub mod Unbroken
+pub mod Versions
 pub mod Write
 pub mod Written

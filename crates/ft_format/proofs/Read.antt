@@ -1,30 +1,33 @@
 -- Bytes that break no rule are spelled of the object that is read of them.
-use Rattle.std.proofs.Common.{◌≡◌, ℕ, suc, ◌+◌, ◌-◌, ◌*◌, ◌<◌, ◌≤◌, true, List, [], ◌∷◌, ◌++◌, length, drop, map, None, refl, sym, ap, ◌∙◌, subst, arith}
-use Rattle.std.specs.Prelude.{◌==◌, nat_le, nat_lt}
+use Rattle.std.proofs.Common.{◌≡◌, ℕ, suc, ◌+◌, ◌-◌, ◌*◌, ◌<◌, ◌≤◌, List, [], ◌∷◌, ◌++◌, length, drop, map, None, refl, sym, ap, ◌∙◌, subst, arith}
+use Rattle.std.specs.Prelude.{nat_le, nat_lt}
 use Rattle.std.specs.Int.{Width}
 use Rattle.std.specs.List.{AllByRecursion}
 use Rattle.std.proofs.lemmas.List.{append-nil, length-append, length-drop, take-append-drop, drop-drop}
 use Rattle.ft_static.specs.declared.node.Node.{Node}
 use Rattle.ft_types.specs.declared.object.Cell.{Cell}
 use Rattle.ft_types.specs.declared.object.RegType.{RegType}
-use Rattle.ft_types.specs.Spellable.{IsCell, is_name}
+use Rattle.ft_types.specs.Spellable.{IsCell}
 use Rattle.ft_format.specs.declared.object_error.ObjectError.TheVariants as errors
 use Rattle.ft_format.specs.declared.header.Header.{Header}
-use Rattle.ft_format.specs.Format.{AreBytes}
+use Rattle.ft_format.specs.declared.version.Version.{Version}
+use Rattle.ft_format.specs.Versions.{magic, is_magic, version_of, most_name_bytes}
+use Rattle.ft_format.specs.Format.{AreBytes, SupportsName}
 use Rattle.ft_format.specs.Layout.{size, rows, spelled, type_layout, reg_layout, pair_layout}
 use Rattle.ft_format.specs.Rules.{must, ◌next◌, count_broken, some_broken, header_broken}
-use Rattle.ft_format.specs.Rows.{magic, reg_row, queue_row}
+use Rattle.ft_format.specs.Rows.{reg_row, queue_row}
 use Rattle.ft_format.specs.Values.{past_of, cells_of, types_of, regs_end_of, queue_end_of, reg_type_of, pair_of}
 use Rattle.ft_format.specs.Broken.{IsSmall, types_broken, regs_broken, queues_broken, types_at, regs_at, queue_at, types_part, regs_part, queue_part, type_rows_of, code_types_broken}
 use Rattle.ft_format.proofs.Layouts.{AreNarrow, rows_again, rows_fit, bytes_after}
-use Rattle.ft_format.proofs.Unbroken.{both}
-use Rattle.ft_format.proofs.Codes.{le_held, lt_held, eq_held}
-use Rattle.ft_format.proofs.Cells.{IsCellBut}
+use Rattle.ft_format.proofs.Unbroken.{held, both}
+use Rattle.ft_format.proofs.Codes.{le_held, lt_held}
+use Rattle.ft_format.proofs.Versions.{magic_names, short_names, few_name_bytes}
+use Rattle.ft_format.proofs.Cells.{IsCellBut, IsNamed}
 use Rattle.ft_format.proofs.Types.{TypesAre, types_again}
 
 -- a header that breaks no rule
 pub record IsHeader (h : Header) : Type 0 where
-  pub magic_is : h.magic ≡ magic
+  pub magic_is : h.magic ≡ magic (version_of h)
   pub small : IsSmall h
   pub some_type : 0 < h.types
   pub some_block : 0 < h.blocks
@@ -34,7 +37,7 @@ pub record IsHeader (h : Header) : Type 0 where
 pub header_again : (h : Header) → header_broken h ≡ None → IsHeader h
 header_again h n =
     let p11 = must (nat_lt h.entry h.blocks) (errors.Entry 44) in
-    let p10 = count_broken 32768 40 h.names in
+    let p10 = count_broken (most_name_bytes (version_of h)) 40 h.names in
     let p9 = count_broken 1048576 36 h.substs in
     let p8 = some_broken 65536 32 h.instrs in
     let p7 = some_broken 65536 28 h.blocks in
@@ -43,7 +46,7 @@ header_again h n =
     let p4 = some_broken 4096 16 h.types in
     let p3 = count_broken 1048576 12 h.nodes in
     let p2 = count_broken 1024 8 h.cells in
-    let r1 = both (must (h.magic == magic) (errors.Magic 0)) (p2 next (p3 next (p4 next (p5 next (p6 next (p7 next (p8 next (p9 next (p10 next p11))))))))) n in
+    let r1 = both (must (is_magic h.magic) (errors.Magic 0)) (p2 next (p3 next (p4 next (p5 next (p6 next (p7 next (p8 next (p9 next (p10 next p11))))))))) n in
     let r2 = both p2 (p3 next (p4 next (p5 next (p6 next (p7 next (p8 next (p9 next (p10 next p11)))))))) r1.1 in
     let r3 = both p3 (p4 next (p5 next (p6 next (p7 next (p8 next (p9 next (p10 next p11))))))) r2.1 in
     let r4 = both p4 (p5 next (p6 next (p7 next (p8 next (p9 next (p10 next p11)))))) r3.1 in
@@ -57,7 +60,7 @@ header_again h n =
     let blocks = both (must (nat_le 1 h.blocks) (errors.Count 28)) (count_broken 65536 28 h.blocks) r7.0 in
     let instrs = both (must (nat_le 1 h.instrs) (errors.Count 32)) (count_broken 65536 32 h.instrs) r8.0 in
     record {
-      magic_is = eq_held h.magic magic (errors.Magic 0) r1.0;
+      magic_is = magic_names h (held (is_magic h.magic) (errors.Magic 0) r1.0);
       small = record {
         cells = le_held h.cells 1024 (errors.Count 8) r2.0;
         nodes = le_held h.nodes 1048576 (errors.Count 12) r3.0;
@@ -67,7 +70,7 @@ header_again h n =
         blocks = le_held h.blocks 65536 (errors.Count 28) blocks.1;
         instrs = le_held h.instrs 65536 (errors.Count 32) instrs.1;
         substs = le_held h.substs 1048576 (errors.Count 36) r9.0;
-        names = le_held h.names 32768 (errors.Count 40) r10.0;
+        names = omega (arith, le_held h.names (most_name_bytes (version_of h)) (errors.Count 40) r10.0, few_name_bytes (version_of h));
       };
       some_type = le_held 1 h.types (errors.Count 16) types.0;
       some_block = le_held 1 h.blocks (errors.Count 28) blocks.0;
@@ -93,9 +96,13 @@ length_types_of start queue_start [] regs queue = refl
 length_types_of start queue_start (r ∷ rs) regs queue = ap suc (length_types_of (regs_end_of r) (queue_end_of r) rs (drop (regs_end_of r - start) regs) (drop (queue_end_of r - queue_start) queue))
 
 -- cells with names that are names
-pub whole_cells : (types : ℕ) (cs : List Cell) → AllByRecursion (IsCellBut types) cs → AllByRecursion (λ (c : Cell). is_name c.name ≡ true) cs → AllByRecursion (IsCell types) cs
-whole_cells types [] p q = tt
-whole_cells types (c ∷ cs) p q = (record { name = q.0; name_length = p.0.name_length; basic = p.0.basic; init = p.0.init }, whole_cells types cs p.1 q.1)
+pub whole_cells : (v : Version) (types : ℕ) (cs : List Cell) → AllByRecursion (IsCellBut v types) cs → AllByRecursion (IsNamed v) cs → AllByRecursion (IsCell types) cs
+whole_cells v types [] p q = tt
+whole_cells v types (c ∷ cs) p q = (record { name = q.0.name; name_length = omega (arith, p.0.name_length, short_names v); basic = p.0.basic; init = p.0.init }, whole_cells v types cs p.1 q.1)
+
+pub named_cells : (v : Version) (types : ℕ) (cs : List Cell) → AllByRecursion (IsCellBut v types) cs → AllByRecursion (IsNamed v) cs → AllByRecursion (SupportsName v) cs
+named_cells v types [] p q = tt
+named_cells v types (c ∷ cs) p q = (record { short = p.0.name_length; bytes = q.0.bytes }, named_cells v types cs p.1 q.1)
 
 -- the types with their rows, from the first row on
 pub record TypesRead (h : Header) (nodes : List Node) (trs : List (List ℕ)) (rb qb : List ℕ) (k l : ℕ) : Type 0 where

@@ -16,10 +16,9 @@ use Rattle.ft_format.specs.Values.{reg_type_of, pair_of, block_of, subst_node_of
 use Rattle.ft_format.specs.Broken.{first_of_row, type_regs_broken, type_queue_broken, blocks_broken, subst_rows_broken}
 use Rattle.ft_format.proofs.Layouts.{Fit, AllFit}
 use Rattle.ft_format.proofs.Unbroken.{both}
-use Rattle.ft_format.proofs.Codes.{le_held, lt_held, eq_held, le_true, lt_true, eq_true, colour_again, colour_back, colour_fine, register_again, register_back, register_fine, basic_again, basic_fine, basic_back}
+use Rattle.ft_format.proofs.Codes.{le_held, lt_held, eq_held, le_true, lt_true, eq_true, colour_again, colour_back, colour_fine, register_again, register_back, register_fine, basic_again, basic_fine, basic_back, colour_small, base_small, type_small}
 use Rattle.ft_format.proofs.References.{AreNarrowNodes, number_again, number_fine, named_again, named_fine}
 use Rattle.ft_format.proofs.Nodes.{same_seven}
-use Rattle.ft_format.proofs.Instrs.{colour_small, type_small, base_small}
 
 -- what a register row that breaks no rule stands for
 pub record RegAgain (types : ℕ) (nodes : List Node) (ints least : ℕ) (row : List ℕ) : Type 0 where

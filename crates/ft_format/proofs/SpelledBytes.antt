@@ -8,6 +8,7 @@ use Rattle.ft_types.specs.declared.object.Cell.{Cell}
 use Rattle.ft_types.specs.Objects.{name_of}
 use Rattle.ft_types.specs.Spellable.{is_name_byte, is_name, IsCell, IsSpellable}
 use Rattle.ft_types.specs.NodeRows.{node_row}
+use Rattle.ft_format.specs.declared.version.Version.{Version}
 use Rattle.ft_format.specs.Format.{AreBytes}
 use Rattle.ft_format.specs.Layout.{bytes_of, written, spelled, header_layout, cell_layout, code_layout, type_layout, reg_layout, pair_layout, subst_layout}
 use Rattle.ft_format.specs.Rows.{cell_rows, type_rows, reg_row, queue_row, block_row, instr_row, subst_row, all_regs, all_queue, header_row, spelling}
@@ -62,10 +63,10 @@ names_bytes types [] h = none_are
 names_bytes types (c ∷ cs) h = then c.name (flat_map name_of cs) (name_bytes c.name h.0.name) (names_bytes types cs h.1)
 
 -- the spelling of an object that obeys the rules
-pub spelling_bytes : (o : Object) → IsSpellable o → AreBytes (spelling o)
+pub spelling_bytes : (v : Version) (o : Object) → IsSpellable o → AreBytes (spelling v o)
 unfolding spelling
-spelling_bytes o s =
-    then _ _ (written_bytes header_layout (header_row o))
+spelling_bytes v o s =
+    then _ _ (written_bytes header_layout (header_row v o))
     (then _ _ (spelled_bytes cell_layout (cell_rows 0 o.cells))
     (then _ _ (spelled_bytes code_layout (map node_row o.nodes))
     (then _ _ (spelled_bytes type_layout (type_rows 0 0 o.types))

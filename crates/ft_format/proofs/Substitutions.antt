@@ -6,6 +6,7 @@ use Rattle.std.proofs.lemmas.Bool.Decides.{nat_tests}
 use Rattle.ft_static.specs.declared.node.Node.{Node}
 use Rattle.ft_format.specs.declared.object_error.ObjectError.TheVariants as errors
 use Rattle.ft_format.specs.declared.header.Header.{Header}
+use Rattle.ft_format.specs.Versions.{version_of, last_instr_kind}
 use Rattle.ft_format.specs.Rules.{must, ◌next◌, register_broken, zero_broken, colour_broken, substitution_broken, fields_broken, instr_broken}
 use Rattle.ft_format.specs.Values.{rows_past}
 use Rattle.ft_format.proofs.Unbroken.{both, after_three}
@@ -51,5 +52,5 @@ past_of_fields h nodes first at kind a b c x high low none few =
 
 -- the rows after an instruction's
 pub past_within : (h : Header) (nodes : List Node) (first at : ℕ) (row : List ℕ) → instr_broken h nodes first at row ≡ None → first ≤ h.substs → rows_past first row ≤ h.substs
-past_within h nodes first at (kind ∷ a ∷ b ∷ c ∷ x ∷ high ∷ low ∷ []) none few = past_of_fields h nodes first at kind a b c x high low (both (must (nat_le kind 7) (errors.Kind at)) _ none).1 few
+past_within h nodes first at (kind ∷ a ∷ b ∷ c ∷ x ∷ high ∷ low ∷ []) none few = past_of_fields h nodes first at kind a b c x high low (both (must (nat_le kind (last_instr_kind (version_of h))) (errors.Kind at)) _ none).1 few
 past_within h nodes first at _ none few = few

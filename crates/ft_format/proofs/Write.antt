@@ -13,28 +13,30 @@ use Rattle.ft_types.specs.Spellable.{IsCell, is_name, IsCodeType, HasCodeType, I
 use Rattle.ft_types.specs.NodeRows.{node_row}
 use Rattle.ft_format.specs.declared.object_error.ObjectError.TheVariants as errors
 use Rattle.ft_format.specs.declared.header.Header.{Header}
-use Rattle.ft_format.specs.Format.{Spells}
+use Rattle.ft_format.specs.declared.version.Version.{Version}
+use Rattle.ft_format.specs.Versions.{magic, version_of, most_name_bytes}
+use Rattle.ft_format.specs.Format.{SupportsName, SupportsNode, SupportsInstr, Supports, Spells}
 use Rattle.ft_format.specs.Layout.{size, numbers, written, rows, spelled, header_layout, cell_layout, code_layout, type_layout, reg_layout, pair_layout, subst_layout}
 use Rattle.ft_format.specs.Rules.{must, header_broken}
-use Rattle.ft_format.specs.Rows.{magic, cell_rows, type_rows, reg_row, queue_row, block_row, instr_row, subst_row, all_regs, all_queue, all_names, header_row, spelling}
+use Rattle.ft_format.specs.Rows.{cell_rows, type_rows, reg_row, queue_row, block_row, instr_row, subst_row, all_regs, all_queue, all_names, header_row, spelling}
 use Rattle.ft_format.specs.Values.{cells_of, node_of, types_of, reg_type_of, pair_of, block_of, instr_of, subst_node_of}
-use Rattle.ft_format.specs.Broken.{IsSmall, cells_broken, nodes_broken, types_broken, regs_broken, queues_broken, blocks_broken, instrs_broken, rows_taken, subst_rows_broken, nodes_at, types_at, regs_at, queue_at, blocks_at, instrs_at, substs_at, names_at, total, cells_part, nodes_part, regs_part, queue_part, blocks_part, substs_part, type_rows_of, instr_rows_of, cells_read, nodes_read, regs_read, queue_read, types_read, blocks_read, instrs_read, substs_read, tables_read, code_types_broken, tables_broken, header_at, broken, object_of}
+use Rattle.ft_format.specs.Broken.{IsSmall, cells_broken, nodes_broken, types_broken, regs_broken, queues_broken, blocks_broken, instrs_broken, rows_taken, subst_rows_broken, nodes_at, types_at, regs_at, queue_at, blocks_at, instrs_at, substs_at, names_at, total, cells_part, nodes_part, regs_part, queue_part, blocks_part, substs_part, type_rows_of, instr_rows_of, cells_read, nodes_read, regs_read, queue_read, types_read, blocks_read, instrs_read, substs_read, tables_read, code_types_broken, tables_broken, header_at, version_at, broken, object_of}
 use Rattle.std.proofs.lemmas.List.{length-append, length-map, drop-drop, drop_at}
 use Rattle.std.proofs.lemmas.List.Elements.{recursion_from_All}
-use Rattle.std.proofs.lemmas.List.Sums.{sum_by-le}
 use Rattle.ft_format.specs.Values.{header_of}
 use Rattle.ft_format.proofs.Layouts.{Fit, AllFit, numbers_back, rows_back, length_written, length_spelled}
 use Rattle.ft_format.proofs.Codes.{le_true, lt_true, eq_true}
 use Rattle.ft_format.proofs.Nodes.{Follow, nodes_follow, nodes_fine}
 use Rattle.ft_format.proofs.Instrs.{instrs_fine}
 use Rattle.ft_format.proofs.SmallRows.{all_blocks_fine, substs_fine}
-use Rattle.ft_format.proofs.Cells.{IsCellBut, cells_fine, names_fine}
+use Rattle.ft_format.proofs.Cells.{IsCellBut, IsNamed, cells_fine, names_fine}
+use Rattle.ft_format.proofs.Versions.{few_names, few_name_bytes, magic_small, magic_is, names_magic}
 use Rattle.ft_format.proofs.Types.{AreFewRows, type_rows_fine, all_regs_fine, all_queue_fine, types_back}
 
 -- the header of an object
-abbrev pub header_for : Object → Header
-header_for o = record {
-  magic = magic;
+abbrev pub header_for : Version → Object → Header
+header_for v o = record {
+  magic = magic v;
   cells = length o.cells;
   nodes = length o.nodes;
   types = length o.types;
@@ -53,13 +55,13 @@ first_byte [] h = absurd (cc)
 first_byte (b ∷ bs) h = omega arith
 
 -- cells, and their names
-cells_but : (types : ℕ) (cs : List Cell) → AllByRecursion (IsCell types) cs → AllByRecursion (IsCellBut types) cs
-cells_but types [] h = tt
-cells_but types (c ∷ cs) h = (record { some = first_byte c.name h.0.name; name_length = h.0.name_length; basic = h.0.basic; init = h.0.init }, cells_but types cs h.1)
+cells_but : (v : Version) (types : ℕ) (cs : List Cell) → AllByRecursion (IsCell types) cs → AllByRecursion (SupportsName v) cs → AllByRecursion (IsCellBut v types) cs
+cells_but v types [] h has = tt
+cells_but v types (c ∷ cs) h has = (record { some = first_byte c.name h.0.name; name_length = has.0.short; basic = h.0.basic; init = h.0.init }, cells_but v types cs h.1 has.1)
 
-named : (types : ℕ) (cs : List Cell) → AllByRecursion (IsCell types) cs → AllByRecursion (λ (c : Cell). is_name c.name ≡ true) cs
-named types [] h = tt
-named types (c ∷ cs) h = (h.0.name, named types cs h.1)
+named : (v : Version) (types : ℕ) (cs : List Cell) → AllByRecursion (IsCell types) cs → AllByRecursion (SupportsName v) cs → AllByRecursion (IsNamed v) cs
+named v types [] h has = tt
+named v types (c ∷ cs) h has = (record { name = h.0.name; bytes = has.0.bytes }, named v types cs h.1 has.1)
 
 -- how many records there are
 length_cell_rows : (start : ℕ) (cs : List Cell) → length (cell_rows start cs) ≡ length cs
@@ -80,12 +82,12 @@ section_rows ws rs at n bytes tail fit count e =
     ap (rows ws n) e ∙ ap (λ k. rows ws k (spelled ws rs ++ tail)) (sym count) ∙ rows_back ws rs tail fit
 
 -- how many bytes the names of cells have
-few_names : (o : Object) → IsSpellable o → length (all_names o) ≤ 32768
-few_names o s = omega (arith, length-flat_map name_of o.cells, sum_by-le (λ (x : Cell). length (name_of x)) 32 o.cells (λ k d lt. (s.cells k d lt).name_length), s.few_cells)
+few_bytes : (v : Version) (o : Object) → IsSpellable o → Supports v o → length (all_names o) ≤ most_name_bytes v
+few_bytes v o s has = omega (arith, length-flat_map name_of o.cells, few_names v o.cells s.few_cells has.names)
 
 -- the counts of a spellable object are within the limits
-small_for : (o : Object) → IsSpellable o → IsSmall (header_for o)
-small_for o s = record {
+small_for : (v : Version) (o : Object) → IsSpellable o → Supports v o → IsSmall (header_for v o)
+small_for v o s has = record {
   cells = s.few_cells;
   nodes = s.nodes.few;
   types = s.few_types;
@@ -94,14 +96,16 @@ small_for o s = record {
   blocks = s.few_blocks;
   instrs = s.few_instrs;
   substs = s.few_substs;
-  names = few_names o s;
+  names = omega (arith, few_bytes v o s has, few_name_bytes v);
 }
 
 -- its header breaks no rule, and its fields can hold it
-header_fine : (o : Object) → IsSpellable o → header_broken (header_for o) ≡ None
-header_fine o s =
-    let m = small_for o s in
+header_fine : (v : Version) (o : Object) → IsSpellable o → Supports v o → header_broken (header_for v o) ≡ None
+header_fine v o s has =
+    let m = small_for v o s has in
     rw (
+      magic_is v,
+      names_magic (header_for v o) v refl,
       le_true (length o.cells) 1024 m.cells,
       le_true (length o.nodes) 1048576 m.nodes,
       le_true 1 (length o.types) s.some_type,
@@ -113,43 +117,46 @@ header_fine o s =
       le_true 1 (length o.instrs) s.some_instr,
       le_true (length o.instrs) 65536 m.instrs,
       le_true (length o.substs) 1048576 m.substs,
-      le_true (length (all_names o)) 32768 m.names,
+      le_true (length (all_names o)) (most_name_bytes v) (few_bytes v o s has),
       lt_true o.entry (length o.blocks) s.entry,
     ) refl
 
-header_fit : (o : Object) → IsSpellable o → Fit header_layout (header_row o)
-header_fit o s =
-    let m = small_for o s in
-    (omega arith, (omega (arith, m.cells), (omega (arith, m.nodes), (omega (arith, m.types), (omega (arith, m.regs), (omega (arith, m.queue), (omega (arith, m.blocks), (omega (arith, m.instrs), (omega (arith, m.substs), (omega (arith, m.names), (omega (arith, s.entry, m.blocks), tt)))))))))))
+header_fit : (v : Version) (o : Object) → IsSpellable o → Supports v o → Fit header_layout (header_row v o)
+header_fit v o s has =
+    let m = small_for v o s has in
+    (magic_small v, (omega (arith, m.cells), (omega (arith, m.nodes), (omega (arith, m.types), (omega (arith, m.regs), (omega (arith, m.queue), (omega (arith, m.blocks), (omega (arith, m.instrs), (omega (arith, m.substs), (omega (arith, m.names), (omega (arith, s.entry, m.blocks), tt)))))))))))
 
 -- what is spelled breaks no rule, and is read again
-pub record Again (bytes : List ℕ) (o : Object) : Type 0 where
-  pub header : header_at bytes ≡ header_for o
-  pub total_is : length bytes ≡ total (header_for o)
-  pub unbroken : tables_broken (header_for o) bytes ≡ None
-  pub back : tables_read (header_for o) bytes ≡ o
+pub record Again (bytes : List ℕ) (v : Version) (o : Object) : Type 0 where
+  pub header : header_at bytes ≡ header_for v o
+  pub total_is : length bytes ≡ total (header_for v o)
+  pub unbroken : tables_broken (header_for v o) bytes ≡ None
+  pub back : tables_read (header_for v o) bytes ≡ o
 
-pub spelled_again : (bytes : List ℕ) (o : Object) → IsSpellable o → bytes ≡ spelling o → Again bytes o
+pub spelled_again : (bytes : List ℕ) (v : Version) (o : Object) → IsSpellable o → Supports v o → bytes ≡ spelling v o → Again bytes v o
 unfolding spelling tables_broken code_types_broken tables_read
-spelled_again bytes o s e =
-    let h = header_for o in
-    let m = small_for o s in
+spelled_again bytes v o s has e =
+    let h = header_for v o in
+    let m = small_for v o s has in
+    let w = version_of h in
+    let own : Supports w o = subst (λ x. Supports x o) (sym (names_magic h v refl)) has in
+    let with_names = recursion_from_All (SupportsName w) o.cells own.names in
     let ns = o.nodes in
     let cs = recursion_from_All (IsCell (length o.types)) o.cells s.cells in
-    let of_cells = cells_fine h (all_names o) 0 48 o.cells m.types m.names refl (omega arith) (cells_but (length o.types) o.cells cs) refl in
+    let of_cells = cells_fine h (all_names o) 0 48 o.cells m.types m.names refl (omega arith) (cells_but w (length o.types) o.cells cs with_names) refl in
     let follow : Follow [] ns = nodes_follow [] ns (λ k node f. let place : k ≡ 0 + k = omega arith in subst (λ i. IsNode ns i node) place (s.nodes.each k node f)) in
-    let of_nodes = nodes_fine [] (nodes_at h) ns s.nodes.few follow in
+    let of_nodes = nodes_fine w [] (nodes_at h) ns s.nodes.few follow (recursion_from_All (SupportsNode w) ns own.nodes) in
     let few : AreFewRows h ns = record { types = m.types; regs = m.regs; queue = m.queue; node_count = s.nodes.few } in
     let ts = recursion_from_All (IsCodeType (length o.types) ns) o.types s.types in
     let of_types = type_rows_fine h ns 0 0 (types_at h) o.types few ts (omega arith) (omega arith) in
     let of_regs = all_regs_fine h ns 0 0 (regs_at h) o.types (spelled pair_layout (map queue_row (all_queue o)) ++ (spelled pair_layout (map block_row o.blocks) ++ (spelled code_layout (map instr_row o.instrs) ++ (spelled subst_layout (map subst_row o.substs) ++ all_names o)))) few ts (omega arith) in
     let of_queue = all_queue_fine h ns 0 0 (queue_at h) o.types (spelled pair_layout (map block_row o.blocks) ++ (spelled code_layout (map instr_row o.instrs) ++ (spelled subst_layout (map subst_row o.substs) ++ all_names o))) few ts (omega arith) in
     let of_blocks = all_blocks_fine h (blocks_at h) o.blocks m.types m.instrs s.first_block s.blocks (recursion_from_All (HasCodeType (length o.types)) o.blocks s.block_types) in
-    let of_instrs = instrs_fine h ns 0 (instrs_at h) o.instrs (record { types = m.types; substs = m.substs; node_count = s.nodes.few }) (recursion_from_All (IsInstr (length o.types)) o.instrs s.instrs) s.covered in
+    let of_instrs = instrs_fine h ns 0 (instrs_at h) o.instrs (record { types = m.types; cells = m.cells; substs = m.substs; node_count = s.nodes.few }) (recursion_from_All (IsInstr (length o.types) (length o.cells)) o.instrs s.instrs) (recursion_from_All (SupportsInstr w) o.instrs own.instrs) s.covered in
     let of_substs = substs_fine ns (substs_at h) o.substs s.nodes.few (recursion_from_All (IsNodeIn ns 128 false) o.substs s.substs) in
-    let of_names = names_fine (total h) [] (names_at h) o.cells (named (length o.types) o.cells cs) s.names_differ refl in
-    let head = written header_layout (header_row o) in
-    let head_long : length head ≡ 48 = length_written header_layout (header_row o) (header_fit o s) in
+    let of_names = names_fine w (total h) [] (names_at h) o.cells (named w (length o.types) o.cells cs with_names) s.names_differ refl in
+    let head = written header_layout (header_row v o) in
+    let head_long : length head ≡ 48 = length_written header_layout (header_row v o) (header_fit v o s has) in
     let d_cells : drop 48 bytes ≡ (spelled cell_layout (cell_rows 0 o.cells) ++ (spelled code_layout (map node_row o.nodes) ++ (spelled type_layout (type_rows 0 0 o.types) ++ (spelled reg_layout (map reg_row (all_regs o)) ++ (spelled pair_layout (map queue_row (all_queue o)) ++ (spelled pair_layout (map block_row o.blocks) ++ (spelled code_layout (map instr_row o.instrs) ++ (spelled subst_layout (map subst_row o.substs) ++ all_names o)))))))) = ap (drop 48) e ∙ drop_at head (spelled cell_layout (cell_rows 0 o.cells) ++ (spelled code_layout (map node_row o.nodes) ++ (spelled type_layout (type_rows 0 0 o.types) ++ (spelled reg_layout (map reg_row (all_regs o)) ++ (spelled pair_layout (map queue_row (all_queue o)) ++ (spelled pair_layout (map block_row o.blocks) ++ (spelled code_layout (map instr_row o.instrs) ++ (spelled subst_layout (map subst_row o.substs) ++ all_names o)))))))) 48 head_long in
     let d_nodes : drop (nodes_at h) bytes ≡ (spelled code_layout (map node_row o.nodes) ++ (spelled type_layout (type_rows 0 0 o.types) ++ (spelled reg_layout (map reg_row (all_regs o)) ++ (spelled pair_layout (map queue_row (all_queue o)) ++ (spelled pair_layout (map block_row o.blocks) ++ (spelled code_layout (map instr_row o.instrs) ++ (spelled subst_layout (map subst_row o.substs) ++ all_names o))))))) = after_section cell_layout (cell_rows 0 o.cells) 48 (length o.cells) bytes (spelled code_layout (map node_row o.nodes) ++ (spelled type_layout (type_rows 0 0 o.types) ++ (spelled reg_layout (map reg_row (all_regs o)) ++ (spelled pair_layout (map queue_row (all_queue o)) ++ (spelled pair_layout (map block_row o.blocks) ++ (spelled code_layout (map instr_row o.instrs) ++ (spelled subst_layout (map subst_row o.substs) ++ all_names o))))))) of_cells.fit (length_cell_rows 0 o.cells) d_cells in
     let d_types : drop (types_at h) bytes ≡ (spelled type_layout (type_rows 0 0 o.types) ++ (spelled reg_layout (map reg_row (all_regs o)) ++ (spelled pair_layout (map queue_row (all_queue o)) ++ (spelled pair_layout (map block_row o.blocks) ++ (spelled code_layout (map instr_row o.instrs) ++ (spelled subst_layout (map subst_row o.substs) ++ all_names o)))))) = after_section code_layout (map node_row o.nodes) (nodes_at h) (length o.nodes) bytes (spelled type_layout (type_rows 0 0 o.types) ++ (spelled reg_layout (map reg_row (all_regs o)) ++ (spelled pair_layout (map queue_row (all_queue o)) ++ (spelled pair_layout (map block_row o.blocks) ++ (spelled code_layout (map instr_row o.instrs) ++ (spelled subst_layout (map subst_row o.substs) ++ all_names o)))))) of_nodes.2 (length-map o.nodes node_row) d_nodes in
@@ -178,7 +185,7 @@ spelled_again bytes o s e =
     let substs_are : substs_read h bytes ≡ o.substs = ap (map subst_node_of) r_substs ∙ of_substs.back in
     let taken : rows_taken 0 (instr_rows_of h bytes) ≡ length o.substs = ap (rows_taken 0) r_instrs ∙ of_instrs.taken in
     let p1 : cells_broken h 0 48 (rows cell_layout h.cells (cells_part bytes)) ≡ None = ap (cells_broken h 0 48) r_cells ∙ of_cells.unbroken in
-    let p2 : nodes_broken [] (nodes_at h) (rows code_layout h.nodes (nodes_part h bytes)) ≡ None = ap (nodes_broken [] (nodes_at h)) r_nodes ∙ of_nodes.0 in
+    let p2 : nodes_broken w [] (nodes_at h) (rows code_layout h.nodes (nodes_part h bytes)) ≡ None = ap (nodes_broken w [] (nodes_at h)) r_nodes ∙ of_nodes.0 in
     let p3 : types_broken h ns 0 0 (types_at h) (type_rows_of h bytes) ≡ None = ap (types_broken h ns 0 0 (types_at h)) r_types ∙ of_types.unbroken in
     let p4 : regs_broken h ns 0 (regs_at h) (type_rows_of h bytes) (regs_part h bytes) ≡ None = ap (λ l. regs_broken h ns 0 (regs_at h) l (regs_part h bytes)) r_types ∙ ap (regs_broken h ns 0 (regs_at h) (type_rows 0 0 o.types)) d_regs ∙ of_regs.unbroken in
     let p5 : queues_broken h ns 0 (queue_at h) (type_rows_of h bytes) (queue_part h bytes) ≡ None = ap (λ l. queues_broken h ns 0 (queue_at h) l (queue_part h bytes)) r_types ∙ ap (queues_broken h ns 0 (queue_at h) (type_rows 0 0 o.types)) d_queue ∙ of_queue.unbroken in
@@ -187,17 +194,17 @@ spelled_again bytes o s e =
     let p8 : subst_rows_broken ns (substs_at h) (rows subst_layout (length o.substs) (substs_part h bytes)) ≡ None = ap (subst_rows_broken ns (substs_at h)) r_substs ∙ of_substs.unbroken in
     let p9 : must (length o.substs == length o.substs) (errors.Order (substs_at h + 4 * length o.substs)) ≡ None = rw (eq_true (length o.substs) (length o.substs) refl) refl in
     record {
-      header = ap header_of (ap (numbers header_layout) e ∙ numbers_back header_layout (header_row o) (spelled cell_layout (cell_rows 0 o.cells) ++ (spelled code_layout (map node_row o.nodes) ++ (spelled type_layout (type_rows 0 0 o.types) ++ (spelled reg_layout (map reg_row (all_regs o)) ++ (spelled pair_layout (map queue_row (all_queue o)) ++ (spelled pair_layout (map block_row o.blocks) ++ (spelled code_layout (map instr_row o.instrs) ++ (spelled subst_layout (map subst_row o.substs) ++ all_names o)))))))) (header_fit o s));
+      header = ap header_of (ap (numbers header_layout) e ∙ numbers_back header_layout (header_row v o) (spelled cell_layout (cell_rows 0 o.cells) ++ (spelled code_layout (map node_row o.nodes) ++ (spelled type_layout (type_rows 0 0 o.types) ++ (spelled reg_layout (map reg_row (all_regs o)) ++ (spelled pair_layout (map queue_row (all_queue o)) ++ (spelled pair_layout (map block_row o.blocks) ++ (spelled code_layout (map instr_row o.instrs) ++ (spelled subst_layout (map subst_row o.substs) ++ all_names o)))))))) (header_fit v o s has));
       total_is = omega (arith, ap length e, length-append head (spelled cell_layout (cell_rows 0 o.cells) ++ (spelled code_layout (map node_row o.nodes) ++ (spelled type_layout (type_rows 0 0 o.types) ++ (spelled reg_layout (map reg_row (all_regs o)) ++ (spelled pair_layout (map queue_row (all_queue o)) ++ (spelled pair_layout (map block_row o.blocks) ++ (spelled code_layout (map instr_row o.instrs) ++ (spelled subst_layout (map subst_row o.substs) ++ all_names o)))))))), head_long, length-append (spelled cell_layout (cell_rows 0 o.cells)) (spelled code_layout (map node_row o.nodes) ++ (spelled type_layout (type_rows 0 0 o.types) ++ (spelled reg_layout (map reg_row (all_regs o)) ++ (spelled pair_layout (map queue_row (all_queue o)) ++ (spelled pair_layout (map block_row o.blocks) ++ (spelled code_layout (map instr_row o.instrs) ++ (spelled subst_layout (map subst_row o.substs) ++ all_names o))))))), length_spelled cell_layout (cell_rows 0 o.cells) of_cells.fit, length_cell_rows 0 o.cells, length-append (spelled code_layout (map node_row o.nodes)) (spelled type_layout (type_rows 0 0 o.types) ++ (spelled reg_layout (map reg_row (all_regs o)) ++ (spelled pair_layout (map queue_row (all_queue o)) ++ (spelled pair_layout (map block_row o.blocks) ++ (spelled code_layout (map instr_row o.instrs) ++ (spelled subst_layout (map subst_row o.substs) ++ all_names o)))))), length_spelled code_layout (map node_row o.nodes) of_nodes.2, length-map o.nodes node_row, length-append (spelled type_layout (type_rows 0 0 o.types)) (spelled reg_layout (map reg_row (all_regs o)) ++ (spelled pair_layout (map queue_row (all_queue o)) ++ (spelled pair_layout (map block_row o.blocks) ++ (spelled code_layout (map instr_row o.instrs) ++ (spelled subst_layout (map subst_row o.substs) ++ all_names o))))), length_spelled type_layout (type_rows 0 0 o.types) of_types.fit, length_type_rows 0 0 o.types, length-append (spelled reg_layout (map reg_row (all_regs o))) (spelled pair_layout (map queue_row (all_queue o)) ++ (spelled pair_layout (map block_row o.blocks) ++ (spelled code_layout (map instr_row o.instrs) ++ (spelled subst_layout (map subst_row o.substs) ++ all_names o)))), length_spelled reg_layout (map reg_row (all_regs o)) of_regs.fit, length-map (all_regs o) reg_row, length-append (spelled pair_layout (map queue_row (all_queue o))) (spelled pair_layout (map block_row o.blocks) ++ (spelled code_layout (map instr_row o.instrs) ++ (spelled subst_layout (map subst_row o.substs) ++ all_names o))), length_spelled pair_layout (map queue_row (all_queue o)) of_queue.fit, length-map (all_queue o) queue_row, length-append (spelled pair_layout (map block_row o.blocks)) (spelled code_layout (map instr_row o.instrs) ++ (spelled subst_layout (map subst_row o.substs) ++ all_names o)), length_spelled pair_layout (map block_row o.blocks) of_blocks.fit, length-map o.blocks block_row, length-append (spelled code_layout (map instr_row o.instrs)) (spelled subst_layout (map subst_row o.substs) ++ all_names o), length_spelled code_layout (map instr_row o.instrs) of_instrs.fit, length-map o.instrs instr_row, length-append (spelled subst_layout (map subst_row o.substs)) (all_names o), length_spelled subst_layout (map subst_row o.substs) of_substs.fit, length-map o.substs subst_row);
       unbroken = rw (cells_are, nodes_are, taken, p1, p2, p3, p4, p5, p6, p7, p8, p9) of_names;
       back = rw (cells_are, nodes_are, types_are, blocks_are, instrs_are, substs_are) refl;
     }
 
 -- the header stands in the first bytes, whatever follows
-header_first : (o : Object) (rest : List ℕ) → IsSpellable o → header_at (spelling o ++ rest) ≡ header_for o
+header_first : (v : Version) (o : Object) (rest : List ℕ) → IsSpellable o → Supports v o → header_at (spelling v o ++ rest) ≡ header_for v o
 unfolding spelling
-header_first o rest s =
-    ap header_of (ap (numbers header_layout) (append_assoc (written header_layout (header_row o)) (spelled cell_layout (cell_rows 0 o.cells) ++ (spelled code_layout (map node_row o.nodes) ++ (spelled type_layout (type_rows 0 0 o.types) ++ (spelled reg_layout (map reg_row (all_regs o)) ++ (spelled pair_layout (map queue_row (all_queue o)) ++ (spelled pair_layout (map block_row o.blocks) ++ (spelled code_layout (map instr_row o.instrs) ++ (spelled subst_layout (map subst_row o.substs) ++ all_names o)))))))) rest) ∙ numbers_back header_layout (header_row o) ((spelled cell_layout (cell_rows 0 o.cells) ++ (spelled code_layout (map node_row o.nodes) ++ (spelled type_layout (type_rows 0 0 o.types) ++ (spelled reg_layout (map reg_row (all_regs o)) ++ (spelled pair_layout (map queue_row (all_queue o)) ++ (spelled pair_layout (map block_row o.blocks) ++ (spelled code_layout (map instr_row o.instrs) ++ (spelled subst_layout (map subst_row o.substs) ++ all_names o)))))))) ++ rest) (header_fit o s))
+header_first v o rest s has =
+    ap header_of (ap (numbers header_layout) (append_assoc (written header_layout (header_row v o)) (spelled cell_layout (cell_rows 0 o.cells) ++ (spelled code_layout (map node_row o.nodes) ++ (spelled type_layout (type_rows 0 0 o.types) ++ (spelled reg_layout (map reg_row (all_regs o)) ++ (spelled pair_layout (map queue_row (all_queue o)) ++ (spelled pair_layout (map block_row o.blocks) ++ (spelled code_layout (map instr_row o.instrs) ++ (spelled subst_layout (map subst_row o.substs) ++ all_names o)))))))) rest) ∙ numbers_back header_layout (header_row v o) ((spelled cell_layout (cell_rows 0 o.cells) ++ (spelled code_layout (map node_row o.nodes) ++ (spelled type_layout (type_rows 0 0 o.types) ++ (spelled reg_layout (map reg_row (all_regs o)) ++ (spelled pair_layout (map queue_row (all_queue o)) ++ (spelled pair_layout (map block_row o.blocks) ++ (spelled code_layout (map instr_row o.instrs) ++ (spelled subst_layout (map subst_row o.substs) ++ all_names o)))))))) ++ rest) (header_fit v o s has))
 
 -- a list of no more length
 no_more : (a b rest : List ℕ) → a ++ rest ≡ b → length a ≡ length b → rest ≡ []
@@ -205,35 +212,40 @@ no_more a b [] e l = refl
 no_more a b (x ∷ xs) e l = absurd (omega (arith, ap length e, length-append a (x ∷ xs)))
 
 -- no spelling begins another
-pub spellings_apart : (a b : Object) (rest : List ℕ) → IsSpellable a → IsSpellable b → spelling a ++ rest ≡ spelling b → rest ≡ []
-spellings_apart a b rest s t e =
-    let of_a = spelled_again (spelling a) a s refl in
-    let of_b = spelled_again (spelling b) b t refl in
-    let same : header_for a ≡ header_for b = sym (header_first a rest s) ∙ ap header_at e ∙ of_b.header in
-    no_more (spelling a) (spelling b) rest e (of_a.total_is ∙ ap total same ∙ sym of_b.total_is)
+spellings_apart : (v w : Version) (a b : Object) (rest : List ℕ) → IsSpellable a → Supports v a → IsSpellable b → Supports w b → spelling v a ++ rest ≡ spelling w b → rest ≡ []
+spellings_apart v w a b rest s m t n e =
+    let of_a = spelled_again (spelling v a) v a s m refl in
+    let of_b = spelled_again (spelling w b) w b t n refl in
+    let same : header_for v a ≡ header_for w b = sym (header_first v a rest s m) ∙ ap header_at e ∙ of_b.header in
+    no_more (spelling v a) (spelling w b) rest e (of_a.total_is ∙ ap total same ∙ sym of_b.total_is)
 
 -- the same of the whole bytes
-pub spells_unbroken : (bytes : List ℕ) (o : Object) → Spells bytes o → broken bytes ≡ None
+pub spells_unbroken : (bytes : List ℕ) (v : Version) (o : Object) → Spells bytes v o → broken bytes ≡ None
 unfolding broken
-spells_unbroken bytes o i =
-    let a = spelled_again bytes o i.spellable i.spelled in
-    let h = header_for o in
-    let m = small_for o i.spellable in
+spells_unbroken bytes v o i =
+    let a = spelled_again bytes v o i.spellable i.has i.spelled in
+    let h = header_for v o in
+    let m = small_for v o i.spellable i.has in
     let long = a.total_is in
     rw (
       a.header,
       le_true (length bytes) 67108864 (omega (arith, m.cells, m.nodes, m.types, m.regs, m.queue, m.blocks, m.instrs, m.substs, m.names)),
       le_true 48 (length bytes) (omega arith),
-      header_fine o i.spellable,
+      header_fine v o i.spellable i.has,
       eq_true (length bytes) (total h) a.total_is,
       a.unbroken,
     ) refl
 
-pub spells_read : (bytes : List ℕ) (o : Object) → Spells bytes o → object_of bytes ≡ o
-spells_read bytes o i =
-    let a = spelled_again bytes o i.spellable i.spelled in
+pub spells_read : (bytes : List ℕ) (v : Version) (o : Object) → Spells bytes v o → object_of bytes ≡ o
+spells_read bytes v o i =
+    let a = spelled_again bytes v o i.spellable i.has i.spelled in
     ap (λ k. tables_read k bytes) a.header ∙ a.back
 
+pub spells_version : (bytes : List ℕ) (v : Version) (o : Object) → Spells bytes v o → version_at bytes ≡ v
+spells_version bytes v o i =
+    let a = spelled_again bytes v o i.spellable i.has i.spelled in
+    ap version_of a.header ∙ names_magic (header_for v o) v refl
+
 -- the same of the bytes that spell
-pub spells_apart : (bytes rest : List ℕ) (o other : Object) → Spells bytes o → Spells (bytes ++ rest) other → rest ≡ []
-spells_apart bytes rest o other p q = spellings_apart o other rest p.spellable q.spellable (sym (ap (λ l. l ++ rest) p.spelled) ∙ q.spelled)
+pub spells_apart : (bytes rest : List ℕ) (v w : Version) (o other : Object) → Spells bytes v o → Spells (bytes ++ rest) w other → rest ≡ []
+spells_apart bytes rest v w o other p q = spellings_apart v w o other rest p.spellable p.has q.spellable q.has (sym (ap (λ l. l ++ rest) p.spelled) ∙ q.spelled)

@@ -9,10 +9,12 @@ use Rattle.ft_types.specs.declared.object.CodeType.{CodeType}
 use Rattle.ft_types.specs.declared.object.RegType.{RegType}
 use Rattle.ft_types.specs.declared.object.Block.{Block}
 use Rattle.ft_isa.specs.declared.instr.Instr.{Instr}
-use Rattle.ft_types.specs.Spellable.{is_letter, is_name_byte}
+use Rattle.ft_types.specs.Spellable.{is_letter}
 use Rattle.ft_format.specs.declared.object_error.ObjectError.{ObjectError}
 use Rattle.ft_format.specs.declared.object_error.ObjectError.TheVariants as errors
 use Rattle.ft_format.specs.declared.header.Header.{Header}
+use Rattle.ft_format.specs.declared.version.Version.{Version}
+use Rattle.ft_format.specs.Versions.{version_of, may_follow}
 use Rattle.ft_format.specs.Layout.{numbers, rows, header_layout, cell_layout, code_layout, type_layout, reg_layout, pair_layout, subst_layout}
 use Rattle.ft_format.specs.Rules.{must, ◌next◌, header_broken, cell_broken, node_broken, type_broken, reg_broken, queue_broken, block_broken, instr_broken, subst_broken}
 use Rattle.ft_format.specs.Values.{past_of, cells_of, node_of, regs_end_of, queue_end_of, type_ints_of, types_of, reg_type_of, pair_of, block_of, instr_of, rows_past, subst_node_of, header_of}
@@ -28,9 +30,9 @@ cells_broken h start at [] = None
 cells_broken h start at (row ∷ rest) = cell_broken h start at row next cells_broken h (past_of row) (at + 16) rest
 
 -- nodes, after earlier ones
-unfoldable pub nodes_broken : List Node → ℕ → List (List ℕ) → Option ObjectError
-nodes_broken earlier at [] = None
-nodes_broken earlier at (row ∷ rest) = node_broken earlier at row next nodes_broken (earlier ++ node_of row ∷ []) (at + 16) rest
+unfoldable pub nodes_broken : Version → List Node → ℕ → List (List ℕ) → Option ObjectError
+nodes_broken v earlier at [] = None
+nodes_broken v earlier at (row ∷ rest) = node_broken v earlier at row next nodes_broken v (earlier ++ node_of row ∷ []) (at + 16) rest
 
 -- types, whose register rows and queue rows begin at these numbers
 unfoldable pub types_broken : Header → List Node → ℕ → ℕ → ℕ → List (List ℕ) → Option ObjectError
@@ -88,23 +90,23 @@ substs_broken h nodes taken at bytes =
     next must (taken == h.substs) (errors.Order (at + 4 * taken))
 
 -- the bytes of a name after its first
-unfoldable pub name_rest_broken : ℕ → List ℕ → Option ObjectError
-name_rest_broken at [] = None
-name_rest_broken at (b ∷ bs) = must (is_name_byte b) (errors.Name at) next name_rest_broken (at + 1) bs
+unfoldable pub name_rest_broken : Version → ℕ → List ℕ → Option ObjectError
+name_rest_broken v at [] = None
+name_rest_broken v at (b ∷ bs) = must (may_follow v b) (errors.Name at) next name_rest_broken v (at + 1) bs
 
 -- the bytes of a name
-unfoldable pub name_bytes_broken : ℕ → List ℕ → Option ObjectError
-name_bytes_broken at [] = None
-name_bytes_broken at (b ∷ bs) = must (is_letter b) (errors.Name at) next name_rest_broken (at + 1) bs
+unfoldable pub name_bytes_broken : Version → ℕ → List ℕ → Option ObjectError
+name_bytes_broken v at [] = None
+name_bytes_broken v at (b ∷ bs) = must (is_letter b) (errors.Name at) next name_rest_broken v (at + 1) bs
 
 -- a name, after those of earlier cells
-abbrev pub name_broken : List Cell → ℕ → List ℕ → Option ObjectError
-name_broken earlier at name = name_bytes_broken at name next must (not (list_any (λ c. bytes_eq name c.name) earlier)) (errors.Name at)
+abbrev pub name_broken : Version → List Cell → ℕ → List ℕ → Option ObjectError
+name_broken v earlier at name = name_bytes_broken v at name next must (not (list_any (λ c. bytes_eq name c.name) earlier)) (errors.Name at)
 
 -- the names of cells, after those of earlier ones, up to the end; a byte that is left belongs to none
-unfoldable pub names_broken : ℕ → List Cell → ℕ → List Cell → Option ObjectError
-names_broken end earlier at [] = must (at == end) (errors.Order at)
-names_broken end earlier at (c ∷ cs) = name_broken earlier at c.name next names_broken end (earlier ++ c ∷ []) (at + length c.name) cs
+unfoldable pub names_broken : Version → ℕ → List Cell → ℕ → List Cell → Option ObjectError
+names_broken v end earlier at [] = must (at == end) (errors.Order at)
+names_broken v end earlier at (c ∷ cs) = name_broken v earlier at c.name next names_broken v end (earlier ++ c ∷ []) (at + length c.name) cs
 
 -- where the nodes begin, after the header and the cells
 abbrev pub nodes_at : Header → ℕ
@@ -152,7 +154,7 @@ pub record IsSmall (h : Header) : Type 0 where
   pub blocks : h.blocks ≤ 65536
   pub instrs : h.instrs ≤ 65536
   pub substs : h.substs ≤ 1048576
-  pub names : h.names ≤ 32768
+  pub names : h.names ≤ 40960
 
 -- the bytes from the cells on
 abbrev pub cells_part : List ℕ → List ℕ
@@ -253,16 +255,20 @@ code_types_broken h nodes bytes =
 unfoldable pub tables_broken : Header → List ℕ → Option ObjectError
 tables_broken h bytes =
     cells_broken h 0 48 (rows cell_layout h.cells (cells_part bytes))
-    next nodes_broken [] (nodes_at h) (rows code_layout h.nodes (nodes_part h bytes))
+    next nodes_broken (version_of h) [] (nodes_at h) (rows code_layout h.nodes (nodes_part h bytes))
     next code_types_broken h (nodes_read h bytes) bytes
     next blocks_broken h None (blocks_at h) (rows pair_layout h.blocks (blocks_part h bytes))
     next instrs_broken h (nodes_read h bytes) 0 (instrs_at h) (instr_rows_of h bytes)
     next substs_broken h (nodes_read h bytes) (rows_taken 0 (instr_rows_of h bytes)) (substs_at h) (substs_part h bytes)
-    next names_broken (total h) [] (names_at h) (cells_read h bytes)
+    next names_broken (version_of h) (total h) [] (names_at h) (cells_read h bytes)
 
 -- the header of bytes
 abbrev pub header_at : List ℕ → Header
 header_at bytes = header_of (numbers header_layout bytes)
+
+-- the version that bytes name
+abbrev pub version_at : List ℕ → Version
+version_at bytes = version_of (header_at bytes)
 
 -- the rules that come before those of the sections: of the length, of the header, of the total
 abbrev pub front_broken : List ℕ → Option ObjectError

@@ -1,4 +1,5 @@
 pub mod Layout
+pub mod Versions
 pub mod Rows
 pub mod Rules
 pub mod Values

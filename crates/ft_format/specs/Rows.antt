@@ -7,7 +7,7 @@ use Rattle.ft_isa.specs.declared.basic.Base.{Base}
 use Rattle.ft_isa.specs.declared.basic.Base.TheVariants.{Int, Code}
 use Rattle.ft_isa.specs.declared.basic.Basic.{Basic}
 use Rattle.ft_isa.specs.declared.instr.Instr.{Instr}
-use Rattle.ft_isa.specs.declared.instr.Instr.TheVariants.{OpReg, OpWord, Mov, Ld, St, JmpG, JmpB, BzG, BzB, Halt}
+use Rattle.ft_isa.specs.declared.instr.Instr.TheVariants.{OpReg, OpWord, Mov, Ld, St, JmpG, JmpB, BzG, BzB, Halt, Idx}
 use Rattle.ft_types.specs.declared.object.Object.{Object}
 use Rattle.ft_types.specs.declared.object.Cell.{Cell}
 use Rattle.ft_types.specs.declared.object.Block.{Block}
@@ -15,6 +15,8 @@ use Rattle.ft_types.specs.declared.object.CodeType.{CodeType}
 use Rattle.ft_types.specs.declared.object.RegType.{RegType}
 use Rattle.ft_types.specs.Objects.{name_of, regs_of, queue_of}
 use Rattle.ft_types.specs.NodeRows.{op_code, high_half, low_half, node_row}
+use Rattle.ft_format.specs.declared.version.Version.{Version}
+use Rattle.ft_format.specs.Versions.{magic}
 use Rattle.ft_format.specs.Layout.{written, spelled, header_layout, cell_layout, code_layout, type_layout, reg_layout, pair_layout, subst_layout}
 
 -- the code of a colour
@@ -78,6 +80,7 @@ instr_row (JmpB rd s) = 5 ∷ rd.number ∷ 0 ∷ 1 ∷ s.first ∷ s.past ∷ s
 instr_row (BzG rz rd) = 6 ∷ rz.number ∷ rd.number ∷ 0 ∷ 0 ∷ 0 ∷ 0 ∷ []
 instr_row (BzB rz rd s) = 6 ∷ rz.number ∷ rd.number ∷ 1 ∷ s.first ∷ s.past ∷ s.memory ∷ []
 instr_row Halt = 7 ∷ 0 ∷ 0 ∷ 0 ∷ 0 ∷ 0 ∷ 0 ∷ []
+instr_row (Idx rd rs first m) = 8 ∷ rd.number ∷ rs.number ∷ 0 ∷ first ∷ 0 ∷ m ∷ []
 
 -- a substitution row
 abbrev pub subst_row : ℕ → List ℕ
@@ -95,20 +98,16 @@ all_queue o = flat_map queue_of o.types
 abbrev pub all_names : Object → List ℕ
 all_names o = flat_map name_of o.cells
 
--- the magic number and the version, hex 54414c4654000001: `TALFT`, and then 1 in three bytes
-abbrev pub magic : ℕ
-magic = 6071217637612847105
-
 -- the header
-abbrev pub header_row : Object → List ℕ
-header_row o =
-    magic ∷ length o.cells ∷ length o.nodes ∷ length o.types ∷ length (all_regs o) ∷ length (all_queue o)
+abbrev pub header_row : Version → Object → List ℕ
+header_row v o =
+    magic v ∷ length o.cells ∷ length o.nodes ∷ length o.types ∷ length (all_regs o) ∷ length (all_queue o)
     ∷ length o.blocks ∷ length o.instrs ∷ length o.substs ∷ length (all_names o) ∷ o.entry ∷ []
 
 -- the bytes of an object: the header, and nine sections
-unfoldable pub spelling : Object → List ℕ
-spelling o =
-    written header_layout (header_row o)
+unfoldable pub spelling : Version → Object → List ℕ
+spelling v o =
+    written header_layout (header_row v o)
     ++ (spelled cell_layout (cell_rows 0 o.cells)
     ++ (spelled code_layout (map node_row o.nodes)
     ++ (spelled type_layout (type_rows 0 0 o.types)

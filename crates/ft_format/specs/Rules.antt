@@ -5,7 +5,8 @@ use Rattle.ft_static.specs.NodeRules.{is_memory}
 use Rattle.ft_format.specs.declared.object_error.ObjectError.{ObjectError}
 use Rattle.ft_format.specs.declared.object_error.ObjectError.TheVariants as errors
 use Rattle.ft_format.specs.declared.header.Header.{Header}
-use Rattle.ft_format.specs.Rows.{magic}
+use Rattle.ft_format.specs.declared.version.Version.{Version}
+use Rattle.ft_format.specs.Versions.{is_magic, version_of, last_op, last_node_kind, last_instr_kind, longest_name, most_name_bytes}
 
 -- nothing where the test holds, else the error
 abbrev pub must : Bool → ObjectError → Option ObjectError
@@ -33,7 +34,7 @@ some_broken most at n = must (nat_le 1 n) (errors.Count at) next count_broken mo
 -- header, 48 bytes
 abbrev pub header_broken : Header → Option ObjectError
 header_broken h =
-    must (h.magic == magic) (errors.Magic 0)
+    must (is_magic h.magic) (errors.Magic 0)
     next count_broken 1024 8 h.cells
     next count_broken 1048576 12 h.nodes
     next some_broken 4096 16 h.types
@@ -42,7 +43,7 @@ header_broken h =
     next some_broken 65536 28 h.blocks
     next some_broken 65536 32 h.instrs
     next count_broken 1048576 36 h.substs
-    next count_broken 32768 40 h.names
+    next count_broken (most_name_bytes (version_of h)) 40 h.names
     next must (nat_lt h.entry h.blocks) (errors.Entry 44)
 
 -- the code of a colour
@@ -50,8 +51,8 @@ abbrev pub colour_broken : ℕ → ℕ → Option ObjectError
 colour_broken at n = must (nat_le n 1) (errors.Kind at)
 
 -- the code of an operation
-abbrev pub op_broken : ℕ → ℕ → Option ObjectError
-op_broken at n = must (nat_le n 4) (errors.Kind at)
+abbrev pub op_broken : Version → ℕ → ℕ → Option ObjectError
+op_broken v at n = must (nat_le n (last_op v)) (errors.Kind at)
 
 -- the number of a register
 abbrev pub register_broken : ℕ → ℕ → Option ObjectError
@@ -73,7 +74,7 @@ abbrev pub cell_broken : Header → ℕ → ℕ → List ℕ → Option ObjectEr
 cell_broken h start at (past ∷ refs ∷ base ∷ code_type ∷ init ∷ []) =
     must (nat_lt start past) (errors.Order at)
     next must (nat_le past h.names) (errors.Order at)
-    next must (nat_le past (start + 32)) (errors.Name at)
+    next must (nat_le past (start + longest_name (version_of h))) (errors.Name at)
     next basic_broken h.types (at + 4) refs base code_type
 cell_broken h start at _ = None
 
@@ -100,8 +101,8 @@ named_broken nodes scope memory at n =
     next must (is_within scope (slice_get nodes n)) (errors.Index at)
 
 -- the operation of a node, which only kind 2 has
-abbrev pub node_op_broken : ℕ → ℕ → ℕ → Option ObjectError
-node_op_broken at kind op = if kind == 2 then op_broken at op else zero_broken at op
+abbrev pub node_op_broken : Version → ℕ → ℕ → ℕ → Option ObjectError
+node_op_broken v at kind op = if kind == 2 then op_broken v at op else zero_broken at op
 
 -- a variable: its number is below the scope
 abbrev pub variable_broken : ℕ → ℕ → ℕ → ℕ → ℕ → Option ObjectError
@@ -125,6 +126,13 @@ upd_broken earlier at scope a b c =
     next named_broken earlier scope false (at + 8) b
     next named_broken earlier scope false (at + 12) c
 
+-- the remainder of an integer by a length
+abbrev pub rem_broken : List Node → ℕ → ℕ → ℕ → ℕ → ℕ → Option ObjectError
+rem_broken earlier at scope a b c =
+    named_broken earlier scope false (at + 4) a
+    next some_broken 1024 (at + 8) b
+    next zero_broken (at + 12) c
+
 -- the parts a, b and c of a node, by its kind; it refers to earlier nodes only
 abbrev pub parts_broken : List Node → ℕ → ℕ → ℕ → ℕ → ℕ → ℕ → Option ObjectError
 parts_broken earlier at kind scope a b c =
@@ -133,17 +141,18 @@ parts_broken earlier at kind scope a b c =
     else (if kind == 2 then pair_broken earlier false at scope a b c
     else (if kind == 3 then pair_broken earlier true at scope a b c
     else (if kind == 4 then memory_broken at a b c
-    else upd_broken earlier at scope a b c))))
+    else (if kind == 5 then upd_broken earlier at scope a b c
+    else rem_broken earlier at scope a b c)))))
 
 -- node, 16 bytes, after the earlier nodes
-abbrev pub node_broken : List Node → ℕ → List ℕ → Option ObjectError
-node_broken earlier at (kind ∷ op ∷ scope ∷ pad ∷ a ∷ b ∷ c ∷ []) =
-    must (nat_le kind 5) (errors.Kind at)
-    next node_op_broken (at + 1) kind op
+abbrev pub node_broken : Version → List Node → ℕ → List ℕ → Option ObjectError
+node_broken v earlier at (kind ∷ op ∷ scope ∷ pad ∷ a ∷ b ∷ c ∷ []) =
+    must (nat_le kind (last_node_kind v)) (errors.Kind at)
+    next node_op_broken v (at + 1) kind op
     next count_broken 128 (at + 2) scope
     next zero_broken (at + 3) pad
     next parts_broken earlier at kind scope a b c
-node_broken earlier at _ = None
+node_broken v earlier at _ = None
 
 -- type, 16 bytes, after types whose register rows and queue rows end at `regs` and `queue`
 abbrev pub type_broken : Header → List Node → ℕ → ℕ → ℕ → List ℕ → Option ObjectError
@@ -215,21 +224,21 @@ abbrev pub basic_number_broken : ℕ → ℕ → ℕ → Option ObjectError
 basic_number_broken types at x = basic_broken types at (x / 2 ^ 24) (x / 2 ^ 16 % 2 ^ 8) (x % 2 ^ 16)
 
 -- `op rd, rs, rt`
-abbrev pub op_reg_broken : ℕ → ℕ → ℕ → ℕ → ℕ → ℕ → ℕ → Option ObjectError
-op_reg_broken at a b c x high low =
+abbrev pub op_reg_broken : Version → ℕ → ℕ → ℕ → ℕ → ℕ → ℕ → ℕ → Option ObjectError
+op_reg_broken v at a b c x high low =
     register_broken (at + 1) a
     next register_broken (at + 2) b
     next register_broken (at + 3) c
-    next op_broken (at + 4) x
+    next op_broken v (at + 4) x
     next no_word_broken (at + 8) high low
 
 -- `op rd, rs, c v`
-abbrev pub op_word_broken : ℕ → ℕ → ℕ → ℕ → ℕ → Option ObjectError
-op_word_broken at a b c x =
+abbrev pub op_word_broken : Version → ℕ → ℕ → ℕ → ℕ → ℕ → Option ObjectError
+op_word_broken v at a b c x =
     register_broken (at + 1) a
     next register_broken (at + 2) b
     next colour_broken (at + 3) c
-    next op_broken (at + 4) x
+    next op_broken v (at + 4) x
 
 -- `mov rd, c v`
 abbrev pub mov_broken : ℕ → ℕ → ℕ → ℕ → ℕ → ℕ → Option ObjectError
@@ -273,21 +282,38 @@ halt_broken at a b c x high low =
     next zero_broken (at + 4) x
     next no_word_broken (at + 8) high low
 
+-- v, 8 bytes in two halves, that is the length of a run from cell x on
+abbrev pub run_broken : ℕ → ℕ → ℕ → ℕ → ℕ → Option ObjectError
+run_broken cells at x high low =
+    must (high == 0) (errors.Count at)
+    next some_broken 1024 at low
+    next must (nat_le (x + low) cells) (errors.Index at)
+
+-- `idx rd, rs, first, length`
+abbrev pub index_broken : ℕ → ℕ → ℕ → ℕ → ℕ → ℕ → ℕ → ℕ → Option ObjectError
+index_broken cells at a b c x high low =
+    register_broken (at + 1) a
+    next register_broken (at + 2) b
+    next zero_broken (at + 3) c
+    next must (nat_lt x cells) (errors.Index (at + 4))
+    next run_broken cells (at + 8) x high low
+
 -- the fields a, b, c, x and v of an instruction, by its kind
 abbrev pub fields_broken : Header → List Node → ℕ → ℕ → ℕ → ℕ → ℕ → ℕ → ℕ → ℕ → ℕ → Option ObjectError
 fields_broken h nodes first at kind a b c x high low =
-    if kind == 0 then op_reg_broken at a b c x high low
-    else (if kind == 1 then op_word_broken at a b c x
+    if kind == 0 then op_reg_broken (version_of h) at a b c x high low
+    else (if kind == 1 then op_word_broken (version_of h) at a b c x
     else (if kind == 2 then mov_broken h.types at a b c x
     else (if nat_le kind 4 then access_broken at a b c x high low
     else (if kind == 5 then jump_broken h nodes first at a b c x high low
     else (if kind == 6 then branch_broken h nodes first at a b c x high low
-    else halt_broken at a b c x high low)))))
+    else (if kind == 7 then halt_broken at a b c x high low
+    else index_broken h.cells at a b c x high low))))))
 
 -- instruction, 16 bytes, where the substitutions before took the rows up to `first`
 abbrev pub instr_broken : Header → List Node → ℕ → ℕ → List ℕ → Option ObjectError
 instr_broken h nodes first at (kind ∷ a ∷ b ∷ c ∷ x ∷ high ∷ low ∷ []) =
-    must (nat_le kind 7) (errors.Kind at)
+    must (nat_le kind (last_instr_kind (version_of h))) (errors.Kind at)
     next fields_broken h nodes first at kind a b c x high low
 instr_broken h nodes first at _ = None
 

@@ -8,16 +8,16 @@ use Rattle.ft_isa.specs.declared.colour.Colour.{Colour}
 use Rattle.ft_isa.specs.declared.colour.Colour.TheVariants.{Green, Blue}
 use Rattle.ft_isa.specs.declared.colour.Coloured.{Coloured}
 use Rattle.ft_isa.specs.declared.op.Op.{Op}
-use Rattle.ft_isa.specs.declared.op.Op.TheVariants.{Add, Sub, Mul, Ltu, Eq}
+use Rattle.ft_isa.specs.declared.op.Op.TheVariants.{Add, Sub, Mul, Ltu, Eq, And, Or, Xor, Shl, Shr}
 use Rattle.ft_isa.specs.declared.basic.Base.{Base}
 use Rattle.ft_isa.specs.declared.basic.Base.TheVariants.{Int, Code}
 use Rattle.ft_isa.specs.declared.basic.Basic.{Basic}
 use Rattle.ft_isa.specs.declared.instr.Subst.{Subst}
 use Rattle.ft_isa.specs.declared.instr.Instr.{Instr}
-use Rattle.ft_isa.specs.declared.instr.Instr.TheVariants.{OpReg, OpWord, Mov, Ld, St, JmpG, JmpB, BzG, BzB, Halt}
+use Rattle.ft_isa.specs.declared.instr.Instr.TheVariants.{OpReg, OpWord, Mov, Ld, St, JmpG, JmpB, BzG, BzB, Halt, Idx}
 use Rattle.ft_static.specs.declared.node.Node.{Node}
 use Rattle.ft_static.specs.declared.node.Shape.{Shape}
-use Rattle.ft_static.specs.declared.node.Shape.TheVariants.{Word, Var, Op as OpNode, Sel, Memory, Upd}
+use Rattle.ft_static.specs.declared.node.Shape.TheVariants.{Word, Var, Op as OpNode, Sel, Memory, Upd, Rem}
 use Rattle.ft_types.specs.declared.object.Cell.{Cell}
 use Rattle.ft_types.specs.declared.object.Block.{Block}
 use Rattle.ft_types.specs.declared.object.CodeType.{CodeType}
@@ -44,7 +44,17 @@ colour_of n = if n == 0 then Green else Blue
 
 -- the operation of a code
 abbrev pub op_of : ℕ → Op
-op_of n = if n == 0 then Add else (if n == 1 then Sub else (if n == 2 then Mul else (if n == 3 then Ltu else Eq)))
+op_of n =
+    if n == 0 then Add
+    else (if n == 1 then Sub
+    else (if n == 2 then Mul
+    else (if n == 3 then Ltu
+    else (if n == 4 then Eq
+    else (if n == 5 then And
+    else (if n == 6 then Or
+    else (if n == 7 then Xor
+    else (if n == 8 then Shl
+    else Shr))))))))
 
 -- a base, by its code and its code type
 abbrev pub base_of : ℕ → ℕ → Base
@@ -81,7 +91,8 @@ shape_of kind op a b c =
     else (if kind == 2 then OpNode (op_of op) a b
     else (if kind == 3 then Sel a b
     else (if kind == 4 then Memory
-    else Upd a b c))))
+    else (if kind == 5 then Upd a b c
+    else Rem a b)))))
 
 -- a node, by its record
 abbrev pub node_of : List ℕ → Node
@@ -159,7 +170,8 @@ instr_by kind a b c x high low =
     else (if kind == 4 then St (colour_of c) (register_of a) (register_of b)
     else (if kind == 5 then jump_of (register_of a) (carried c x high low)
     else (if kind == 6 then branch_of (register_of a) (register_of b) (carried c x high low)
-    else Halt))))))
+    else (if kind == 7 then Halt
+    else Idx (register_of a) (register_of b) x low)))))))
 
 -- an instruction, by its record
 abbrev pub instr_of : List ℕ → Instr

@@ -4,12 +4,11 @@ ghost use Rattle.std.specs.Prelude.{◌≡◌, ◌≤◌, length, OnOk};
 ghost use Rattle.ft_format.specs.Layout.{numbers, written, header_layout};
 ghost use Rattle.ft_format.specs.Puts.{Puts};
 ghost use Rattle.ft_format.specs.Fields.{header_numbers};
+ghost use Rattle.ft_format.specs.Versions.{version_of};
 
 use crate::numbers::{put_u32, put_u64, read_u32, read_u64};
+use crate::version::Version;
 use ft_isa::NoMemory;
-
-/// The magic number and the version: `TALFT`, and 1 in three bytes.
-pub const MAGIC: u64 = 0x54414c4654000001;
 
 /// The numbers of the header: magic and version, the count of each section's records (of bytes, for the
 /// names), and the entry block.
@@ -58,6 +57,17 @@ impl Header {
             substs,
             names,
             entry,
+        }
+    }
+
+    /// The version that the magic number names.
+    pub fn version(self) -> Version
+        ensures { result ≡ version_of self }
+    {
+        if self.magic == Version::First.magic() {
+            Version::First
+        } else {
+            Version::Second
         }
     }
 

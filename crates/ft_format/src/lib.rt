@@ -1,10 +1,11 @@
 //! The object format: which bytes spell which object.
 //!
 //! `specs/Rows.antt` says how an object is written. `specs/Rules.antt` and `specs/Broken.antt` have the
-//! rules in their order. `specs/Format.antt` says which bytes spell which object. The crate promises
-//! that these agree (`src/laws.rt`): bytes break no rule exactly when they spell an object, they spell
-//! at most one, and an object has one spelling. It also has the records as the numbers that are in them,
-//! to be read and written.
+//! rules in their order. `specs/Versions.antt` has what differs between the two versions of the format.
+//! `specs/Format.antt` says which bytes spell which object. The crate promises that these agree
+//! (`src/laws.rt`): bytes break no rule exactly when they spell an object, they spell at most one, an
+//! object has one spelling per version, and what version 1 spells, version 2 spells but for one byte. It
+//! also has the records as the numbers that are in them, to be read and written.
 #![tactic(auto)]
 
 mod header;
@@ -13,9 +14,12 @@ mod numbers;
 mod object_error;
 mod places;
 mod rows;
+mod version;
 
-pub use header::{Header, MAGIC};
-pub use laws::{rules_are_exact, spellings_are_apart, spellings_are_one};
+pub use header::Header;
+pub use laws::{
+    rules_are_exact, spellings_are_apart, spellings_are_one, versions_differ_in_byte_7,
+};
 pub use object_error::ObjectError;
 pub use places::Places;
 pub use rows::cell_row::CellRow;
@@ -25,3 +29,4 @@ pub use rows::pair_row::PairRow;
 pub use rows::reg_row::RegRow;
 pub use rows::subst_row::SubstRow;
 pub use rows::type_row::TypeRow;
+pub use version::Version;

@@ -6,14 +6,14 @@ use thiserror::Error;
 /// the number of bytes and of the number that is wanted, 48 for the header or the header's total.
 #[derive(Clone, Copy, Debug, PartialEq, Eq, Error)]
 pub enum ObjectError {
-    /// The bytes do not begin with the magic number and the version.
+    /// The bytes do not begin with the magic number of a version.
     #[error("object 1 {at}")]
     Magic { at: usize },
     /// There are more than 67,108,864 bytes, or fewer than the 48 of a header, or more or fewer than the
     /// header's counts give.
     #[error("object 2 {at}")]
     Length { at: usize },
-    /// A count or a scope is out of its range.
+    /// A count, a scope or a length is out of its range.
     #[error("object 3 {at}")]
     Count { at: usize },
     /// Padding, or a field that the record does not use, is not zero.

@@ -3,6 +3,7 @@
 mod code;
 mod header;
 mod tables;
+mod versions;
 
 pub(crate) use code::{
     BLOCKS, LONG_SUBSTITUTIONS, MOST_SUBSTITUTIONS, OPERATIONS, SUBSTITUTION_ROWS, TRANSFERS,
@@ -10,9 +11,13 @@ pub(crate) use code::{
 use ft_object::ObjectError;
 pub(crate) use header::HEADER;
 pub(crate) use tables::{CELLS, NAMES, NODES, QUEUE_ROWS, REGISTER_ROWS, SECOND_CELLS, TYPES};
+pub(crate) use versions::{BEYOND_FIRST, LAWFUL_RUNS, LAWFUL_SECOND, RUNS, SECOND};
 
 /// A field, or a rule of it; places with the bytes that are put there; and the error with its place.
 pub(crate) type Row = (&'static str, &'static [(usize, u8)], ObjectError);
+
+/// A lawful alteration: what it shows, and places with the bytes that are put there.
+pub(crate) type Lawful = (&'static str, &'static [(usize, u8)]);
 
 /// Rows over `A`, one for each error but the length.
 pub(crate) const EACH_ERROR: &[Row] = &[
@@ -34,8 +39,8 @@ pub(crate) const EACH_ERROR: &[Row] = &[
     ("entry", &[(47, 1)], ObjectError::Entry { at: 44 }),
 ];
 
-/// Lawful alterations of `J`: what they show, and places with the bytes that are put there.
-pub(crate) const LAWFUL: &[(&'static str, &'static [(usize, u8)])] = &[
+/// Lawful alterations of `J`.
+pub(crate) const LAWFUL: &[Lawful] = &[
     ("refs, the most", &[(52, 8)]),
     ("variables, the most", &[(124, 128)]),
     ("register of a row, the last", &[(156, 63)]),

@@ -1,33 +1,34 @@
 //! Worked objects, whose bytes another implementation of the format made, and altered ones.
 use crate::altered::{
-    BLOCKS, CELLS, EACH_ERROR, HEADER, LAWFUL, LONG_SUBSTITUTIONS, MOST_SUBSTITUTIONS, NAMES,
-    NODES, OPERATIONS, QUEUE_ROWS, REGISTER_ROWS, Row, SECOND_CELLS, SUBSTITUTION_ROWS, TRANSFERS,
-    TYPES,
+    BEYOND_FIRST, BLOCKS, CELLS, EACH_ERROR, HEADER, LAWFUL, LAWFUL_RUNS, LAWFUL_SECOND,
+    LONG_SUBSTITUTIONS, Lawful, MOST_SUBSTITUTIONS, NAMES, NODES, OPERATIONS, QUEUE_ROWS,
+    REGISTER_ROWS, RUNS, Row, SECOND, SECOND_CELLS, SUBSTITUTION_ROWS, TRANSFERS, TYPES,
 };
 use ft_object::{DecodeError, ObjectError, decode, encode};
 use ft_types::Program;
 use ft_view::View;
 use ft_worked_objects::{
-    A, A2, J, J64, K, L, M, N, P1, P3, P4, P5, P6, P8, P9, P11, P12, P13, P14, P15, P16, P17, Q, X,
-    X2,
+    A, A2, I, J, J64, K, L, M, N, P1, P3, P4, P5, P6, P8, P9, P11, P12, P13, P14, P15, P16, P17, Q,
+    X, X2,
 };
 use std::process::Abort;
 use std::test::Fail;
 
 /// The worked objects.
 const OBJECTS: &[&[u8]] = &[
-    A, A2, J, J64, K, L, M, N, P1, P3, P4, P5, P6, P8, P9, P11, P12, P13, P14, P15, P16, P17, Q, X,
-    X2,
+    A, A2, I, J, J64, K, L, M, N, P1, P3, P4, P5, P6, P8, P9, P11, P12, P13, P14, P15, P16, P17, Q,
+    X, X2,
 ];
 
-/// Whether the bytes are an object's, and are written again.
-fn is_written_again(rt: &impl AllocGlobal, bytes: &[u8]) -> bool {
+/// Whether the bytes are an object's, and are written again with byte 7 as 2.
+fn is_written_again(rt: &impl AllocGlobal, bytes: &[u8]) -> Result<bool, Fail> {
+    let second = altered(rt, bytes, &[(7, 2)])?;
     match decode(rt.alloc(), bytes) {
         Ok(object) => match encode(rt.alloc(), &object) {
-            Ok(written) => written.as_slice() == bytes,
-            Err(_) => false,
+            Ok(written) => Ok(written.as_slice() == second.as_slice()),
+            Err(_) => Ok(false),
         },
-        Err(_) => false,
+        Err(_) => Ok(false),
     }
 }
 
@@ -82,29 +83,41 @@ fn check_rows(rt: &(impl AllocGlobal + Abort), object: &[u8], rows: &[Row]) -> R
     Ok(())
 }
 
+fn check_lawful(
+    rt: &(impl AllocGlobal + Abort),
+    object: &[u8],
+    rows: &[Lawful],
+) -> Result<(), Fail> {
+    for row in rows {
+        let (shown, changes) = *row;
+        let bytes = altered(rt, object, changes)?;
+        let again = is_written_again(rt, bytes.as_slice())?;
+        assert!(rt; again, "{shown}: written again");
+    }
+    Ok(())
+}
+
 #[test]
 fn names_are_kept_when_their_view_is_gone(rt: HostRuntime) {
     assert!(&rt; first_name(J) == Some(b"out".as_slice()));
 }
 
 #[test]
-fn worked_objects_are_written_again(rt: HostRuntime) {
+fn worked_objects_are_written_again(rt: HostRuntime) -> Result<(), Fail> {
     for object in OBJECTS {
-        assert!(&rt; is_written_again(&rt, object));
+        let again = is_written_again(&rt, object)?;
+        assert!(&rt; again);
     }
+    Ok(())
 }
 
 #[test]
 fn lawful_alterations_are_written_again(rt: HostRuntime) -> Result<(), Fail> {
-    for row in LAWFUL {
-        let (field, changes) = *row;
-        let bytes = altered(&rt, J, changes)?;
-        assert!(&rt;
-            is_written_again(&rt, bytes.as_slice()),
-            "{field}: written again"
-        );
-    }
-    Ok(())
+    let second = altered(&rt, J, &[(7, 2)])?;
+    check_lawful(&rt, J, LAWFUL)?;
+    check_lawful(&rt, second.as_slice(), LAWFUL)?;
+    check_lawful(&rt, second.as_slice(), LAWFUL_SECOND)?;
+    check_lawful(&rt, I, LAWFUL_RUNS)
 }
 
 #[test]
@@ -118,23 +131,26 @@ fn prefixes_are_refused_by_their_length(rt: HostRuntime) {
 }
 
 /// Whether decoding gives what the view over the bytes gives: the object that is spelled so, or the same error.
-fn answers_are_the_same(rt: &impl AllocGlobal, bytes: &[u8]) -> bool {
+fn answers_are_the_same(rt: &impl AllocGlobal, bytes: &[u8]) -> Result<bool, Fail> {
     match View::over(bytes) {
         Ok(_) => is_written_again(rt, bytes),
-        Err(error) => is_refused(rt, bytes, error),
+        Err(error) => Ok(is_refused(rt, bytes, error)),
     }
+}
+
+fn check_turned_bits(rt: &(impl AllocGlobal + Abort), object: &[u8]) -> Result<(), Fail> {
+    for n in 0..object.len() {
+        let bytes = altered(rt, object, &[(n, object[n] ^ 1)])?;
+        let same = answers_are_the_same(rt, bytes.as_slice())?;
+        assert!(rt; same, "byte {n}: the same answer");
+    }
+    Ok(())
 }
 
 #[test]
 fn turned_bits_have_the_same_answer_in_place(rt: HostRuntime) -> Result<(), Fail> {
-    for n in 0..J.len() {
-        let bytes = altered(&rt, J, &[(n, J[n] ^ 1)])?;
-        assert!(&rt;
-            answers_are_the_same(&rt, bytes.as_slice()),
-            "byte {n}: the same answer"
-        );
-    }
-    Ok(())
+    check_turned_bits(&rt, J)?;
+    check_turned_bits(&rt, I)
 }
 
 #[test]
@@ -176,4 +192,12 @@ fn altered_code_is_refused_at_its_fields(rt: HostRuntime) -> Result<(), Fail> {
     long.extend_from_slice(&[0; 4])?;
     check_rows(&rt, long.as_slice(), LONG_SUBSTITUTIONS)?;
     check_rows(&rt, J, SUBSTITUTION_ROWS)
+}
+
+#[test]
+fn each_version_has_its_own_rules(rt: HostRuntime) -> Result<(), Fail> {
+    let second = altered(&rt, J, &[(7, 2)])?;
+    check_rows(&rt, J, BEYOND_FIRST)?;
+    check_rows(&rt, second.as_slice(), SECOND)?;
+    check_rows(&rt, I, RUNS)
 }

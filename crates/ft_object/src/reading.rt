@@ -2,8 +2,9 @@
 ghost use Rattle.std.specs.Prelude.{◌≡◌, ◌↔◌, None, Some, IfOk, IsErrOf};
 ghost use Rattle.ft_types.specs.declared.object.Object.{Object};
 ghost use Rattle.ft_object.specs.Judged.{Judges, Gives};
-ghost use Rattle.ft_format.specs.Broken.{front_broken, broken, object_of};
+ghost use Rattle.ft_format.specs.Broken.{front_broken, broken, object_of, version_at};
 ghost use Rattle.ft_format.specs.Format.{Spells};
+ghost use Rattle.ft_format.specs.declared.version.Version.{Version};
 
 use crate::copying::copy_object;
 use crate::decode_error::DecodeError;
@@ -28,15 +29,15 @@ fn read_object(alloc: Global, bytes: &[u8]) -> Result<Object, DecodeError>
 /// The object that the bytes spell; or the first rule of the format that they break, with its place; or
 /// out of memory.
 pub fn decode(alloc: Global, bytes: &[u8]) -> Result<Object, DecodeError>
-    // What is given is the object that the bytes spell.
-    ensures spelled { IfOk result (Spells bytes.now) }
+    // What is given is the object that the bytes spell, in the version that they name.
+    ensures spelled { IfOk result (Spells bytes.now (version_at bytes.now)) }
     // An object that the bytes spell is given, unless memory runs out.
-    ensures given { (o : Object) → Spells bytes.now o → Gives result o }
+    ensures given { (v : Version) (o : Object) → Spells bytes.now v o → Gives result o }
     // An error is the first rule broken, and none is broken where an object is given.
     ensures judged { Judges result (broken bytes.now) }
     // No rule is broken exactly when some object is spelled, and that object is one.
-    ensures exact { (broken bytes.now ≡ None) ↔ ((o : Object) × Spells bytes.now o) }
-    ensures one { (o other : Object) → Spells bytes.now o → Spells bytes.now other → o ≡ other }
+    ensures exact { (broken bytes.now ≡ None) ↔ ((v : Version) × (o : Object) × Spells bytes.now v o) }
+    ensures one { (v w : Version) (o other : Object) → Spells bytes.now v o → Spells bytes.now w other → o ≡ other }
     // A rule of the length, the header or the total that is broken is the answer, whatever memory there is.
     ensures front { (e : ObjectError) → front_broken bytes.now ≡ Some e → IsErrOf result (DecodeError.Object e) }
 {

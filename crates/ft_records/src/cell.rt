@@ -11,7 +11,7 @@ use ft_format::{CellRow, Header, ObjectError};
 use ft_types::CellHead;
 
 /// The rules of the record of a cell, whose name begins at `start` in the name bytes: `Order` for a name whose end
-/// is not above `start` or lies beyond them, `Name` for one of more than 32 bytes, and what is wrong with the basic
+/// is not above `start` or lies beyond them, `Name` for one of more bytes than the version allows, and what is wrong with the basic
 /// type.
 pub fn check_cell(header: Header, start: u32, at: usize, row: CellRow) -> Result<(), ObjectError>
     requires places { at ≤ 2 ^ 27 }
@@ -22,7 +22,8 @@ pub fn check_cell(header: Header, start: u32, at: usize, row: CellRow) -> Result
 {
     check(start < row.past, ObjectError::Order { at })?;
     check(row.past <= header.names, ObjectError::Order { at })?;
-    check(row.past <= start + 32, ObjectError::Name { at })?;
+    let longest = u32::from(header.version().longest_name());
+    check(row.past <= start + longest, ObjectError::Name { at })?;
     check_basic(header.types, at + 4, row.refs, row.base, row.code_type)
 }
 

@@ -2,15 +2,16 @@
 ghost use Rattle.std.specs.Prelude.{◌≡◌, ◌≤◌, ◌^◌};
 ghost use Rattle.ft_records.specs.Found.{Finds};
 ghost use Rattle.ft_format.specs.Fields.{code_numbers};
-ghost use Rattle.ft_format.specs.Rules.{no_word_broken, basic_number_broken, substitution_broken, transfer_broken, op_reg_broken, op_word_broken, mov_broken, access_broken, jump_broken, branch_broken, halt_broken, instr_broken};
+ghost use Rattle.ft_format.specs.Rules.{no_word_broken, basic_number_broken, substitution_broken, transfer_broken, op_reg_broken, op_word_broken, mov_broken, access_broken, jump_broken, branch_broken, halt_broken, run_broken, index_broken, instr_broken};
 ghost use Rattle.ft_format.specs.Values.{rows_past};
 
 use crate::instr_parts::basic_numbers;
 use crate::node_records::NodeRecords;
 use crate::rules::{
-    check, check_basic, check_colour, check_node_number, check_op, check_register, check_zero,
+    check, check_basic, check_colour, check_node_number, check_op, check_register, check_some,
+    check_zero,
 };
-use ft_format::{CodeRow, Header, ObjectError};
+use ft_format::{CodeRow, Header, ObjectError, Version};
 
 /// The word of a record, which is zero.
 fn check_no_word(at: usize, row: CodeRow) -> Result<(), ObjectError>
@@ -21,26 +22,26 @@ fn check_no_word(at: usize, row: CodeRow) -> Result<(), ObjectError>
 }
 
 /// An operation on two registers.
-fn check_op_reg(at: usize, row: CodeRow) -> Result<(), ObjectError>
+fn check_op_reg(version: Version, at: usize, row: CodeRow) -> Result<(), ObjectError>
     requires { at ≤ 2 ^ 27 }
-    ensures { Finds result (op_reg_broken at row.a row.b row.c row.x row.high row.low) }
+    ensures { Finds result (op_reg_broken version at row.a row.b row.c row.x row.high row.low) }
 {
     check_register(at + 1, row.a)?;
     check_register(at + 2, row.b)?;
     check_register(at + 3, row.c)?;
-    check_op(at + 4, row.x)?;
+    check_op(version, at + 4, row.x)?;
     check_no_word(at + 8, row)
 }
 
 /// An operation on a register and a word.
-fn check_op_word(at: usize, row: CodeRow) -> Result<(), ObjectError>
+fn check_op_word(version: Version, at: usize, row: CodeRow) -> Result<(), ObjectError>
     requires { at ≤ 2 ^ 27 }
-    ensures { Finds result (op_word_broken at row.a row.b row.c row.x) }
+    ensures { Finds result (op_word_broken version at row.a row.b row.c row.x) }
 {
     check_register(at + 1, row.a)?;
     check_register(at + 2, row.b)?;
     check_colour(at + 3, row.c)?;
-    check_op(at + 4, row.x)
+    check_op(version, at + 4, row.x)
 }
 
 /// The basic type that x spells.
@@ -162,9 +163,32 @@ fn check_halt(at: usize, row: CodeRow) -> Result<(), ObjectError>
     check_no_word(at + 8, row)
 }
 
+/// The word of a record, which is the length of a run from cell x on.
+fn check_run(cells: u32, at: usize, row: CodeRow) -> Result<(), ObjectError>
+    ensures { Finds result (run_broken cells at row.x row.high row.low) }
+{
+    check(row.high == 0, ObjectError::Count { at })?;
+    check_some(1024, at, row.low)?;
+    let past = u64::from(row.x) + u64::from(row.low);
+    check(past <= u64::from(cells), ObjectError::Index { at })
+}
+
+/// An `idx`: two registers, and a run of so many cells.
+fn check_index(cells: u32, at: usize, row: CodeRow) -> Result<(), ObjectError>
+    requires { at ≤ 2 ^ 27 }
+    ensures { Finds result (index_broken cells at row.a row.b row.c row.x row.high row.low) }
+{
+    check_register(at + 1, row.a)?;
+    check_register(at + 2, row.b)?;
+    check_zero(at + 3, u32::from(row.c))?;
+    check(row.x < cells, ObjectError::Index { at: at + 4 })?;
+    check_run(cells, at + 8, row)
+}
+
 /// The rules of the record of an instruction, where the substitutions before took the rows up to `first`: `Kind` for
-/// a code that stands for nothing or a substitution's memory that is an integer, `Index` for a register, type or
-/// node that is not there, `Pad`, and `Order` and `Count` for the rows of its substitution.
+/// a code that stands for nothing or a substitution's memory that is an integer, `Index` for a register, type,
+/// node or cell that is not there, `Pad`, `Order` and `Count` for the rows of its substitution, and `Count` for the
+/// length of a run.
 pub fn check_instr(
     header: Header,
     nodes: &NodeRecords,
@@ -176,15 +200,20 @@ pub fn check_instr(
     requires first { first ≤ 2 ^ 27 }
     ensures { Finds result (instr_broken header nodes.now first at (code_numbers row)) }
 {
+    let version = header.version();
+    check(
+        row.kind <= version.last_instr_kind(),
+        ObjectError::Kind { at },
+    )?;
     match row.kind {
-        0 => check_op_reg(at, row),
-        1 => check_op_word(at, row),
+        0 => check_op_reg(version, at, row),
+        1 => check_op_word(version, at, row),
         2 => check_mov(header.types, at, row),
         3 | 4 => check_access(at, row),
         5 => check_jump(header, nodes, first, at, row),
         6 => check_branch(header, nodes, first, at, row),
         7 => check_halt(at, row),
-        _ => Err(ObjectError::Kind { at }),
+        _ => check_index(header.cells, at, row),
     }
 }
 

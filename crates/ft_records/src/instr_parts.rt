@@ -73,7 +73,7 @@ fn branch(rz: Reg, rd: Reg, row: CodeRow) -> Instr
     }
 }
 
-/// The instruction of a record that breaks no rule, by its kind, where any above 6 is that of `halt`.
+/// The instruction of a record that breaks no rule, by its kind, where any above 7 is that of `idx`.
 pub fn read_instr(row: CodeRow) -> Instr
     requires a { row.a < 64 }
     requires b { row.b < 64 }
@@ -110,6 +110,12 @@ pub fn read_instr(row: CodeRow) -> Instr
         },
         5 => jump(register(row.a), row),
         6 => branch(register(row.a), register(row.b), row),
-        _ => Instr::Halt,
+        7 => Instr::Halt,
+        _ => Instr::Idx {
+            rd: register(row.a),
+            rs: register(row.b),
+            first: row.x,
+            length: row.low,
+        },
     }
 }

@@ -5,13 +5,13 @@
 ghost use Rattle.std.specs.Prelude.{◌≡◌, ◌+◌, ◌<◌, ◌≤◌, ◌^◌};
 ghost use Rattle.ft_records.specs.Found.{Finds};
 ghost use Rattle.ft_format.specs.Fields.{node_numbers};
-ghost use Rattle.ft_format.specs.Rules.{◌next◌, zero_broken, count_broken, variable_broken, pair_broken, memory_broken, upd_broken, parts_broken, node_broken};
+ghost use Rattle.ft_format.specs.Rules.{◌next◌, zero_broken, count_broken, variable_broken, pair_broken, memory_broken, upd_broken, rem_broken, parts_broken, node_broken};
 ghost use Rattle.ft_format.specs.Values.{shape_of, node_of};
 
 use crate::node_records::NodeRecords;
 use crate::parts::op;
-use crate::rules::{check, check_count, check_named, check_op, check_zero};
-use ft_format::{NodeRow, ObjectError};
+use crate::rules::{check, check_count, check_named, check_op, check_some, check_zero};
+use ft_format::{NodeRow, ObjectError, Version};
 use ft_static::{Node, Shape};
 use ft_types::joined;
 
@@ -68,7 +68,18 @@ fn check_upd(earlier: &NodeRecords, at: usize, row: NodeRow) -> Result<(), Objec
     Ok(())
 }
 
-/// The parts a, b and c of a node, by its kind, where any above 4 is that of `upd`.
+/// The remainder of an integer by a length.
+fn check_rem(earlier: &NodeRecords, at: usize, row: NodeRow) -> Result<(), ObjectError>
+    requires { at ≤ 2 ^ 27 }
+    ensures { Finds result (rem_broken earlier.now at row.scope row.a row.b row.c) }
+{
+    check_named(earlier, row.scope, false, at + 4, row.a)?;
+    check_some(1024, at + 8, row.b)?;
+    check_zero(at + 12, row.c)?;
+    Ok(())
+}
+
+/// The parts a, b and c of a node, by its kind, where any above 5 is that of a remainder.
 #[inline(always)]
 fn check_parts(earlier: &NodeRecords, at: usize, row: NodeRow) -> Result<(), ObjectError>
     requires { at ≤ 2 ^ 27 }
@@ -83,7 +94,8 @@ fn check_parts(earlier: &NodeRecords, at: usize, row: NodeRow) -> Result<(), Obj
         2 => check_pair(earlier, false, at, row),
         3 => check_pair(earlier, true, at, row),
         4 => check_memory(at, row),
-        _ => check_upd(earlier, at, row),
+        5 => check_upd(earlier, at, row),
+        _ => check_rem(earlier, at, row),
     }
 }
 
@@ -99,23 +111,31 @@ fn check_rest(earlier: &NodeRecords, at: usize, row: NodeRow) -> Result<(), Obje
 }
 
 /// The rules of the record of a node, after the earlier ones: `Kind` for a code that stands for nothing or a node of
-/// the wrong sort, `Pad`, `Count` for the scope, `Index` for a node or variable that may not be named.
+/// the wrong sort, `Pad`, `Count` for the scope or a length, `Index` for a node or variable that may not be named.
 #[inline(always)]
-pub fn check_node(earlier: &NodeRecords, at: usize, row: NodeRow) -> Result<(), ObjectError>
+pub fn check_node(
+    version: Version,
+    earlier: &NodeRecords,
+    at: usize,
+    row: NodeRow,
+) -> Result<(), ObjectError>
     requires { at ≤ 2 ^ 27 }
-    ensures { Finds result (node_broken earlier.now at (node_numbers row)) }
+    ensures { Finds result (node_broken version earlier.now at (node_numbers row)) }
 {
     if row.kind == 2 {
-        check_op(at + 1, u32::from(row.op))?;
+        check_op(version, at + 1, u32::from(row.op))?;
         check_rest(earlier, at, row)
     } else {
-        check(row.kind <= 5, ObjectError::Kind { at })?;
+        check(
+            row.kind <= version.last_node_kind(),
+            ObjectError::Kind { at },
+        )?;
         check_zero(at + 1, u32::from(row.op))?;
         check_rest(earlier, at, row)
     }
 }
 
-/// The shape of a record, by its kind, where any above 4 is that of `upd`.
+/// The shape of a record, by its kind, where any above 5 is that of a remainder.
 fn shape(row: NodeRow) -> Shape
     requires { row.kind ≡ 1 → row.a < 256 }
     ensures { result ≡ shape_of row.kind row.op row.a row.b row.c }
@@ -133,10 +153,14 @@ fn shape(row: NodeRow) -> Shape
             at: row.b,
         },
         4 => Shape::Memory,
-        _ => Shape::Upd {
+        5 => Shape::Upd {
             memory: row.a,
             at: row.b,
             value: row.c,
+        },
+        _ => Shape::Rem {
+            a: row.a,
+            length: row.b,
         },
     }
 }

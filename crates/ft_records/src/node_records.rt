@@ -60,7 +60,8 @@ impl<'a> NodeRecords<'a> {
         ensures { result ≡ is_of_sort memory (slice_get self.now n) }
     {
         let row = self.row(n);
-        if memory { 4 <= row.kind } else { row.kind < 4 }
+        let is_memory = row.kind == 4 || row.kind == 5;
+        if memory { is_memory } else { !is_memory }
     }
 
     /// Whether node `n` is of at most the scope.

@@ -22,7 +22,7 @@ pub(crate) fn colour(code: u8) -> Colour
     }
 }
 
-/// The operation of a code, where any above 3 is `eq`.
+/// The operation of a code, where any above 8 is `shr`.
 pub(crate) fn op(code: u32) -> Op
     ensures { result ≡ op_of code }
 {
@@ -31,7 +31,12 @@ pub(crate) fn op(code: u32) -> Op
         1 => Op::Sub,
         2 => Op::Mul,
         3 => Op::Ltu,
-        _ => Op::Eq,
+        4 => Op::Eq,
+        5 => Op::And,
+        6 => Op::Or,
+        7 => Op::Xor,
+        8 => Op::Shl,
+        _ => Op::Shr,
     }
 }
 

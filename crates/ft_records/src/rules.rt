@@ -4,7 +4,7 @@ ghost use Rattle.ft_records.specs.Found.{Finds};
 ghost use Rattle.ft_format.specs.Rules.{must, zero_broken, count_broken, some_broken, colour_broken, op_broken, register_broken, code_type_broken, basic_broken, node_number_broken, named_broken};
 
 use crate::node_records::NodeRecords;
-use ft_format::ObjectError;
+use ft_format::{ObjectError, Version};
 
 /// Nothing where the test holds, else the error.
 pub fn check(holds: bool, error: ObjectError) -> Result<(), ObjectError>
@@ -43,10 +43,10 @@ pub(crate) fn check_colour(at: usize, code: u8) -> Result<(), ObjectError>
 }
 
 /// The operation whose code is at this place.
-pub(crate) fn check_op(at: usize, code: u32) -> Result<(), ObjectError>
-    ensures { Finds result (op_broken at code) }
+pub(crate) fn check_op(version: Version, at: usize, code: u32) -> Result<(), ObjectError>
+    ensures { Finds result (op_broken version at code) }
 {
-    check(code <= 4, ObjectError::Kind { at })
+    check(code <= version.last_op(), ObjectError::Kind { at })
 }
 
 /// The register whose number is at this place.

@@ -5,6 +5,7 @@ use Rattle.std.specs.List.{list_any}
 use Rattle.std.proofs.lemmas.List.{length-drop, length-take-le}
 use Rattle.ft_types.specs.declared.object.Cell.{Cell}
 use Rattle.ft_format.specs.declared.object_error.ObjectError.{ObjectError}
+use Rattle.ft_format.specs.declared.version.Version.{Version}
 use Rattle.ft_format.specs.Layout.{numbers, rows, cell_layout}
 use Rattle.ft_format.specs.Rules.{◌next◌}
 use Rattle.ft_format.specs.Values.{past_of, cell_of, cells_of}
@@ -57,44 +58,44 @@ pub last_more : (i : ℕ) (records rest row : List ℕ) → rest ≡ drop (16 * 
 last_more i records rest row at is = sym (ap (last_end past_of 0) (rows_snoc cell_layout i records rest row at is) ∙ last_snoc 0 (rows cell_layout i records) row)
 
 -- a name that breaks no rule
-pub name_goes : (end at start i m n past refs base code_type init : ℕ) (names records rest : List ℕ) (broken : Option ObjectError) → m ≡ suc n
+pub name_goes : (v : Version) (end at start i m n past refs base code_type init : ℕ) (names records rest : List ℕ) (broken : Option ObjectError) → m ≡ suc n
     → past ∷ refs ∷ base ∷ code_type ∷ init ∷ [] ≡ numbers cell_layout (take 16 rest) → rest ≡ drop (16 * i) records → start ≡ last_end past_of 0 (rows cell_layout i records)
     → start ≤ past → past ≤ length names
-    → name_broken (cells_of names 0 (rows cell_layout i records)) (at + start) (take (past - start) (drop start names)) ≡ None
-    → names_broken end (cells_of names 0 (rows cell_layout i records)) (at + start) (cells_of names start (rows cell_layout m rest)) ≡ broken
-    → names_broken end (cells_of names 0 (rows cell_layout (i + 1) records)) (at + past) (cells_of names past (rows cell_layout n (drop 16 rest))) ≡ broken
+    → name_broken v (cells_of names 0 (rows cell_layout i records)) (at + start) (take (past - start) (drop start names)) ≡ None
+    → names_broken v end (cells_of names 0 (rows cell_layout i records)) (at + start) (cells_of names start (rows cell_layout m rest)) ≡ broken
+    → names_broken v end (cells_of names 0 (rows cell_layout (i + 1) records)) (at + past) (cells_of names past (rows cell_layout n (drop 16 rest))) ≡ broken
 unfolding names_broken
-name_goes end at start i m n past refs base code_type init names records rest broken e is from last le within none h =
+name_goes v end at start i m n past refs base code_type init names records rest broken e is from last le within none h =
     let row : List ℕ = past ∷ refs ∷ base ∷ code_type ∷ init ∷ [] in
     let earlier = cells_of names 0 (rows cell_layout i records) in
     let after = cells_of names past (rows cell_layout n (drop 16 rest)) in
     let cell = cell_of names start row in
     let name : List ℕ = take (past - start) (drop start names) in
-    let step : names_broken end earlier (at + start) (cells_of names start (rows cell_layout m rest)) ≡ names_broken end (earlier ++ cell ∷ []) (at + start + length name) after =
-    ap (λ rs. names_broken end earlier (at + start) (cells_of names start rs)) (first_row m n rest row e is) ∙ ap (λ r. r next names_broken end (earlier ++ cell ∷ []) (at + start + length name) after) none in
+    let step : names_broken v end earlier (at + start) (cells_of names start (rows cell_layout m rest)) ≡ names_broken v end (earlier ++ cell ∷ []) (at + start + length name) after =
+    ap (λ rs. names_broken v end earlier (at + start) (cells_of names start rs)) (first_row m n rest row e is) ∙ ap (λ r. r next names_broken v end (earlier ++ cell ∷ []) (at + start + length name) after) none in
     let long : length name ≡ past - start = length-take-le (past - start) (drop start names) (omega (arith, length-drop start names)) in
     let place : at + start + length name ≡ at + past = omega (arith, long) in
     let more : cells_of names 0 (rows cell_layout (i + 1) records) ≡ earlier ++ cell ∷ [] =
     ap (cells_of names 0) (rows_snoc cell_layout i records rest row from is) ∙ cells_snoc names 0 (rows cell_layout i records) row ∙ ap (λ s. earlier ++ cell_of names s row ∷ []) (sym last) in
-    ap (λ cs. names_broken end cs (at + past) after) more ∙ ap (λ p. names_broken end (earlier ++ cell ∷ []) p after) (sym place) ∙ sym step ∙ h
+    ap (λ cs. names_broken v end cs (at + past) after) more ∙ ap (λ p. names_broken v end (earlier ++ cell ∷ []) p after) (sym place) ∙ sym step ∙ h
 
 -- a name that breaks a rule
-pub name_halts : (end at start m n past refs base code_type init : ℕ) (names rest : List ℕ) (earlier : List Cell) (broken : Option ObjectError) (why : ObjectError) → m ≡ suc n
+pub name_halts : (v : Version) (end at start m n past refs base code_type init : ℕ) (names rest : List ℕ) (earlier : List Cell) (broken : Option ObjectError) (why : ObjectError) → m ≡ suc n
     → past ∷ refs ∷ base ∷ code_type ∷ init ∷ [] ≡ numbers cell_layout (take 16 rest)
-    → name_broken earlier (at + start) (take (past - start) (drop start names)) ≡ Some why
-    → names_broken end earlier (at + start) (cells_of names start (rows cell_layout m rest)) ≡ broken → broken ≡ Some why
+    → name_broken v earlier (at + start) (take (past - start) (drop start names)) ≡ Some why
+    → names_broken v end earlier (at + start) (cells_of names start (rows cell_layout m rest)) ≡ broken → broken ≡ Some why
 unfolding names_broken
-name_halts end at start m n past refs base code_type init names rest earlier broken why e is some h =
+name_halts v end at start m n past refs base code_type init names rest earlier broken why e is some h =
     let row : List ℕ = past ∷ refs ∷ base ∷ code_type ∷ init ∷ [] in
     let after = cells_of names past (rows cell_layout n (drop 16 rest)) in
     let cell = cell_of names start row in
-    sym h ∙ ap (λ rs. names_broken end earlier (at + start) (cells_of names start rs)) (first_row m n rest row e is)
-    ∙ ap (λ r. r next names_broken end (earlier ++ cell ∷ []) (at + start + length (take (past - start) (drop start names))) after) some
+    sym h ∙ ap (λ rs. names_broken v end earlier (at + start) (cells_of names start rs)) (first_row m n rest row e is)
+    ∙ ap (λ r. r next names_broken v end (earlier ++ cell ∷ []) (at + start + length (take (past - start) (drop start names))) after) some
 
 -- no name is left
-pub names_end : (end place start m : ℕ) (names rest : List ℕ) (earlier : List Cell) (broken : Option ObjectError) → m ≡ 0
-    → names_broken end earlier place (cells_of names start (rows cell_layout m rest)) ≡ broken → broken ≡ names_broken end earlier place []
-names_end end place start m names rest earlier broken e h = sym h ∙ ap (λ rs. names_broken end earlier place (cells_of names start rs)) (rows_none cell_layout m rest e)
+pub names_end : (v : Version) (end place start m : ℕ) (names rest : List ℕ) (earlier : List Cell) (broken : Option ObjectError) → m ≡ 0
+    → names_broken v end earlier place (cells_of names start (rows cell_layout m rest)) ≡ broken → broken ≡ names_broken v end earlier place []
+names_end v end place start m names rest earlier broken e h = sym h ∙ ap (λ rs. names_broken v end earlier place (cells_of names start rs)) (rows_none cell_layout m rest e)
 
 -- none
 pub no_cells : (names records : List ℕ) → cells_of names 0 (rows cell_layout 0 records) ≡ []

@@ -1,14 +1,16 @@
 -- The fields a, b and c of an instruction's record that breaks no rule.
 use Rattle.std.proofs.Common.{◌≡◌, ℕ, zero, suc, ◌+◌, ◌<◌, List, [], ◌∷◌, None, Some, subst, arith}
-use Rattle.std.specs.Prelude.{nat_le, slice_get}
+use Rattle.std.specs.Prelude.{nat_le, nat_lt, slice_get}
 use Rattle.ft_static.specs.declared.node.Node.{Node}
 use Rattle.ft_format.specs.declared.object_error.ObjectError.TheVariants as errors
 use Rattle.ft_format.specs.declared.header.Header.{Header}
-use Rattle.ft_format.specs.Rules.{must, ◌next◌, zero_broken, register_broken, colour_broken, op_broken, no_word_broken, basic_number_broken, transfer_broken, halt_broken, fields_broken, instr_broken}
+use Rattle.ft_format.specs.Versions.{version_of, last_instr_kind}
+use Rattle.ft_format.specs.Rules.{must, ◌next◌, zero_broken, register_broken, colour_broken, op_broken, no_word_broken, basic_number_broken, transfer_broken, halt_broken, run_broken, fields_broken, instr_broken}
 use Rattle.ft_format.specs.Values.{rows_past}
 use Rattle.ft_format.specs.Broken.{instrs_broken}
 use Rattle.ft_format.proofs.Unbroken.{both}
-use Rattle.ft_format.proofs.Codes.{le_held, lt_held, eq_held, up_to_7}
+use Rattle.ft_format.proofs.Codes.{le_held, lt_held, eq_held, up_to_8}
+use Rattle.ft_format.proofs.Versions.{few_instr_kinds}
 
 -- whatever they are, registers, a colour or zero, they are below 64
 abbrev pub AreBelow : ℕ → ℕ → ℕ → Type 0
@@ -41,6 +43,15 @@ one at a b c rest n =
     let none = eq_held b 0 (errors.Pad (at + 2)) r2.0 in
     (lt_held a 64 (errors.Index (at + 1)) r1.0, omega arith, omega arith)
 
+-- two registers and zero
+pair : (at a b c : ℕ) (rest : _) → (register_broken (at + 1) a next register_broken (at + 2) b next zero_broken (at + 3) c next rest) ≡ None → AreBelow a b c
+pair at a b c rest n =
+    let r1 = both (register_broken (at + 1) a) _ n in
+    let r2 = both (register_broken (at + 2) b) _ r1.1 in
+    let r3 = both (zero_broken (at + 3) c) _ r2.1 in
+    let none = eq_held c 0 (errors.Pad (at + 3)) r3.0 in
+    (lt_held a 64 (errors.Index (at + 1)) r1.0, lt_held b 64 (errors.Index (at + 2)) r2.0, omega arith)
+
 -- zeros
 zeros : (at a b c x high low : ℕ) → halt_broken at a b c x high low ≡ None → AreBelow a b c
 zeros at a b c x high low n =
@@ -55,17 +66,19 @@ zeros at a b c x high low n =
 -- by the kind
 plain_row : (h : Header) (nodes : List Node) (first at kind a b c x high low : ℕ) → instr_broken h nodes first at (kind ∷ a ∷ b ∷ c ∷ x ∷ high ∷ low ∷ []) ≡ None → AreBelow a b c
 plain_row h nodes first at kind a b c x high low n =
-    let r = both (must (nat_le kind 7) (errors.Kind at)) (fields_broken h nodes first at kind a b c x high low) n in
-    up_to_7 (λ k. fields_broken h nodes first at k a b c x high low ≡ None → AreBelow a b c)
-    (three at a b c (op_broken (at + 4) x next no_word_broken (at + 8) high low))
-    (two at a b c (op_broken (at + 4) x))
+    let v = version_of h in
+    let r = both (must (nat_le kind (last_instr_kind v)) (errors.Kind at)) (fields_broken h nodes first at kind a b c x high low) n in
+    up_to_8 (λ k. fields_broken h nodes first at k a b c x high low ≡ None → AreBelow a b c)
+    (three at a b c (op_broken v (at + 4) x next no_word_broken (at + 8) high low))
+    (two at a b c (op_broken v (at + 4) x))
     (one at a b c (basic_number_broken h.types (at + 4) x))
     (two at a b c (zero_broken (at + 4) x next no_word_broken (at + 8) high low))
     (two at a b c (zero_broken (at + 4) x next no_word_broken (at + 8) high low))
     (one at a b c (transfer_broken h nodes first (at + 4) c x high low))
     (two at a b c (transfer_broken h nodes first (at + 4) c x high low))
     (zeros at a b c x high low)
-    kind (le_held kind 7 (errors.Kind at) r.0) r.1
+    (pair at a b c (must (nat_lt x h.cells) (errors.Index (at + 4)) next run_broken h.cells (at + 8) x high low))
+    kind (omega (arith, le_held kind (last_instr_kind v) (errors.Kind at) r.0, few_instr_kinds v)) r.1
 
 -- one of the records of instructions that break no rule
 pub plain_at : (h : Header) (nodes : List Node) (first at : ℕ) (rs : List (List ℕ)) (i kind a b c x high low : ℕ) → instrs_broken h nodes first at rs ≡ None

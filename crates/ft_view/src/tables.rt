@@ -3,6 +3,7 @@ ghost use Rattle.std.specs.Prelude.{◌≡◌, ◌≤◌, ◌*◌, None, [], len
 ghost use Rattle.ft_format.specs.Layout.{rows, cell_layout, code_layout, pair_layout};
 ghost use Rattle.ft_format.specs.Places.{IsWhole};
 ghost use Rattle.ft_format.specs.Values.{past_of};
+ghost use Rattle.ft_format.specs.Versions.{version_of};
 ghost use Rattle.ft_format.specs.Broken.{cells_broken, nodes_broken, code_types_broken, blocks_broken, instrs_broken, rows_taken, substs_broken, names_broken, nodes_at, blocks_at, instrs_at, substs_at, names_at, total, cells_part, nodes_part, blocks_part, substs_part, instr_rows_of, cells_read, nodes_read, tables_broken, header_at, front_broken, broken};
 ghost use Rattle.ft_records.specs.Found.{Finds};
 ghost use Rattle.ft_view.specs.Ends.{AreEnds};
@@ -34,10 +35,10 @@ fn judge_cells(header: Header, bytes: &[u8]) -> Result<(), ObjectError>
 /// The rules of the nodes.
 fn judge_nodes(header: Header, bytes: &[u8]) -> Result<(), ObjectError>
     requires { IsWhole header bytes.now }
-    ensures { Finds result (nodes_broken [] (nodes_at header) (rows code_layout header.nodes (nodes_part header bytes.now))) }
+    ensures { Finds result (nodes_broken (version_of header) [] (nodes_at header) (rows code_layout header.nodes (nodes_part header bytes.now))) }
 {
     let at = Places::of(header).nodes;
-    check_nodes(header, at, part(bytes, at))
+    check_nodes(header.version(), header.nodes, at, part(bytes, at))
 }
 
 /// The nodes as their records.
@@ -101,12 +102,19 @@ fn judge_substs(
 fn judge_names(header: Header, bytes: &[u8]) -> Result<(), ObjectError>
     requires whole { IsWhole header bytes.now }
     requires ends { AreEnds past_of header.names 0 (rows cell_layout header.cells (cells_part bytes.now)) }
-    ensures { Finds result (names_broken (total header) [] (names_at header) (cells_read header bytes.now)) }
+    ensures { Finds result (names_broken (version_of header) (total header) [] (names_at header) (cells_read header bytes.now)) }
 {
     let at = Places::of(header);
     let records = part(bytes, 48);
     let names = part(bytes, at.names);
-    check_names(at.end, at.names, names, header.cells, records)
+    check_names(
+        header.version(),
+        at.end,
+        at.names,
+        names,
+        header.cells,
+        records,
+    )
 }
 
 /// The rules of the nine sections.

@@ -38,7 +38,8 @@ impl<'a> View<'a> {
     ghost use Rattle.ft_types.specs.NodeRows.{node_row};
     ghost use Rattle.ft_format.specs.Values.{node_of, past_of, regs_end_of, queue_end_of};
     ghost use Rattle.ft_format.specs.Fields.{cell_numbers, code_numbers, node_numbers, type_numbers, reg_numbers, pair_numbers, subst_numbers};
-    ghost use Rattle.ft_format.specs.Broken.{header_at, instr_rows_of, object_of, broken};
+    ghost use Rattle.ft_format.specs.Broken.{header_at, version_at, instr_rows_of, object_of, broken};
+    ghost use Rattle.ft_format.specs.declared.version.Version.{Version};
     ghost use Rattle.ft_format.specs.Format.{Spells};
     ghost use Rattle.ft_records.specs.Found.{Finds};
     ghost use Rattle.ft_types.specs.declared.object.Object.{Object};
@@ -52,10 +53,10 @@ impl<'a> View<'a> {
         // A view is seen as the bytes.
         ensures seen { IfOk result (λ v. v ≡ bytes.now) }
         // What it is a view of is the object that the bytes spell, and no other.
-        ensures spelled { IfOk result (λ v. Spells bytes.now (object_of v)) }
-        ensures one { (o : Object) → Spells bytes.now o → IfOk result (λ v. object_of v ≡ o) }
+        ensures spelled { IfOk result (λ v. Spells bytes.now (version_at bytes.now) (object_of v)) }
+        ensures one { (version : Version) (o : Object) → Spells bytes.now version o → IfOk result (λ v. object_of v ≡ o) }
         // No rule is broken exactly when some object is spelled.
-        ensures exact { (broken bytes.now ≡ None) ↔ ((o : Object) × Spells bytes.now o) }
+        ensures exact { (broken bytes.now ≡ None) ↔ ((version : Version) × (o : Object) × Spells bytes.now version o) }
     {
         let header = judge(bytes)?;
         Ok(View {

@@ -5,7 +5,8 @@ use ft_object::ObjectError;
 /// Rows of the header, over `J`.
 pub(crate) const HEADER: &[Row] = &[
     ("magic", &[(0, 55)], ObjectError::Magic { at: 0 }),
-    ("version", &[(7, 2)], ObjectError::Magic { at: 0 }),
+    ("version 0", &[(7, 0)], ObjectError::Magic { at: 0 }),
+    ("version 3", &[(7, 3)], ObjectError::Magic { at: 0 }),
     ("cells", &[(10, 5)], ObjectError::Count { at: 8 }),
     (
         "cells, one above the most",

@@ -11,7 +11,7 @@ use ft_records::check_cell;
 pub(crate) fn check_cells(header: Header, bytes: &[u8]) -> Result<(), ObjectError>
     requires there { 16 * header.cells ≤ length bytes.now }
     requires few { header.cells ≤ 1024 }
-    requires few_names { header.names ≤ 32768 }
+    requires few_names { header.names ≤ 40960 }
     ensures { Finds result (cells_broken header 0 48 (rows cell_layout header.cells bytes.now)) }
 {
     let mut place: usize = 48;

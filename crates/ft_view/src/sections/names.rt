@@ -9,7 +9,7 @@ ghost use Rattle.ft_records.specs.Found.{Finds};
 ghost use Rattle.ft_view.specs.Ends.{AreEnds};
 
 use crate::same_name::is_same;
-use ft_format::{CellRow, ObjectError};
+use ft_format::{CellRow, ObjectError, Version};
 use ft_records::{check, check_name_bytes, stretch};
 
 /// Whether one of the first cells has this name.
@@ -35,6 +35,7 @@ fn has_name(names: &[u8], count: u32, records: &[u8], name: &[u8]) -> bool
 
 /// The rules of a name at a place, after those of so many earlier cells.
 fn check_name(
+    version: Version,
     names: &[u8],
     earlier: u32,
     records: &[u8],
@@ -44,9 +45,9 @@ fn check_name(
     requires there { 16 * earlier ≤ length records.now }
     requires ends { AreEnds past_of (length names.now) 0 (rows cell_layout earlier records.now) }
     requires places { at + length name.now ≤ 2 ^ 27 }
-    ensures { Finds result (name_broken (cells_of names.now 0 (rows cell_layout earlier records.now)) at name.now) }
+    ensures { Finds result (name_broken version (cells_of names.now 0 (rows cell_layout earlier records.now)) at name.now) }
 {
-    check_name_bytes(at, name)?;
+    check_name_bytes(version, at, name)?;
     let is_there = has_name(names, earlier, records, name);
     check(!is_there, ObjectError::Name { at })
 }
@@ -54,6 +55,7 @@ fn check_name(
 /// The rules of the names of so many cells, whose bytes begin at a place and take all up to the end: `Name` for a byte
 /// that may not stand there or a name that an earlier cell has, `Order` for a byte that is left.
 pub(crate) fn check_names(
+    version: Version,
     end: usize,
     at: usize,
     names: &[u8],
@@ -63,7 +65,7 @@ pub(crate) fn check_names(
     requires there { 16 * count ≤ length records.now }
     requires ends { AreEnds past_of (length names.now) 0 (rows cell_layout count records.now) }
     requires places { at + length names.now ≤ 2 ^ 27 }
-    ensures { Finds result (names_broken end [] at (cells_of names.now 0 (rows cell_layout count records.now))) }
+    ensures { Finds result (names_broken version end [] at (cells_of names.now 0 (rows cell_layout count records.now))) }
 {
     let mut start: u32 = 0;
     let mut rest = records;
@@ -71,7 +73,7 @@ pub(crate) fn check_names(
         let (record, after) = rest.split_at(16);
         let row = CellRow::read(record);
         let name = stretch(names, start as usize, (row.past - start) as usize);
-        check_name(names, i, records, at + start as usize, name)?;
+        check_name(version, names, i, records, at + start as usize, name)?;
         start = row.past;
         rest = after;
     }

@@ -4,23 +4,28 @@ ghost use Rattle.ft_format.specs.Layout.{rows, code_layout};
 ghost use Rattle.ft_format.specs.Broken.{nodes_broken};
 ghost use Rattle.ft_records.specs.Found.{Finds};
 
-use ft_format::{Header, NodeRow, ObjectError};
+use ft_format::{NodeRow, ObjectError, Version};
 use ft_records::{NodeRecords, check_node};
 
-/// The rules of the records of all nodes, the first of which is at a place. By itself the loop has enough registers.
+/// The rules of so many records of nodes, the first of which is at a place. By itself the loop has enough registers.
 #[inline(never)]
-pub(crate) fn check_nodes(header: Header, at: usize, bytes: &[u8]) -> Result<(), ObjectError>
-    requires there { 16 * header.nodes ≤ length bytes.now }
-    requires places { at + 16 * header.nodes ≤ 2 ^ 27 }
-    ensures { Finds result (nodes_broken [] at (rows code_layout header.nodes bytes.now)) }
+pub(crate) fn check_nodes(
+    version: Version,
+    count: u32,
+    at: usize,
+    bytes: &[u8],
+) -> Result<(), ObjectError>
+    requires there { 16 * count ≤ length bytes.now }
+    requires places { at + 16 * count ≤ 2 ^ 27 }
+    ensures { Finds result (nodes_broken version [] at (rows code_layout count bytes.now)) }
 {
     let mut place = at;
     let mut rest = bytes;
-    for i in 0..header.nodes {
+    for i in 0..count {
         let (record, after) = rest.split_at(16);
         let row = NodeRow::read(record);
         let earlier = NodeRecords::new(i, bytes);
-        check_node(&earlier, place, row)?;
+        check_node(version, &earlier, place, row)?;
         place += 16;
         rest = after;
     }

@@ -6,8 +6,8 @@ use Rattle.ft_view.proofs.sections.nodes.check_nodes.Given as goal
 
 abbrev pub invariant-loop-i : goal.invariant-loop-i
 invariant-loop-i l = record {
-  there : 16 * (l.fn.header.nodes - l.i) ≤ length l.rest;
-  places : l.place + 16 * (l.fn.header.nodes - l.i) ≤ 2 ^ 27;
+  there : 16 * (l.fn.count - l.i) ≤ length l.rest;
+  places : l.place + 16 * (l.fn.count - l.i) ≤ 2 ^ 27;
   rest : l.rest ≡ drop (16 * l.i) l.bytes;
-  broken : nodes_broken (map node_of (rows code_layout l.i l.bytes)) l.place (rows code_layout (l.fn.header.nodes - l.i) l.rest) ≡ nodes_broken [] l.at (rows code_layout l.fn.header.nodes l.bytes);
+  broken : nodes_broken l.version (map node_of (rows code_layout l.i l.bytes)) l.place (rows code_layout (l.fn.count - l.i) l.rest) ≡ nodes_broken l.version [] l.at (rows code_layout l.fn.count l.bytes);
 }
