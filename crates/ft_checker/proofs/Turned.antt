@@ -75,14 +75,6 @@ first_end refuse k xs l = rw (drop_all xs k l) refl
 
 -- CELLS
 
--- what is known of a cell without its name
-pub cell_found : (o : Object) (k : ℕ) (h : CellHead) → option_map cell_head_of (slice_get o.cells k) ≡ Some h → (x : Cell) × ((slice_get o.cells k ≡ Some x) × (cell_head_of x ≡ h))
-cell_found o k h e = found (slice_get o.cells k) refl e
-  where
-    found : (y : Option Cell) → slice_get o.cells k ≡ y → option_map cell_head_of y ≡ Some h → (x : Cell) × ((slice_get o.cells k ≡ Some x) × (cell_head_of x ≡ h))
-    found None f e = cc
-    found (Some x) f e = (x, (f, (let same : cell_head_of x ≡ h = cc in same)))
-
 -- a cell with an initial word of its type, and one with another
 pub cell_passes : (o : Object) (k : ℕ) (x : Cell) (h : CellHead) → cell_head_of x ≡ h → has_type o h.init h.basic ≡ true → cell_refusal o k x ≡ None
 cell_passes o k x h same t =

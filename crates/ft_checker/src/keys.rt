@@ -90,6 +90,12 @@ fn note_instr(lanes: &mut Lanes, instr: Instr) {
             lanes.note_record(bytes, subst.memory, rows_of(subst));
         }
         Instr::Halt => lanes.note_record([9, 0, 0, 0], 0, 0),
+        Instr::Idx {
+            rd,
+            rs,
+            first,
+            length,
+        } => lanes.note_record([10, rd.number(), rs.number(), 0], first, length as u64),
     }
 }
 

@@ -28,6 +28,7 @@ integer_tree ts (shape.Op o a b) e = refl
 integer_tree ts (shape.Sel m a) e = refl
 integer_tree ts shape.Memory e = cc
 integer_tree ts (shape.Upd m a v) e = cc
+integer_tree ts (shape.Rem a m) e = refl
 
 -- a memory's node has a memory's tree
 memory_tree : (ts : List Expression) (x : Shape) → is_memory x ≡ true → tree_of ts x ≡ memory (memory_part (tree_of ts x))
@@ -37,6 +38,7 @@ memory_tree ts (shape.Op o a b) e = cc
 memory_tree ts (shape.Sel m a) e = cc
 memory_tree ts shape.Memory e = refl
 memory_tree ts (shape.Upd m a v) e = refl
+memory_tree ts (shape.Rem a m) e = cc
 
 -- the tree of a node that is named as an integer
 integer_named : (nodes : List Node) (scope n : ℕ) → AreNodes nodes → IsNodeIn nodes scope false n → tree_at nodes n ≡ integer (integer_at (trees nodes) n)

@@ -54,8 +54,8 @@ memory_spelled o t h l =
     rw (ints, memory) k.memory
 
 -- an instruction is so
-pub instr_spelled : (o : Object) (k : ℕ) (i : Instr) → IsSpellable o → slice_get o.instrs k ≡ Some i → IsInstr (length o.types) i
-instr_spelled o k i h e = all_at (IsInstr (length o.types)) o.instrs k i h.instrs e
+pub instr_spelled : (o : Object) (k : ℕ) (i : Instr) → IsSpellable o → slice_get o.instrs k ≡ Some i → IsInstr (length o.types) (length o.cells) i
+instr_spelled o k i h e = all_at (IsInstr (length o.types) (length o.cells)) o.instrs k i h.instrs e
 
 -- the substitutions that follow are covered
 cover_rest : (nodes : List Node) (rows first : ℕ) (x : Option Subst) (ss : List Subst) → Cover nodes rows first (before x ss) → (f : ℕ) × Cover nodes rows f ss

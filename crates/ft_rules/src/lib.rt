@@ -8,6 +8,7 @@
 mod premises;
 mod reads;
 mod rows;
+mod runs;
 mod transfer;
 mod typed_words;
 mod why;

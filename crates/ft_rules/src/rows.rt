@@ -11,6 +11,7 @@ ghost use Rattle.ft_rules.specs.Answers.{Answers, Does, Grows, IsInstrOf, rule_c
 
 use crate::premises::{conditional, need, oldest, referred, target, typed, zero};
 use crate::reads::{branched, jumped, one, same_target, stored};
+use crate::runs::index;
 use crate::transfer::leads;
 use crate::typed_words::has_type;
 use crate::why::{Next, RuleError};
@@ -364,5 +365,11 @@ pub fn apply_rule_over<P: Program, L: Ledger>(
             branch_blue(ctx, shared, program, rz, rd, subst, forms, steps)
         }
         Instr::Halt => halt(ctx, forms),
+        Instr::Idx {
+            rd,
+            rs,
+            first,
+            length,
+        } => index(ctx, program, rd, rs, first, length, forms),
     }
 }

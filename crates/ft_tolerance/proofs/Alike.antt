@@ -4,7 +4,7 @@ use Rattle.ft_isa.specs.declared.colour.Colour.{Colour}
 use Rattle.ft_isa.specs.declared.colour.Colour.TheVariants.{Green, Blue}
 use Rattle.ft_isa.specs.declared.colour.Coloured.{Coloured}
 use Rattle.ft_isa.specs.declared.instr.Instr.{Instr}
-use Rattle.ft_isa.specs.declared.instr.Instr.TheVariants.{OpReg, OpWord, Mov, Ld, St, JmpG, JmpB, BzG, BzB, Halt}
+use Rattle.ft_isa.specs.declared.instr.Instr.TheVariants.{OpReg, OpWord, Mov, Ld, St, JmpG, JmpB, BzG, BzB, Halt, Idx}
 use Rattle.ft_isa.specs.declared.plan.Site.{Site}
 use Rattle.ft_isa.specs.declared.plan.Site.TheVariants.{R, D, PcG, PcB, QAddr, QVal}
 use Rattle.ft_isa.specs.declared.plan.Wild.{Wild}
@@ -55,6 +55,7 @@ execute_row c s t w v (JmpB rd u) h f ok = grind (arith, alikes)
 execute_row c s t w v (BzG rz rd) h f ok = grind (arith, alikes)
 execute_row c s t w v (BzB rz rd u) h f ok = grind (arith, alikes)
 execute_row c s t w v Halt h f ok = grind (arith, alikes)
+execute_row c s t w v (Idx rd rs first m) h f ok = grind (arith, alikes)
 
 -- a fetch too
 advance_row : (c : Colour) (s t : State) (w v : List Wild) (o : Object) (x : Option Instr) → AreAlike c s t → ((i : Instr) → x ≡ Some i → Wants i s) → (advance o x s w).state.status ≢ Detected → Follows c (advance o x s w) (advance o x t v)

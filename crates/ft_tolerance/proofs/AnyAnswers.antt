@@ -4,7 +4,7 @@ use Rattle.std.specs.Option.{option_or, option_to_list}
 use Rattle.ft_isa.specs.declared.colour.Colour.{Colour}
 use Rattle.ft_isa.specs.declared.colour.Colour.TheVariants.{Green, Blue}
 use Rattle.ft_isa.specs.declared.instr.Instr.{Instr}
-use Rattle.ft_isa.specs.declared.instr.Instr.TheVariants.{OpReg, OpWord, Mov, Ld, St, JmpG, JmpB, BzG, BzB, Halt}
+use Rattle.ft_isa.specs.declared.instr.Instr.TheVariants.{OpReg, OpWord, Mov, Ld, St, JmpG, JmpB, BzG, BzB, Halt, Idx}
 use Rattle.ft_isa.specs.declared.reg.Reg.{Reg}
 use Rattle.ft_isa.specs.declared.plan.Wild.{Wild}
 use Rattle.ft_isa.specs.Pending.{newest_at}
@@ -73,6 +73,7 @@ execute_same (BzB rz rd u) s w v h =
     (same_if (not (s.d == 0) && (s.d == word s rd)) _ _ _ _ (record { state = refl; output = refl }) (detected_same s w v))
     (same_if (s.d == 0) _ _ _ _ (record { state = refl; output = refl }) (detected_same s w v))
 execute_same Halt s w v h = record { state = refl; output = refl }
+execute_same (Idx rd rs first m) s w v h = record { state = refl; output = refl }
 
 fetch_same : (x : Option Instr) (s : State) (w v : List Wild) → AreSame (fetch x s w) (fetch x s v)
 fetch_same (Some i) s w v = record { state = refl; output = refl }

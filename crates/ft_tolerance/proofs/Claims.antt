@@ -9,7 +9,7 @@ use Rattle.ft_static.specs.Form.{Polynomial}
 use Rattle.ft_typing.specs.Premise.{Premise}
 use Rattle.ft_isa.specs.BasicTypes.{code, ref}
 use Rattle.ft_typing.specs.Context.{Typed, StateOfD, d_zero, d_code, d_conditional, FormPair, Context}
-use Rattle.ft_typing.specs.TypingRow.{Outcome, Goes, Ends, Fails, same_colour, need, for_typed, for_ref_over, for_code_over, for_zero, for_target, for_conditional, for_oldest}
+use Rattle.ft_typing.specs.TypingRow.{Outcome, Goes, Ends, Fails, same_colour, need, for_typed, for_ref_over, for_code_over, for_zero, for_target, for_conditional, for_oldest, for_run}
 
 -- G of the context that the row goes on to, or E where it ends the block
 unfoldable pub After : (Context → Type 0) → Type 0 → Outcome → Type 0
@@ -78,6 +78,12 @@ pub after_oldest : (G : Context → Type 0) (E : Type 0) (q : List FormPair) (f 
 unfolding After for_oldest
 after_oldest G E [] f h = tt
 after_oldest G E (p ∷ r) f h = h p r refl
+
+-- the cells of a run are of one type
+pub after_run : (G : Context → Type 0) (E : Type 0) (x : Option Basic) (f : Basic → Outcome) → ((b : Basic) → x ≡ Some b → After G E (f b)) → After G E (for_run x f)
+unfolding After for_run
+after_run G E None f h = tt
+after_run G E (Some b) f h = h b refl
 
 -- two colours are equal where the test says so
 pub same_colour_is : (a b : Colour) → same_colour a b ≡ true → a ≡ b

@@ -7,7 +7,7 @@ use Rattle.ft_isa.specs.declared.colour.Colour.TheVariants.{Green, Blue}
 use Rattle.ft_isa.specs.declared.reg.Reg.{Reg}
 use Rattle.ft_isa.specs.declared.instr.Subst.{Subst}
 use Rattle.ft_isa.specs.declared.instr.Instr.{Instr}
-use Rattle.ft_isa.specs.declared.instr.Instr.TheVariants.{OpReg, OpWord, Mov, Ld, St, JmpG, JmpB, BzG, BzB, Halt}
+use Rattle.ft_isa.specs.declared.instr.Instr.TheVariants.{OpReg, OpWord, Mov, Ld, St, JmpG, JmpB, BzG, BzB, Halt, Idx}
 use Rattle.ft_isa.specs.declared.plan.Wild.{Wild}
 use Rattle.ft_types.specs.declared.object.Object.{Object}
 use Rattle.ft_types.specs.declared.object.Block.{Block}
@@ -25,7 +25,7 @@ use Rattle.ft_tolerance.specs.TypedState.{Place, instr_number, further, arrived,
 use Rattle.ft_tolerance.specs.Soundness.{IsUntroubled, EndsOrFits, ended, running, Keeps}
 use Rattle.ft_tolerance.proofs.Lists.{of_all}
 use Rattle.ft_tolerance.proofs.Claims.{After}
-use Rattle.ft_tolerance.proofs.Rows.{GoesOn, op_row, op_word_row, mov_row, load_row, store_green_row, store_blue_row, jump_green_row, branch_green_row}
+use Rattle.ft_tolerance.proofs.Rows.{GoesOn, op_row, op_word_row, mov_row, load_row, store_green_row, store_blue_row, jump_green_row, branch_green_row, index_row}
 use Rattle.ft_tolerance.proofs.Transfers.{block_there, Arrives, jump_blue_row, Branch, taken, passed, branch_blue_row}
 use Rattle.ft_tolerance.proofs.Wants.{Wants, wants_row, found_is_not_wild}
 
@@ -208,7 +208,7 @@ module _ (o : Object) (p : Place) (s : State) (w : List Wild) (spelled : IsSpell
   branched h rz rd u e (Fails n) f a (goes d g) = cc
 
   -- an instruction that is executed
-  executed_by : (h : Here o p at.number) (i : Instr) → h.instr ≡ i → IsInstr (length o.types) i → Lands o (place_after o i s p) w (execute i s w)
+  executed_by : (h : Here o p at.number) (i : Instr) → h.instr ≡ i → IsInstr (length o.types) (length o.cells) i → Lands o (place_after o i s p) w (execute i s w)
   executed_by h (OpReg op rd rs rt) e k = stays_as h (OpReg op rd rs rt) e (op_row o p.valuation p.context s w ⊥ op rd rs rt fits.context)
   executed_by h (OpWord op rd rs x) e k = stays_as h (OpWord op rd rs x) e (op_word_row o p.valuation p.context s w ⊥ op rd rs x k fits.context)
   executed_by h (Mov rd x b) e k = stays_as h (Mov rd x b) e (mov_row o p.valuation p.context s w ⊥ rd x b k.0 fits.context)
@@ -220,10 +220,11 @@ module _ (o : Object) (p : Place) (s : State) (w : List Wild) (spelled : IsSpell
   executed_by h (JmpB rd u) e k = jumped rd u (row o p.context (JmpB rd u)) refl (jump_blue_row o p.valuation p.context s w rd u spelled.nodes fits.context) (subst (Passes o p.context) e h.passes)
   executed_by h (BzB rz rd u) e k = branched h rz rd u e (row o p.context (BzB rz rd u)) refl (branch_blue_row o p.valuation p.context s w rz rd u spelled.nodes fits.context) (subst (Passes o p.context) e h.passes)
   executed_by h Halt e k = record { wild = refl; after = ended refl }
+  executed_by h (Idx rd rs first m) e k = stays_as h (Idx rd rs first m) e (index_row o p.valuation p.context s w ⊥ rd rs first m spelled.few_cells k fits.context)
 
   -- the instruction at the place is executed
   executed : (h : Here o p at.number) → Lands o (place_after o h.instr s p) w (execute h.instr s w)
-  executed h = executed_by h h.instr refl (of_all (IsInstr (length o.types)) o.instrs (instr_number p) h.instr spelled.instrs h.there)
+  executed h = executed_by h h.instr refl (of_all (IsInstr (length o.types) (length o.cells)) o.instrs (instr_number p) h.instr spelled.instrs h.there)
 
   -- the instruction at a place is at both counters
   at_counter : (h : Here o p at.number) → instr_at o s.pc_green ≡ Some h.instr

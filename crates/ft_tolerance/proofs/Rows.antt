@@ -1,40 +1,43 @@
 -- The rows that stay in their block: the step goes on to a state that fits the context after the row.
-use Rattle.std.proofs.Common.{◌≡◌, ⊎_elim, ℕ, suc, Bool, true, false, cond, List, [], ◌∷◌, ◌++◌, length, drop, ◌==◌, nat_lt, Option, Some, None, refl, sym, ap, ◌∙◌, subst, is_some, if◌then◌else◌, eqb-true, eq-eqb, ne_eqb}
-use Rattle.std.proofs.Math.Nat.{mod-eq_of_lt}
+use Rattle.std.proofs.Common.{◌≡◌, ⊎_elim, ◌+◌, ◌%◌, ◌<◌, ◌≤◌, ℕ, suc, Bool, true, false, cond, List, [], ◌∷◌, ◌++◌, length, drop, ◌==◌, nat_lt, Option, Some, None, refl, sym, ap, ◌∙◌, subst, arith, is_some, if◌then◌else◌, eqb-true, eq-eqb, ne_eqb}
+use Rattle.std.proofs.Math.Nat.{mod-eq_of_lt, mod-lt}
 use Rattle.std.specs.Option.{option_or}
 use Rattle.std.proofs.lemmas.Bool.{and_from, cases_Bool, eqb-false}
-use Rattle.ft_isa.specs.Words.{apply, IsWord}
+use Rattle.ft_isa.specs.Words.{apply, cell_address, cell_in_run, IsWord}
 use Rattle.ft_isa.specs.Pending.{Pending, is_oldest, newest_at}
 use Rattle.ft_isa.specs.declared.op.Op.{Op}
+use Rattle.ft_isa.specs.declared.op.Op.TheVariants.{Add}
 use Rattle.ft_isa.specs.declared.reg.Reg.{Reg}
 use Rattle.ft_isa.specs.declared.colour.Colour.{Colour}
 use Rattle.ft_isa.specs.declared.colour.Colour.TheVariants.{Green, Blue}
 use Rattle.ft_isa.specs.declared.colour.Coloured.{Coloured}
 use Rattle.ft_isa.specs.declared.basic.Basic.{Basic}
-use Rattle.ft_isa.specs.declared.instr.Instr.TheVariants.{OpReg, OpWord, Mov, Ld, St, JmpG, BzG, Halt}
+use Rattle.ft_isa.specs.declared.instr.Instr.TheVariants.{OpReg, OpWord, Mov, Ld, St, JmpG, BzG, Halt, Idx}
 use Rattle.ft_isa.specs.declared.plan.Wild.{Wild}
-use Rattle.ft_static.specs.Expression.{Valuation, word_at}
+use Rattle.ft_static.specs.Expression.{IsLawful, Valuation, word_at}
 use Rattle.ft_static.specs.Form.{Polynomial, Updates}
 use Rattle.ft_static.specs.FormOrder.{same_polynomial}
 use Rattle.ft_static.specs.FormValue.{value_polynomial, value_updates}
-use Rattle.ft_static.specs.NormalForm.{constant, norm_op, norm_sel, norm_upd}
+use Rattle.ft_static.specs.NormalForm.{constant, norm_op, norm_rem, norm_sel, norm_upd}
 use Rattle.ft_static.proofs.Equal.{equal_polynomials}
-use Rattle.ft_static.proofs.Rows.{value_constant, value_op, value_upd, value_sel}
+use Rattle.ft_static.proofs.Rows.{value_constant, value_op, value_rem, value_upd, value_sel}
 use Rattle.ft_static.proofs.Words.{word_at-with_word}
 use Rattle.ft_types.specs.declared.object.Object.{Object}
+use Rattle.ft_types.specs.Spellable.{IsRun}
 use Rattle.ft_semantics.specs.declared.status.Status.TheVariants.{Done}
 use Rattle.ft_semantics.specs.State.{State, Cells, held, word, colour, cell_at, with_cell}
 use Rattle.ft_semantics.specs.Step.{Stepping, quiet, detected, next, goes_on, writes, found, load, store_blue, commit, commits, jump_green, pass, execute}
 use Rattle.ft_isa.specs.BasicTypes.{int, ref}
-use Rattle.ft_typing.specs.TypedWord.{cell_type, HasType, is_seen_as, has_type}
+use Rattle.ft_typing.specs.TypedWord.{cell_type, HasType, is_seen_as, run_type, has_type}
 use Rattle.ft_typing.specs.declared.why.Why.TheVariants as premise
 use Rattle.ft_typing.specs.Context.{Typed, StateOfD, d_zero, d_code, d_conditional, FormPair, Context, typed, with_type}
-use Rattle.ft_typing.specs.TypingRow.{pending_memory, seen_memory, is_empty, row}
+use Rattle.ft_typing.specs.TypingRow.{pending_memory, seen_memory, is_empty, run_form, row}
+use Rattle.ft_typing.proofs.Runs.{run_type_is}
 use Rattle.ft_typing.proofs.TypedWords.{has_type_decides, is_seen_as_decides}
 use Rattle.ft_tolerance.specs.TypedState.{FitsRegister, FitsTarget, FitsD, FitsPair, FitsQueue, FitsCell, FitsCells, FitsContext}
 use Rattle.ft_types.proofs.Maps.{get-insert}
 use Rattle.ft_semantics.proofs.Held.{held-with_held}
-use Rattle.ft_tolerance.proofs.Claims.{After, after_goes, after_ends, after_need, after_typed, after_ref, after_code, after_zero, after_oldest}
+use Rattle.ft_tolerance.proofs.Claims.{After, after_goes, after_ends, after_need, after_typed, after_ref, after_code, after_zero, after_oldest, after_run}
 
 -- the machine goes on, and its state fits this context
 pub record GoesOn (o : Object) (v : Valuation) (s : State) (w : List Wild) (t : Stepping) (c : Context) : Type 0 where
@@ -102,6 +105,34 @@ mov_row o v c s w E rd x b below h =
     let G = GoesOn o v s w (execute (Mov rd x b) s w) in
     after_need G E premise.BasicType (has_type o x.word b) _ (λ t. after_goes G E _ (write_fits o v c s w rd (record { colour = x.colour; basic = b; form = constant x.word }) x h
     (record { colour = refl; word = constant_denotes x.word v below; basic = (has_type_decides o x.word b).0 t })))
+
+-- the address of a run's cell is denoted by its form
+run_denotes : (first m : ℕ) (p : Polynomial) (v : Valuation) → IsLawful v → 1 ≤ m → first + m ≤ 1024 → cell_in_run first m (value_polynomial p v) ≡ value_polynomial (run_form first m p) v
+unfolding apply
+run_denotes first m p v lawful some few =
+    let w = value_polynomial p v in
+    let l : w % m < m = mod-lt w some in
+    let base : value_polynomial (constant (cell_address first)) v ≡ cell_address first = value_constant (cell_address first) v ∙ mod-eq_of_lt (omega (arith, few)) in
+    sym (
+    value_op Add (constant (cell_address first)) (norm_rem p m) v lawful
+    ∙ rw (base, value_rem p m v lawful) (mod-eq_of_lt (omega (arith, few, l)))
+    ∙ (let z : cell_address first + w % m ≡ cell_in_run first m w = omega arith in z)
+    )
+
+pub index_row : (o : Object) (v : Valuation) (c : Context) (s : State) (w : List Wild) (E : Type 0) (rd rs : Reg) (first m : ℕ) → length o.cells ≤ 1024 → IsRun (length o.cells) first m → FitsContext o v c s → After (GoesOn o v s w (execute (Idx rd rs first m) s w)) E (row o c (Idx rd rs first m))
+index_row o v c s w E rd rs first m few run h =
+    let G = GoesOn o v s w (execute (Idx rd rs first m) s w) in
+    after_typed G E (typed c rs.number) _ (λ a ia. after_run G E (run_type o first m) _ (λ b ib.
+    let ma = h.registers rs.number a ia in
+    let some = run.length.0 in
+    let ends = run.ends in
+    let cells = (run_type_is o first m b some ends).0 ib in
+    after_goes G E _ (write_fits o v c s w rd (record { colour = a.colour; basic = ref b; form = run_form first m a.form }) (record { colour = colour s rs; word = cell_in_run first m (word s rs) }) h
+    (record {
+      colour = ma.colour;
+      word = ap (cell_in_run first m) ma.word ∙ run_denotes first m a.form v h.lawful some (omega (arith, few, ends));
+      basic = cells.each (word s rs % m) (mod-lt (word s rs) some);
+    }))))
 
 -- LOADS
 

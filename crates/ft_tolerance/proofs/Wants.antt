@@ -8,7 +8,7 @@ use Rattle.ft_isa.specs.declared.reg.Reg.{Reg}
 use Rattle.ft_isa.specs.declared.colour.Colour.{Colour}
 use Rattle.ft_isa.specs.declared.colour.Colour.TheVariants.{Green, Blue}
 use Rattle.ft_isa.specs.declared.instr.Instr.{Instr}
-use Rattle.ft_isa.specs.declared.instr.Instr.TheVariants.{OpReg, OpWord, Mov, Ld, St, JmpG, JmpB, BzG, BzB, Halt}
+use Rattle.ft_isa.specs.declared.instr.Instr.TheVariants.{OpReg, OpWord, Mov, Ld, St, JmpG, JmpB, BzG, BzB, Halt, Idx}
 use Rattle.ft_static.specs.Expression.{Valuation}
 use Rattle.ft_types.specs.declared.object.Object.{Object}
 use Rattle.ft_semantics.specs.State.{State, held, word, colour, cell_at}
@@ -34,6 +34,7 @@ Wants (JmpB rd u) s = colour s rd ≡ Blue
 Wants (BzG rz rd) s = (colour s rz ≡ Green) × (colour s rd ≡ Green)
 Wants (BzB rz rd u) s = (colour s rz ≡ Blue) × (colour s rd ≡ Blue)
 Wants Halt s = Unit {0}
+Wants (Idx rd rs first m) s = Unit {0}
 
 -- a fact of a row that doesn't fail
 anyhow : (C : Type 0) (x : Outcome) → C → After (λ _. C) C x
@@ -94,6 +95,7 @@ wants_row o v c s (BzB rz rd u) h =
     let p = and_parts _ _ col in
     anyhow C _ (has_colour o v c s rz z Blue h iz p.0, has_colour o v c s rd a Blue h ia p.1))))
 wants_row o v c s Halt h = anyhow (Unit {0}) _ tt
+wants_row o v c s (Idx rd rs first m) h = anyhow (Unit {0}) _ tt
 
 -- where one of two is there, not both are missing
 one_there : (x y : Option ℕ) → is_some (option_or x y) ≡ true → (not (is_some x) && not (is_some y)) ≡ false

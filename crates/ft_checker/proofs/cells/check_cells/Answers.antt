@@ -1,6 +1,7 @@
 use Rattle.std.proofs.Common.{refl, sym, ◌∙◌, arith}
 use Rattle.ft_typing.specs.Accepted.{cell_refusal}
-use Rattle.ft_checker.proofs.Turned.{first_turn, first_end, cell_found, cell_passes, cell_fails}
+use Rattle.ft_rules.proofs.Cells.{cell_found}
+use Rattle.ft_checker.proofs.Turned.{first_turn, first_end, cell_passes, cell_fails}
 use Rattle.ft_checker.proofs.cells.check_cells.Goals as goal
 
 pub returns-then-not-typed : goal.returns-then-not-typed

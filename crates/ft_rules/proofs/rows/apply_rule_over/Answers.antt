@@ -15,7 +15,12 @@ branch_blue-requires-clause-subst g c = subst_spelled (g.P.Program.object c.args
 pub claim-requires-clause-base : goal.claim-requires-clause-base
 claim-requires-clause-base g c =
     let s = instr_spelled (g.P.Program.object c.args.program.now) c.requires.instr.index c.args.instr.now c.requires.spellable c.requires.instr.found in
-    (subst (IsInstr (length (g.P.Program.object c.args.program.now).types)) c.in-Mov.is s).1.base
+    (subst (IsInstr (length (g.P.Program.object c.args.program.now).types) (length (g.P.Program.object c.args.program.now).cells)) c.in-Mov.is s).1.base
+
+pub index-requires-clause-run : goal.index-requires-clause-run
+index-requires-clause-run g c =
+    let s = instr_spelled (g.P.Program.object c.args.program.now) c.requires.instr.index c.args.instr.now c.requires.spellable c.requires.instr.found in
+    subst (IsInstr (length (g.P.Program.object c.args.program.now).types) (length (g.P.Program.object c.args.program.now).cells)) c.in-Idx.is s
 
 pub returns-in-OpReg : goal.returns-in-OpReg
 returns-in-OpReg g c =
@@ -56,6 +61,11 @@ pub returns-in-Mov : goal.returns-in-Mov
 returns-in-Mov g c =
     let d = c.claim.ensures in
     record { row = row_of (g.P.Program.object c.args.program.now) (context_in c.args.forms.now c.args.ctx.now) c.claim.new.forms c.claim.new.context c.claim.result c.args.instr.now _ c.in-Mov.is d.row; before = d.before; kept = d.kept; held = d.held; types = d.types; grows = d.grows; own = owned_kept (g.P.Program.object c.args.program.now) c.args.forms.now c.claim.new.forms c.args.shared.now.own d.kept c.requires.own; steps = steps_of (g.P.Program.object c.args.program.now) (context_in c.args.forms.now c.args.ctx.now) c.args.instr.now _ c.args.steps.now c.args.steps.now c.in-Mov.is (omega arith) }
+
+pub returns-in-Idx : goal.returns-in-Idx
+returns-in-Idx g c =
+    let d = c.index.ensures in
+    record { row = row_of (g.P.Program.object c.args.program.now) (context_in c.args.forms.now c.args.ctx.now) c.index.new.forms c.index.new.context c.index.result c.args.instr.now _ c.in-Idx.is d.row; before = d.before; kept = d.kept; held = d.held; types = d.types; grows = d.grows; own = owned_kept (g.P.Program.object c.args.program.now) c.args.forms.now c.index.new.forms c.args.shared.now.own d.kept c.requires.own; steps = steps_of (g.P.Program.object c.args.program.now) (context_in c.args.forms.now c.args.ctx.now) c.args.instr.now _ c.args.steps.now c.args.steps.now c.in-Idx.is (omega arith) }
 
 pub returns-in-JmpB : goal.returns-in-JmpB
 returns-in-JmpB g c =
