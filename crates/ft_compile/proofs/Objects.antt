@@ -108,6 +108,7 @@ bare_subst (instr.BzG rz rd) us = refl
 bare_subst (instr.BzB rz rd t) [] = refl
 bare_subst (instr.BzB rz rd t) (u ∷ us) = refl
 bare_subst instr.Halt us = refl
+bare_subst (instr.Idx rd rs first m) us = refl
 
 -- nor do all of them
 bare_placed : (us : List Subst) (is : List Instr) → map bare (placed us is) ≡ map bare is
@@ -245,7 +246,7 @@ module _ (names : List (List ℕ)) (inits : List ℕ) (vars : ℕ) (bs : Blocks)
     block_types = blocks_typed (starts bs);
     some_instr = let e = instrs_many in let f = first_there bs some W.some in omega arith;
     few_instrs = let e = instrs_many in let s = W.short in omega arith;
-    instrs = subst (All (IsInstr 2)) (sym instrs_are) (instrs_blocks vars start (length inits) (length bs) C.few address_words 0 (at_first vars) bs fine);
+    instrs = subst (λ n. All (IsInstr 2 n) o.instrs) (sym cell_count) (subst (All (IsInstr 2 (length inits))) (sym instrs_are) (instrs_blocks vars start (length inits) (length bs) C.few address_words 0 (at_first vars) bs fine));
     few_substs = let r = rows_blocks vars 0 (at_first vars) bs W.few_variables in let s = W.short in omega arith;
     covered = subst (Cover o.nodes (length o.substs) 0) (sym substs_are) (chain_covers o.nodes o.substs 0 (noted vars bs).substs sound.covered.chain);
     substs = sound.covered.rows;

@@ -41,7 +41,7 @@ code_one_is_basic = record { refs = omega arith; base = omega arith }
 
 module _ (vars : ℕ) (start : ℕ → ℕ) (cells blocks : ℕ) (small : cells ≤ 1024) (words : (b : ℕ) → IsWord (code_address (start b))) where
   -- the instructions of a step obey the rules
-  instrs_step : (u : Subst) (i : Step3) → StepFits cells blocks i → AllByRecursion (IsInstr 2) (coded_step start u i)
+  instrs_step : (u : Subst) (i : Step3) → StepFits cells blocks i → AllByRecursion (IsInstr 2 cells) (coded_step start u i)
   instrs_step u (Put p v) fits = ((fits, int_is_basic), ((fits, int_is_basic), tt))
   instrs_step u (Copy p q) fits = ((let z : IsWord 0 = omega arith in z), ((let z : IsWord 0 = omega arith in z), tt))
   instrs_step u (Op o p q r) fits = (tt, (tt, tt))
@@ -52,19 +52,19 @@ module _ (vars : ℕ) (start : ℕ → ℕ) (cells blocks : ℕ) (small : cells 
   instrs_step u Stop fits = (tt, tt)
 
   -- those of a row
-  instrs_row : (scope : ℕ) (k : Known) (w : Noted) (is : List Step3) → RowIsWell vars cells blocks k is → All (IsInstr 2) (row_coded vars start scope w is)
-  instrs_row scope k w [] h = All-nil (IsInstr 2)
+  instrs_row : (scope : ℕ) (k : Known) (w : Noted) (is : List Step3) → RowIsWell vars cells blocks k is → All (IsInstr 2 cells) (row_coded vars start scope w is)
+  instrs_row scope k w [] h = All-nil (IsInstr 2 cells)
   instrs_row scope k w (i ∷ is) h =
       let here = coded_step start (jump_subst vars w) i in
-      All-append (IsInstr 2) here (row_coded vars start scope (step_noted vars scope w i) is)
-      (All-from_recursion (IsInstr 2) here (instrs_step (jump_subst vars w) i h.0))
+      All-append (IsInstr 2 cells) here (row_coded vars start scope (step_noted vars scope w i) is)
+      (All-from_recursion (IsInstr 2 cells) here (instrs_step (jump_subst vars w) i h.0))
       (instrs_row scope (known_after i k) (step_noted vars scope w i) is h.2)
 
   -- those of all blocks
-  pub instrs_blocks : (b : ℕ) (w : Noted) (xs : Blocks) → RowsAreFine vars cells blocks b xs → All (IsInstr 2) (joined vars start (rows_coded vars start b w xs))
-  instrs_blocks b w [] h = All-nil (IsInstr 2)
+  pub instrs_blocks : (b : ℕ) (w : Noted) (xs : Blocks) → RowsAreFine vars cells blocks b xs → All (IsInstr 2 cells) (joined vars start (rows_coded vars start b w xs))
+  instrs_blocks b w [] h = All-nil (IsInstr 2 cells)
   instrs_blocks b w (x ∷ xs) h =
-      All-append (IsInstr 2) (row_coded vars start (scope_of_block vars b) (begun w) x) (joined vars start (rows_coded vars start (suc b) (block_noted vars b w x) xs))
+      All-append (IsInstr 2 cells) (row_coded vars start (scope_of_block vars b) (begun w) x) (joined vars start (rows_coded vars start (suc b) (block_noted vars b w x) xs))
       (instrs_row (scope_of_block vars b) _ (begun w) x h.0.well)
       (instrs_blocks (suc b) (block_noted vars b w x) xs h.1)
 

@@ -4,10 +4,10 @@ use Rattle.std.specs.List.{AllPairs}
 use Rattle.ft_isa.specs.Words.{IsWord}
 use Rattle.ft_types.specs.Spellable.{is_name}
 
--- a name of 1 to 32 bytes
+-- a name that a cell of an object may have
 pub record IsCellName (n : List ℕ) : Type 0 where
   pub bytes : is_name n ≡ true
-  pub short : length n ≤ 32
+  pub short : length n ≤ 40
 
 -- at most 1,024 names that differ, and as many words
 pub record AreCells (names : List (List ℕ)) (inits : List ℕ) : Type 0 where

@@ -1,14 +1,13 @@
 -- The two registers of a pair, and what the registers and the cells hold of a flow's state.
-use Rattle.std.proofs.Common.{◌≡◌, ◌≢◌, ℕ, zero, suc, ◌+◌, ◌<◌, Bool, true, false, cond, List, [], ◌∷◌, length, ◌==◌, Option, Some, inl, inr, refl, sym, ap, ◌∙◌, subst, arith, slice_get, slice_index, slice_set, nat_lt}
+use Rattle.std.proofs.Common.{◌≡◌, ◌≢◌, ℕ, zero, suc, ◌+◌, ◌<◌, true, false, cond, List, [], ◌∷◌, length, Option, Some, inl, inr, refl, sym, ap, ◌∙◌, subst, arith, slice_get, slice_index, slice_set, nat_lt}
 use Rattle.std.specs.Option.{unwrap_or}
 use Rattle.std.proofs.lemmas.Bool.{ne_eqb, eq-eqb, cases_eq, lt-ltb}
 use Rattle.std.proofs.lemmas.Option.{slice_get-get_or}
 use Rattle.std.proofs.lemmas.List.{get_or-set_same, length-set}
-use Rattle.ft_isa.specs.Words.{IsWord, apply, word_of_test, cell_address}
+use Rattle.ft_isa.specs.Words.{IsWord, apply, cell_address}
 use Rattle.ft_isa.specs.declared.colour.Colour.TheVariants.{Green, Blue}
 use Rattle.ft_isa.specs.declared.colour.Coloured.{Coloured}
 use Rattle.ft_isa.specs.declared.reg.Reg.{Reg}
-use Rattle.ft_isa.specs.declared.op.Op.{Op as Operation}
 use Rattle.ft_isa.specs.declared.op.Op.TheVariants as op
 use Rattle.ft_isa.proofs.Registers.{some_reg}
 use Rattle.ft_semantics.specs.State.{Registers, Cells, held, with_held, cell_at, with_cell}
@@ -45,20 +44,6 @@ other_blue : (p q : ℕ) → p < 32 → q < 32 → q ≢ p → (blue q).number �
 other_blue p q h k ne e = ne (let f : 32 + q ≡ 32 + p = sym (blue_number q k) ∙ e ∙ blue_number p h in omega arith)
 
 -- WORDS
-
--- the word of a test is a word
-test_word : (b : Bool) → IsWord (word_of_test b)
-test_word true = omega arith
-test_word false = omega arith
-
--- an operation gives a word
-pub apply_word : (o : Operation) (a b : ℕ) → IsWord (apply o a b)
-unfolding apply
-apply_word op.Add a b = omega arith
-apply_word op.Sub a b = omega arith
-apply_word op.Mul a b = omega arith
-apply_word op.Ltu a b = test_word (nat_lt a b)
-apply_word op.Eq a b = test_word (a == b)
 
 -- the sum of a word and 0 is the word
 pub add_nothing : (a : ℕ) → IsWord a → apply op.Add a 0 ≡ a

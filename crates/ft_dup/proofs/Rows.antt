@@ -21,7 +21,8 @@ use Rattle.ft_lower.specs.Well.{Known, learn, forget}
 use Rattle.ft_dup.specs.Images.{green, blue, image}
 use Rattle.ft_dup.specs.Doubles.{bare}
 use Rattle.ft_dup.proofs.Stretches.{Leads, lead_on, spot, col, mov, op_reg, op_word, load, store_green, store_blue, jump_green, jump_blue, branch_green_zero, branch_green_other, branch_blue_zero, branch_blue_other}
-use Rattle.ft_dup.proofs.Pairs.{apply_word, add_nothing, PairsHeld, two_held, green_read, blue_read, blue_left, pair_kept, holds_learn, holds_forget, CellsHold, cell_there, cells_set}
+use Rattle.ft_isa.proofs.Operations.{apply_is_word}
+use Rattle.ft_dup.proofs.Pairs.{add_nothing, PairsHeld, two_held, green_read, blue_read, blue_left, pair_kept, holds_learn, holds_forget, CellsHold, cell_there, cells_set}
 
 -- the instructions stand in the code from number i on
 abbrev pub HasInstrs : List Instr → ℕ → List Instr → Type 0
@@ -94,7 +95,7 @@ module _ (o : Object) (w : List Wild) where
         regs = two_held m p g (col Blue v);
         cells = c;
         leads = lead_on o 2 2 _ _ _ (op_reg o w i (omega arith) m c f.out x (green p) (green q) (green s) (f.pairs q) (f.pairs s) Green has.0 P.green S.green) (op_reg o w (suc i) (omega arith) m1 c f.out x (blue p) (blue q) (blue s) (f.pairs q) (f.pairs s) Blue has.1.0 (blue_left m p q g lt P.below ∙ P.blue) (blue_left m p s g lt S.below ∙ S.blue));
-        holds = holds_learn k m f p v lt (apply_word x (f.pairs q) (f.pairs s)) (λ q ne known. h q known);
+        holds = holds_learn k m f p v lt (apply_is_word x (f.pairs q) (f.pairs s) P.word S.word) (λ q ne known. h q known);
         memory = cells;
       }
 

@@ -84,6 +84,7 @@ execute_bare (instr.JmpB rd t) s w = refl
 execute_bare (instr.BzG rz rd) s w = refl
 execute_bare (instr.BzB rz rd t) s w = refl
 execute_bare instr.Halt s w = refl
+execute_bare (instr.Idx rd rs first m) s w = refl
 
 -- an instruction that stands there without its claims
 get_bare : (xs : List Instr) (i : ℕ) (J : Instr) → slice_get (map bare xs) i ≡ Some J → (I : Instr) × (slice_get xs i ≡ Some I) × (bare I ≡ J)

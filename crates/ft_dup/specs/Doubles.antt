@@ -29,6 +29,7 @@ bare (instr.JmpB rd t) = instr.JmpB rd empty
 bare (instr.BzG rz rd) = instr.BzG rz rd
 bare (instr.BzB rz rd t) = instr.BzB rz rd empty
 bare instr.Halt = instr.Halt
+bare (instr.Idx rd rs first m) = instr.Idx rd rs first m
 
 -- the initial word of a cell
 abbrev pub init_of_cell : Cell → ℕ

@@ -40,9 +40,6 @@ assigned_grows (Cell c) v s = record { left = omega arith; out = (record { addr 
 left_grows : (s t : State) (l : ℕ) → l ≤ s.left → Grows (with_left l s) t → Grows s t
 left_grows s t l h g = record { left = omega (arith, g.left); out = g.out; vars = g.vars }
 
-AllGrow : (State → Outcome) → Type 0
-AllGrow go = (s : State) → Grows s (state_of (go s))
-
 then_grows : (s : State) (r : Outcome) (go : State → Outcome) → Grows s (state_of r) → ((s1 : State) → Grows s1 (state_of (go s1))) → Grows s (state_of (then_do r go))
 then_grows s (Ended s1) go p q = grows_trans s s1 _ p (q s1)
 then_grows s (Cut s1) go p q = p

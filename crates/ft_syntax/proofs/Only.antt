@@ -81,6 +81,3 @@ judged_only ts end (Ok p) (d, k) =
     through_all a.0 ts end a.1 k ∙ ap (at_end end) a.2
 judged_only ts end (Err (syntax_at at)) h = ⊎_elim (stops_at ts end at) (lacks ts end at) h
 judged_only ts end (Err (deep_at at)) h = deep_one ts end at h
-
-pub one_judged : (ts : List Lexeme) (end : ℕ) (r s : Answer) → Judged ts end r → Judged ts end s → r ≡ s
-one_judged ts end r s h k = sym (judged_only ts end r h) ∙ judged_only ts end s k
