@@ -58,6 +58,7 @@ few_of verb.Exec operand given h = tt
 few_of verb.Mean operand given h = tt
 few_of verb.Debug operand given h = tt
 few_of verb.Demo operand given h = few_of_turns (turns_up_to 10921 operand)
+few_of verb.Upgrade operand given h = tt
 
 none_up_to : (v : Verb) → IsUpTo (allowed_of v).steps none_given.steps
 none_up_to v = tt
@@ -91,6 +92,7 @@ turns_of verb.Exec operand given = tt
 turns_of verb.Mean operand given = tt
 turns_of verb.Debug operand given = tt
 turns_of verb.Demo operand given = turns_of_number (turns_up_to 10921 operand) (turns_within 10921 operand)
+turns_of verb.Upgrade operand given = tt
 
 -- a demonstration that words ask for has from 1 to 10,921 turns
 pub few_turns : (words : List Word) (request : Request) → AreCommand words request → HasTurns request

@@ -4,7 +4,7 @@ use Rattle.std.specs.Option.{option_map, unwrap_or}
 use Rattle.ft_command.specs.declared.verb.Verb.{Verb}
 use Rattle.ft_command.specs.declared.verb.Verb.TheVariants as verb
 use Rattle.ft_command.specs.Options.{Word, Given, none_given, GivesAll}
-use Rattle.ft_command.specs.Commands.{name_of, allowed_of, turns_up_to, request_of, Request, Usage, Checks, Runs, Trials, Campaigns, Surveys, Compiles, Executes, Means, Debugs, Demonstrates, AreCommand, Asks}
+use Rattle.ft_command.specs.Commands.{name_of, allowed_of, turns_up_to, request_of, Request, Usage, Checks, Runs, Trials, Campaigns, Surveys, Compiles, Executes, Means, Debugs, Demonstrates, Upgrades, AreCommand, Asks}
 
 -- the command that a name is of, by its letters
 verb_by : Word → Verb
@@ -18,6 +18,7 @@ verb_by w =
     else if slice_index w 0 == 115 then verb.Survey
     else if slice_index w 2 == 98 then verb.Debug
     else if slice_index w 0 == 100 then verb.Demo
+    else if slice_index w 0 == 117 then verb.Upgrade
     else verb.Mean
 
 verb_by-name_of : (v : Verb) → verb_by (name_of v) ≡ v
@@ -32,6 +33,7 @@ verb_by-name_of verb.Exec = refl
 verb_by-name_of verb.Mean = refl
 verb_by-name_of verb.Debug = refl
 verb_by-name_of verb.Demo = refl
+verb_by-name_of verb.Upgrade = refl
 
 -- commands with one name are one
 same_verb : (u v : Verb) → name_of u ≡ name_of v → u ≡ v
@@ -78,6 +80,7 @@ no_usage verb.Exec operand given e = absurd (cc)
 no_usage verb.Mean operand given e = absurd (cc)
 no_usage verb.Debug operand given e = absurd (cc)
 no_usage verb.Demo operand given e = no_usage_of_number (turns_up_to 10921 operand) e
+no_usage verb.Upgrade operand given e = absurd (cc)
 
 -- what a command asks for, the words ask for
 pub asks : (words : List Word) (request : Request) → AreCommand words request → Asks words request
@@ -92,6 +95,7 @@ asks words (Executes execution) h = h
 asks words (Means meaning) h = h
 asks words (Debugs debugging) h = h
 asks words (Demonstrates turns) h = h
+asks words (Upgrades object) h = h
 
 -- what words ask for but usage, they are a command for
 pub by_command : (words : List Word) (request other : Request) → AreCommand words request → Asks words other → AreCommand words other
@@ -106,6 +110,7 @@ by_command words request (Executes execution) asked h = h
 by_command words request (Means meaning) asked h = h
 by_command words request (Debugs debugging) asked h = h
 by_command words request (Demonstrates turns) asked h = h
+by_command words request (Upgrades object) asked h = h
 
 -- words that are a command ask for nothing else
 pub asks_only : (words options : List Word) (v : Verb) (operand : Word) (given : Given) (request : Request) → words ≡ name_of v ∷ operand ∷ options
@@ -143,3 +148,4 @@ usage_only words none (Executes execution) h = absurd (none (Executes execution)
 usage_only words none (Means meaning) h = absurd (none (Means meaning) h)
 usage_only words none (Debugs debugging) h = absurd (none (Debugs debugging) h)
 usage_only words none (Demonstrates turns) h = absurd (none (Demonstrates turns) h)
+usage_only words none (Upgrades object) h = absurd (none (Upgrades object) h)

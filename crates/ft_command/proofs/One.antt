@@ -10,7 +10,7 @@ use Rattle.ft_command.specs.declared.allowed.Allowed.{Allowed}
 use Rattle.ft_command.specs.declared.verb.Verb.{Verb}
 use Rattle.ft_command.specs.declared.verb.Verb.TheVariants as verb
 use Rattle.ft_command.specs.Options.{Word, Given, none_given, IsNumberUpTo, GivesSteps, GivesTurns, GivesStrike, GivesWild, GivesFaults, Gives, by_steps, by_turns, by_strike, by_wild, by_faults, GivesAll}
-use Rattle.ft_command.specs.Commands.{allowed_of, Request, Usage, Checks, Runs, Trials, Campaigns, Surveys, Compiles, Executes, Means, Debugs, Demonstrates, AreCommand, Asks}
+use Rattle.ft_command.specs.Commands.{allowed_of, Request, Usage, Checks, Runs, Trials, Campaigns, Surveys, Compiles, Executes, Means, Debugs, Demonstrates, Upgrades, AreCommand, Asks}
 use Rattle.ft_command.proofs.Given.{steps_only, turns_only, strike_only, wild_only, faults_only}
 use Rattle.ft_command.proofs.Commands.{asks_only, usage_only}
 
@@ -72,6 +72,7 @@ steps_are_words verb.Exec = lit< tt
 steps_are_words verb.Mean = tt
 steps_are_words verb.Debug = tt
 steps_are_words verb.Demo = tt
+steps_are_words verb.Upgrade = tt
 
 turns_are_words : (v : Verb) → IsAWordIfSome (allowed_of v).turns
 turns_are_words verb.Check = tt
@@ -84,6 +85,7 @@ turns_are_words verb.Exec = tt
 turns_are_words verb.Mean = lit< tt
 turns_are_words verb.Debug = tt
 turns_are_words verb.Demo = tt
+turns_are_words verb.Upgrade = tt
 
 one_command : (words : List Word) (request other : Request) → AreCommand words request → Asks words other → request ≡ other
 one_command words request other h i =
@@ -104,3 +106,4 @@ one_request words (Executes execution) b h i = one_command words (Executes execu
 one_request words (Means meaning) b h i = one_command words (Means meaning) b h i
 one_request words (Debugs debugging) b h i = one_command words (Debugs debugging) b h i
 one_request words (Demonstrates turns) b h i = one_command words (Demonstrates turns) b h i
+one_request words (Upgrades object) b h i = one_command words (Upgrades object) b h i

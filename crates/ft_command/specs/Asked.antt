@@ -10,7 +10,7 @@ use Rattle.ft_command.specs.declared.command.Debugging as declared_debugging
 use Rattle.ft_command.specs.declared.command.Command as declared_command
 use Rattle.ft_command.specs.declared.command.Command.TheVariants as commands
 use Rattle.ft_command.specs.Options.{Given}
-use Rattle.ft_command.specs.Commands.{Run, Campaign, Meaning, Execution, Debugging, Request, Usage, Checks, Runs, Trials, Campaigns, Surveys, Compiles, Executes, Means, Debugs, Demonstrates}
+use Rattle.ft_command.specs.Commands.{Run, Campaign, Meaning, Execution, Debugging, Request, Usage, Checks, Runs, Trials, Campaigns, Surveys, Compiles, Executes, Means, Debugs, Demonstrates, Upgrades}
 
 -- the options that the code has taken so far
 abbrev pub given_of : Options → Given
@@ -45,6 +45,7 @@ asked (commands.Exec execution) = Executes (execution_view execution)
 asked (commands.Mean meaning) = Means (meaning_view meaning)
 asked (commands.Debug debugging) = Debugs (debugging_view debugging)
 asked (commands.Demo turns) = Demonstrates turns
+asked (commands.Upgrade object) = Upgrades object.now
 
 -- the request that the code has read, or the wish for usage where there is none
 abbrev pub asked_or_usage : Option declared_command.Command → Option Request

@@ -21,6 +21,7 @@ name_of verb.Exec = codes "exec"
 name_of verb.Mean = codes "mean"
 name_of verb.Debug = codes "debug"
 name_of verb.Demo = codes "demo"
+name_of verb.Upgrade = codes "upgrade"
 
 -- no options
 abbrev pub no_options : Allowed
@@ -58,6 +59,7 @@ allowed_of verb.Exec = execution_options
 allowed_of verb.Mean = meaning_options
 allowed_of verb.Debug = debugging_options
 allowed_of verb.Demo = no_options
+allowed_of verb.Upgrade = no_options
 
 -- the run of an object, for at most so many steps, under a plan
 pub record Run : Type 0 where
@@ -147,6 +149,8 @@ pub data Request : Type 0 where
   Debugs : Debugging → Request
   -- the run of the object of this number of turns, and a campaign on it
   Demonstrates : ℕ → Request
+  -- an object in version 2 of the format
+  Upgrades : Word → Request
 
 -- what a command asks for, with its operand and its options; campaigns need their list, and a demonstration a number of turns
 abbrev pub request_of : Verb → Word → Given → Option Request
@@ -160,6 +164,7 @@ request_of verb.Exec operand given = Some (Executes (execution_of operand given)
 request_of verb.Mean operand given = Some (Means (meaning_of operand given))
 request_of verb.Debug operand given = Some (Debugs (debugging_of operand given))
 request_of verb.Demo operand given = option_map Demonstrates (turns_up_to 10921 operand)
+request_of verb.Upgrade operand given = Some (Upgrades operand)
 
 -- the words are a command, its operand, and options that it takes, and ask for this
 pub record AreCommand (words : List Word) (request : Request) : Type 0 where
@@ -184,6 +189,7 @@ Asks words (Executes execution) = AreCommand words (Executes execution)
 Asks words (Means meaning) = AreCommand words (Means meaning)
 Asks words (Debugs debugging) = AreCommand words (Debugs debugging)
 Asks words (Demonstrates turns) = AreCommand words (Demonstrates turns)
+Asks words (Upgrades object) = AreCommand words (Upgrades object)
 
 -- each run of a campaign takes at most 1,000,000 steps
 abbrev pub HasFewSteps : Request → Type 0
@@ -198,6 +204,7 @@ HasFewSteps (Executes execution) = Unit {0}
 HasFewSteps (Means meaning) = Unit {0}
 HasFewSteps (Debugs debugging) = Unit {0}
 HasFewSteps (Demonstrates turns) = Unit {0}
+HasFewSteps (Upgrades object) = Unit {0}
 
 -- a demonstration has from 1 to 10,921 turns
 abbrev pub HasTurns : Request → Type 0
@@ -212,3 +219,4 @@ HasTurns (Executes execution) = Unit {0}
 HasTurns (Means meaning) = Unit {0}
 HasTurns (Debugs debugging) = Unit {0}
 HasTurns (Demonstrates turns) = (1 ≤ turns) × (turns ≤ 10921)
+HasTurns (Upgrades object) = Unit {0}

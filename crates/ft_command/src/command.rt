@@ -42,6 +42,8 @@ pub enum Command<'w> {
     Debug(Debugging<'w>),
     /// Makes an object of so many turns, runs it and tries faults on it.
     Demo(u32),
+    /// Writes the object of this file in version 2 of the format.
+    Upgrade(&'w str),
 }
 
 /// The run of an object: the file's name, how many steps at the most, and the plan.
@@ -192,6 +194,7 @@ fn command_from<'w>(
             Some(turns) => Command::Demo(turns),
             None => return None,
         },
+        Verb::Upgrade => Command::Upgrade(operand),
     };
     Some(command)
 }

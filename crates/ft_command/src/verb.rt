@@ -45,6 +45,8 @@ pub enum Verb {
     Debug,
     /// `demo`: makes an object of so many turns, runs it and tries faults on it.
     Demo,
+    /// `upgrade`: writes an object in version 2 of the format.
+    Upgrade,
 }
 
 impl Verb {
@@ -83,6 +85,9 @@ impl Verb {
         if word == "demo" {
             return Some(Verb::Demo);
         }
+        if word == "upgrade" {
+            return Some(Verb::Upgrade);
+        }
         None
     }
 
@@ -91,7 +96,7 @@ impl Verb {
         ensures { result ≡ allowed_of self }
     {
         match self {
-            Verb::Check | Verb::Compile | Verb::Demo => NONE,
+            Verb::Check | Verb::Compile | Verb::Demo | Verb::Upgrade => NONE,
             Verb::Exec => Allowed {
                 steps: Some(RUN_STEPS),
                 ..NONE

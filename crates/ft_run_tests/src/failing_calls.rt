@@ -9,6 +9,7 @@ fn files_that_are_missing(rt: HostRuntime) -> Result<(), Fail> {
         &rt,
         &[
             ("trial B", "", 3),
+            ("upgrade B", "", 3),
             ("trial --steps", "", 3),
             ("trial ", "", 3),
         ],
@@ -36,6 +37,7 @@ fn loads_that_fail(rt: HostRuntime) -> Result<(), Fail> {
         (0, ("compile A", "", 3)),
         (0, ("exec A", "", 3)),
         (0, ("mean A", "", 3)),
+        (0, ("upgrade A", "", 3)),
         (0, ("check", "usage\n", 2)),
     ] {
         check_failing_load(&rt, load, row)?;
@@ -61,6 +63,7 @@ fn puts_that_fail(rt: HostRuntime) -> Result<(), Fail> {
         (0, ("run A", "", 4)),
         (0, ("check A", "", 4)),
         (0, ("check A2", "", 4)),
+        (0, ("upgrade A", "", 4)),
         (1, ("check A", "accepted\n", 0)),
         (0, ("trial missing", "", 3)),
     ] {

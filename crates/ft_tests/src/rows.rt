@@ -1,6 +1,6 @@
 //! Worked objects by name, and the tool over them.
 use ft_edge::{MemShelf, MemSink, Source, SureSource};
-use ft_worked_objects::{A, A2, BRANCH, J, J64, K, L, LOOP, N, OVER, Q, TWICE, X, X2};
+use ft_worked_objects::{A, A2, BRANCH, I, J, J64, K, L, LOOP, N, OVER, Q, TWICE, X, X2};
 use std::test::Fail;
 
 /// Words, the text that is written, and the status.
@@ -15,6 +15,7 @@ const OBJECTS: &[(&str, &[u8])] = &[
     ("X2", X2),
     ("L", L),
     ("N", N),
+    ("I", I),
     ("J", J),
     ("J64", J64),
     ("K", K),

@@ -19,7 +19,7 @@ use Rattle.ft_isa.specs.declared.plan.Strike.{Strike}
 use Rattle.ft_machine.specs.declared.run.RunEnd.{RunEnd}
 use Rattle.ft_machine.specs.declared.run.RunEnd.TheVariants as runs
 use Rattle.ft_machine.specs.Drives.{EndsAs, Puts, IsExcused, output_lines}
-use Rattle.ft_format.specs.Broken.{broken, object_of}
+use Rattle.ft_format.specs.Broken.{broken, object_of, version_at}
 use Rattle.ft_format.proofs.Write.{spells_unbroken}
 use Rattle.ft_format.specs.declared.object_error.ObjectError.TheVariants.{Length}
 use Rattle.ft_command.specs.Options.{Word}
@@ -33,9 +33,9 @@ use Rattle.ft_checker.specs.declared.error.CheckError.{CheckError}
 use Rattle.ft_checker.specs.declared.error.CheckError.TheVariants as checks
 use Rattle.ft_checker.specs.Judges.{IsRefusalOf}
 use Rattle.ft_tool.specs.Replies.{Answer, one_piece, ran, status_of_run}
-use Rattle.ft_tool.specs.Answers.{tried, judged, checked, Withstands, RunsUnless, RunsObject, TrialsObject, OverFile, SpellsFile, ComesTo, FailsIn, Concludes, BreaksOff}
-use Rattle.ft_tool.specs.Told.{OfFiles}
-use Rattle.ft_tool.specs.Files.{LoadsObject, LoadCause, IsRefusedBy, IsNotAccepted}
+use Rattle.ft_tool.specs.Answers.{tried, Withstands, RunsUnless, RunsObject, TrialsObject, OverBytes, OverFile, SpellsFile, ComesTo, FailsIn, Concludes, BreaksOff}
+use Rattle.ft_tool.specs.Told.{IsToldFile, OfFiles}
+use Rattle.ft_tool.specs.Files.{LoadsObject, FaultCause, IsRefusedBy, IsNotAccepted}
 use Rattle.ft_tool.specs.Endings.{Ends, ends_early, ending_of_run}
 use Rattle.ft_tool.proofs.Mapped.{some_same, none_some, some_files, files_with}
 
@@ -74,7 +74,7 @@ pub unspelled : (told : Option Files) (name : Word) (e : ObjectFault) (end : End
     → Ends end (IsRefusedBy e) old new puts puts' before now L → OfFiles told (λ files. (SpellsFile files name → ⊥) ⊎ IsTrue (ends_early end))
 unspelled told name (Refused e) end old new puts puts' before now L h ends =
     let m = files_with told name h.0 h.1.0 in
-    (m.0, (m.1.0, inl (λ s. none_some e (sym (spells_unbroken s.0 s.1.1.0 s.1.1.1) ∙ ap broken (some_same s.0 h.0 (sym s.1.0 ∙ m.1.1)) ∙ h.1.1))))
+    (m.0, (m.1.0, inl (λ s. none_some e (sym (spells_unbroken s.0 s.1.1.1.0 s.1.1.0 s.1.1.1.1) ∙ ap broken (some_same s.0 h.0 (sym s.1.0 ∙ m.1.1)) ∙ h.1.1))))
 unspelled told name Failed end old new puts puts' before now L h ends = let m = some_files told in (m.0, (m.1.0, inr (unanswered end (IsRefusedBy Failed) old new puts puts' before now L (λ a is. is) ends)))
 unspelled told name no_memory end old new puts puts' before now L h ends = let m = some_files told in (m.0, (m.1.0, inr (unanswered end (IsRefusedBy no_memory) old new puts puts' before now L (λ a is. is) ends)))
 
@@ -151,20 +151,6 @@ run_excused runs.Detected count count' excused other = excused
 run_excused runs.OutOfSteps count count' excused other = excused
 run_excused runs.WriteFault count count' excused other = absurd (other refl)
 
--- the answer of a check that is refused
-pub checked_refused : (e : CheckError) (o : objects.Object) → IsRefusalOf (refusal o) e → (a : Answer) → IsNotAccepted e a → a ≡ checked o
-checked_refused checks.EntryType o h a is = is ∙ sym (ap judged h)
-checked_refused (checks.CellType k) o h a is = is ∙ sym (ap judged h)
-checked_refused (checks.Refused b i why) o h a is = is ∙ sym (ap judged h)
-checked_refused checks.NoMemory o h a is = absurd is
-
--- the answer of a run whose object is refused
-pub run_refused : (e : CheckError) (r : Run) (o : objects.Object) → IsRefusalOf (refusal o) e → (a : Answer) → IsNotAccepted e a → RunsObject r o a
-run_refused checks.EntryType r o h a is = subst (λ x. RunsUnless x r o a) (sym h) is
-run_refused (checks.CellType k) r o h a is = subst (λ x. RunsUnless x r o a) (sym h) is
-run_refused (checks.Refused b i why) r o h a is = subst (λ x. RunsUnless x r o a) (sym h) is
-run_refused checks.NoMemory r o h a is = absurd is
-
 -- bytes beyond the limit are refused by their length
 pub too_long : (bytes : List ℕ) → 67108864 < length bytes → broken bytes ≡ Some (Length 67108864)
 unfolding broken
@@ -172,7 +158,11 @@ too_long bytes long = let beyond : nat_le (length bytes) 67108864 ≡ false = lt
 
 -- the answer over the object that a file's bytes spell is one over the file
 pub over_object : (Over : objects.Object → Answer → Type 0) (told : Option Files) (name : Word) (bytes : List ℕ) → LoadsObject told name (Ok bytes) → (a : Answer) → Over (object_of bytes) a → OfFiles told (λ files. OverFile Over name files a)
-over_object Over told name bytes h a is = let m = files_with told name bytes h.0 in (m.0, (m.1.0, (bytes, (m.1.1, inl (object_of bytes, (h.1, is))))))
+over_object Over told name bytes h a is = let m = files_with told name bytes h.0 in (m.0, (m.1.0, (bytes, (m.1.1, inl (object_of bytes, ((version_at bytes, h.1), is))))))
+
+-- the answer over a file's bytes is one over the file
+pub over_loaded : (Over : objects.Object → Answer → Type 0) (told : Option Files) (name : Word) (bytes : List ℕ) → IsToldFile told name bytes → (a : Answer) → OverBytes Over bytes a → OfFiles told (λ files. OverFile Over name files a)
+over_loaded Over told name bytes h a is = let m = files_with told name bytes h in (m.0, (m.1.0, (bytes, (m.1.1, is))))
 
 -- the answer to a file's bytes that are refused is one over the file
 pub over_fault : (Over : objects.Object → Answer → Type 0) (told : Option Files) (name : Word) (e : ObjectFault) → LoadsObject told name (Err e) → (a : Answer) → IsRefusedBy e a → OfFiles told (λ files. OverFile Over name files a)
@@ -181,8 +171,8 @@ over_fault Over told name Failed h a is = absurd is
 over_fault Over told name no_memory h a is = absurd is
 
 -- a load of an object that failed
-pub object_failed : (before now : ℕ) (failed failed' : Option (List ℕ)) (name : Word) (e : ObjectFault) → LoadCause before now failed failed' name (Err e) → e ≡ Failed → Rose before now × (failed' ≡ Some name)
-object_failed before now failed failed' name e h is = subst (λ f. LoadCause before now failed failed' name (Err f)) is h
+pub object_failed : (before now : ℕ) (failed failed' : Option (List ℕ)) (name : Word) (e : ObjectFault) → FaultCause before now failed failed' name e → e ≡ Failed → Rose before now × (failed' ≡ Some name)
+object_failed before now failed failed' name e h is = subst (FaultCause before now failed failed' name) is h
 
 -- a request that came to load a file, where files play no part in that
 pub failed_in : (request : Request) (told : Option Files) (before now : ℕ) (failed' : Option (List ℕ)) (name : Word) → ((files : Files) → ComesTo request files name) → Rose before now × (failed' ≡ Some name)

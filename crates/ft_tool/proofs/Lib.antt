@@ -1,6 +1,7 @@
 mod Mapped
 mod Answered
 mod Compiled
+mod Upgraded
 mod Meant
 mod Frugal
 mod Taken

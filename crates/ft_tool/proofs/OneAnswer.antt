@@ -11,7 +11,6 @@ use Rattle.ft_semantics.specs.declared.status.Status.TheVariants.{Running, Done,
 use Rattle.ft_typing.specs.Accepted.{Refusal, refusal}
 use Rattle.ft_semantics.specs.Run.{run, outputs_after, status_after}
 use Rattle.ft_format.specs.Broken.{broken, object_of}
-use Rattle.ft_format.specs.Format.{Spells}
 use Rattle.ft_campaign.specs.declared.fault_list.ListError.{ListError}
 use Rattle.ft_campaign.specs.declared.fault_list.ListError.TheVariants.{Line, TooMany, NoMemory}
 use Rattle.ft_campaign.specs.declared.verdict.Verdict.{Verdict}
@@ -30,14 +29,14 @@ use Rattle.ft_compile.specs.Laws.{object_lines, LinesBegin, DoneRunsWriteTheMean
 use Rattle.ft_sample.specs.Sample.{sample_object}
 use Rattle.ft_demo.specs.Demonstrations.{first_faults, demo_lines}
 use Rattle.ft_command.specs.Options.{Word}
-use Rattle.ft_command.specs.Commands.{Campaign, Debugging, Run, Request, Usage, Checks, Runs, Trials, Campaigns, Surveys, Compiles, Executes, Means, Debugs, Demonstrates, Asks}
+use Rattle.ft_command.specs.Commands.{Campaign, Debugging, Run, Request, Usage, Checks, Runs, Trials, Campaigns, Surveys, Compiles, Executes, Means, Debugs, Demonstrates, Upgrades, Asks}
 use Rattle.ft_tool.specs.Texts.{source_line}
-use Rattle.ft_tool.specs.Replies.{Answer, one_piece, ran, status_of_run}
+use Rattle.ft_tool.specs.Replies.{Answer, one_piece, ran, status_of_run, IsSpelling}
 use Rattle.ft_tool.specs.Lists.{IsListAnswer, AnyVerdicts, NoneCorrupt, OverFaults, too_much, tried, OverList, refused_list, listed, status_of}
 use Rattle.ft_tool.specs.Sources.{OverText, CompilesProgram, ExecutesProgram, MeansProgram}
 use Rattle.ft_tool.specs.Scripts.{DebugsObject, too_long, debugged}
 use Rattle.ft_tool.specs.Demonstrations.{ShowsSample}
-use Rattle.ft_tool.specs.Answers.{refused as object_refused, ChecksObject, RunsUnless, TrialsObject, RunsObject, OverBytes, OverFile, OverListFile, SurveysObject, CampaignsUnless, CampaignsAccepted, CampaignsObject, OverSource, Answers, IsAnswer}
+use Rattle.ft_tool.specs.Answers.{refused as object_refused, ChecksObject, RunsUnless, TrialsObject, RunsObject, OverBytes, OverFile, OverListFile, SurveysObject, CampaignsUnless, CampaignsAccepted, CampaignsObject, UpgradesObject, OverSource, Answers, IsAnswer}
 use Rattle.ft_tool.specs.OneAnswer.{AreCompilations, AreExecutions, AreAnswers}
 use Rattle.ft_tool.specs.OneAnswer as one
 use Rattle.ft_tool.proofs.Mapped.{some_same, none_some}
@@ -65,7 +64,7 @@ answers_same : (a b : Answer) → a.pieces ≡ b.pieces → a.status ≡ b.statu
 answers_same a b e f = λ i. record { pieces = e i; status = f i }
 
 -- the answer over the bytes of a file is one, if it is one over an object
-over_bytes : ((bytes : List ℕ) (o : Object) → Spells bytes o → object_of bytes ≡ o) → ((bytes : List ℕ) (o : Object) → Spells bytes o → broken bytes ≡ None)
+over_bytes : ((bytes : List ℕ) (o : Object) → IsSpelling bytes o → object_of bytes ≡ o) → ((bytes : List ℕ) (o : Object) → IsSpelling bytes o → broken bytes ≡ None)
     → (Over : Object → Answer → Type 0) → ((o : Object) (a b : Answer) → Over o a → Over o b → a ≡ b) → (bytes : List ℕ) (a b : Answer) → OverBytes Over bytes a → OverBytes Over bytes b → a ≡ b
 over_bytes one_object unbroken Over same bytes a b (inl x) (inl y) = same x.0 a b x.1.1 (subst (λ o. Over o b) (sym (one_object bytes y.0 y.1.0) ∙ one_object bytes x.0 x.1.0) y.1.1)
 over_bytes one_object unbroken Over same bytes a b (inl x) (inr y) = absurd (none_some y.0 (sym (unbroken bytes x.0 x.1.0) ∙ y.1.0))
@@ -73,10 +72,14 @@ over_bytes one_object unbroken Over same bytes a b (inr x) (inl y) = absurd (non
 over_bytes one_object unbroken Over same bytes a b (inr x) (inr y) = x.1.1 ∙ ap object_refused (some_same x.0 y.0 (sym x.1.0 ∙ y.1.0)) ∙ sym y.1.1
 
 -- so is that over the file of a name
-over_file : ((bytes : List ℕ) (o : Object) → Spells bytes o → object_of bytes ≡ o) → ((bytes : List ℕ) (o : Object) → Spells bytes o → broken bytes ≡ None)
+over_file : ((bytes : List ℕ) (o : Object) → IsSpelling bytes o → object_of bytes ≡ o) → ((bytes : List ℕ) (o : Object) → IsSpelling bytes o → broken bytes ≡ None)
     → (Over : Object → Answer → Type 0) → ((o : Object) (a b : Answer) → Over o a → Over o b → a ≡ b) → (name : Word) (files : Files) (a b : Answer) → OverFile Over name files a → OverFile Over name files b → a ≡ b
 over_file one_object unbroken Over same name files a b x y =
     over_bytes one_object unbroken Over same x.0 a b x.1.1 (subst (λ bytes. OverBytes Over bytes b) (some_same y.0 x.0 (sym y.1.0 ∙ x.1.0)) y.1.1)
+
+-- the answer of an upgrade
+upgraded_same : (o : Object) (a b : Answer) → UpgradesObject o a → UpgradesObject o b → a ≡ b
+upgraded_same o a b x y = x.answer ∙ ap (λ bytes. one_piece bytes 0) (x.spelled.spelled ∙ sym y.spelled.spelled) ∙ sym y.answer
 
 -- the answer of a run
 run_same : (x : Option Refusal) (r : Run) (o : Object) (a b : Answer) → RunsUnless x r o a → RunsUnless x r o b → a ≡ b
@@ -222,8 +225,8 @@ executed_same done running n p a b x y =
 -- what the answers rest on
 pub record HasLaws : Type 0 where
   pub one_request : (words : List Word) (a b : Request) → Asks words a → Asks words b → a ≡ b
-  pub one_object : (bytes : List ℕ) (o : Object) → Spells bytes o → object_of bytes ≡ o
-  pub unbroken : (bytes : List ℕ) (o : Object) → Spells bytes o → broken bytes ≡ None
+  pub one_object : (bytes : List ℕ) (o : Object) → IsSpelling bytes o → object_of bytes ≡ o
+  pub unbroken : (bytes : List ℕ) (o : Object) → IsSpelling bytes o → broken bytes ≡ None
   pub one_outcome : (text : List ℕ) (r s : Result Program SourceError) → IsOutcome text r → IsOutcome text s → r ≡ s
   pub one_list : (text : List ℕ) (xs ys : List Strike) → IsFaultList text xs → IsFaultList text ys → xs ≡ ys
   pub one_refusal : (text : List ℕ) (e f : ListError) → e ≢ NoMemory → f ≢ NoMemory → IsListError text e → IsListError text f → e ≡ f
@@ -251,6 +254,7 @@ same_answers l (Means m) files script a b h g =
     over_source l.one_outcome (MeansProgram m.turns) (λ x y. x ≡ y) (λ p x y e f. e ∙ sym f) (λ x y s e. e) m.source files a b h g
 same_answers l (Debugs d) files script a b h g = over_file l.one_object l.unbroken (DebugsObject d script) (λ o x y e f. session_same l.one_script d script o x y e f) d.object files a b h g
 same_answers l (Demonstrates turns) files script a b h g = shown_same l.one_verdict turns a b h g
+same_answers l (Upgrades name) files script a b h g = over_file l.one_object l.unbroken UpgradesObject upgraded_same name files a b h g
 
 -- an answer over files and a script that are told
 answers_told : HasLaws → (words : List Word) (r : Request) (files : Files) (script : List ℕ) (a : Answer) → Asks words r → IsAnswer words (Some files) (Some script) a → Answers r files script a

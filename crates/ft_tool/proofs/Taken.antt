@@ -10,7 +10,7 @@ use Rattle.ft_types.specs.declared.object.Object.{Object}
 use Rattle.ft_debug.specs.Ends.{Finishes, Stops}
 use Rattle.ft_debug.specs.Sessions.{session_lines}
 use Rattle.ft_format.specs.Format.{AreBytes}
-use Rattle.ft_format.specs.Broken.{object_of}
+use Rattle.ft_format.specs.Broken.{object_of, version_at}
 use Rattle.ft_command.specs.Commands.{Debugging, Debugs}
 use Rattle.ft_tool.specs.declared.load.ObjectFault.{ObjectFault}
 use Rattle.ft_tool.specs.declared.load.ObjectFault.TheVariants.{Refused, Failed, NoMemory}
@@ -80,7 +80,7 @@ pub over_debugged : (d : Debugging) (told : Option Files) (left : Option (List �
     → OfFiles told (λ files. OfScript left (λ text. OverFile (DebugsObject d text) d.object files a))
 over_debugged d told left bytes h a is =
     let m = files_with told d.object bytes h.0 in
-    (m.0, (m.1.0, (is.0, (is.1.0, (bytes, (m.1.1, inl (object_of bytes, (h.1, is.1.1))))))))
+    (m.0, (m.1.0, (is.0, (is.1.0, (bytes, (m.1.1, inl (object_of bytes, ((version_at bytes, h.1), is.1.1))))))))
 
 -- so is the answer to an object's bytes that are refused
 pub over_undebugged : (d : Debugging) (told : Option Files) (left : Option (List ℕ)) (e : ObjectFault) → LoadsObject told d.object (Err e) → (a : Answer) → IsRefusedBy e a

@@ -1,5 +1,5 @@
 -- What the parts of a campaign conclude.
-use Rattle.std.proofs.Common.{◌≡◌, ◌≢◌, ℕ, suc, ◌*◌, ◌<◌, ◌≤◌, List, [], ◌∷◌, length, Option, Some, None, Result, Ok, Err, inl, inr, refl, sym, ap, ◌∙◌, subst, arith, if◌then◌else◌, eq-eqb, ne_eqb}
+use Rattle.std.proofs.Common.{◌≡◌, ◌≢◌, ℕ, suc, ◌*◌, ◌<◌, ◌≤◌, List, [], ◌∷◌, length, Option, Some, None, Ok, Err, inl, inr, refl, sym, ap, ◌∙◌, subst, arith, if◌then◌else◌, eq-eqb, ne_eqb}
 use Rattle.std.specs.Prelude.{◌⊎◌, count_by}
 use Rattle.std.proofs.Math.Nat.{lt_of_not-le}
 use Rattle.ft_edge.specs.Causes.{Rose}
@@ -7,7 +7,7 @@ use Rattle.ft_edge.specs.Loads.{Files}
 use Rattle.ft_isa.specs.declared.plan.Strike.{Strike}
 use Rattle.ft_types.specs.declared.object.Object.{Object}
 use Rattle.ft_typing.specs.Accepted.{Refusal, refusal}
-use Rattle.ft_format.specs.Broken.{object_of}
+use Rattle.ft_format.specs.Broken.{object_of, version_at}
 use Rattle.ft_format.proofs.Write.{spells_read}
 use Rattle.ft_tolerance.specs.Soundness.{IsNeverDetected}
 use Rattle.ft_tolerance.proofs.Whole.{never_detected}
@@ -31,8 +31,8 @@ use Rattle.ft_tool.specs.Answers.{Concludes, BreaksOff, OverFile, OverListFile, 
 use Rattle.ft_tool.specs.Calls.{LoadList, asked_after, HasMade, object_load, list_load, LoadsCampaign, LoadsFor}
 use Rattle.ft_tool.specs.Lists.{status_of, AnyVerdicts, NoneCorrupt, OverFaults, tried, refused_list, listed}
 use Rattle.ft_tool.specs.Told.{IsToldFile, OfFiles, IsListOf, OverListOf, CampaignsListOf, LoadsOther}
-use Rattle.ft_tool.specs.Files.{LoadsObject, ReadsList, GetsList, ListCause, IsRefusedBy, IsListRefusedBy}
-use Rattle.ft_tool.proofs.Mapped.{some_same, some_files, files_with, files_with_both}
+use Rattle.ft_tool.specs.Files.{LoadsObject, GetsList, ListCause, IsRefusedBy, IsListRefusedBy}
+use Rattle.ft_tool.proofs.Mapped.{some_same, files_with, files_with_both}
 
 -- a number that is not above another is at most it
 pub at_most : (n m : ℕ) → (n < m → ⊥) → m ≤ n
@@ -69,31 +69,6 @@ none_corrupt totals vs none is = sym (ap (λ b. if b then 0 else 10) (eq-eqb (co
 pub some_corrupt : (totals : Totals) (vs : List Verdict) → (totals.corrupt ≡ 0 → ⊥) → totals ≡ totals_of vs → 10 ≡ status_of vs
 some_corrupt totals vs some is = sym (ap (λ b. if b then 0 else 10) (ne_eqb (count_by is_corrupt vs) 0 (λ e. some (ap (λ (t : Totals). t.corrupt) is ∙ e))))
 
--- a list that was read is one of the texts that it may be
-pub gets_read : {V : Type 0} (faults_of : V → List Strike) (Is : List ℕ → Type 0) (list : List ℕ) (r : Result V ListFault) → Is list → ReadsList faults_of list r → GetsList faults_of Is r
-gets_read faults_of Is list (Ok v) is h = (list, (is, h))
-gets_read faults_of Is list (Err (list_faults.Line number)) is h = (list, (is, h))
-gets_read faults_of Is list (Err list_faults.TooMany) is h = (list, (is, h))
-gets_read faults_of Is list (Err list_faults.Failed) is h = tt
-gets_read faults_of Is list (Err list_faults.NoMemory) is h = tt
-
--- a list is one of more texts
-pub gets_more : {V : Type 0} (faults_of : V → List Strike) (Is More : List ℕ → Type 0) (r : Result V ListFault) → ((list : List ℕ) → Is list → More list) → GetsList faults_of Is r → GetsList faults_of More r
-gets_more faults_of Is More (Ok v) f h = (h.0, (f h.0 h.1.0, h.1.1))
-gets_more faults_of Is More (Err (list_faults.Line number)) f h = (h.0, (f h.0 h.1.0, h.1.1))
-gets_more faults_of Is More (Err list_faults.TooMany) f h = (h.0, (f h.0 h.1.0, h.1.1))
-gets_more faults_of Is More (Err list_faults.Failed) f h = tt
-gets_more faults_of Is More (Err list_faults.NoMemory) f h = tt
-
--- no load of a list that was read failed
-pub read_cause : {V : Type 0} (faults_of : V → List Strike) (list : List ℕ) (before now : ℕ) (failed failed' : Option (List ℕ)) (name : Word) (r : Result V ListFault) → now ≡ before → failed' ≡ failed
-    → ReadsList faults_of list r → ListCause before now failed failed' name r
-read_cause faults_of list before now failed failed' name (Ok v) e f h = (e, f)
-read_cause faults_of list before now failed failed' name (Err (list_faults.Line number)) e f h = (e, f)
-read_cause faults_of list before now failed failed' name (Err list_faults.TooMany) e f h = (e, f)
-read_cause faults_of list before now failed failed' name (Err list_faults.Failed) e f h = absurd h
-read_cause faults_of list before now failed failed' name (Err list_faults.NoMemory) e f h = (e, f)
-
 -- the answer over the faults of a list is one over the list
 pub over_listed : {V : Type 0} (faults_of : V → List Strike) (Promised : List Verdict → Type 0) (c : Campaign) (told : Option Files) (bytes : List ℕ) (o : Object) (v : V)
     → GetsList faults_of (IsListOf c told bytes) (Ok v) → (a : Answer) → OverFaults Promised c o (faults_of v) a → OverListOf Promised c told bytes o a
@@ -125,13 +100,13 @@ pub over_surveyed : (c : Campaign) (told : Option Files) (bytes : List ℕ) → 
     → OfFiles told (λ files. OverFile (SurveysObject c files) c.object files a)
 over_surveyed c told bytes h a is =
     let m = with_list AnyVerdicts c told bytes (object_of bytes) a h.0 is in
-    (m.0, (m.1.0, (bytes, (m.1.1.0, inl (object_of bytes, (h.1, m.1.1.1))))))
+    (m.0, (m.1.0, (bytes, (m.1.1.0, inl (object_of bytes, ((version_at bytes, h.1), m.1.1.1))))))
 
 pub over_struck : (c : Campaign) (told : Option Files) (bytes : List ℕ) → LoadsObject told c.object (Ok bytes) → (a : Answer) → CampaignsUnless (refusal (object_of bytes)) (CampaignsListOf c told bytes (object_of bytes)) a
     → OfFiles told (λ files. OverFile (CampaignsObject c files) c.object files a)
 over_struck c told bytes h a is =
     let m = with_strikes (refusal (object_of bytes)) c told bytes (object_of bytes) a h.0 is in
-    (m.0, (m.1.0, (bytes, (m.1.1.0, inl (object_of bytes, (h.1, m.1.1.1))))))
+    (m.0, (m.1.0, (bytes, (m.1.1.0, inl (object_of bytes, ((version_at bytes, h.1), m.1.1.1))))))
 
 -- the same where the files are told, and the bytes lent, after the load
 pub own_bytes : (told between : Option Files) (name : Word) (bytes lent : List ℕ) → between ≡ told → lent ≡ bytes → LoadsObject told name (Ok bytes) → IsToldFile between name lent
@@ -158,15 +133,15 @@ over_unstruck Over told name no_memory h a is = absurd is
 
 -- the file of an object that was loaded spells it, and one that is accepted
 pub spells_file : (told : Option Files) (name : Word) (bytes : List ℕ) → LoadsObject told name (Ok bytes) → OfFiles told (λ files. SpellsFile files name)
-spells_file told name bytes h = let m = files_with told name bytes h.0 in (m.0, (m.1.0, (bytes, (m.1.1, (object_of bytes, h.1)))))
+spells_file told name bytes h = let m = files_with told name bytes h.0 in (m.0, (m.1.0, (bytes, (m.1.1, (object_of bytes, (version_at bytes, h.1))))))
 
 pub spells_accepted : (told : Option Files) (name : Word) (bytes : List ℕ) → LoadsObject told name (Ok bytes) → refusal (object_of bytes) ≡ None → OfFiles told (λ files. SpellsAccepted files name)
-spells_accepted told name bytes h unrefused = let m = files_with told name bytes h.0 in (m.0, (m.1.0, (bytes, (m.1.1, (object_of bytes, (h.1, unrefused))))))
+spells_accepted told name bytes h unrefused = let m = files_with told name bytes h.0 in (m.0, (m.1.0, (bytes, (m.1.1, (object_of bytes, ((version_at bytes, h.1), unrefused))))))
 
 -- the file of an object that is refused spells none that is accepted
 unrefused : (files : Files) (name : Word) (bytes : List ℕ) → IsFile files name bytes → refusal (object_of bytes) ≢ None → SpellsAccepted files name → ⊥
 unrefused files name bytes file refused s =
-    refused (ap (λ bs. refusal (object_of bs)) (some_same bytes s.0 (sym file ∙ s.1.0)) ∙ ap refusal (spells_read s.0 s.1.1.0 s.1.1.1.0) ∙ s.1.1.1.1)
+    refused (ap (λ bs. refusal (object_of bs)) (some_same bytes s.0 (sym file ∙ s.1.0)) ∙ ap refusal (spells_read s.0 s.1.1.1.0.0 s.1.1.0 s.1.1.1.0.1) ∙ s.1.1.1.1)
 
 refused_by : (files : Files) (name : Word) (bytes : List ℕ) (Early : Type 0) → IsFile files name bytes → (refusal (object_of bytes) ≢ None) ⊎ Early → (SpellsAccepted files name → ⊥) ⊎ Early
 refused_by files name bytes Early file (inl refused) = inl (unrefused files name bytes file refused)

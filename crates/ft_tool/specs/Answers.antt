@@ -11,14 +11,15 @@ use Rattle.ft_semantics.specs.Agrees.{Agrees}
 use Rattle.ft_semantics.specs.Run.{run, outputs_after, status_after}
 use Rattle.ft_typing.specs.Accepted.{Refusal, refusal}
 use Rattle.ft_format.specs.declared.object_error.ObjectError.{ObjectError}
+use Rattle.ft_format.specs.declared.version.Version.TheVariants.{Second}
 use Rattle.ft_format.specs.Format.{Spells}
 use Rattle.ft_format.specs.Broken.{broken}
 use Rattle.ft_command.specs.Options.{Word}
-use Rattle.ft_command.specs.Commands.{Run, Campaign, Debugging, Request, Usage, Checks, Runs, Trials, Campaigns, Surveys, Compiles, Executes, Means, Debugs, Demonstrates, Asks}
+use Rattle.ft_command.specs.Commands.{Run, Campaign, Debugging, Request, Usage, Checks, Runs, Trials, Campaigns, Surveys, Compiles, Executes, Means, Debugs, Demonstrates, Upgrades, Asks}
 use Rattle.ft_tolerance.specs.Soundness.{IsNeverDetected}
 use Rattle.ft_campaign.specs.declared.verdict.Verdict.{Verdict}
 use Rattle.ft_tool.specs.Texts.{object_line, accepted_line, check_line}
-use Rattle.ft_tool.specs.Replies.{Answer, one_piece, ran, AreFiles, IsFile, IsScript}
+use Rattle.ft_tool.specs.Replies.{Answer, one_piece, ran, AreFiles, IsFile, IsScript, IsSpelling}
 use Rattle.ft_scope.specs.Resolved.{Program}
 use Rattle.ft_tool.specs.Sources.{OverText, CompilesProgram, ExecutesProgram, MeansProgram}
 use Rattle.ft_tool.specs.Lists.{AnyVerdicts, NoneCorrupt, OverList}
@@ -60,7 +61,7 @@ RunsUnless (Some x) r o a = a ≡ judged (Some x)
 -- the answer over a file's bytes: over the object that they spell, or by the first rule that they break
 abbrev pub OverBytes : (Object → Answer → Type 0) → List ℕ → Answer → Type 0
 OverBytes Over bytes a =
-    ((o : Object) × (Spells bytes o × Over o a))
+    ((o : Object) × (IsSpelling bytes o × Over o a))
     ⊎ ((e : ObjectError) × ((broken bytes ≡ Some e) × (a ≡ refused e)))
 
 -- the answer over the file of a name
@@ -76,6 +77,12 @@ RunsObject r o a = RunsUnless (refusal o) r o a
 
 abbrev pub TrialsObject : Run → Object → Answer → Type 0
 TrialsObject r o a = a ≡ tried r o
+
+-- the answer of an upgrade over an object: its bytes in version 2 of the format, in one piece
+pub record UpgradesObject (o : Object) (a : Answer) : Type 0 where
+  pub bytes : List ℕ
+  pub spelled : Spells bytes Second o
+  pub answer : a ≡ one_piece bytes 0
 
 -- the answer over an object and the file of a fault list
 abbrev pub OverListFile : (List Verdict → Type 0) → Campaign → Files → Object → Answer → Type 0
@@ -116,6 +123,7 @@ Answers (Executes e) files script a = OverSource (ExecutesProgram e.steps) e.sou
 Answers (Means m) files script a = OverSource (MeansProgram m.turns) m.source files a
 Answers (Debugs d) files script a = OverFile (DebugsObject d script) d.object files a
 Answers (Demonstrates turns) files script a = ShowsSample turns a
+Answers (Upgrades name) files script a = OverFile UpgradesObject name files a
 
 -- the answer of the command that the words ask for, over the files and the script that are told; of what is not told, over
 -- some files of bytes, and some script of bytes. One map of files serves all loads, so a name has one content
@@ -143,11 +151,11 @@ pub record BreaksOff (Is : Answer → Type 0) (old new : Option (List ℕ)) (bef
 
 -- the file of a name spells an object
 abbrev pub SpellsFile : Files → Word → Type 0
-SpellsFile files name = (bytes : List ℕ) × (IsFile files name bytes × ((o : Object) × Spells bytes o))
+SpellsFile files name = (bytes : List ℕ) × (IsFile files name bytes × ((o : Object) × IsSpelling bytes o))
 
 -- the file of a name spells an object that is accepted
 abbrev pub SpellsAccepted : Files → Word → Type 0
-SpellsAccepted files name = (bytes : List ℕ) × (IsFile files name bytes × ((o : Object) × (Spells bytes o × (refusal o ≡ None))))
+SpellsAccepted files name = (bytes : List ℕ) × (IsFile files name bytes × ((o : Object) × (IsSpelling bytes o × (refusal o ≡ None))))
 
 -- a request comes to load this file: no earlier step of it refuses
 abbrev pub ComesTo : Request → Files → Word → Type 0
@@ -162,6 +170,7 @@ ComesTo (Executes e) files file = file ≡ e.source
 ComesTo (Means m) files file = file ≡ m.source
 ComesTo (Debugs d) files file = file ≡ d.object
 ComesTo (Demonstrates turns) files file = ⊥
+ComesTo (Upgrades object) files file = file ≡ object
 
 -- a request came to load a file; that load was the last that failed, and the count of failed loads rose
 pub record FailsIn (request : Request) (files : Files) (before now : ℕ) (failed : Option (List ℕ)) : Type 0 where

@@ -4,7 +4,7 @@ use Rattle.ft_edge.specs.Loads.{Files}
 use Rattle.ft_edge.specs.Told.{append_told}
 use Rattle.ft_edge.specs.Streams.{TakesAtMost}
 use Rattle.ft_command.specs.Options.{Word}
-use Rattle.ft_command.specs.Commands.{Campaign, Debugging, Request, Usage, Checks, Runs, Trials, Campaigns, Surveys, Compiles, Executes, Means, Debugs, Demonstrates, Asks}
+use Rattle.ft_command.specs.Commands.{Campaign, Debugging, Request, Usage, Checks, Runs, Trials, Campaigns, Surveys, Compiles, Executes, Means, Debugs, Demonstrates, Upgrades, Asks}
 use Rattle.ft_tool.specs.Replies.{AreFiles}
 use Rattle.ft_tool.specs.Answers.{SpellsFile, SpellsAccepted}
 
@@ -64,6 +64,7 @@ LoadsFor (Executes e) files Early asked asked' = HasMade (source_load e.source �
 LoadsFor (Means m) files Early asked asked' = HasMade (source_load m.source ∷ []) asked asked'
 LoadsFor (Debugs d) files Early asked asked' = HasMade (object_load d.object ∷ []) asked asked'
 LoadsFor (Demonstrates turns) files Early asked asked' = HasMade [] asked asked'
+LoadsFor (Upgrades object) files Early asked asked' = HasMade (object_load object ∷ []) asked asked'
 
 -- the loads of the request that words ask for, by the files that are told or by some files of bytes
 pub record Loads (words : List Word) (told : Option Files) (Early : Type 0) (asked asked' : Option LoadList) : Type 0 where

@@ -6,7 +6,9 @@ use Rattle.ft_edge.specs.declared.shelf.LoadFault.{LoadFault}
 use Rattle.ft_edge.specs.Causes.{Rose}
 use Rattle.ft_edge.specs.Loads.{Files}
 use Rattle.ft_format.specs.Format.{Spells}
-use Rattle.ft_format.specs.Broken.{broken, object_of}
+use Rattle.ft_format.specs.Broken.{broken, object_of, version_at}
+use Rattle.ft_object.specs.declared.decode_error.DecodeError.{DecodeError}
+use Rattle.ft_object.specs.declared.decode_error.DecodeError.TheVariants as decodes
 use Rattle.ft_command.specs.Options.{Word}
 use Rattle.ft_typing.specs.Accepted as accepted
 use Rattle.ft_checker.specs.declared.error.CheckError.{CheckError}
@@ -33,19 +35,37 @@ Gives files name limit into (Ok Whole) = (length into ≤ limit) × IsToldFile f
 Gives files name limit into (Ok TooLong) = (bytes : List ℕ) × (IsToldFile files name bytes × (limit < length bytes))
 Gives files name limit into (Err e) = Unit {0}
 
+-- why bytes that were loaded are not read as an object
+abbrev pub fault_of : DecodeError → ObjectFault
+fault_of (decodes.Object e) = Refused e
+fault_of decodes.NoMemory = NoMemory
+
+-- the first rule of the format that the file's bytes break
+abbrev pub RefusesFile : Option Files → Word → ObjectFault → Type 0
+RefusesFile files name (Refused e) = (bytes : List ℕ) × (IsToldFile files name bytes × (broken bytes ≡ Some e))
+RefusesFile files name Failed = Unit {0}
+RefusesFile files name NoMemory = Unit {0}
+
+-- the file's bytes, or the rule that they break by their number
+abbrev pub LoadsBytes : {V : Type 0} → Option Files → Word → List ℕ → Result V ObjectFault → Type 0
+LoadsBytes files name into (Ok v) = IsToldFile files name into
+LoadsBytes files name into (Err e) = RefusesFile files name e
+
 -- the file's bytes, and that they spell an object, or the first rule of the format that they break
 abbrev pub LoadsObject : Option Files → Word → Result (List ℕ) ObjectFault → Type 0
-LoadsObject files name (Ok bytes) = IsToldFile files name bytes × Spells bytes (object_of bytes)
-LoadsObject files name (Err (Refused e)) = (bytes : List ℕ) × (IsToldFile files name bytes × (broken bytes ≡ Some e))
-LoadsObject files name (Err Failed) = Unit {0}
-LoadsObject files name (Err NoMemory) = Unit {0}
+LoadsObject files name (Ok bytes) = IsToldFile files name bytes × Spells bytes (version_at bytes) (object_of bytes)
+LoadsObject files name (Err e) = RefusesFile files name e
 
--- a load that failed shows in the count and left its name; any other answer leaves both as they were
-abbrev pub LoadCause : ℕ → ℕ → Option (List ℕ) → Option (List ℕ) → Word → Result (List ℕ) ObjectFault → Type 0
-LoadCause before now failed failed' name (Ok bytes) = (now ≡ before) × (failed' ≡ failed)
-LoadCause before now failed failed' name (Err (Refused e)) = (now ≡ before) × (failed' ≡ failed)
-LoadCause before now failed failed' name (Err Failed) = Rose before now × (failed' ≡ Some name)
-LoadCause before now failed failed' name (Err NoMemory) = (now ≡ before) × (failed' ≡ failed)
+-- a load that failed shows in the count and left its name; any other fault leaves both as they were
+abbrev pub FaultCause : ℕ → ℕ → Option (List ℕ) → Option (List ℕ) → Word → ObjectFault → Type 0
+FaultCause before now failed failed' name (Refused e) = (now ≡ before) × (failed' ≡ failed)
+FaultCause before now failed failed' name Failed = Rose before now × (failed' ≡ Some name)
+FaultCause before now failed failed' name NoMemory = (now ≡ before) × (failed' ≡ failed)
+
+-- so does any other answer
+abbrev pub LoadCause : {V : Type 0} → ℕ → ℕ → Option (List ℕ) → Option (List ℕ) → Word → Result V ObjectFault → Type 0
+LoadCause before now failed failed' name (Ok v) = (now ≡ before) × (failed' ≡ failed)
+LoadCause before now failed failed' name (Err e) = FaultCause before now failed failed' name e
 
 -- the answer of a command whose object's bytes are refused
 abbrev pub IsRefusedBy : ObjectFault → Answer → Type 0

@@ -2,7 +2,8 @@
 use Rattle.std.specs.Prelude.{◌≡◌, ℕ, List, [], ◌∷◌, Option, Some, None}
 use Rattle.std.specs.FinMap.{get}
 use Rattle.ft_edge.specs.Loads.{Files}
-use Rattle.ft_format.specs.Format.{AreBytes}
+use Rattle.ft_format.specs.Format.{AreBytes, Spells}
+use Rattle.ft_format.specs.declared.version.Version.{Version}
 use Rattle.ft_types.specs.declared.object.Object.{Object}
 use Rattle.ft_semantics.specs.declared.status.Status.{Status}
 use Rattle.ft_semantics.specs.declared.status.Status.TheVariants as machine
@@ -42,3 +43,7 @@ IsScript None script = AreBytes script
 -- the content of the file of a name
 abbrev pub IsFile : Files → Word → List ℕ → Type 0
 IsFile files name bytes = get files name ≡ Some bytes
+
+-- bytes that spell an object, in whichever version of the format
+abbrev pub IsSpelling : List ℕ → Object → Type 0
+IsSpelling bytes o = (v : Version) × Spells bytes v o

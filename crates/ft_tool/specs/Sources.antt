@@ -2,6 +2,7 @@
 use Rattle.std.specs.Prelude.{◌≡◌, ◌≢◌, ◌⊎◌, ℕ, List, [], None}
 use Rattle.ft_types.specs.declared.object.Object.{Object}
 use Rattle.ft_semantics.specs.Run.{run}
+use Rattle.ft_format.specs.declared.version.Version.TheVariants.{Second}
 use Rattle.ft_format.specs.Format.{Spells}
 use Rattle.ft_compile.specs.StandsFor.{StandsFor}
 use Rattle.ft_syntax.specs.declared.source_error.SourceError.{SourceError}
@@ -29,12 +30,12 @@ OverText Over text a =
     ((p : Program) × (IsProgramOf text p × Over p a))
     ⊎ ((e : SourceError) × (IsRefusalOf text e × IsSourceRefused e a))
 
--- the answer of a compilation: the bytes of an object that stands for the program, in one piece
+-- the answer of a compilation: the bytes of an object that stands for the program, in version 2 of the format and one piece
 pub record CompilesProgram (p : Program) (a : Answer) : Type 0 where
   pub object : Object
   pub stands : StandsFor p object
   pub bytes : List ℕ
-  pub spelled : Spells bytes object
+  pub spelled : Spells bytes Second object
   pub answer : a ≡ one_piece bytes 0
 
 -- the answer of an execution: the run of an object that stands for the program, for so many steps without a strike

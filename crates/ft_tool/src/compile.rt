@@ -7,11 +7,10 @@ ghost use Rattle.ft_tool.specs.Told.{OfFiles};
 ghost use Rattle.ft_tool.specs.Endings.{Ends};
 ghost use Rattle.ft_tool.specs.Sources.{OverText, CompilesProgram};
 
-use crate::ending::{Ending, put_piece, refuse_long_source, refuse_source};
+use crate::ending::{Ending, put_object, refuse_long_source, refuse_source};
 use crate::load::load_source;
 use ft_compile::compile;
 use ft_edge::{Shelf, Sink};
-use ft_object::encode;
 use std::alloc::Global;
 
 /// Compiles a source and puts its object.
@@ -20,16 +19,9 @@ fn compile_text<K: Sink>(alloc: Global, text: &[u8], out: &mut K) -> Ending
         (K.written out.old) (K.written out.new) (K.pieces out.old) (K.pieces out.new) (K.failures out.old) (K.failures out.new) ⊥ }
     ensures failures { result ≢ Ending.WriteFailed → K.failures out.new ≡ K.failures out.old }
 {
-    let object = match compile(alloc, text) {
-        Ok(object) => object,
-        Err(error) => return refuse_source(error, out),
-    };
-    let Ok(bytes) = encode(alloc, &object) else {
-        return Ending::NoMemory;
-    };
-    match put_piece(bytes.as_slice(), out) {
-        Ok(()) => Ending::Done,
-        Err(_) => Ending::WriteFailed,
+    match compile(alloc, text) {
+        Ok(object) => put_object(alloc, &object, out),
+        Err(error) => refuse_source(error, out),
     }
 }
 

@@ -2,7 +2,8 @@
 ghost use Rattle.std.specs.Prelude.{◌≡◌, ◌≢◌, [], ◌∷◌, OnOk, OnErr};
 ghost use Rattle.ft_edge.specs.Causes.{Rose};
 ghost use Rattle.ft_edge.specs.Puts.{PutsLines, BreaksOff};
-ghost use Rattle.ft_tool.specs.Answers.{usage};
+ghost use Rattle.ft_types.specs.Spellable.{IsSpellable};
+ghost use Rattle.ft_tool.specs.Answers.{usage, UpgradesObject};
 ghost use Rattle.ft_tool.specs.Replies.{one_piece};
 ghost use Rattle.ft_tool.specs.Files.{IsRefusedBy, IsNotAccepted, IsListRefusedBy, IsTooLongBy};
 ghost use Rattle.ft_tool.specs.Texts.{list_line};
@@ -16,7 +17,10 @@ use crate::script::ScriptFault;
 use ft_checker::CheckError;
 use ft_edge::{Failed, Sink};
 use ft_machine::RunEnd;
+use ft_object::encode;
 use ft_syntax::SourceError;
+use ft_types::Object;
+use std::alloc::Global;
 
 /// How a command ended.
 #[derive(Clone, Copy, Debug, PartialEq, Eq)]
@@ -70,6 +74,22 @@ pub(crate) fn put_piece<K: Sink>(piece: &[u8], out: &mut K) -> Result<(), Failed
     match out.put(piece) {
         Ok(()) => Ok(()),
         Err(failed) => Err(failed),
+    }
+}
+
+/// Puts the bytes of an object, in version 2 of the format and one put.
+pub(crate) fn put_object<K: Sink>(alloc: Global, object: &Object, out: &mut K) -> Ending
+    requires { IsSpellable object.now }
+    ensures ends { Ends result (UpgradesObject object.now)
+        (K.written out.old) (K.written out.new) (K.pieces out.old) (K.pieces out.new) (K.failures out.old) (K.failures out.new) ⊥ }
+    ensures failures { result ≢ Ending.WriteFailed → K.failures out.new ≡ K.failures out.old }
+{
+    let Ok(bytes) = encode(alloc, object) else {
+        return Ending::NoMemory;
+    };
+    match put_piece(bytes.as_slice(), out) {
+        Ok(()) => Ending::Done,
+        Err(_) => Ending::WriteFailed,
     }
 }
 

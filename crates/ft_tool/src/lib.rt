@@ -21,6 +21,7 @@ mod script;
 mod survey;
 mod top;
 mod trial;
+mod upgrade;
 
 pub use ft_sample::sample;
 pub use laws::{answers_matter_after_a_strike_alone, words_have_one_answer};

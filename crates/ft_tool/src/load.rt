@@ -4,13 +4,13 @@ ghost use Rattle.ft_edge.specs.Loads.{LoadCause as EdgeCause};
 ghost use Rattle.ft_command.specs.Asked.{campaign_view};
 ghost use Rattle.ft_tool.specs.Calls.{HasMade, object_load, list_load, source_load};
 ghost use Rattle.ft_tool.specs.Told.{IsToldFile, IsListOf, LoadsOther};
-ghost use Rattle.ft_tool.specs.Files.{Gives, LoadsObject, LoadCause, ReadsList, GetsList, ListCause, LoadsSource, SourceCause};
+ghost use Rattle.ft_tool.specs.Files.{Gives, fault_of, LoadsBytes, LoadsObject, LoadCause, ReadsList, GetsList, ListCause, LoadsSource, SourceCause};
 
 use ft_campaign::{ListError, read_faults};
 use ft_command::Campaign;
 use ft_edge::{Load, LoadFault, Shelf};
 use ft_isa::Strike;
-use ft_object::ObjectError;
+use ft_object::{DecodeError, ObjectError};
 use ft_view::View;
 use std::alloc::Global;
 use thiserror::Error;
@@ -54,6 +54,36 @@ pub(crate) enum ObjectFault {
     NoMemory,
 }
 
+/// Why bytes that were loaded are not read as an object.
+pub(crate) fn fault_of(error: DecodeError) -> ObjectFault
+    ensures { result ≡ fault_of error }
+{
+    match error {
+        DecodeError::Object(error) => ObjectFault::Refused(error),
+        DecodeError::NoMemory => ObjectFault::NoMemory,
+    }
+}
+
+/// Loads the file of a name, as the bytes of an object, into an empty vector.
+pub(crate) fn load_object_bytes<F: Shelf>(
+    name: &str,
+    shelf: &mut F,
+    bytes: &mut Vec<u8>,
+) -> Result<(), ObjectFault>
+    requires { bytes.old.items ≡ [] }
+    ensures loads { LoadsBytes (F.files shelf.old) name.now bytes.new.items result }
+    ensures files { F.files shelf.new ≡ F.files shelf.old }
+    ensures cause { LoadCause (F.failures shelf.old) (F.failures shelf.new) (F.failed_name shelf.old) (F.failed_name shelf.new) name.now result }
+    ensures made { HasMade (object_load name.now ∷ []) (F.asked shelf.old) (F.asked shelf.new) }
+{
+    match load_bytes(name, OBJECT_LIMIT, shelf, bytes) {
+        Ok(Load::Whole) => Ok(()),
+        Ok(Load::TooLong) => Err(ObjectFault::Refused(ObjectError::Length { at: OBJECT_LIMIT })),
+        Err(LoadFault::Failed) => Err(ObjectFault::Failed),
+        Err(LoadFault::NoMemory) => Err(ObjectFault::NoMemory),
+    }
+}
+
 /// Loads the file of a name into an empty vector, and looks at the bytes as an object.
 pub(crate) fn load_object<'a, F: Shelf>(
     name: &str,
@@ -66,14 +96,12 @@ pub(crate) fn load_object<'a, F: Shelf>(
     ensures cause { LoadCause (F.failures shelf.old) (F.failures shelf.new) (F.failed_name shelf.old) (F.failed_name shelf.new) name.now result }
     ensures made { HasMade (object_load name.now ∷ []) (F.asked shelf.old) (F.asked shelf.new) }
 {
-    match load_bytes(name, OBJECT_LIMIT, shelf, bytes) {
-        Ok(Load::Whole) => match View::over(bytes.as_slice()) {
+    match load_object_bytes(name, shelf, bytes) {
+        Ok(()) => match View::over(bytes.as_slice()) {
             Ok(view) => Ok(view),
             Err(error) => Err(ObjectFault::Refused(error)),
         },
-        Ok(Load::TooLong) => Err(ObjectFault::Refused(ObjectError::Length { at: OBJECT_LIMIT })),
-        Err(LoadFault::Failed) => Err(ObjectFault::Failed),
-        Err(LoadFault::NoMemory) => Err(ObjectFault::NoMemory),
+        Err(fault) => Err(fault),
     }
 }
 

@@ -78,6 +78,7 @@ fn premise_number(why: Why) -> u64
         Why::MemoryUnlike => 15,
         Why::Annotation => 16,
         Why::BlockEnd => 17,
+        Why::Array => 18,
     }
 }
 

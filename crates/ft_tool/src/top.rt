@@ -18,6 +18,7 @@ use crate::mean::mean_file;
 use crate::run::run_file;
 use crate::survey::survey_file;
 use crate::trial::trial_file;
+use crate::upgrade::upgrade_file;
 use ft_command::{Command, command_of};
 use ft_edge::{Shelf, Sink, Source};
 use std::alloc::Global;
@@ -54,6 +55,7 @@ fn carry_out<F: Shelf, I: Source, K: Sink>(
         Ok(Command::Mean(asked)) => mean_file(alloc, &asked, shelf, out),
         Ok(Command::Debug(asked)) => debug_file(alloc, &asked, shelf, script, out),
         Ok(Command::Demo(turns)) => demonstrate(alloc, turns, out),
+        Ok(Command::Upgrade(name)) => upgrade_file(alloc, name, shelf, out),
         Err(_) => Ending::NoMemory,
     }
 }

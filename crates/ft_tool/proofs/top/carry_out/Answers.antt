@@ -1,11 +1,11 @@
 use Rattle.std.proofs.Common.{◌≡◌, map, string_bytes, inl, refl, subst}
 use Rattle.std.specs.Prelude.{◌⊎◌}
-use Rattle.ft_command.specs.Commands.{Asks, Usage, Checks, Runs, Trials, Campaigns, Surveys, Compiles, Executes, Means, Debugs, Demonstrates}
+use Rattle.ft_command.specs.Commands.{Asks, Usage, Checks, Runs, Trials, Campaigns, Surveys, Compiles, Executes, Means, Debugs, Demonstrates, Upgrades}
 use Rattle.ft_command.specs.Asked.{run_view, campaign_view, execution_view, meaning_view, debugging_view, asked}
 use Rattle.ft_tool.specs.Sources.{CompilesProgram, ExecutesProgram, MeansProgram}
 use Rattle.ft_tool.specs.Scripts.{DebugsObject}
 use Rattle.ft_tool.specs.Demonstrations.{ShowsSample}
-use Rattle.ft_tool.specs.Answers.{usage, ChecksObject, RunsObject, TrialsObject, CampaignsObject, SurveysObject, OverFile, OverSource, IsAnswer, FailsIn, FailedToLoad, FailsAtScript, FailedToTake}
+use Rattle.ft_tool.specs.Answers.{usage, ChecksObject, RunsObject, TrialsObject, CampaignsObject, SurveysObject, UpgradesObject, OverFile, OverSource, IsAnswer, FailsIn, FailedToLoad, FailsAtScript, FailedToTake}
 use Rattle.ft_tool.specs.Told.{OfFiles, OfScript}
 use Rattle.ft_tool.proofs.Answered.{Ends-map}
 use Rattle.ft_tool.proofs.Asked.{answer_over, plain_answer, session_answer, failed_load, failed_session, loads_by, plain_loads, takes_from}
@@ -142,3 +142,15 @@ returns-in-Ok-Demo-clause-ends g c =
 
 pub returns-in-Ok-Demo-clause-loads : goal.returns-in-Ok-Demo-clause-loads
 returns-in-Ok-Demo-clause-loads g c = inl (plain_loads (map string_bytes c.args.words.now) (g.F.Shelf.files c.args.shelf.now) (Demonstrates c.in-Ok-Demo.turns) _ (g.F.Shelf.asked c.args.shelf.now) (g.F.Shelf.asked c.args.shelf.now) (subst (λ x. Asks (map string_bytes c.args.words.now) (asked x)) c.in-Ok-Demo.field-0-is c.in-Ok-Demo.ensures.ok) (λ files. refl))
+
+pub returns-in-Ok-Upgrade-clause-ends : goal.returns-in-Ok-Upgrade-clause-ends
+returns-in-Ok-Upgrade-clause-ends g c =
+    let asks = (subst (λ x. Asks (map string_bytes c.args.words.now) (asked x)) c.in-Ok-Upgrade.field-0-is c.in-Ok-Upgrade.ensures.ok) in
+    Ends-map c.upgrade_file.result (λ a. OfFiles (g.F.Shelf.files c.args.shelf.now) (λ files. OverFile UpgradesObject c.in-Ok-Upgrade.name.now files a)) (IsAnswer (map string_bytes c.args.words.now) (g.F.Shelf.files c.args.shelf.now) (g.I.Source.left c.args.script.now)) _ _ _ _ _ _
+    (OfFiles (g.F.Shelf.files c.args.shelf.now) (λ files. FailsIn (Upgrades c.in-Ok-Upgrade.name.now) files (g.F.Shelf.failures c.args.shelf.now) (g.F.Shelf.failures c.upgrade_file.new.shelf) (g.F.Shelf.failed_name c.upgrade_file.new.shelf)))
+    (FailedToLoad (map string_bytes c.args.words.now) (g.F.Shelf.files c.args.shelf.now) (g.F.Shelf.failures c.args.shelf.now) (g.F.Shelf.failures c.upgrade_file.new.shelf) (g.F.Shelf.failed_name c.upgrade_file.new.shelf) ⊎ FailedToTake (map string_bytes c.args.words.now) (g.F.Shelf.files c.args.shelf.now) (g.I.Source.failures c.args.script.now) (g.I.Source.failures c.args.script.now))
+    (λ a h. answer_over (map string_bytes c.args.words.now) (g.F.Shelf.files c.args.shelf.now) (g.I.Source.left c.args.script.now) (Upgrades c.in-Ok-Upgrade.name.now) (λ files x. OverFile UpgradesObject c.in-Ok-Upgrade.name.now files x) asks (λ files script x i. i) a h)
+    (λ h. failed_load (map string_bytes c.args.words.now) (g.F.Shelf.files c.args.shelf.now) (Upgrades c.in-Ok-Upgrade.name.now) _ _ _ _ asks h) c.upgrade_file.ensures.ends
+
+pub returns-in-Ok-Upgrade-clause-loads : goal.returns-in-Ok-Upgrade-clause-loads
+returns-in-Ok-Upgrade-clause-loads g c = inl (plain_loads (map string_bytes c.args.words.now) (g.F.Shelf.files c.args.shelf.now) (Upgrades c.in-Ok-Upgrade.name.now) _ (g.F.Shelf.asked c.args.shelf.now) (g.F.Shelf.asked c.upgrade_file.new.shelf) (subst (λ x. Asks (map string_bytes c.args.words.now) (asked x)) c.in-Ok-Upgrade.field-0-is c.in-Ok-Upgrade.ensures.ok) (λ files. c.upgrade_file.ensures.made))

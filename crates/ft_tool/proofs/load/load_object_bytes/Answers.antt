@@ -1,7 +1,7 @@
 use Rattle.std.proofs.Common.{Ok, subst}
 use Rattle.ft_tool.specs.Files.{Gives}
 use Rattle.ft_tool.proofs.Answered.{too_long}
-use Rattle.ft_tool.proofs.load.load_object.Goals as goal
+use Rattle.ft_tool.proofs.load.load_object_bytes.Goals as goal
 
 pub returns-in-Ok-TooLong-clause-loads : goal.returns-in-Ok-TooLong-clause-loads
 returns-in-Ok-TooLong-clause-loads g c =
