@@ -17,7 +17,7 @@ _talft() {
   case ${#words[@]}:$command in
     [01]:*) return ;;
     2:*)
-      COMPREPLY=($(compgen -W 'campaign check compile debug demo exec mean run survey trial' -- "$word"))
+      COMPREPLY=($(compgen -W 'campaign check compile debug demo exec mean run survey trial upgrade' -- "$word"))
       return
       ;;
     3:compile | 3:exec | 3:mean) _talft_files src; return ;;

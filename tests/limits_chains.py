@@ -4,13 +4,13 @@ from limits_rows import *
 
 
 # Chains of nodes, which are the type of a register in a block that jumps to itself.
-def own(nodes, top, ints=1, memory=0, before=b""):
+def own(nodes, top, ints=1, memory=0, before=b"", version=1):
     """Block 0 halts. The type of block 1 has the node `top` for a green and a blue register; it jumps to itself. The nodes
     begin with the memory variable and the integer variables."""
     rows_of_type = register_row(0, GREEN, top) + register_row(32, BLUE, top)
     block = before + mov(1, GREEN, 2, code(1)) + mov(33, BLUE, 2, code(1)) + jump(GREEN, 1) + jump(BLUE, 33, 0, ints, memory)
     return spell(nodes, HALT + block, code_type() + code_type(2, 0, memory, ints), pair(0, 0) + pair(1, 1), regs=rows_of_type,
-                 substs=rows([1 + i for i in range(ints)]))
+                 substs=rows([1 + i for i in range(ints)]), version=version)
 
 
 def variables(count):
@@ -21,9 +21,14 @@ def chain(name, what, make, full=1048576, unit="nodes", power=1, answers=None):
     over_objects(name, what, full, unit, make, answers or {"check": HALTS["check"]}, power=power)
 
 
-def pairs_of(op):
+def pairs_of(op, version=1):
     """Each node is the operation on the one before it, twice."""
-    return lambda n: own(variables(1) + b"".join(operation(op, k - 1, k - 1, 1) for k in range(2, n)), n - 1)
+    return lambda n: own(variables(1) + b"".join(operation(op, k - 1, k - 1, 1) for k in range(2, n)), n - 1, version=version)
+
+
+def remainders(n):
+    """Each node is the remainder of the one before it by 1,024."""
+    return own(variables(1) + b"".join(remainder(k - 1, 1024, 1) for k in range(2, n)), n - 1, version=2)
 
 
 def steps_by(op, value):
@@ -168,6 +173,8 @@ chain("words", "nodes, each a word", lambda n: own(variables(1) + words_from(0, 
 chain("added-words", "nodes, each the word before it and 1", steps_by(ADD, 1))
 chain("ltu", "nodes, each `ltu` of the one before it twice", pairs_of(LTU))
 chain("eq", "nodes, each `eq` of the one before it twice", pairs_of(EQ))
+chain("xor", "nodes, each `xor` of the one before it twice", pairs_of(XOR, 2))
+chain("rem", "nodes, each the remainder by 1,024 of the one before it", remainders)
 chain("sums", "nodes, each the sum of the one before it twice", pairs_of(ADD))
 chain("differences", "nodes, each the one before it less 1", steps_by(SUB, 1))
 chain("multiples", "nodes, each three times the one before it", steps_by(MUL, 3))

@@ -1,8 +1,8 @@
-"""Writes objects of version 1 of the format, each section as the bytes of its records. It knows no rule."""
+"""Writes objects of both versions of the format, each section as the bytes of its records. It knows no rule."""
 import struct
 
 GREEN, BLUE = 0, 1
-ADD, SUB, MUL, LTU, EQ = range(5)
+ADD, SUB, MUL, LTU, EQ, AND, OR, XOR, SHL, SHR = range(10)
 INT, REF_INT = b"\0\0\0\0", b"\1\0\0\0"
 OUT = 1048576
 
@@ -43,6 +43,10 @@ def memory(scope=0):
 
 def upd(memory, address, value, scope):
     return struct.pack(">BBBBIII", 5, 0, scope, 0, memory, address, value)
+
+
+def remainder(a, length, scope):
+    return struct.pack(">BBBBIII", 6, 0, scope, 0, a, length, 0)
 
 
 def code_type(regs_end=0, queue_end=0, memory=0, ints=0):
@@ -89,14 +93,19 @@ def branch(colour, rz, rd, first=0, past=0, memory=0):
     return struct.pack(">BBBBIII", 6, rz, rd, colour, first, past, memory)
 
 
+def idx(rd, rs, first, length):
+    return struct.pack(">BBBBIQ", 8, rd, rs, 0, first, length)
+
+
 HALT = struct.pack(">BBBBIQ", 7, 0, 0, 0, 0, 0)
 
 
-def spell(nodes, instrs, types=None, blocks=None, cells=None, names=b"out", regs=b"", queues=b"", substs=b""):
+def spell(nodes, instrs, types=None, blocks=None, cells=None, names=b"out", regs=b"", queues=b"", substs=b"",
+          version=1):
     """The object of these sections. One cell, one type and one block are there where no others are given."""
     types = code_type() if types is None else types
     blocks = pair(0, 0) if blocks is None else blocks
     cells = cell(len(names)) if cells is None else cells
     widths = [(cells, 16), (nodes, 16), (types, 16), (regs, 12), (queues, 8), (blocks, 8), (instrs, 16), (substs, 4), (names, 1)]
-    header = b"TALFT\0\0\1" + b"".join(struct.pack(">I", len(part) // width) for part, width in widths) + b"\0\0\0\0"
+    header = b"TALFT\0\0" + bytes([version]) + b"".join(struct.pack(">I", len(part) // width) for part, width in widths) + b"\0\0\0\0"
     return header + b"".join(part for part, _ in widths)

@@ -13,14 +13,17 @@ over_objects("tail", "an object with zero bytes after it", 64 * MIB, "bytes", la
 GREATEST = b"TALFT\0\0\1" + rows([1024, 1048576, 4096, 262144, 32768, 65536, 65536, 1048576, 32768, 0])
 over_objects("greatest", "a header with the greatest counts, and zero bytes", 64 * MIB, "bytes",
              lambda n: GREATEST + bytes(n - 48), refused("object 2 26066992"))
+GREATEST_SECOND = b"TALFT\0\0\2" + rows([1024, 1048576, 4096, 262144, 32768, 65536, 65536, 1048576, 40960, 0])
+over_objects("greatest-second", "a header of version 2 with the greatest counts, and zero bytes", 64 * MIB, "bytes",
+             lambda n: GREATEST_SECOND + bytes(n - 48), refused("object 2 26075184"))
 over_objects("kinds", "nodes, of which the last is of no kind", 1048576, "nodes",
              lambda n: spell(memory() * (n - 1) + b"\6" + bytes(15), HALT),
              {c: (lambda n: (7, f"object 5 {64 + 16 * (n - 1)}")) for c in OBJECT_COMMANDS})
 
 
 # Lawful objects that are as large as may be.
-def names_of(count):
-    return b"".join(b"n%031d" % number for number in range(count))
+def names_of(count, length=32):
+    return b"".join(b"n%0*d" % (length - 1, number) for number in range(count))
 
 
 def cells_of(count, length=32, word=0):
@@ -39,18 +42,23 @@ def many_types(count, registers, queue):
     return b"".join(types), b"".join(regs), b"".join(queues)
 
 
-def largest(n):
+def largest(n, version=1, length=32):
     """All counts but those of rows at a 65,536th of n of their limits; the last blocks jump without need."""
     types, regs, queues = many_types(n // 16, 64, 8)
     jumps = n // 8
     return spell(memory() + words_from(1, 16 * n - 1), HALT * (n - jumps) + b"".join(
         jump(BLUE, 1, 128 * k, 128 * k + 128, 0) for k in range(jumps)), types,
-        b"".join(pair(k, 0) for k in range(n)), cells_of(n // 64), names_of(n // 64), regs, queues, rows([1] * (128 * jumps)))
+        b"".join(pair(k, 0) for k in range(n)), cells_of(n // 64, length), names_of(n // 64, length), regs, queues,
+        rows([1] * (128 * jumps)), version)
 
 
+# The check refuses the first of the blocks that jump.
+LARGEST = {c: (lambda n, a=a: (a(n)[0], f"check block {n - n // 8} index 0 premise 1" if a(n)[0] == 8 else a(n)[1]))
+           for c, a in unaccepted("").items()}
 over_objects("largest", "every table as large as may be, by instructions", 65536, "instructions", largest,
-             {c: (lambda n, a=a: (a(n)[0], a(n)[1].replace("BLOCK", str(n - n // 8)))) for c, a in
-              unaccepted("check block BLOCK index 0 premise 1").items()})
+             LARGEST)
+over_objects("largest-second", "every table of version 2 as large as may be, by instructions", 65536, "instructions",
+             lambda n: largest(n, 2, 40), {c: LARGEST[c] for c in ("check", "upgrade")})
 over_objects("halts", "blocks of one instruction", 65536, "blocks",
              lambda n: spell(memory(), HALT * n, None, b"".join(pair(k, 0) for k in range(n))), HALTS)
 over_objects("moves", "a `mov` per instruction", 65536, "instructions",
@@ -71,3 +79,6 @@ over_objects("stores", "stores to 1,024 cells, each green and then blue", 65536,
      "debug": HALTS["debug"]})
 over_objects("names", "cells of which the names differ in their last bytes", 1024, "cells",
              lambda n: spell(memory(), HALT, cells=cells_of(n), names=names_of(n)), HALTS, power=2)
+over_objects("indexes", "an `idx` over 1,024 cells per instruction", 65536, "instructions",
+             lambda n: spell(memory(), mov(0, GREEN, 4) + b"".join(idx(k % 32, k % 32, 0, 1024) for k in range(n - 2)) + HALT,
+                             cells=cells_of(1024, 40), names=names_of(1024, 40), version=2), HALTS)

@@ -46,6 +46,8 @@ each 'exec' /dev/null exec fibonacci.src
 each 'mean' /dev/null mean fibonacci.src
 each 'debug' five.script debug five.obj
 each 'demo' /dev/null demo 3
+each 'upgrade' /dev/null upgrade five.obj
+each 'upgrade of bytes that are no object' /dev/null upgrade five.faults
 each 'a missing file' /dev/null trial missing
 
 # The least memory in KB under which the program says `usage`.
@@ -95,6 +97,7 @@ rising 'campaign over a large object' /dev/null campaign "$work/heavy.obj" --fau
 rising 'survey of many faults' /dev/null survey five.obj --faults "$work/many.faults" --steps 14
 rising 'debug with a long script' "$work/long.script" debug "$work/heavy.obj"
 rising 'a large demonstration' /dev/null demo 10921
+rising 'upgrade of a large object' /dev/null upgrade "$work/heavy.obj"
 # Objects whose check wants much memory.
 cd "$work" || exit
 for row in 'fibonacci-check 20000' 'levels-check 40000' 'turned-check 2' 'updates-check 100000' 'largest-check 8192'; do

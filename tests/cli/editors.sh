@@ -15,7 +15,7 @@ completes() {
 
 cd "$top/examples" || exit 2
 completes 'a command' 'campaign check compile' 'talft c'
-completes 'each command' 'campaign check compile debug demo exec mean run survey trial' 'talft '
+completes 'each command' 'campaign check compile debug demo exec mean run survey trial upgrade' 'talft '
 completes 'an object' 'five.obj' 'talft run fi'
 completes 'a source' 'fibonacci.src' 'talft mean fi'
 completes 'a file of another kind' 'README.md' 'talft run REA'

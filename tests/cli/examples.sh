@@ -15,6 +15,23 @@ expect 'a campaign' 0 '4:r1:6 detected 11\n10:r1:6 masked\n0:pcg:3 detected 0\n9
 expect 'a survey' 10 '4:r1:6 corrupt\nfaults 1 masked 0 detected 0 idle 0 corrupt 1\n' \
   survey "$top/examples/mixed.obj" --faults "$top/examples/mixed.faults" --steps 14
 expect 'a demonstration' 0 'outputs 3 last 18\nfaults 64 masked 3 detected 0 idle 61 corrupt 0\n' demo 3
+expect 'a run by an index' 0 'a[1] 9\n' run "$top/examples/indexed.obj"
+expect 'an index that a fault takes to another cell' 1 '' run "$top/examples/indexed.obj" --fault 2:r0:5
+expect 'an index that a fault takes to the same cell' 0 'a[1] 9\n' run "$top/examples/indexed.obj" --fault 2:r0:7
+expect 'a campaign over an index' 0 '2:r0:5 detected 15\n2:r0:7 masked\nfaults 2 masked 1 detected 1 idle 0 corrupt 0\n' \
+  campaign "$top/examples/indexed.obj" --faults "$top/examples/indexed.faults" --steps 18
+upgrade() {
+  "$top/talft" upgrade "$1" >"$2"
+  report "an upgrade of $3" 0 $?
+}
+upgrade "$top/examples/five.obj" second.obj 'the example'
+report 'the byte that differs after it' '8 1 2' "$(cmp -l "$top/examples/five.obj" second.obj | awk '{ print $1, $2, $3 }')"
+upgrade second.obj third.obj 'what was upgraded'
+report 'nothing differs after that' 0 "$(cmp second.obj third.obj; echo $?)"
+expect 'the run of an upgraded object' 0 'out 5\n' run second.obj
+head -c 217 "$top/examples/five.obj" >short.obj
+expect 'an upgrade of an object that is cut off' 7 'object 2 217\n' upgrade short.obj
+expect 'an upgrade of a missing file' 3 '' upgrade "$work/missing"
 expect 'a missing fault list' 3 '' campaign "$top/examples/five.obj" --faults "$work/missing"
 expect 'a fault list that is not' 11 'list 1 1\n' campaign "$top/examples/five.obj" --faults "$top/examples/five.obj"
 expect 'a meaning' 0 'out 0\nout 1\nout 1\nout 2\nout 3\nout 5\nout 8\nout 13\nout 21\nout 34\n' mean "$top/examples/fibonacci.src"

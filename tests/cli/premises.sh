@@ -21,6 +21,7 @@ done <<'END'
 15 0 9
 16 0 5
 17 0 5
+18 0 1
 END
 expect 'an object with a branch' 0 'accepted\n' check "$top/tests/objects/branch.obj"
 expect 'its run' 0 '' run "$top/tests/objects/branch.obj"

@@ -36,4 +36,5 @@ small compile sum.src
 small compile unknown.src
 small debug five.obj
 small demo 3
+small upgrade five.obj
 cd "$work" || exit 2
