@@ -80,5 +80,5 @@ over_objects("stores", "stores to 1,024 cells, each green and then blue", 65536,
 over_objects("names", "cells of which the names differ in their last bytes", 1024, "cells",
              lambda n: spell(memory(), HALT, cells=cells_of(n), names=names_of(n)), HALTS, power=2)
 over_objects("indexes", "an `idx` over 1,024 cells per instruction", 65536, "instructions",
-             lambda n: spell(memory(), mov(0, GREEN, 4) + b"".join(idx(k % 32, k % 32, 0, 1024) for k in range(n - 2)) + HALT,
+             lambda n: spell(memory(), mov(0, GREEN, 4) + b"".join(idx(1 + k % 31, 0, 0, 1024) for k in range(n - 2)) + HALT,
                              cells=cells_of(1024, 40), names=names_of(1024, 40), version=2), HALTS)
