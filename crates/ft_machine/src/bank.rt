@@ -105,7 +105,7 @@ impl Bank {
             self.old self.new result }
     {
         let Coloured { colour, word } = self.registers.get(rs);
-        let word = apply(op, word, other);
+        let word = applied(op, word, other);
         self.write(rd, Coloured { colour, word })
     }
 
@@ -255,8 +255,28 @@ impl Bank {
     }
 }
 
-/// The address of the cell of a run that a word names.
+/// What an operation gives of two words. A shift is done apart: its machine code needs a register that the loop over
+/// instructions keeps for itself.
 #[inline(always)]
+fn applied(op: Op, a: u64, b: u64) -> u64
+    ensures { result ≡ apply op a b }
+{
+    match op {
+        Op::Shl | Op::Shr => shifted(op, a, b),
+        _ => apply(op, a, b),
+    }
+}
+
+/// What a shift gives of two words.
+#[inline(never)]
+fn shifted(op: Op, a: u64, b: u64) -> u64
+    ensures { result ≡ apply op a b }
+{
+    apply(op, a, b)
+}
+
+/// The address of the cell of a run that a word names. It is done apart, as a shift is: a division needs two registers.
+#[inline(never)]
 fn cell_in_run(first: u32, length: u32, word: u64) -> u64
     requires { 0 < length }
     ensures { result ≡ cell_in_run first length word }
