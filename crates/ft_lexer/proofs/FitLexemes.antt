@@ -8,9 +8,9 @@ use Rattle.std.proofs.lemmas.List.Folds.{list_all-append}
 use Rattle.ft_lexer.specs.declared.kind.Kind.{Kind}
 use Rattle.ft_lexer.specs.declared.kind.Kind.TheVariants as kinds
 use Rattle.ft_lexer.specs.declared.lex_error.LexError.{LexError}
-use Rattle.ft_lexer.specs.Bytes.{is_blank, is_digit, is_letter, is_name_byte, word_kind, sign_kind}
+use Rattle.ft_lexer.specs.Bytes.{is_blank, is_digit, is_letter, is_name_byte, word_kind, sign_kind, pair_kind}
 use Rattle.ft_lexer.specs.Numeral.{numeral}
-use Rattle.ft_lexer.specs.Scan.{Lexeme, Scan, over, wrong, token, Mode, gap, comment, name, number, equals, number_token, ends, sign_at, begins, in_name, reads, scan_from, scan, with_token, all_of}
+use Rattle.ft_lexer.specs.Scan.{Lexeme, Scan, over, wrong, token, Mode, gap, comment, name, number, once, number_token, ends, sign_at, sign_from, begins, in_name, reads, scan_from, scan, with_token, all_of}
 
 -- a letter and then bytes of names
 abbrev pub is_word : List ℕ → Bool
@@ -93,7 +93,13 @@ if_plain false k o h g = g
 sign_kind_plain : (b : ℕ) → IsPlainSign (sign_kind b)
 unfolding sign_kind
 sign_kind_plain b =
-    let eight = if b == 60 then Some kinds.Less else None in
+    let fourteen = if b == 94 then Some kinds.Xor else None in
+    let thirteen = if b == 124 then Some kinds.Or else fourteen in
+    let twelve = if b == 38 then Some kinds.And else thirteen in
+    let eleven = if b == 93 then Some kinds.RBracket else twelve in
+    let ten = if b == 91 then Some kinds.LBracket else eleven in
+    let nine = if b == 61 then Some kinds.Assign else ten in
+    let eight = if b == 60 then Some kinds.Less else nine in
     let seven = if b == 42 then Some kinds.Star else eight in
     let six = if b == 45 then Some kinds.Minus else seven in
     let five = if b == 43 then Some kinds.Plus else six in
@@ -109,7 +115,23 @@ sign_kind_plain b =
     (if_plain (b == 43) kinds.Plus six tt
     (if_plain (b == 45) kinds.Minus seven tt
     (if_plain (b == 42) kinds.Star eight tt
-    (if_plain (b == 60) kinds.Less None tt tt))))))))
+    (if_plain (b == 60) kinds.Less nine tt
+    (if_plain (b == 61) kinds.Assign ten tt
+    (if_plain (b == 91) kinds.LBracket eleven tt
+    (if_plain (b == 93) kinds.RBracket twelve tt
+    (if_plain (b == 38) kinds.And thirteen tt
+    (if_plain (b == 124) kinds.Or fourteen tt
+    (if_plain (b == 94) kinds.Xor None tt tt))))))))))))))
+
+-- the kind of a sign that stands twice is neither
+pair_kind_plain : (b : ℕ) → IsPlainSign (pair_kind b)
+unfolding pair_kind
+pair_kind_plain b =
+    let two = if b == 62 then Some kinds.Shr else None in
+    let one = if b == 60 then Some kinds.Shl else two in
+    if_plain (b == 61) kinds.EqEq one tt
+    (if_plain (b == 60) kinds.Shl two tt
+    (if_plain (b == 62) kinds.Shr None tt tt))
 
 -- what has begun may become a lexeme
 abbrev MayEnd : Mode → Type 0
@@ -117,7 +139,7 @@ MayEnd gap = Unit {0}
 MayEnd comment = Unit {0}
 MayEnd (name start t) = (is_word t ≡ true) × (length t ≤ 32)
 MayEnd (number start t) = Unit {0}
-MayEnd (equals start) = Unit {0}
+MayEnd (once k start b) = IsPlain k
 
 -- a number that is told is a word
 number_token_fits : (b : Bool) (start : ℕ) (t : List ℕ) (rest : Scan) → nat_lt (numeral 0 t) (2 ^ 64) ≡ b → AreFit rest → AreFit (number_token b start t rest)
@@ -127,34 +149,38 @@ number_token_fits true start t rest e h = token_fits (record { name_fits = λ f.
     no f = cc
 number_token_fits false start t rest e h = wrong_fits
 
--- what ends leaves a fit scan
+-- a sign before a fit scan leaves a fit scan
+sign_fits : (o : Option Kind) (at b : ℕ) (rest : Scan) → IsPlainSign o → AreFit rest → AreFit (sign_at o at b rest)
+sign_fits None at b rest p h = wrong_fits
+sign_fits (Some k) at b rest p h = token_fits (plain_fits k (b ∷ []) at p) h
+
+-- so does what ends
 ends_fits : (m : Mode) (rest : Scan) → MayEnd m → AreFit rest → AreFit (ends m rest)
 ends_fits gap rest m h = h
 ends_fits comment rest m h = h
 ends_fits (name start t) rest m h = token_fits (record { name_fits = λ e. record { word = m.0; short = m.1 }; number_fits = λ e. absurd (subst IsNoNumber e (word_kind_plain t)) }) h
 ends_fits (number start t) rest m h = number_token_fits (nat_lt (numeral 0 t) (2 ^ 64)) start t rest refl h
-ends_fits (equals start) rest m h = token_fits (plain_fits kinds.Assign (61 ∷ []) start tt) h
+ends_fits (once k start b) rest m h = sign_fits (sign_kind b) start b rest (sign_kind_plain b) h
 
--- so does a sign
-sign_fits : (o : Option Kind) (at b : ℕ) (rest : Scan) → IsPlainSign o → AreFit rest → AreFit (sign_at o at b rest)
-sign_fits None at b rest p h = wrong_fits
-sign_fits (Some k) at b rest p h = token_fits (plain_fits k (b ∷ []) at p) h
+-- what a sign begins leaves a fit scan
+sign_from_fits : (o : Option Kind) (at b : ℕ) (after : Mode → Scan) → IsPlainSign o → ((n : Mode) → MayEnd n → AreFit (after n)) → AreFit (sign_from o at b after)
+sign_from_fits None at b after p h = sign_fits (sign_kind b) at b (after gap) (sign_kind_plain b) (h gap tt)
+sign_from_fits (Some k) at b after p h = h (once k at b) p
 
--- a choice of six such scans is one
-begins_choice : (a b c d e : Bool) (u v w x y z : Scan) → AreFit u → AreFit v → (c ≡ true → AreFit w) → AreFit x → AreFit y → AreFit z → AreFit (if a then u else (if b then v else (if c then w else (if d then x else (if e then y else z)))))
-begins_choice true b c d e u v w x y z hu hv hw hx hy hz = hu
-begins_choice false true c d e u v w x y z hu hv hw hx hy hz = hv
-begins_choice false false true d e u v w x y z hu hv hw hx hy hz = hw refl
-begins_choice false false false true e u v w x y z hu hv hw hx hy hz = hx
-begins_choice false false false false true u v w x y z hu hv hw hx hy hz = hy
-begins_choice false false false false false u v w x y z hu hv hw hx hy hz = hz
+-- a choice of five such scans is one
+begins_choice : (a b c d : Bool) (u v w x y : Scan) → AreFit u → AreFit v → (c ≡ true → AreFit w) → AreFit x → AreFit y → AreFit (if a then u else (if b then v else (if c then w else (if d then x else y))))
+begins_choice true b c d u v w x y hu hv hw hx hy = hu
+begins_choice false true c d u v w x y hu hv hw hx hy = hv
+begins_choice false false true d u v w x y hu hv hw hx hy = hw refl
+begins_choice false false false true u v w x y hu hv hw hx hy = hx
+begins_choice false false false false u v w x y hu hv hw hx hy = hy
 
 -- what a byte begins leaves a fit scan
 begins_fits : (at b : ℕ) (after : Mode → Scan) → ((n : Mode) → MayEnd n → AreFit (after n)) → AreFit (begins at b after)
 begins_fits at b after h =
-    begins_choice (is_blank b) (b == 35) (is_letter b) (is_digit b) (b == 61) (after gap) (after comment) (after (name at (b ∷ []))) (after (number at (b ∷ []))) (after (equals at)) (sign_at (sign_kind b) at b (after gap))
-    (h gap tt) (h comment tt) (λ e. h (name at (b ∷ [])) (and_from (is_letter b) true e refl, omega arith)) (h (number at (b ∷ [])) tt) (h (equals at) tt)
-    (sign_fits (sign_kind b) at b (after gap) (sign_kind_plain b) (h gap tt))
+    begins_choice (is_blank b) (b == 35) (is_letter b) (is_digit b) (after gap) (after comment) (after (name at (b ∷ []))) (after (number at (b ∷ []))) (sign_from (pair_kind b) at b after)
+    (h gap tt) (h comment tt) (λ e. h (name at (b ∷ [])) (and_from (is_letter b) true e refl, omega arith)) (h (number at (b ∷ [])) tt)
+    (sign_from_fits (pair_kind b) at b after (pair_kind_plain b) h)
 
 -- so does a byte after a name
 in_name_fits : (goes long : Bool) (at : ℕ) (more end : Scan) → (goes ≡ true → long ≡ false → AreFit more) → AreFit end → AreFit (in_name goes long at more end)
@@ -171,7 +197,7 @@ reads_fits (name start t) at b after other m h k =
     (λ e f. h (name start (t ++ b ∷ [])) (word_more t b m.0 e, (let l = length-append t (b ∷ []) in let g = leb-false 32 (length t) f in omega arith)))
     (ends_fits (name start t) other m k)
 reads_fits (number start t) at b after other m h k = if_fits (is_digit b) (after (number start (t ++ b ∷ []))) (ends (number start t) other) (h (number start (t ++ b ∷ [])) tt) (ends_fits (number start t) other tt k)
-reads_fits (equals start) at b after other m h k = if_fits (b == 61) (token (record { kind = kinds.EqEq; text = 61 ∷ 61 ∷ []; at = start }) (after gap)) (ends (equals start) other) (token_fits (plain_fits kinds.EqEq (61 ∷ 61 ∷ []) start tt) (h gap tt)) (ends_fits (equals start) other tt k)
+reads_fits (once q start first) at b after other m h k = if_fits (b == first) (token (record { kind = q; text = first ∷ b ∷ []; at = start }) (after gap)) (ends (once q start first) other) (token_fits (plain_fits q (first ∷ b ∷ []) start m) (h gap tt)) (ends_fits (once q start first) other m k)
 
 -- all tokens of a scan are fit
 scan_fits : (m : Mode) (at : ℕ) (bs : List ℕ) → MayEnd m → AreFit (scan_from m at bs)

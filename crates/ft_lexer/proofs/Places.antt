@@ -1,14 +1,13 @@
 -- Each token of a text is the part of it at its place.
 use Rattle.std.proofs.Common.{◌≡◌, ℕ, ◌+◌, ◌^◌, ◌<◌, ◌≤◌, Bool, true, false, List, [], ◌∷◌, ◌++◌, length, take, drop, refl, sym, ap, ◌∙◌, subst, arith, length-append, Option, Some, None}
 use Rattle.std.specs.Prelude.{cond, nat_lt, nat_le, ◌==◌}
-use Rattle.std.proofs.lemmas.Bool.{eqb-true}
 use Rattle.ft_lexer.specs.declared.kind.Kind.TheVariants as kinds
 use Rattle.std.proofs.Math.Seq.{take-add}
 use Rattle.std.proofs.lemmas.List.{drop-drop}
 use Rattle.ft_lexer.specs.declared.kind.Kind.{Kind}
 use Rattle.ft_lexer.specs.Numeral.{numeral}
-use Rattle.ft_lexer.specs.Bytes.{is_blank, is_letter, is_digit, is_name_byte, word_kind, sign_kind}
-use Rattle.ft_lexer.specs.Scan.{Scan, over, token, Mode, gap, comment, name, number, equals, number_token, ends, sign_at, begins, in_name, reads, scan_from, scan}
+use Rattle.ft_lexer.specs.Bytes.{is_blank, is_letter, is_digit, is_name_byte, word_kind, sign_kind, pair_kind}
+use Rattle.ft_lexer.specs.Scan.{Scan, over, token, Mode, gap, comment, name, number, once, number_token, ends, sign_at, sign_from, begins, in_name, reads, scan_from, scan}
 use Rattle.ft_lexer.specs.Placed.{Placed}
 
 -- t is the part of the text from start to at
@@ -23,7 +22,7 @@ Begun text gap low at = low ≤ at
 Begun text comment low at = low ≤ at
 Begun text (name start t) low at = Run text low start at t
 Begun text (number start t) low at = Run text low start at t
-Begun text (equals start) low at = Run text low start at (61 ∷ [])
+Begun text (once k start b) low at = Run text low start at (b ∷ [])
 
 either : (P : Scan → Type 0) (b : Bool) (x y : Scan) → (b ≡ true → P x) → P y → P (cond b x y)
 either P true x y p q = p refl
@@ -36,12 +35,16 @@ number_placed : (b : Bool) (text t : List ℕ) (low start at : ℕ) (s : Scan) �
 number_placed true text t low start at s r h = token_placed text t kinds.Number low start at s r h
 number_placed false text t low start at s r h = tt
 
+sign_done : (text : List ℕ) (o : Option Kind) (b low start at : ℕ) (s : Scan) → Run text low start at (b ∷ []) → Placed text at s → Placed text low (sign_at o start b s)
+sign_done text None b low start at s r h = tt
+sign_done text (Some k) b low start at s r h = token_placed text (b ∷ []) k low start at s r h
+
 ends_placed : (text : List ℕ) (m : Mode) (low at : ℕ) (s : Scan) → Begun text m low at → ((after : ℕ) → after ≤ at → Placed text after s) → Placed text low (ends m s)
 ends_placed text gap low at s b h = h low b
 ends_placed text comment low at s b h = h low b
 ends_placed text (name start t) low at s b h = token_placed text t (word_kind t) low start at s b (h at (omega arith))
 ends_placed text (number start t) low at s b h = number_placed (nat_lt (numeral 0 t) (2 ^ 64)) text t low start at s b (h at (omega arith))
-ends_placed text (equals start) low at s b h = token_placed text (61 ∷ []) kinds.Assign low start at s b (h at (omega arith))
+ends_placed text (once k start c) low at s b h = sign_done text (sign_kind c) c low start at s b (h at (omega arith))
 
 module _ (text : List ℕ) (at b : ℕ) (bs : List ℕ) (here : drop at text ≡ b ∷ bs) where
   behind : drop (at + 1) text ≡ bs
@@ -62,9 +65,9 @@ module _ (text : List ℕ) (at b : ℕ) (bs : List ℕ) (here : drop at text ≡
         some = omega (arith, len);
       }
 
-  sign_placed : (o : Option Kind) (low : ℕ) (s : Scan) → low ≤ at → Placed text (at + 1) s → Placed text low (sign_at o at b s)
-  sign_placed None low s h g = tt
-  sign_placed (Some k) low s h g = token_placed text (b ∷ []) k low at (at + 1) s (one low h) g
+  sign_placed : (o : Option Kind) (after : Mode → Scan) (low : ℕ) → ((m : Mode) (low : ℕ) → Begun text m low (at + 1) → Placed text low (after m)) → low ≤ at → Placed text low (sign_from o at b after)
+  sign_placed None after low h g = sign_done text (sign_kind b) b low at (at + 1) (after gap) (one low g) (h gap (at + 1) (omega arith))
+  sign_placed (Some k) after low h g = h (once k at b) low (one low g)
 
   begins_placed : (after : Mode → Scan) → ((m : Mode) (low : ℕ) → Begun text m low (at + 1) → Placed text low (after m)) → (low : ℕ) → low ≤ at → Placed text low (begins at b after)
   begins_placed after h low g =
@@ -73,8 +76,7 @@ module _ (text : List ℕ) (at b : ℕ) (bs : List ℕ) (here : drop at text ≡
       (either P (b == 35) _ _ (λ _. h comment low (omega arith))
       (either P (is_letter b) _ _ (λ _. h (name at (b ∷ [])) low (one low g))
       (either P (is_digit b) _ _ (λ _. h (number at (b ∷ [])) low (one low g))
-      (either P (b == 61) _ _ (λ e. h (equals at) low (subst (λ v. Run text low at (at + 1) (v ∷ [])) (eqb-true b 61 e) (one low g)))
-      (sign_placed (sign_kind b) low (after gap) g (h gap (at + 1) (omega arith)))))))
+      (sign_placed (pair_kind b) after low h g))))
 
   in_name_placed : (go long : Bool) (low : ℕ) (x y : Scan) → Placed text low x → Placed text low y → Placed text low (in_name go long at x y)
   in_name_placed false long low x y p q = q
@@ -89,10 +91,9 @@ module _ (text : List ℕ) (at b : ℕ) (bs : List ℕ) (here : drop at text ≡
       (ends_placed text (name start t) low at _ g (begins_placed after h))
   reads_placed (number start t) after h low g = either (Placed text low) (is_digit b) _ _ (λ _. h (number start (t ++ b ∷ [])) low (further low start t g))
       (ends_placed text (number start t) low at _ g (begins_placed after h))
-  reads_placed (equals start) after h low g = either (Placed text low) (b == 61) _ _
-      (λ e. token_placed text (61 ∷ 61 ∷ []) kinds.EqEq low start (at + 1) _
-      (subst (λ v. Run text low start (at + 1) (61 ∷ v ∷ [])) (eqb-true b 61 e) (further low start (61 ∷ []) g)) (h gap (at + 1) (omega arith)))
-      (ends_placed text (equals start) low at _ g (begins_placed after h))
+  reads_placed (once k start c) after h low g = either (Placed text low) (b == c) _ _
+      (λ e. token_placed text (c ∷ b ∷ []) k low start (at + 1) _ (further low start (c ∷ []) g) (h gap (at + 1) (omega arith)))
+      (ends_placed text (once k start c) low at _ g (begins_placed after h))
 
 placed_from : (text bs : List ℕ) (at : ℕ) (m : Mode) (low : ℕ) → drop at text ≡ bs → Begun text m low at → Placed text low (scan_from m at bs)
 placed_from text [] at m low here g = ends_placed text m low at over g (λ _ _. tt)

@@ -30,7 +30,15 @@ word_kind t =
     else (if bytes_eq t (codes "else") then kinds.Else
     else kinds.Name))))
 
--- the kind of the token that is this byte alone; `=` begins one or two tokens, and stands apart
+-- the kind of the token that is this byte twice
+unfoldable pub pair_kind : ℕ → Option Kind
+pair_kind b =
+    if b == 61 then Some kinds.EqEq
+    else (if b == 60 then Some kinds.Shl
+    else (if b == 62 then Some kinds.Shr
+    else None))
+
+-- the kind of the token that is this byte alone
 unfoldable pub sign_kind : ℕ → Option Kind
 sign_kind b =
     if b == 59 then Some kinds.Semi
@@ -42,4 +50,10 @@ sign_kind b =
     else (if b == 45 then Some kinds.Minus
     else (if b == 42 then Some kinds.Star
     else (if b == 60 then Some kinds.Less
-    else None))))))))
+    else (if b == 61 then Some kinds.Assign
+    else (if b == 91 then Some kinds.LBracket
+    else (if b == 93 then Some kinds.RBracket
+    else (if b == 38 then Some kinds.And
+    else (if b == 124 then Some kinds.Or
+    else (if b == 94 then Some kinds.Xor
+    else None))))))))))))))

@@ -1,8 +1,9 @@
 -- What a lexer still tells, and what may come next in its text.
-use Rattle.std.specs.Prelude.{◌≡◌, ℕ, Bool, false, true, List, [], ◌∷◌, ◌==◌}
+use Rattle.std.specs.Prelude.{◌≡◌, ℕ, ◌+◌, Bool, false, true, List, [], ◌∷◌, ◌==◌}
 use Rattle.ft_lexer.specs.declared.lexer.Lexer.{Lexer}
-use Rattle.ft_lexer.specs.Bytes.{is_blank}
-use Rattle.ft_lexer.specs.Scan.{Scan, scan_from, gap}
+use Rattle.ft_lexer.specs.declared.kind.Kind.{Kind}
+use Rattle.ft_lexer.specs.Bytes.{is_blank, sign_kind}
+use Rattle.ft_lexer.specs.Scan.{Scan, scan_from, gap, over, token, sign_at}
 
 -- what a lexer still tells
 abbrev pub left : Lexer → Scan
@@ -22,3 +23,18 @@ BeginsWith p (b ∷ bs) = p b ≡ true
 abbrev pub BeginsWithout : (ℕ → Bool) → List ℕ → Type 0
 BeginsWithout p [] = Unit {0}
 BeginsWithout p (b ∷ bs) = p b ≡ false
+
+-- what is told where the next byte is a token alone, or none
+abbrev pub alone : ℕ → List ℕ → Scan
+alone at [] = over
+alone at (b ∷ bs) = sign_at (sign_kind b) at b (scan_from gap (at + 1) bs)
+
+-- two bytes that make one token come next
+abbrev pub is_twice : List ℕ → Bool
+is_twice (b ∷ c ∷ bs) = c == b
+is_twice _ = false
+
+-- what is told where the next two bytes make a token of this kind
+abbrev pub scan_twice : Kind → ℕ → List ℕ → Scan
+scan_twice k at (b ∷ c ∷ bs) = token (record { kind = k; text = b ∷ c ∷ []; at = at }) (scan_from gap (at + 2) bs)
+scan_twice k at _ = over

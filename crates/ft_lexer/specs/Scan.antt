@@ -6,7 +6,7 @@ use Rattle.ft_lexer.specs.declared.token.Token.{Token}
 use Rattle.ft_lexer.specs.declared.lex_error.LexError.{LexError}
 use Rattle.ft_lexer.specs.declared.lex_error.LexError.TheVariants as lex_errors
 use Rattle.ft_lexer.specs.Numeral.{numeral}
-use Rattle.ft_lexer.specs.Bytes.{is_blank, is_digit, is_letter, is_name_byte, word_kind, sign_kind}
+use Rattle.ft_lexer.specs.Bytes.{is_blank, is_digit, is_letter, is_name_byte, word_kind, sign_kind, pair_kind}
 
 -- a token as plain data: its kind, its bytes and the place of the first
 pub record Lexeme : Type 0 where
@@ -23,18 +23,23 @@ pub data Scan : Type 0 where
   wrong : LexError → Scan
   token : Lexeme → Scan → Scan
 
--- what the bytes so far have begun, where it began and its bytes: a gap, a comment, a name, a number or a `=`
+-- what the bytes so far have begun, where it began and its bytes: a gap, a comment, a name, a number, or a byte that makes a token of this kind with another like it
 pub data Mode : Type 0 where
   gap : Mode
   comment : Mode
   name : ℕ → List ℕ → Mode
   number : ℕ → List ℕ → Mode
-  equals : ℕ → Mode
+  once : Kind → ℕ → ℕ → Mode
 
 -- a number of 2^64 or more is an error at its first digit
 abbrev pub number_token : Bool → ℕ → List ℕ → Scan → Scan
 number_token true start t rest = token (record { kind = kinds.Number; text = t; at = start }) rest
 number_token false start t rest = wrong (lex_errors.Number start)
+
+-- a byte that begins no token is an error
+abbrev pub sign_at : Option Kind → ℕ → ℕ → Scan → Scan
+sign_at (Some k) at b rest = token (record { kind = k; text = b ∷ []; at = at }) rest
+sign_at None at b rest = wrong (lex_errors.Byte at)
 
 -- what has begun ends here
 abbrev pub ends : Mode → Scan → Scan
@@ -42,12 +47,12 @@ ends gap rest = rest
 ends comment rest = rest
 ends (name start t) rest = token (record { kind = word_kind t; text = t; at = start }) rest
 ends (number start t) rest = number_token (nat_lt (numeral 0 t) (2 ^ 64)) start t rest
-ends (equals start) rest = token (record { kind = kinds.Assign; text = 61 ∷ []; at = start }) rest
+ends (once k start b) rest = sign_at (sign_kind b) start b rest
 
--- a byte that begins no token is an error
-abbrev pub sign_at : Option Kind → ℕ → ℕ → Scan → Scan
-sign_at (Some k) at b rest = token (record { kind = k; text = b ∷ []; at = at }) rest
-sign_at None at b rest = wrong (lex_errors.Byte at)
+-- a byte that may stand twice, or stands alone
+abbrev pub sign_from : Option Kind → ℕ → ℕ → (Mode → Scan) → Scan
+sign_from (Some k) at b after = after (once k at b)
+sign_from None at b after = sign_at (sign_kind b) at b (after gap)
 
 -- what the byte b begins
 abbrev pub begins : ℕ → ℕ → (Mode → Scan) → Scan
@@ -56,8 +61,7 @@ begins at b after =
     else (if b == 35 then after comment
     else (if is_letter b then after (name at (b ∷ []))
     else (if is_digit b then after (number at (b ∷ []))
-    else (if b == 61 then after (equals at)
-    else sign_at (sign_kind b) at b (after gap)))))
+    else sign_from (pair_kind b) at b after)))
 
 -- in a name: it ends, goes on, or would be longer than 32 bytes, which is an error at the 33rd
 abbrev pub in_name : Bool → Bool → ℕ → Scan → Scan → Scan
@@ -71,7 +75,7 @@ reads gap at b after other = other
 reads comment at b after other = if b == 10 then after gap else after comment
 reads (name start t) at b after other = in_name (is_name_byte b) (nat_le 32 (length t)) at (after (name start (t ++ b ∷ []))) (ends (name start t) other)
 reads (number start t) at b after other = if is_digit b then after (number start (t ++ b ∷ [])) else ends (number start t) other
-reads (equals start) at b after other = if b == 61 then token (record { kind = kinds.EqEq; text = 61 ∷ 61 ∷ []; at = start }) (after gap) else ends (equals start) other
+reads (once k start first) at b after other = if b == first then token (record { kind = k; text = first ∷ b ∷ []; at = start }) (after gap) else ends (once k start first) other
 
 -- the scan of these bytes, the first of them at this place
 abbrev pub scan_from : Mode → ℕ → List ℕ → Scan

@@ -1,6 +1,6 @@
 //! What single bytes and reserved words are.
-ghost use Rattle.std.specs.Prelude.{◌≡◌, ◌≢◌};
-ghost use Rattle.ft_lexer.specs.Bytes.{is_blank, is_digit, is_letter, is_name_byte, word_kind, sign_kind};
+ghost use Rattle.std.specs.Prelude.{◌≡◌, ◌≢◌, IfSome};
+ghost use Rattle.ft_lexer.specs.Bytes.{is_blank, is_digit, is_letter, is_name_byte, word_kind, sign_kind, pair_kind};
 ghost use Rattle.ft_lexer.specs.declared.kind.Kind.TheVariants as kinds;
 
 use crate::kind::Kind;
@@ -54,7 +54,24 @@ pub fn word_kind(text: &[u8]) -> Kind
     }
 }
 
-/// The kind of the token that is this one byte; `=`, which may have two, apart
+/// The kind of the token that is this byte twice.
+#[tactic(auto, unfolding(crate::specs::Bytes::pair_kind))]
+pub fn pair_kind(b: u8) -> Option<Kind>
+    ensures value { result ≡ pair_kind b }
+    ensures no_number { IfSome result (λ k. k ≢ kinds.Number) }
+{
+    if b == b'=' {
+        Some(Kind::EqEq)
+    } else if b == b'<' {
+        Some(Kind::Shl)
+    } else if b == b'>' {
+        Some(Kind::Shr)
+    } else {
+        None
+    }
+}
+
+/// The kind of the token that is this one byte.
 #[tactic(auto, unfolding(crate::specs::Bytes::sign_kind))]
 pub fn sign_kind(b: u8) -> Option<Kind>
     ensures { result ≡ sign_kind b }
@@ -77,6 +94,18 @@ pub fn sign_kind(b: u8) -> Option<Kind>
         Some(Kind::Star)
     } else if b == b'<' {
         Some(Kind::Less)
+    } else if b == b'=' {
+        Some(Kind::Assign)
+    } else if b == b'[' {
+        Some(Kind::LBracket)
+    } else if b == b']' {
+        Some(Kind::RBracket)
+    } else if b == b'&' {
+        Some(Kind::And)
+    } else if b == b'|' {
+        Some(Kind::Or)
+    } else if b == b'^' {
+        Some(Kind::Xor)
     } else {
         None
     }

@@ -39,4 +39,18 @@ pub enum Kind {
     Less,
     /// `==`
     EqEq,
+    /// `[`
+    LBracket,
+    /// `]`
+    RBracket,
+    /// `&`
+    And,
+    /// `|`
+    Or,
+    /// `^`
+    Xor,
+    /// `<<`
+    Shl,
+    /// `>>`
+    Shr,
 }

@@ -1,9 +1,10 @@
 //! The lexer.
-ghost use Rattle.std.specs.Prelude.{◌≡◌, ◌+◌, ◌^◌, ◌<◌, ◌≤◌, length, IfNone, IfSome, OnErr, Some};
+ghost use Rattle.std.specs.Prelude.{◌≡◌, ◌≢◌, ◌+◌, ◌^◌, ◌<◌, ◌≤◌, true, length, IfNone, IfSome, OnErr, Some, Ok};
 ghost use Rattle.ft_lexer.specs.Bytes.{is_letter, is_digit};
+ghost use Rattle.ft_lexer.specs.declared.kind.Kind.TheVariants as kinds;
 ghost use Rattle.ft_lexer.specs.Scan.{scan, scan_from, comment, over, told};
 
-use crate::bytes::{is_blank, is_digit, is_letter, sign_kind, word_kind};
+use crate::bytes::{is_blank, is_digit, is_letter, pair_kind, sign_kind, word_kind};
 use crate::kind::Kind;
 use crate::lex_error::LexError;
 use crate::runs::{NAME_LIMIT, fits, name_len, number_len};
@@ -20,7 +21,7 @@ pub struct Lexer<'a> {
 }
 
 impl<'a> Lexer<'a> {
-    ghost use Rattle.ft_lexer.specs.Left.{left, BeginsToken, BeginsWith, BeginsWithout};
+    ghost use Rattle.ft_lexer.specs.Left.{left, BeginsToken, BeginsWith, BeginsWithout, alone, is_twice, scan_twice};
 
     /// A lexer at the start of the text.
     pub fn new(text: &'a [u8]) -> Lexer<'a>
@@ -111,35 +112,24 @@ impl<'a> Lexer<'a> {
         })
     }
 
-    /// Takes one of the other tokens.
-    fn sign(&mut self) -> Result<Token<'a>, LexError>
+    /// Whether the next byte stands twice.
+    fn is_twice(&self) -> bool
+        ensures { result ≡ is_twice self.now.rest.now }
+    {
+        match self.rest {
+            [b, c, ..] => *c == *b,
+            _ => false,
+        }
+    }
+
+    /// Takes a token of one byte.
+    fn single(&mut self) -> Result<Token<'a>, LexError>
         requires some { 0 < length self.old.rest.now }
-        requires no_letter { BeginsWithout is_letter self.old.rest.now }
-        requires no_digit { BeginsWithout is_digit self.old.rest.now }
-        requires token { BeginsToken self.old.rest.now }
-        ensures told { left self.old ≡ told (Some result) (left self.new) }
+        ensures told { alone self.old.at self.old.rest.now ≡ told (Some result) (left self.new) }
         ensures err { OnErr result (left self.new ≡ over) }
     {
         let all = self.rest;
         let at = self.at;
-        if all[0] == b'=' {
-            if all.len() > 1 && all[1] == b'=' {
-                self.rest = &all[2..];
-                self.at += 2;
-                return Ok(Token {
-                    kind: Kind::EqEq,
-                    text: &all[..2],
-                    at,
-                });
-            }
-            self.rest = &all[1..];
-            self.at += 1;
-            return Ok(Token {
-                kind: Kind::Assign,
-                text: &all[..1],
-                at,
-            });
-        }
         let Some(kind) = sign_kind(all[0]) else {
             self.rest = &[];
             return Err(LexError::Byte { at });
@@ -151,6 +141,42 @@ impl<'a> Lexer<'a> {
             text: &all[..1],
             at,
         })
+    }
+
+    /// Takes a token of two bytes that are alike.
+    fn pair(&mut self, kind: Kind) -> Token<'a>
+        requires twice { is_twice self.old.rest.now ≡ true }
+        requires no_number { kind ≢ kinds.Number }
+        ensures told { scan_twice kind self.old.at self.old.rest.now ≡ told (Some (Ok result)) (left self.new) }
+    {
+        let all = self.rest;
+        let at = self.at;
+        self.rest = &all[2..];
+        self.at += 2;
+        Token {
+            kind,
+            text: &all[..2],
+            at,
+        }
+    }
+
+    /// Takes one of the other tokens.
+    fn sign(&mut self) -> Result<Token<'a>, LexError>
+        requires some { 0 < length self.old.rest.now }
+        requires no_letter { BeginsWithout is_letter self.old.rest.now }
+        requires no_digit { BeginsWithout is_digit self.old.rest.now }
+        requires token { BeginsToken self.old.rest.now }
+        ensures told { left self.old ≡ told (Some result) (left self.new) }
+        ensures err { OnErr result (left self.new ≡ over) }
+    {
+        let Some(kind) = pair_kind(self.rest[0]) else {
+            return self.single();
+        };
+        if self.is_twice() {
+            Ok(self.pair(kind))
+        } else {
+            self.single()
+        }
     }
 
     /// The next token, or the error of the text; `None` at the end and, for ever, after either.

@@ -4,7 +4,7 @@ use std::test::Fail;
 #[test]
 fn cuts_texts_into_tokens_that_outlive_the_lexer(rt: HostRuntime) -> Result<(), Fail> {
     let alloc = rt.alloc();
-    let text = b"cell c1 = 7; # a comment\n_x===12ab while(if)else{var}+-*<celling";
+    let text = b"cell c1 = 7; # a comment\n_x===12ab while(if)else{var}+-*<celling[]&|^<<<>>=";
     let mut told: Vec<Token<'_>> = Vec::new(alloc);
     let mut lexer = Lexer::new(text);
     for _ in 0..100 {
@@ -38,6 +38,15 @@ fn cuts_texts_into_tokens_that_outlive_the_lexer(rt: HostRuntime) -> Result<(), 
         (Kind::Star, b"*".as_slice(), 55),
         (Kind::Less, b"<".as_slice(), 56),
         (Kind::Name, b"celling".as_slice(), 57),
+        (Kind::LBracket, b"[".as_slice(), 64),
+        (Kind::RBracket, b"]".as_slice(), 65),
+        (Kind::And, b"&".as_slice(), 66),
+        (Kind::Or, b"|".as_slice(), 67),
+        (Kind::Xor, b"^".as_slice(), 68),
+        (Kind::Shl, b"<<".as_slice(), 69),
+        (Kind::Less, b"<".as_slice(), 71),
+        (Kind::Shr, b">>".as_slice(), 72),
+        (Kind::Assign, b"=".as_slice(), 74),
     ];
     assert_eq!(rt; told.len(), wanted.len());
     for (token, (kind, text, at)) in told.iter().zip(wanted) {
@@ -53,6 +62,9 @@ fn tells_the_first_error_and_then_nothing(rt: HostRuntime) {
     for (text, error) in [
         (b"x = 1 % 2;".as_slice(), LexError::Byte { at: 6 }),
         (b"# %\n\r\t%", LexError::Byte { at: 6 }),
+        (b"1 >", LexError::Byte { at: 2 }),
+        (b">> > >", LexError::Byte { at: 3 }),
+        (b">>>", LexError::Byte { at: 2 }),
         (b"18446744073709551616 %", LexError::Number { at: 0 }),
         (b"018446744073709551616", LexError::Number { at: 0 }),
         (b"18446744073709551615 \x80", LexError::Byte { at: 21 }),

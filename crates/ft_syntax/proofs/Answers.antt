@@ -4,7 +4,7 @@ use Rattle.ft_lexer.specs.Scan.{Lexeme, all_of, scan}
 use Rattle.ft_lexer.specs.declared.lex_error.LexError.{LexError}
 use Rattle.ft_lexer.specs.declared.lex_error.LexError.TheVariants as lex_errors
 use Rattle.ft_syntax.specs.declared.source_error.SourceError.{SourceError}
-use Rattle.ft_syntax.specs.declared.source_error.SourceError.TheVariants.{TooLong, Byte, Number, Syntax, Deep, Twice, Unknown, Cells, Registers, Weight, NoMemory}
+use Rattle.ft_syntax.specs.declared.source_error.SourceError.TheVariants.{TooLong, Byte, Number, Syntax, Deep, Twice, Unknown, Array, Length, Cells, Registers, Weight, NoMemory}
 use Rattle.ft_syntax.specs.Syntax.{SyntaxTree}
 use Rattle.std.specs.Prelude.{Bool, true, false, nat_le}
 use Rattle.ft_syntax.specs.Limits.{text_limit, nothing_open}
@@ -42,6 +42,8 @@ computed text (Err (Syntax at)) (ts, has, f) = judged_answer text ts (Err (synta
 computed text (Err (Deep at)) (ts, has, f) = judged_answer text ts (Err (deep_at at)) has f
 computed text (Err (Twice at)) h = absurd h
 computed text (Err (Unknown at)) h = absurd h
+computed text (Err (Array at)) h = absurd h
+computed text (Err (Length at)) h = absurd h
 computed text (Err (Cells count)) h = absurd h
 computed text (Err (Registers need)) h = absurd h
 computed text (Err (Weight weight)) h = absurd h
@@ -82,6 +84,8 @@ lex_refused text (Syntax at) short h other = absurd h
 lex_refused text (Deep at) short h other = absurd h
 lex_refused text (Twice at) short h other = h
 lex_refused text (Unknown at) short h other = h
+lex_refused text (Array at) short h other = h
+lex_refused text (Length at) short h other = h
 lex_refused text (Cells count) short h other = h
 lex_refused text (Registers need) short h other = h
 lex_refused text (Weight weight) short h other = h
@@ -96,6 +100,8 @@ list_refused text ts (Byte at) short scanned h other = absurd h
 list_refused text ts (Number at) short scanned h other = absurd h
 list_refused text ts (Twice at) short scanned h other = h
 list_refused text ts (Unknown at) short scanned h other = h
+list_refused text ts (Array at) short scanned h other = h
+list_refused text ts (Length at) short scanned h other = h
 list_refused text ts (Cells count) short scanned h other = h
 list_refused text ts (Registers need) short scanned h other = h
 list_refused text ts (Weight weight) short scanned h other = h

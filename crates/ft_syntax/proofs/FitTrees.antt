@@ -1,24 +1,26 @@
--- The tree of a source is fit: a cell's name has at most 32 bytes, and initial words and literals are below 2^64.
-use Rattle.std.proofs.Common.{◌≡◌, ℕ, ◌^◌, ◌<◌, List, [], ◌∷◌, ◌++◌, refl, sym, ap, subst}
+-- The tree of a source is fit: a name of cells has at most 32 bytes, and initial words and literals are below 2^64.
+use Rattle.std.proofs.Common.{◌≡◌, ℕ, ◌^◌, ◌<◌, List, [], ◌∷◌, ◌++◌, Option, Some, None, refl, sym, ap, subst}
 use Rattle.std.specs.List.{AllByRecursion}
-use Rattle.ft_lexer.specs.declared.kind.Kind.TheVariants.{Else, Semi, LParen, RParen, LBrace, RBrace, Plus, Minus, Star, Less, EqEq}
+use Rattle.ft_lexer.specs.declared.kind.Kind.TheVariants.{Else, Assign, Semi, LParen, RParen, LBrace, RBrace, RBracket, Plus, Minus, Star, Less, EqEq}
 use Rattle.ft_lexer.specs.Scan.{Lexeme}
 use Rattle.ft_lexer.proofs.FitLexemes.{IsNameText, AllFit, scanned_fit}
-use Rattle.ft_syntax.specs.Grammar.{of_kind, Equality, comparison, equals, Comparison, a_sum, less, Sum, product, plus, minus, Product, atom, times, Atom, a_name, a_number, brackets, equality_then, comparison_then, sum_then, product_then, atom_then, equality_tree, comparison_tree, sum_tree, product_tree, atom_tree, Statement, assignment, looping, choosing, choosing_else, Statements, nothing, more, statement_then, statements_then, statement_tree, statements_tree, Declaration, a_cell, a_var, Declarations, undeclared, declared_then, declaration_then, declarations_then, declaration_tree, declarations_tree}
-use Rattle.ft_syntax.specs.Plain.{Expression, literal, name, operation, StatementList, none, assign, loop, choose}
-use Rattle.ft_syntax.specs.Syntax.{Named, Declared, cell, var, SyntaxTree}
+use Rattle.ft_syntax.specs.Grammar.{of_kind, bit_kind, shift_kind, Equality, comparison, equals, Comparison, some_bits, less, Bits, a_shift, mask, Shift, a_sum, shift, Sum, product, plus, minus, Product, atom, times, Atom, a_name, an_indexed, a_number, brackets, equality_then, comparison_then, bits_then, shift_then, sum_then, product_then, atom_then, equality_tree, comparison_tree, bits_tree, shift_tree, sum_tree, product_tree, atom_tree, Statement, assignment, looping, choosing, choosing_else, Statements, nothing, more, statement_then, statements_then, statement_tree, statements_tree, Declaration, a_cell, a_var, Declarations, undeclared, declared_then, declaration_then, declarations_then, declaration_tree, declarations_tree}
+use Rattle.ft_syntax.specs.Plain.{Expression, literal, name, indexed, operation, StatementList, none, assign, assign_at, loop, choose}
+use Rattle.ft_syntax.specs.Syntax.{Named, Declared, cell, var, array, SyntaxTree}
 use Rattle.ft_syntax.specs.Refusal.{IsSource}
 
 -- DECLARATIONS
 
--- the name of a declared cell has at most 32 bytes, and its initial word is below 2^64
+-- the name of a declared cell or array has at most 32 bytes, and the initial word is below 2^64
 abbrev pub IsFitDeclaration : Declared → Type 0
 IsFitDeclaration (cell n w) = IsNameText n.text × (w < 2 ^ 64)
 IsFitDeclaration (var n) = Unit {0}
+IsFitDeclaration (array n l at w) = IsNameText n.text × (w < 2 ^ 64)
 
 -- the lexemes of a declaration make it fit
 declaration_fits : (d : Declaration) (rest : List Lexeme) → AllFit (declaration_then d rest) → IsFitDeclaration (declaration_tree d) × AllFit rest
-declaration_fits (a_cell w n l v r) rest h = ((h.1.0.name_fits refl, h.1.1.1.0.number_fits refl), h.1.1.1.1.1)
+declaration_fits (a_cell w n None l v r) rest h = ((h.1.0.name_fits refl, h.1.1.1.0.number_fits refl), h.1.1.1.1.1)
+declaration_fits (a_cell w n (Some x) l v r) rest h = ((h.1.0.name_fits refl, h.1.1.1.1.1.1.0.number_fits refl), h.1.1.1.1.1.1.1.1)
 declaration_fits (a_var w n r) rest h = (tt, h.1.1.1)
 
 -- and those of declarations
@@ -39,11 +41,13 @@ declarations_fit (declared_then before d) rest h =
 abbrev pub HasWords : Expression Named → Type 0
 HasWords (literal w) = w < 2 ^ 64
 HasWords (name n) = Unit {0}
+HasWords (indexed n i) = HasWords i
 HasWords (operation o a b) = HasWords a × HasWords b
 
 abbrev pub HaveWords : StatementList Named → Type 0
 HaveWords none = Unit {0}
 HaveWords (assign to e rest) = HasWords e × HaveWords rest
+HaveWords (assign_at to i e rest) = HasWords i × HasWords e × HaveWords rest
 HaveWords (loop e body rest) = HasWords e × HaveWords body × HaveWords rest
 HaveWords (choose e if_so if_not rest) = HasWords e × HaveWords if_so × HaveWords if_not × HaveWords rest
 
@@ -57,9 +61,23 @@ mutual
       ((p.0, q.0), q.1)
 
   comparison_fits : (e : Comparison) (rest : List Lexeme) → AllFit (comparison_then e rest) → HasWords (comparison_tree e) × AllFit rest
-  comparison_fits (a_sum c) rest h = sum_fits c rest h
+  comparison_fits (some_bits c) rest h = bits_fit c rest h
   comparison_fits (less a l b) rest h =
-      let p = comparison_fits a (of_kind Less l ∷ sum_then b rest) h in
+      let p = comparison_fits a (of_kind Less l ∷ bits_then b rest) h in
+      let q = bits_fit b rest p.1.1 in
+      ((p.0, q.0), q.1)
+
+  bits_fit : (e : Bits) (rest : List Lexeme) → AllFit (bits_then e rest) → HasWords (bits_tree e) × AllFit rest
+  bits_fit (a_shift c) rest h = shift_fits c rest h
+  bits_fit (mask a g l b) rest h =
+      let p = bits_fit a (of_kind (bit_kind g) l ∷ shift_then b rest) h in
+      let q = shift_fits b rest p.1.1 in
+      ((p.0, q.0), q.1)
+
+  shift_fits : (e : Shift) (rest : List Lexeme) → AllFit (shift_then e rest) → HasWords (shift_tree e) × AllFit rest
+  shift_fits (a_sum c) rest h = sum_fits c rest h
+  shift_fits (shift a g l b) rest h =
+      let p = shift_fits a (of_kind (shift_kind g) l ∷ sum_then b rest) h in
       let q = sum_fits b rest p.1.1 in
       ((p.0, q.0), q.1)
 
@@ -83,13 +101,19 @@ mutual
 
   atom_fits : (e : Atom) (rest : List Lexeme) → AllFit (atom_then e rest) → HasWords (atom_tree e) × AllFit rest
   atom_fits (a_name l) rest h = (tt, h.1)
+  atom_fits (an_indexed n l i r) rest h = let p = equality_fits i (of_kind RBracket r ∷ rest) h.1.1 in (p.0, p.1.1)
   atom_fits (a_number l) rest h = (h.0.number_fits refl, h.1)
   atom_fits (brackets l e r) rest h = let p = equality_fits e (of_kind RParen r ∷ rest) h.1 in (p.0, p.1.1)
 
 -- and those of statements, whatever comes after them
 mutual
   statement_fits : (s : Statement) (rest : List Lexeme) → AllFit (statement_then s rest) → ((after : StatementList Named) → HaveWords after → HaveWords (statement_tree s after)) × AllFit rest
-  statement_fits (assignment n l e r) rest h = let p = equality_fits e (of_kind Semi r ∷ rest) h.1.1 in (λ after k. (p.0, k), p.1.1)
+  statement_fits (assignment n None l e r) rest h = let p = equality_fits e (of_kind Semi r ∷ rest) h.1.1 in (λ after k. (p.0, k), p.1.1)
+  statement_fits (assignment n (Some i) l e r) rest h =
+      let value = equality_then e (of_kind Semi r ∷ rest) in
+      let p = equality_fits i.index (of_kind RBracket i.right ∷ of_kind Assign l ∷ value) h.1.1 in
+      let q = equality_fits e (of_kind Semi r ∷ rest) p.1.1.1 in
+      (λ after k. (p.0, q.0, k), q.1.1)
   statement_fits (looping h body r) rest a =
       let p = equality_fits h.test (of_kind RParen h.right ∷ of_kind LBrace h.brace ∷ statements_then body (of_kind RBrace r ∷ rest)) a.1.1 in
       let x = statements_fit body (of_kind RBrace r ∷ rest) p.1.1.1 in

@@ -1,5 +1,5 @@
 -- The tree of statements before others is their tree, followed by the others.
-use Rattle.std.proofs.Common.{◌≡◌, refl, sym, ap, ◌∙◌}
+use Rattle.std.proofs.Common.{◌≡◌, Some, None, refl, sym, ap, ◌∙◌}
 use Rattle.ft_syntax.specs.Plain.{StatementList, none, follow}
 use Rattle.ft_syntax.specs.Syntax.{Named}
 use Rattle.ft_syntax.specs.Grammar.{Statement, Statements, assignment, looping, choosing, choosing_else, nothing, more, statement_tree, statements_tree}
@@ -7,7 +7,8 @@ use Rattle.ft_syntax.proofs.PlainForms.{follow_follow}
 
 -- one statement
 pub statement_followed : (c : Statement) (after : StatementList Named) → statement_tree c after ≡ follow (statement_tree c none) after
-statement_followed (assignment n l e r) after = refl
+statement_followed (assignment n None l e r) after = refl
+statement_followed (assignment n (Some i) l e r) after = refl
 statement_followed (looping h body r) after = refl
 statement_followed (choosing h if_so r) after = refl
 statement_followed (choosing_else h if_so r w l if_not q) after = refl

@@ -8,7 +8,7 @@ use Rattle.ft_syntax.specs.declared.decl.Decl.{Decl}
 use Rattle.ft_syntax.specs.declared.stmt.Stmt.{Stmt}
 use Rattle.ft_syntax.specs.declared.spot.Spot.{Spot}
 use Rattle.ft_syntax.specs.declared.source_error.SourceError.{SourceError}
-use Rattle.ft_syntax.specs.declared.source_error.SourceError.TheVariants.{TooLong, Byte, Number, Syntax, Deep, Twice, Unknown, Cells, Registers, Weight, NoMemory}
+use Rattle.ft_syntax.specs.declared.source_error.SourceError.TheVariants.{TooLong, Byte, Number, Syntax, Deep, Twice, Unknown, Array, Length, Cells, Registers, Weight, NoMemory}
 use Rattle.ft_syntax.specs.Syntax.{SyntaxTree}
 use Rattle.ft_syntax.specs.TreeOf.{tree_from}
 use Rattle.ft_syntax.specs.View.{Refuses, RefusedBy}
@@ -129,6 +129,8 @@ all_refused ts end (Byte at) h = h
 all_refused ts end (Number at) h = h
 all_refused ts end (Twice at) h = h
 all_refused ts end (Unknown at) h = h
+all_refused ts end (Array at) h = h
+all_refused ts end (Length at) h = h
 all_refused ts end (Cells count) h = h
 all_refused ts end (Registers need) h = h
 all_refused ts end (Weight weight) h = h

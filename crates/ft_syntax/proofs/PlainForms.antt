@@ -3,13 +3,14 @@ use Rattle.std.proofs.Common.{◌≡◌, ℕ, suc, ◌+◌, ◌<◌, List, [], �
 use Rattle.std.proofs.Math.Seq.{take-suc}
 use mathlib.Core.Former.{Count}
 use Rattle.ft_syntax.specs.declared.expr.Expr.{Expr}
-use Rattle.ft_syntax.specs.declared.stmt.Stmt.{Stmt, Assign, While, If, While', If', Row_of-Stmt, end_of-Stmt, more_of-Stmt, items-the_row-Stmt, items_hidden-the_row-Stmt-0}
-use Rattle.ft_syntax.specs.Plain.{StatementList, none, assign, loop, choose, follow, plain_expression, plain_statement, plain_row, plain_list}
+use Rattle.ft_syntax.specs.declared.stmt.Stmt.{Stmt, Assign, AssignAt, While, If, While', If', Row_of-Stmt, end_of-Stmt, more_of-Stmt, items-the_row-Stmt, items_hidden-the_row-Stmt-0}
+use Rattle.ft_syntax.specs.Plain.{StatementList, none, assign, assign_at, loop, choose, follow, plain_expression, plain_statement, plain_row, plain_list}
 
 -- nothing follows
 pub follow_none : {M : Type 0} → (a : StatementList M) → follow a none ≡ a
 follow_none none = refl
 follow_none (assign to e rest) = ap (assign to e) (follow_none rest)
+follow_none (assign_at to i e rest) = ap (assign_at to i e) (follow_none rest)
 follow_none (loop e body rest) = ap (loop e body) (follow_none rest)
 follow_none (choose e if_so if_not rest) = ap (choose e if_so if_not) (follow_none rest)
 
@@ -17,6 +18,7 @@ follow_none (choose e if_so if_not rest) = ap (choose e if_so if_not) (follow_no
 pub follow_follow : {M : Type 0} → (a b c : StatementList M) → follow (follow a b) c ≡ follow a (follow b c)
 follow_follow none b c = refl
 follow_follow (assign to e rest) b c = ap (assign to e) (follow_follow rest b c)
+follow_follow (assign_at to i e rest) b c = ap (assign_at to i e) (follow_follow rest b c)
 follow_follow (loop e body rest) b c = ap (loop e body) (follow_follow rest b c)
 follow_follow (choose e if_so if_not rest) b c = ap (choose e if_so if_not) (follow_follow rest b c)
 
@@ -29,11 +31,13 @@ row_list f n (more_of-Stmt s rest) = ap (plain_statement f s) (row_list f _ rest
 -- the row of a loop's body and of a choice's first side, and of a choice's second
 abbrev row_of : {N : Type 0} → Stmt N → (n : Count) × Row_of-Stmt N n
 row_of (Assign to e) = (_, end_of-Stmt)
+row_of (AssignAt to i e) = (_, end_of-Stmt)
 row_of (While' e shape body) = (_, body)
 row_of (If' e shape if_so shape2 if_not) = (_, if_so)
 
 abbrev other_row_of : {N : Type 0} → Stmt N → (n : Count) × Row_of-Stmt N n
 other_row_of (Assign to e) = (_, end_of-Stmt)
+other_row_of (AssignAt to i e) = (_, end_of-Stmt)
 other_row_of (While' e shape body) = (_, body)
 other_row_of (If' e shape if_so shape2 if_not) = (_, if_not)
 
@@ -41,6 +45,11 @@ other_row_of (If' e shape if_so shape2 if_not) = (_, if_not)
 pub assign_form : {N M : Type 0} → (f : N → M) (to : N) (e : Expr N) (after : StatementList M) → plain_statement f (Assign to e) after ≡ assign (f to) (plain_expression f e) after
 unfolding plain_statement
 assign_form f to e after = refl
+
+-- an assignment to a name with an index
+pub assign_at_form : {N M : Type 0} → (f : N → M) (to : N) (i e : Expr N) (after : StatementList M) → plain_statement f (AssignAt to i e) after ≡ assign_at (f to) (plain_expression f i) (plain_expression f e) after
+unfolding plain_statement
+assign_at_form f to i e after = refl
 
 -- a loop
 pub while_form : {N M : Type 0} → (f : N → M) (e : Expr N) (body : Vec (Stmt N) Global) (after : StatementList M) → plain_statement f (While e body) after ≡ loop (plain_expression f e) (plain_list f body.items) after
@@ -72,6 +81,7 @@ list_first f s ss = refl
 pub statement_first : {N M : Type 0} → (f : N → M) (s : Stmt N) (after : StatementList M) → plain_statement f s after ≡ follow (plain_statement f s none) after
 unfolding plain_statement
 statement_first f (Assign to e) after = refl
+statement_first f (AssignAt to i e) after = refl
 statement_first f (While' e shape body) after = refl
 statement_first f (If' e shape if_so shape2 if_not) after = refl
 

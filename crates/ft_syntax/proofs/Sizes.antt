@@ -1,5 +1,5 @@
 -- Each node of a tree has a token, and each token has a byte.
-use Rattle.std.proofs.Common.{◌≡◌, ℕ, ◌+◌, ◌<◌, ◌≤◌, List, [], ◌∷◌, length, take, drop, Result, Ok, Err, refl, ap, arith, length-append, length-drop, length-take}
+use Rattle.std.proofs.Common.{◌≡◌, Some, None, ℕ, ◌+◌, ◌<◌, ◌≤◌, List, [], ◌∷◌, length, take, drop, Result, Ok, Err, refl, ap, arith, length-append, length-drop, length-take}
 use Rattle.ft_lexer.specs.declared.lex_error.LexError.{LexError}
 use Rattle.ft_lexer.specs.declared.kind.Kind.TheVariants as kinds
 use Rattle.ft_lexer.specs.Scan.{Lexeme, Scan, over, wrong, token, all_of, with_token, scan}
@@ -13,7 +13,7 @@ use Rattle.ft_syntax.specs.Syntax.{Named, SyntaxTree}
 use Rattle.ft_syntax.specs.Size.{expression_nodes, statement_nodes, node_count}
 use Rattle.ft_syntax.specs.TreeOf.{tree_from}
 use Rattle.ft_syntax.proofs.DeclaredLists.{declared_length}
-use Rattle.ft_syntax.specs.Grammar.{of_kind, Equality, Comparison, Sum, Product, Atom, comparison, equals, a_sum, less, product, plus, minus, atom, times, a_name, a_number, brackets, equality_then, comparison_then, sum_then, product_then, atom_then, equality_tree, comparison_tree, sum_tree, product_tree, atom_tree, Statement, Statements, assignment, looping, choosing, choosing_else, nothing, more, statement_then, statements_then, statement_tree, statements_tree, Declarations, a_cell, a_var, undeclared, declared_then, declaration_then, declarations_then, declaration_tree, declarations_tree, Derives}
+use Rattle.ft_syntax.specs.Grammar.{of_kind, bit_kind, shift_kind, Equality, Comparison, Bits, Shift, Sum, Product, Atom, comparison, equals, some_bits, less, a_shift, mask, a_sum, shift, product, plus, minus, atom, times, a_name, an_indexed, a_number, brackets, equality_then, comparison_then, bits_then, shift_then, sum_then, product_then, atom_then, equality_tree, comparison_tree, bits_tree, shift_tree, sum_tree, product_tree, atom_tree, Statement, Statements, assignment, looping, choosing, choosing_else, nothing, more, statement_then, statements_then, statement_tree, statements_tree, Declarations, a_cell, a_var, undeclared, declared_then, declaration_then, declarations_then, declaration_tree, declarations_tree, Derives}
 
 mutual
   equality_size : (c : Equality) (rest : List Lexeme) → expression_nodes (equality_tree c) + length rest ≤ length (equality_then c rest)
@@ -21,8 +21,16 @@ mutual
   equality_size (equals a l b) rest = omega (arith, equality_size a (of_kind kinds.EqEq l ∷ comparison_then b rest), comparison_size b rest)
 
   comparison_size : (c : Comparison) (rest : List Lexeme) → expression_nodes (comparison_tree c) + length rest ≤ length (comparison_then c rest)
-  comparison_size (a_sum c) rest = sum_size c rest
-  comparison_size (less a l b) rest = omega (arith, comparison_size a (of_kind kinds.Less l ∷ sum_then b rest), sum_size b rest)
+  comparison_size (some_bits c) rest = bits_size c rest
+  comparison_size (less a l b) rest = omega (arith, comparison_size a (of_kind kinds.Less l ∷ bits_then b rest), bits_size b rest)
+
+  bits_size : (c : Bits) (rest : List Lexeme) → expression_nodes (bits_tree c) + length rest ≤ length (bits_then c rest)
+  bits_size (a_shift c) rest = shift_size c rest
+  bits_size (mask a g l b) rest = omega (arith, bits_size a (of_kind (bit_kind g) l ∷ shift_then b rest), shift_size b rest)
+
+  shift_size : (c : Shift) (rest : List Lexeme) → expression_nodes (shift_tree c) + length rest ≤ length (shift_then c rest)
+  shift_size (a_sum c) rest = sum_size c rest
+  shift_size (shift a g l b) rest = omega (arith, shift_size a (of_kind (shift_kind g) l ∷ sum_then b rest), sum_size b rest)
 
   sum_size : (c : Sum) (rest : List Lexeme) → expression_nodes (sum_tree c) + length rest ≤ length (sum_then c rest)
   sum_size (product c) rest = product_size c rest
@@ -35,12 +43,16 @@ mutual
 
   atom_size : (c : Atom) (rest : List Lexeme) → expression_nodes (atom_tree c) + length rest ≤ length (atom_then c rest)
   atom_size (a_name l) rest = omega arith
+  atom_size (an_indexed n l i r) rest = omega (arith, equality_size i (of_kind kinds.RBracket r ∷ rest))
   atom_size (a_number l) rest = omega arith
   atom_size (brackets l e r) rest = omega (arith, equality_size e (of_kind kinds.RParen r ∷ rest))
 
 mutual
   statement_size : (c : Statement) (after : StatementList Named) (rest : List Lexeme) → statement_nodes (statement_tree c after) + length rest ≤ length (statement_then c rest) + statement_nodes after
-  statement_size (assignment n l e r) after rest = omega (arith, equality_size e (of_kind kinds.Semi r ∷ rest))
+  statement_size (assignment n None l e r) after rest = omega (arith, equality_size e (of_kind kinds.Semi r ∷ rest))
+  statement_size (assignment n (Some i) l e r) after rest =
+      let value = equality_then e (of_kind kinds.Semi r ∷ rest) in
+      omega (arith, equality_size e (of_kind kinds.Semi r ∷ rest), equality_size i.index (of_kind kinds.RBracket i.right ∷ of_kind kinds.Assign l ∷ value))
   statement_size (looping h body r) after rest =
       let inside = statements_then body (of_kind kinds.RBrace r ∷ rest) in
       omega (arith, equality_size h.test (of_kind kinds.RParen h.right ∷ of_kind kinds.LBrace h.brace ∷ inside), statements_size body none (of_kind kinds.RBrace r ∷ rest))
@@ -63,8 +75,11 @@ mutual
 
 declarations_size : (ds : Declarations) (rest : List Lexeme) → length (declarations_tree ds) + length rest ≤ length (declarations_then ds rest)
 declarations_size undeclared rest = omega arith
-declarations_size (declared_then before (a_cell w n l v r)) rest =
-    let d = a_cell w n l v r in
+declarations_size (declared_then before (a_cell w n None l v r)) rest =
+    let d = a_cell w n None l v r in
+    omega (arith, declarations_size before (declaration_then d rest), length-append (declarations_tree before) (declaration_tree d ∷ []))
+declarations_size (declared_then before (a_cell w n (Some x) l v r)) rest =
+    let d = a_cell w n (Some x) l v r in
     omega (arith, declarations_size before (declaration_then d rest), length-append (declarations_tree before) (declaration_tree d ∷ []))
 declarations_size (declared_then before (a_var w n r)) rest =
     let d = a_var w n r in

@@ -1,5 +1,5 @@
 -- The syntax tree as plain data: names with their places, declarations and statements.
-use Rattle.std.specs.Prelude.{ℕ, List, map}
+use Rattle.std.specs.Prelude.{ℕ, List, map, Option, Some, None}
 use Rattle.ft_syntax.specs.declared.spot.Spot.{Spot}
 use Rattle.ft_syntax.specs.declared.decl.Decl.{Decl}
 use Rattle.ft_syntax.specs.declared.decl.Decl.TheVariants as decls
@@ -13,14 +13,21 @@ pub record Named : Type 0 where
 abbrev pub named : Spot → Named
 named s = record { text = s.text.now; at = s.at }
 
--- a declaration: a cell with its initial word, or a variable
+-- a declaration: a cell with its initial word, a variable, or an array with its length, the place of that, and the initial word of its cells
 pub data Declared : Type 0 where
   cell : Named → ℕ → Declared
   var : Named → Declared
+  array : Named → ℕ → ℕ → ℕ → Declared
+
+-- a cell, or an array with its length and the place of that
+abbrev pub cell_or_array : Named → Option (ℕ × ℕ) → ℕ → Declared
+cell_or_array n None v = cell n v
+cell_or_array n (Some l) v = array n l.0 l.1 v
 
 abbrev pub declared : Decl → Declared
 declared (decls.Cell n v) = cell (named n) v
 declared (decls.Var n) = var (named n)
+declared (decls.Array n l at v) = array (named n) l at v
 
 unfoldable pub declared_list : List Decl → List Declared
 declared_list ds = map declared ds

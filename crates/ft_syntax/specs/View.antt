@@ -2,7 +2,7 @@
 use Rattle.std.specs.Prelude.{◌≡◌, ℕ, List, [], ◌∷◌, None, option_map, Result, Err}
 use Rattle.ft_isa.specs.declared.op.Op.{Op}
 use Rattle.ft_lexer.specs.declared.kind.Kind.{Kind}
-use Rattle.ft_lexer.specs.declared.kind.Kind.TheVariants.{Name, While, If, Plus, Minus, Star, Less, EqEq}
+use Rattle.ft_lexer.specs.declared.kind.Kind.TheVariants.{Name, While, If, Plus, Minus, Star, Less, EqEq, And, Or, Xor, Shl, Shr, LBracket}
 use Rattle.ft_lexer.specs.declared.lex_error.LexError.{LexError}
 use Rattle.ft_lexer.specs.declared.lex_error.LexError.TheVariants as lex_errors
 use Rattle.ft_lexer.specs.declared.token.Token.{Token}
@@ -41,7 +41,7 @@ abbrev pub signed : Op × Expr Spot → Op × NamedExpression
 signed p = (p.0, expression p.1)
 
 abbrev pub waiting : Pending → Waiting
-waiting p = record { equal = option_map expression p.equal; less = option_map expression p.less; sum = option_map signed p.sum; product = option_map expression p.product }
+waiting p = record { equal = option_map expression p.equal; less = option_map expression p.less; bits = option_map signed p.bits; shift = option_map signed p.shift; sum = option_map signed p.sum; product = option_map expression p.product }
 
 -- the error is what the machine answers, out of memory aside
 abbrev pub Refuses : SourceError → Answer → Type 0
@@ -75,6 +75,11 @@ kind_of operators.Less = Less
 kind_of operators.Plus = Plus
 kind_of operators.Minus = Minus
 kind_of operators.Star = Star
+kind_of operators.And = And
+kind_of operators.Or = Or
+kind_of operators.Xor = Xor
+kind_of operators.Up = Shl
+kind_of operators.Down = Shr
 
 abbrev pub BeginsNone : Kind → Type 0
 BeginsNone Name = ⊥
@@ -86,3 +91,12 @@ BeginsNone _ = Unit {0}
 abbrev pub NoStatement : List Lexeme → Type 0
 NoStatement [] = Unit {0}
 NoStatement (t ∷ ts) = BeginsNone t.kind
+
+abbrev pub IsNotBracket : Kind → Type 0
+IsNotBracket LBracket = ⊥
+IsNotBracket _ = Unit {0}
+
+-- no bracket of an index comes next
+abbrev pub NoBracket : List Lexeme → Type 0
+NoBracket [] = Unit {0}
+NoBracket (t ∷ ts) = IsNotBracket t.kind

@@ -1,10 +1,10 @@
 //! Declarations, and whole programs.
-ghost use Rattle.std.specs.Prelude.{◌≡◌, ℕ, ◌<◌, ◌≤◌, List, [], ◌∷◌, ◌++◌, length, Ok, IfOk, IfErr, OnOk, IfSome, OnSome, IfNone as OnNone};
+ghost use Rattle.std.specs.Prelude.{◌≡◌, ℕ, Option, ◌<◌, ◌≤◌, List, [], ◌∷◌, ◌++◌, length, Ok, IfOk, IfErr, OnOk, IfSome, OnSome, IfNone as OnNone};
 ghost use Rattle.ft_syntax.specs.Plain.{none};
-ghost use Rattle.ft_syntax.specs.Syntax.{Named, named, Declared, cell, var, declared, declared_list};
+ghost use Rattle.ft_syntax.specs.Syntax.{Named, named, Declared, cell_or_array, var, declared, declared_list};
 ghost use Rattle.ft_syntax.specs.TreeOf.{tree_from};
 ghost use Rattle.ft_syntax.specs.Refusal.{Judged};
-ghost use Rattle.ft_syntax.specs.Machine.{NamedStatements, decls as decls_at, cell_name, cell_is, cell_number, cell_end, var_name, var_end, stmts, top};
+ghost use Rattle.ft_syntax.specs.Machine.{NamedStatements, decls as decls_at, cell_name, cell_is, cell_length, cell_close, cell_sized, cell_number, cell_end, var_name, var_end, stmts, top};
 ghost use Rattle.ft_syntax.specs.View.{from, Refuses, RefusedBy, NoStatement, lexemes};
 
 use crate::decl::Decl;
@@ -17,6 +17,21 @@ use std::alloc::Global;
 
 /// The declarations and the statements of a program.
 pub type Parts<'a> = (Vec<Decl<'a>>, Vec<Stmt<Spot<'a>>>);
+
+/// A cell, or an array with its length and the place of that.
+fn cell_or_array<'a>(name: Spot<'a>, extent: Option<(u64, usize)>, init: u64) -> Decl<'a>
+    ensures { declared result ≡ cell_or_array (named name.entry) extent init }
+{
+    match extent {
+        None => Decl::Cell { name, init },
+        Some((length, length_at)) => Decl::Array {
+            name,
+            length,
+            length_at,
+            init,
+        },
+    }
+}
 
 impl<'a, 't> Parser<'a, 't> {
     /// Takes the name of a declaration.
@@ -43,8 +58,8 @@ impl<'a, 't> Parser<'a, 't> {
 
     /// Takes the number of a cell.
     fn number(&mut self) -> Result<u64, SourceError>
-        ensures ok { IfOk result (λ v. (ds : List Declared) (n : Named) → from self.old (cell_number ds n) ≡ from self.new (cell_end ds n v)) }
-        ensures err { IfErr result (λ e. (ds : List Declared) (n : Named) → Refuses e (from self.old (cell_number ds n))) }
+        ensures ok { IfOk result (λ v. (ds : List Declared) (n : Named) (o : Option (ℕ × ℕ)) → from self.old (cell_number ds n o) ≡ from self.new (cell_end ds n o v)) }
+        ensures err { IfErr result (λ e. (ds : List Declared) (n : Named) (o : Option (ℕ × ℕ)) → Refuses e (from self.old (cell_number ds n o))) }
         ensures same { OnOk result (self.new.opened ≡ self.old.opened) }
         ensures shorter { OnOk result (length self.new.rest.now < length self.old.rest.now) }
     {
@@ -58,11 +73,43 @@ impl<'a, 't> Parser<'a, 't> {
         Ok(t.value())
     }
 
+    /// Takes the length of an array, and tells its place too.
+    fn length(&mut self) -> Result<(u64, usize), SourceError>
+        ensures ok { IfOk result (λ l. (ds : List Declared) (n : Named) → from self.old (cell_length ds n) ≡ from self.new (cell_close ds n l)) }
+        ensures err { IfErr result (λ e. (ds : List Declared) (n : Named) → Refuses e (from self.old (cell_length ds n))) }
+        ensures same { OnOk result (self.new.opened ≡ self.old.opened) }
+        ensures shorter { OnOk result (length self.new.rest.now < length self.old.rest.now) }
+    {
+        let [t, rest @ ..] = self.rest else {
+            return Err(SourceError::Syntax { at: self.end });
+        };
+        if t.kind != Kind::Number {
+            return Err(SourceError::Syntax { at: t.at });
+        }
+        self.rest = rest;
+        Ok((t.value(), t.at))
+    }
+
+    /// Reads the length of an array in its brackets, if one comes next.
+    fn extent(&mut self) -> Result<Option<(u64, usize)>, SourceError>
+        ensures ok { IfOk result (λ o. (ds : List Declared) (n : Named) → from self.old (cell_is ds n) ≡ from self.new (cell_sized ds n o)) }
+        ensures err { IfErr result (λ e. (ds : List Declared) (n : Named) → Refuses e (from self.old (cell_is ds n))) }
+        ensures same { OnOk result (self.new.opened ≡ self.old.opened) }
+        ensures shorter { OnOk result (length self.new.rest.now ≤ length self.old.rest.now) }
+    {
+        if !self.opens_index()? {
+            return Ok(None);
+        }
+        let length = self.length()?;
+        self.closes_length()?;
+        Ok(Some(length))
+    }
+
     /// Takes the `;` of a declaration.
     fn declared(&mut self) -> Result<(), SourceError>
-        ensures cell_ok { OnOk result ((ds : List Declared) (n : Named) (v : ℕ) → from self.old (cell_end ds n v) ≡ from self.new (decls_at (ds ++ cell n v ∷ []))) }
+        ensures cell_ok { OnOk result ((ds : List Declared) (n : Named) (o : Option (ℕ × ℕ)) (v : ℕ) → from self.old (cell_end ds n o v) ≡ from self.new (decls_at (ds ++ cell_or_array n o v ∷ []))) }
         ensures var_ok { OnOk result ((ds : List Declared) (n : Named) → from self.old (var_end ds n) ≡ from self.new (decls_at (ds ++ var n ∷ []))) }
-        ensures cell_err { IfErr result (λ e. (ds : List Declared) (n : Named) (v : ℕ) → Refuses e (from self.old (cell_end ds n v))) }
+        ensures cell_err { IfErr result (λ e. (ds : List Declared) (n : Named) (o : Option (ℕ × ℕ)) (v : ℕ) → Refuses e (from self.old (cell_end ds n o v))) }
         ensures var_err { IfErr result (λ e. (ds : List Declared) (n : Named) → Refuses e (from self.old (var_end ds n))) }
         ensures same { OnOk result (self.new.opened ≡ self.old.opened) }
         ensures shorter { OnOk result (length self.new.rest.now < length self.old.rest.now) }
@@ -86,10 +133,11 @@ impl<'a, 't> Parser<'a, 't> {
         ensures shorter { OnOk result (length self.new.rest.now < length self.old.rest.now) }
     {
         let name = self.name()?;
+        let extent = self.extent()?;
         self.equals()?;
         let init = self.number()?;
         self.declared()?;
-        Ok(Decl::Cell { name, init })
+        Ok(cell_or_array(name, extent, init))
     }
 
     /// Reads the rest of a variable's declaration.

@@ -8,6 +8,11 @@ pub enum Expr<N> {
     Literal(u64),
     /// The word of a cell or a variable.
     Name(N),
+    /// `name[index]`, the word of a cell of an array.
+    At {
+        name: N,
+        index: Box<Expr<N>>,
+    },
     /// An operation on the words of two expressions.
     Op {
         op: Op,

@@ -1,6 +1,8 @@
 //! Expressions, read by one loop for each level of brackets.
 ghost use Rattle.std.specs.Prelude.{◌≡◌, ◌+◌, ◌<◌, ◌≤◌, length, Some, IfOk, IfErr, OnOk, IfSome, OnSome, IfNone as OnNone};
-ghost use Rattle.ft_syntax.specs.Machine.{NamedExpression, NamedStatements, Waiting, Context, Block, want, had, empty, paren, loop_test, choice_test, loop_brace, choice_brace, push};
+ghost use Rattle.ft_syntax.specs.Plain.{indexed as indexed_of};
+ghost use Rattle.ft_syntax.specs.Syntax.{named};
+ghost use Rattle.ft_syntax.specs.Machine.{NamedExpression, NamedStatements, Waiting, Context, Block, want, had, had_name, empty, paren, loop_test, choice_test, loop_brace, choice_brace, push};
 ghost use Rattle.ft_syntax.specs.View.{from, expression, Refuses, NoOperator, lexemes, kind_of};
 
 use crate::expr::Expr;
@@ -11,6 +13,21 @@ use crate::source_error::SourceError;
 use crate::spot::Spot;
 use ft_lexer::Kind;
 use std::alloc::Global;
+
+/// A name with an index.
+fn indexed<'a>(
+    alloc: Global,
+    name: Spot<'a>,
+    index: Expr<Spot<'a>>,
+) -> Result<Expr<Spot<'a>>, SourceError>
+    ensures ok { IfOk result (λ e. expression e ≡ indexed_of (named name.entry) (expression index.entry)) }
+    ensures err { IfErr result (λ e. e ≡ SourceError.NoMemory) }
+{
+    let Ok(index) = Box::new(alloc, index) else {
+        return Err(SourceError::NoMemory);
+    };
+    Ok(Expr::At { name, index })
+}
 
 impl<'a, 't> Parser<'a, 't> {
     /// Takes the operator that comes next, if one does.
@@ -30,6 +47,11 @@ impl<'a, 't> Parser<'a, 't> {
             Kind::Plus => Operator::Plus,
             Kind::Minus => Operator::Minus,
             Kind::Star => Operator::Star,
+            Kind::And => Operator::And,
+            Kind::Or => Operator::Or,
+            Kind::Xor => Operator::Xor,
+            Kind::Shl => Operator::Up,
+            Kind::Shr => Operator::Down,
             _ => return Ok(None),
         };
         if self.ops >= OPERATOR_LIMIT {
@@ -79,10 +101,11 @@ impl<'a, 't> Parser<'a, 't> {
         match t.kind {
             Kind::Name => {
                 self.rest = rest;
-                Ok(Expr::Name(Spot {
+                let name = Spot {
                     text: t.text,
                     at: t.at,
-                }))
+                };
+                self.operand(alloc, name)
             }
             Kind::Number => {
                 self.rest = rest;
@@ -100,6 +123,23 @@ impl<'a, 't> Parser<'a, 't> {
             }
             _ => Err(SourceError::Syntax { at: t.at }),
         }
+    }
+
+    /// Reads the index of a name, if one comes next.
+    #[cycle(expression)]
+    fn operand(&mut self, alloc: Global, name: Spot<'a>) -> Result<Expr<Spot<'a>>, SourceError>
+        requires { self.old.opened ≤ 100 }
+        ensures ok { IfOk result (λ e. (p : Waiting) (x : Context) → from self.old (had_name p (named name.entry) x) ≡ from self.new (had p (expression e) x)) }
+        ensures shorter { OnOk result (length self.new.rest.now ≤ length self.old.rest.now) }
+        ensures same { OnOk result (self.new.opened ≡ self.old.opened) }
+        ensures err { IfErr result (λ e. (p : Waiting) (x : Context) → Refuses e (from self.old (had_name p (named name.entry) x))) }
+    {
+        if !self.opens_index()? {
+            return Ok(Expr::Name(name));
+        }
+        let index = self.expr(alloc)?;
+        self.closes_index()?;
+        indexed(alloc, name, index)
     }
 
     /// Reads the longest expression.

@@ -10,6 +10,7 @@ mod decl;
 mod declarations;
 mod expr;
 mod expressions;
+mod indices;
 mod laws;
 mod operator;
 mod parser;

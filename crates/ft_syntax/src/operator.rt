@@ -7,6 +7,16 @@ pub enum Operator {
     Equal,
     /// `<`
     Less,
+    /// `&`
+    And,
+    /// `|`
+    Or,
+    /// `^`
+    Xor,
+    /// `<<`
+    Up,
+    /// `>>`
+    Down,
     /// `+`
     Plus,
     /// `-`

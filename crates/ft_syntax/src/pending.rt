@@ -2,7 +2,7 @@
 ghost use Rattle.std.specs.Prelude.{◌≡◌, Some, IfOk, IfErr, option_map};
 ghost use Rattle.ft_syntax.specs.Plain.{operation as operation_of};
 ghost use Rattle.ft_lexer.specs.declared.kind.Kind.TheVariants.{Star, Less, EqEq};
-ghost use Rattle.ft_syntax.specs.Machine.{empty, close, push, after_term, join, join_sum};
+ghost use Rattle.ft_syntax.specs.Machine.{empty, close, push, after_term, after_shift, after_bits, join, join_signed};
 ghost use Rattle.ft_syntax.specs.View.{expression, waiting, signed, kind_of};
 
 use crate::expr::Expr;
@@ -17,6 +17,8 @@ use std::alloc::Global;
 pub struct Pending<'a> {
     equal: Option<Expr<Spot<'a>>>,
     less: Option<Expr<Spot<'a>>>,
+    bits: Option<(Op, Expr<Spot<'a>>)>,
+    shift: Option<(Op, Expr<Spot<'a>>)>,
     sum: Option<(Op, Expr<Spot<'a>>)>,
     product: Option<Expr<Spot<'a>>>,
 }
@@ -29,6 +31,8 @@ impl<'a> Pending<'a> {
         Pending {
             equal: None,
             less: None,
+            bits: None,
+            shift: None,
             sum: None,
             product: None,
         }
@@ -42,11 +46,15 @@ impl<'a> Pending<'a> {
         let Pending {
             equal,
             less,
-            sum: signed,
+            bits,
+            shift,
+            sum,
             product,
         } = self;
         let a = join(alloc, Op::Mul, product, a)?;
-        let a = sum(alloc, signed, a)?;
+        let a = join_signed(alloc, sum, a)?;
+        let a = join_signed(alloc, shift, a)?;
+        let a = join_signed(alloc, bits, a)?;
         let a = join(alloc, Op::Ltu, less, a)?;
         join(alloc, Op::Eq, equal, a)
     }
@@ -65,6 +73,11 @@ impl<'a> Pending<'a> {
             Operator::Star => self.with_factor(alloc, a),
             Operator::Plus => self.with_term(alloc, Op::Add, a),
             Operator::Minus => self.with_term(alloc, Op::Sub, a),
+            Operator::Up => self.with_shift(alloc, Op::Shl, a),
+            Operator::Down => self.with_shift(alloc, Op::Shr, a),
+            Operator::And => self.with_bits(alloc, Op::And, a),
+            Operator::Or => self.with_bits(alloc, Op::Or, a),
+            Operator::Xor => self.with_bits(alloc, Op::Xor, a),
             Operator::Less => self.with_less(alloc, a),
             Operator::Equal => self.with_equal(alloc, a),
         }
@@ -78,14 +91,18 @@ impl<'a> Pending<'a> {
         let Pending {
             equal,
             less,
-            sum: signed,
+            bits,
+            shift,
+            sum,
             product,
         } = self;
         let a = join(alloc, Op::Mul, product, a)?;
         Ok(Pending {
             equal,
             less,
-            sum: signed,
+            bits,
+            shift,
+            sum,
             product: Some(a),
         })
     }
@@ -98,15 +115,77 @@ impl<'a> Pending<'a> {
         let Pending {
             equal,
             less,
-            sum: signed,
+            bits,
+            shift,
+            sum,
             product,
         } = self;
         let a = join(alloc, Op::Mul, product, a)?;
-        let a = sum(alloc, signed, a)?;
+        let a = join_signed(alloc, sum, a)?;
         Ok(Pending {
             equal,
             less,
+            bits,
+            shift,
             sum: Some((op, a)),
+            product: None,
+        })
+    }
+
+    /// What waits after a `<<` or a `>>`.
+    fn with_shift(
+        self,
+        alloc: Global,
+        op: Op,
+        a: Expr<Spot<'a>>,
+    ) -> Result<Pending<'a>, SourceError>
+        ensures ok { IfOk result (λ p. waiting p ≡ after_shift op (waiting self.entry) (expression a.entry)) }
+        ensures err { IfErr result (λ e. e ≡ SourceError.NoMemory) }
+    {
+        let Pending {
+            equal,
+            less,
+            bits,
+            shift,
+            sum,
+            product,
+        } = self;
+        let a = join(alloc, Op::Mul, product, a)?;
+        let a = join_signed(alloc, sum, a)?;
+        let a = join_signed(alloc, shift, a)?;
+        Ok(Pending {
+            equal,
+            less,
+            bits,
+            shift: Some((op, a)),
+            sum: None,
+            product: None,
+        })
+    }
+
+    /// What waits after a `&`, a `|` or a `^`.
+    fn with_bits(self, alloc: Global, op: Op, a: Expr<Spot<'a>>) -> Result<Pending<'a>, SourceError>
+        ensures ok { IfOk result (λ p. waiting p ≡ after_bits op (waiting self.entry) (expression a.entry)) }
+        ensures err { IfErr result (λ e. e ≡ SourceError.NoMemory) }
+    {
+        let Pending {
+            equal,
+            less,
+            bits,
+            shift,
+            sum,
+            product,
+        } = self;
+        let a = join(alloc, Op::Mul, product, a)?;
+        let a = join_signed(alloc, sum, a)?;
+        let a = join_signed(alloc, shift, a)?;
+        let a = join_signed(alloc, bits, a)?;
+        Ok(Pending {
+            equal,
+            less,
+            bits: Some((op, a)),
+            shift: None,
+            sum: None,
             product: None,
         })
     }
@@ -119,15 +198,21 @@ impl<'a> Pending<'a> {
         let Pending {
             equal,
             less,
-            sum: signed,
+            bits,
+            shift,
+            sum,
             product,
         } = self;
         let a = join(alloc, Op::Mul, product, a)?;
-        let a = sum(alloc, signed, a)?;
+        let a = join_signed(alloc, sum, a)?;
+        let a = join_signed(alloc, shift, a)?;
+        let a = join_signed(alloc, bits, a)?;
         let a = join(alloc, Op::Ltu, less, a)?;
         Ok(Pending {
             equal,
             less: Some(a),
+            bits: None,
+            shift: None,
             sum: None,
             product: None,
         })
@@ -142,6 +227,8 @@ impl<'a> Pending<'a> {
         Ok(Pending {
             equal: Some(a),
             less: None,
+            bits: None,
+            shift: None,
             sum: None,
             product: None,
         })
@@ -183,13 +270,13 @@ fn operation<'a>(
     Ok(Expr::Op { op, a, b })
 }
 
-/// A sum or a difference, or its right operand alone.
-fn sum<'a>(
+/// An operation of one of some kinds, or its right operand alone.
+fn join_signed<'a>(
     alloc: Global,
     left: Option<(Op, Expr<Spot<'a>>)>,
     right: Expr<Spot<'a>>,
 ) -> Result<Expr<Spot<'a>>, SourceError>
-    ensures ok { IfOk result (λ e. expression e ≡ join_sum (option_map signed left.entry) (expression right.entry)) }
+    ensures ok { IfOk result (λ e. expression e ≡ join_signed (option_map signed left.entry) (expression right.entry)) }
     ensures err { IfErr result (λ e. e ≡ SourceError.NoMemory) }
 {
     match left {

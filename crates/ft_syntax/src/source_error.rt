@@ -17,8 +17,8 @@ pub enum SourceError {
     /// No program is possible after the token at `at`; the text's length where it only lacks something.
     #[error("no program from byte {at} on")]
     Syntax { at: usize },
-    /// The token at `at` opens a 101st bracket or brace, or is the 201st operator of one assignment or
-    /// test.
+    /// The token at `at` opens a 101st bracket or brace, or is the 201st operator of one assignment,
+    /// its index included, or of one test.
     #[error("too deep at byte {at}")]
     Deep { at: usize },
     /// The name declared at `at` was declared before.
@@ -27,6 +27,12 @@ pub enum SourceError {
     /// The name at `at` in a statement isn't declared.
     #[error("unknown name at byte {at}")]
     Unknown { at: usize },
+    /// The name at `at` in a statement is an array's and has no index, or has one and is no array's.
+    #[error("misused name at byte {at}")]
+    Array { at: usize },
+    /// The length of an array at `at` is 0 or above 1,024.
+    #[error("no length of an array at byte {at}")]
+    Length { at: usize },
     /// There are `count` cells, more than 1,024.
     #[error("{count} cells")]
     Cells { count: u64 },

@@ -1,9 +1,9 @@
 //! Statements.
-ghost use Rattle.std.specs.Prelude.{◌≡◌, ◌+◌, ◌<◌, ◌≤◌, length, IfOk, IfErr, OnOk, IfSome, OnSome, IfNone as OnNone};
+ghost use Rattle.std.specs.Prelude.{◌≡◌, ◌+◌, ◌<◌, ◌≤◌, length, IfOk, IfErr, OnOk, IfSome, OnSome, IfNone as OnNone, Option, option_map};
 ghost use Rattle.std.specs.Bool.{OnTrue, OnFalse};
-ghost use Rattle.ft_syntax.specs.Plain.{none, assign, loop, choose, follow, plain_statement, plain_list};
+ghost use Rattle.ft_syntax.specs.Plain.{none, assigning, loop, choose, follow, plain_statement, plain_list};
 ghost use Rattle.ft_syntax.specs.Syntax.{named, Named};
-ghost use Rattle.ft_syntax.specs.Machine.{NamedExpression, NamedStatements, Block, want, had, empty, loop_open, choice_open, loop_test, choice_test, loop_brace, choice_brace, else_brace, may_else, stmts, in_loop, in_yes, in_no, assign_is, value_of};
+ghost use Rattle.ft_syntax.specs.Machine.{NamedExpression, NamedStatements, Block, want, had, empty, loop_open, choice_open, loop_test, choice_test, loop_brace, choice_brace, else_brace, may_else, stmts, in_loop, in_yes, in_no, target_is, assign_is, value_of};
 ghost use Rattle.ft_syntax.specs.View.{from, expression, Refuses, NoOperator, NoStatement, lexemes};
 
 use crate::expr::Expr;
@@ -13,6 +13,21 @@ use crate::spot::Spot;
 use crate::stmt::Stmt;
 use ft_lexer::Kind;
 use std::alloc::Global;
+
+/// An assignment to a name, which may have an index.
+#[tactic(auto, using(crate::proofs::PlainForms::assign_form, crate::proofs::PlainForms::assign_at_form))]
+fn assigned<'a>(
+    to: Spot<'a>,
+    index: Option<Expr<Spot<'a>>>,
+    value: Expr<Spot<'a>>,
+) -> Stmt<Spot<'a>>
+    ensures { plain_statement named result none ≡ assigning (named to.entry) (option_map expression index.entry) (expression value.entry) none }
+{
+    match index {
+        None => Stmt::Assign { to, value },
+        Some(index) => Stmt::AssignAt { to, index, value },
+    }
+}
 
 impl<'a, 't> Parser<'a, 't> {
     /// Takes the bracket before a test.
@@ -90,8 +105,8 @@ impl<'a, 't> Parser<'a, 't> {
     /// Takes the `;` of an assignment.
     fn semi(&mut self) -> Result<(), SourceError>
         requires { NoOperator (lexemes self.old.rest.now) }
-        ensures ok { OnOk result ((n : Named) (e : NamedExpression) (ss : NamedStatements) (b : Block) → from self.old (had empty e (value_of n ss b)) ≡ from self.new (stmts (follow ss (assign n e none)) b)) }
-        ensures err { IfErr result (λ f. (n : Named) (e : NamedExpression) (ss : NamedStatements) (b : Block) → Refuses f (from self.old (had empty e (value_of n ss b)))) }
+        ensures ok { OnOk result ((n : Named) (o : Option NamedExpression) (e : NamedExpression) (ss : NamedStatements) (b : Block) → from self.old (had empty e (value_of n o ss b)) ≡ from self.new (stmts (follow ss (assigning n o e none)) b)) }
+        ensures err { IfErr result (λ f. (n : Named) (o : Option NamedExpression) (e : NamedExpression) (ss : NamedStatements) (b : Block) → Refuses f (from self.old (had empty e (value_of n o ss b)))) }
         ensures same { OnOk result (self.new.opened ≡ self.old.opened) }
         ensures shorter { OnOk result (length self.new.rest.now < length self.old.rest.now) }
     {
@@ -106,19 +121,35 @@ impl<'a, 't> Parser<'a, 't> {
         Ok(())
     }
 
+    /// Reads the index of the name that is assigned to, if one comes next.
+    fn target(&mut self, alloc: Global) -> Result<Option<Expr<Spot<'a>>>, SourceError>
+        requires { self.old.opened ≤ 100 }
+        ensures ok { IfOk result (λ o. (n : Named) (ss : NamedStatements) (b : Block) → from self.old (target_is n ss b) ≡ from self.new (assign_is n (option_map expression o) ss b)) }
+        ensures err { IfErr result (λ f. (n : Named) (ss : NamedStatements) (b : Block) → Refuses f (from self.old (target_is n ss b))) }
+        ensures same { OnOk result (self.new.opened ≡ self.old.opened) }
+        ensures shorter { OnOk result (length self.new.rest.now ≤ length self.old.rest.now) }
+    {
+        if !self.opens_index()? {
+            return Ok(None);
+        }
+        let index = self.expr(alloc)?;
+        self.closes_index()?;
+        Ok(Some(index))
+    }
+
     /// Reads the rest of an assignment.
-    #[tactic(auto, using(crate::proofs::PlainForms::assign_form))]
     fn assignment(&mut self, alloc: Global, to: Spot<'a>) -> Result<Stmt<Spot<'a>>, SourceError>
         requires { self.old.opened ≤ 100 }
-        ensures ok { IfOk result (λ s. (ss : NamedStatements) (b : Block) → from self.old (assign_is (named to.entry) ss b) ≡ from self.new (stmts (follow ss (plain_statement named s none)) b)) }
-        ensures err { IfErr result (λ f. (ss : NamedStatements) (b : Block) → Refuses f (from self.old (assign_is (named to.entry) ss b))) }
+        ensures ok { IfOk result (λ s. (ss : NamedStatements) (b : Block) → from self.old (target_is (named to.entry) ss b) ≡ from self.new (stmts (follow ss (plain_statement named s none)) b)) }
+        ensures err { IfErr result (λ f. (ss : NamedStatements) (b : Block) → Refuses f (from self.old (target_is (named to.entry) ss b))) }
         ensures same { OnOk result (self.new.opened ≡ self.old.opened) }
         ensures shorter { OnOk result (length self.new.rest.now < length self.old.rest.now) }
     {
+        let index = self.target(alloc)?;
         self.equals()?;
         let value = self.expr(alloc)?;
         self.semi()?;
-        Ok(Stmt::Assign { to, value })
+        Ok(assigned(to, index, value))
     }
 
     /// Takes the brace after a body.

@@ -9,6 +9,12 @@ pub enum Stmt<N> {
         to: N,
         value: Expr<N>,
     },
+    /// `to[index] = value;`
+    AssignAt {
+        to: N,
+        index: Expr<N>,
+        value: Expr<N>,
+    },
     /// `while (test) { body }`
     While {
         test: Expr<N>,

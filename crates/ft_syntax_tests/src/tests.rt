@@ -44,6 +44,23 @@ fn refuses_texts_where_the_grammar_stops(rt: HostRuntime) {
         (b"if (1) { } else else", syntax(16)),
         (b"if (1) { } ;", syntax(11)),
         (b"else { }", syntax(0)),
+        (
+            b"cell a[3] = 0; a[1] = a[a[2]] & 3 | 4 ^ 5 << 6 >> 7;",
+            None,
+        ),
+        (b"x = 3[1];", syntax(5)),
+        (b"x = (a)[1];", syntax(7)),
+        (b"x = a[1][2];", syntax(8)),
+        (b"a[1][2] = 3;", syntax(4)),
+        (b"a[] = 3;", syntax(2)),
+        (b"a[1 = 3;", syntax(4)),
+        (b"a[1] == 3;", syntax(5)),
+        (b"cell a[x] = 1;", syntax(7)),
+        (b"cell a[1][1] = 1;", syntax(9)),
+        (b"cell a[1] = 1", syntax(13)),
+        (b"var a[1];", syntax(5)),
+        (b"x = y > 2;", Some(SourceError::Byte { at: 6 })),
+        (b"x = y >", Some(SourceError::Byte { at: 6 })),
         (b"}", syntax(0)),
     ] {
         assert_eq!(rt; refusal(alloc, text), refused);
@@ -78,6 +95,58 @@ fn refuses_what_is_too_deep(rt: HostRuntime) -> Result<(), Fail> {
     text.pop();
     text.extend_from_slice(b"*2;")?;
     assert_eq!(rt; refusal(alloc, &text), Some(SourceError::Deep { at: 405 }));
+    Ok(())
+}
+
+#[test]
+fn counts_brackets_and_operators_of_indices(rt: HostRuntime) -> Result<(), Fail> {
+    let alloc = rt.alloc();
+    let mut text = Vec::from_slice(alloc, b"x = ")?;
+    for _ in 0..100 {
+        text.extend_from_slice(b"a[")?;
+    }
+    assert_eq!(rt; refusal(alloc, &text), syntax(204));
+    text.extend_from_slice(b"a[")?;
+    assert_eq!(rt; refusal(alloc, &text), Some(SourceError::Deep { at: 205 }));
+    let mut text = Vec::from_slice(alloc, b"a[1")?;
+    for _ in 0..200 {
+        text.extend_from_slice(b"|1")?;
+    }
+    text.extend_from_slice(b"]=1;x=1&1")?;
+    assert_eq!(rt; refusal(alloc, &text), syntax(412));
+    text.truncate(406);
+    text.extend_from_slice(b">>2;")?;
+    assert_eq!(rt; refusal(alloc, &text), Some(SourceError::Deep { at: 406 }));
+    Ok(())
+}
+
+#[test]
+fn ranks_bits_below_shifts_and_above_less(rt: HostRuntime) -> Result<(), Fail> {
+    let alloc = rt.alloc();
+    let tree = parse(alloc, b"a[0] = 1 < 2 ^ 3 << 4 + 5;")?;
+    let Some(
+        Stmt::AssignAt {
+            to: _,
+            index: _,
+            value,
+        },
+    ) = tree.body.first()
+    else {
+        return Ok(());
+    };
+    let Expr::Op { op, a: _, b } = value else {
+        return Ok(());
+    };
+    assert_eq!(rt; *op, Op::Ltu);
+    let Expr::Op { op, a: _, b } = &**b else {
+        return Ok(());
+    };
+    assert_eq!(rt; *op, Op::Xor);
+    let Expr::Op { op, a: _, b } = &**b else {
+        return Ok(());
+    };
+    assert_eq!(rt; *op, Op::Shl);
+    assert!(rt; matches!(&**b, Expr::Op { op: Op::Add, .. }));
     Ok(())
 }
 

@@ -4,10 +4,13 @@ use Rattle.ft_syntax.specs.View.{from, waiting}
 use Rattle.ft_syntax.proofs.parser.Parser.+expression.Given as goal
 
 abbrev pub decreases-atom : goal.decreases-atom
-decreases-atom l = 2 * (101 - l.self.now.opened)
+decreases-atom l = 3 * (101 - l.self.now.opened) + 1
 
 abbrev pub decreases-expr : goal.decreases-expr
-decreases-expr l = 2 * (101 - l.self.now.opened) + 1
+decreases-expr l = 3 * (101 - l.self.now.opened) + 2
+
+abbrev pub decreases-operand : goal.decreases-operand
+decreases-operand l = 3 * (101 - l.self.now.opened)
 
 abbrev pub invariant-expr-loop-pending : goal.invariant-expr-loop-pending
 invariant-expr-loop-pending l = record {
