@@ -2,6 +2,7 @@
 use Rattle.std.proofs.Common.{◌≡◌, ℕ, suc, ◌+◌, ◌<◌, List, [], ◌∷◌, ◌++◌, length, take, drop, get_or, refl, ap, ◌∙◌, drop-cons, add-one}
 use Rattle.std.proofs.Math.Seq.{take-suc}
 use Rattle.ft_syntax.specs.declared.decl.Decl.{Decl}
+use Rattle.ft_syntax.specs.declared.decl.Decl.TheVariants.{Cell}
 use Rattle.ft_syntax.specs.Syntax.{declared, declared_list}
 use Rattle.ft_syntax.proofs.DeclaredLists.{declared_push}
 
@@ -16,3 +17,7 @@ declared_drop all i d h = rw add-one (ap declared_list (drop-cons all i d h) ∙
 -- the declarations before i + 1, of which the last is known
 pub declared_take : (all : List Decl) (i : ℕ) (d : Decl) → i < length all → declared_list (take (i + 1) all) ≡ declared_list (take i all) ++ declared (get_or all i d) ∷ []
 declared_take all i d h = rw add-one (ap declared_list (take-suc all i d h) ∙ declared_push (take i all) (get_or all i d))
+
+-- what an index outside a list gives
+abbrev pub outside : Decl
+outside = Cell (record { text = record { ref_ptr = (0, 0); now = [] }; at = 0 }) 0

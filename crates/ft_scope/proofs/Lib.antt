@@ -4,7 +4,10 @@ pub mod Measures
 pub mod Found
 pub mod DeclaredNames
 pub mod Renames
+pub mod MisusedNames
 pub mod Narrowed
+pub mod MadeCells
 pub mod Outcomes
 pub mod Resolves
+pub mod LawfulNames
 pub mod ProgramFacts

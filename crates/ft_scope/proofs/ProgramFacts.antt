@@ -1,98 +1,34 @@
 -- What is so of a text's program: of its cells, its statements and its size.
-use Rattle.std.proofs.Common.{◌≡◌, ◌≢◌, ℕ, ◌+◌, ◌^◌, ◌<◌, ◌≤◌, Bool, true, false, cond, ◌||◌, List, [], ◌∷◌, ◌++◌, length, Option, Some, None, refl, sym, ap, ◌∙◌, subst, arith, get_or}
-use Rattle.std.specs.Prelude.{All, Result, Ok, Err, if◌then◌else◌, nat_lt, is_some}
-use Rattle.std.specs.List.{AllPairs, AllByRecursion}
-use Rattle.std.specs.Str.{bytes_eq}
-use Rattle.std.proofs.lemmas.Bool.{ltb-false, or_parts}
-use Rattle.std.proofs.lemmas.List.Elements.{All-nil, All-cons}
-use Rattle.std.proofs.lemmas.List.Kept.{AllPairs-cons}
-use Rattle.std.proofs.lemmas.Slice.Eq.{bytes_eq-Decides}
-use Rattle.ft_lexer.proofs.FitLexemes.{IsNameText}
-use Rattle.ft_syntax.specs.Syntax.{Named, Declared, cell, var, SyntaxTree}
-use Rattle.ft_syntax.specs.Plain.{Expression, literal, name, operation, StatementList, none, assign, loop, choose}
+use Rattle.std.proofs.Common.{◌≡◌, ℕ, ◌+◌, ◌^◌, ◌<◌, ◌≤◌, Bool, true, false, List, [], ◌∷◌, ◌++◌, length, replicate, Option, Some, None, refl, sym, ap, ◌∙◌, subst, arith}
+use Rattle.std.specs.Prelude.{All, Result, Ok, Err, if◌then◌else◌, nat_lt}
+use Rattle.std.specs.List.{AllByRecursion}
+use Rattle.std.proofs.lemmas.Bool.{ltb-false}
+use Rattle.std.proofs.lemmas.List.Elements.{All-nil, All-cons, All-append, All-replicate}
+use Rattle.ft_isa.specs.Words.{IsWord}
+use Rattle.ft_syntax.specs.Syntax.{Named, Declared, cell, var, array, SyntaxTree}
+use Rattle.ft_syntax.specs.Plain.{Expression, literal, name, indexed, operation, StatementList, none, assign, assign_at, loop, choose}
 use Rattle.ft_syntax.specs.declared.source_error.SourceError.{SourceError}
 use Rattle.ft_syntax.specs.declared.source_error.SourceError.TheVariants as errors
 use Rattle.ft_syntax.proofs.FitTrees.{IsFitDeclaration, HasWords, HaveWords, IsFitTree, source_fits}
 use Rattle.ft_scope.specs.declared.slot.Slot.{Slot}
-use Rattle.ft_scope.specs.declared.slot.Slot.TheVariants.{Cell, Var}
+use Rattle.ft_scope.specs.CellNames.{cell_names}
 use Rattle.ft_scope.specs.Outcome.{IsProgramOf}
+use Rattle.ft_scope.specs.Proper.{IsWithinLimits, IsProper}
+use Rattle.ft_scope.specs.Renames.{AnyFits}
 use Rattle.ft_scope.specs.Resolved.{Program, program_need, program_weight, refused_above, limited, program_with, refused_at, resolved}
-use Rattle.ft_scope.specs.Scope.{declared_name, cell_names, cell_words, variable_count, found_after, find, repeated, ◌>>=◌, found, renamed_expression, renamed}
-use Rattle.ft_scope.specs.Size.{SlotFits, ExpressionFits, StatementsFit}
-use Rattle.ft_scope.proofs.Found.{as_many_names, found_fits}
+use Rattle.ft_scope.specs.Scope.{cell_words, cell_count, variable_count, wrong_length, find, repeated, ◌>>=◌, found, renamed_expression, renamed, first_of, bare_misuse, index_misuse, misused_expression, misused}
+use Rattle.ft_scope.specs.Size.{ExpressionFits, StatementsFit}
+use Rattle.ft_scope.proofs.Found.{found_fits, length_fine}
+use Rattle.ft_scope.proofs.LawfulNames.{names_lawful, names_differ}
+use Rattle.ft_scope.proofs.MadeCells.{count_names, count_words}
+use Rattle.ft_scope.proofs.MisusedNames.{first_left, first_right, bare_fits, index_fits}
 
--- the cells of fit declarations have names of at most 32 bytes
-names_fit : (ds : List Declared) → AllByRecursion IsFitDeclaration ds → All IsNameText (cell_names ds)
-names_fit [] h = All-nil IsNameText
-names_fit (cell n w ∷ ds) h = All-cons IsNameText n.text (cell_names ds) h.0.0 (names_fit ds h.1)
-names_fit (var n ∷ ds) h = names_fit ds h.1
-
--- and words
-words_fit : (ds : List Declared) → AllByRecursion IsFitDeclaration ds → All (λ w. w < 2 ^ 64) (cell_words ds)
-words_fit [] h = All-nil (λ w. w < 2 ^ 64)
-words_fit (cell n w ∷ ds) h = All-cons (λ w. w < 2 ^ 64) w (cell_words ds) h.0.1 (words_fit ds h.1)
+-- the initial words of fit declarations are words
+words_fit : (ds : List Declared) → AllByRecursion IsFitDeclaration ds → All IsWord (cell_words ds)
+words_fit [] h = All-nil IsWord
+words_fit (cell n w ∷ ds) h = All-cons IsWord w (cell_words ds) h.0.1 (words_fit ds h.1)
 words_fit (var n ∷ ds) h = words_fit ds h.1
-
--- whether a text is declared
-abbrev is_seen : List Declared → List ℕ → Bool
-is_seen [] t = false
-is_seen (d ∷ ds) t = bytes_eq (declared_name d).text t || is_seen ds t
-
--- what is found first, or later, is found
-seen_or : (b : Bool) (s : Slot) (o : Option Slot) (c : Bool) → is_some o ≡ c → is_some (cond b (Some s) o) ≡ (b || c)
-seen_or true s o c e = refl
-seen_or false s o c e = e
-
--- neither of two tests holds
-or_from : (x y : Bool) → x ≡ false → y ≡ false → (x || y) ≡ false
-or_from true y e f = e
-or_from false y e f = f
-
--- a text is found where it is declared
-found_is_seen : (c v : ℕ) (ds : List Declared) (t : List ℕ) → is_some (found_after c v ds t) ≡ is_seen ds t
-found_is_seen c v [] t = refl
-found_is_seen c v (cell n w ∷ ds) t = seen_or (bytes_eq n.text t) (Cell c) (found_after (c + 1) v ds t) (is_seen ds t) (found_is_seen (c + 1) v ds t)
-found_is_seen c v (var n ∷ ds) t = seen_or (bytes_eq n.text t) (Var v) (found_after c (v + 1) ds t) (is_seen ds t) (found_is_seen c (v + 1) ds t)
-
--- a text that is not among declarations is among none of them
-seen_push : (xs : List Declared) (d : Declared) (t : List ℕ) → is_seen (xs ++ d ∷ []) t ≡ false → (is_seen xs t ≡ false) × (bytes_eq (declared_name d).text t ≡ false)
-seen_push [] d t e = (refl, (or_parts (bytes_eq (declared_name d).text t) false e).0)
-seen_push (x ∷ xs) d t e =
-    let p = or_parts (bytes_eq (declared_name x).text t) (is_seen (xs ++ d ∷ []) t) e in
-    let q = seen_push xs d t p.1 in
-    (or_from (bytes_eq (declared_name x).text t) (is_seen xs t) p.0 q.0, q.1)
-
--- where no name was declared before, the cells' names differ from those before and from each other
-record AreNew (before ds : List Declared) : Type 0 where
-  unseen : All (λ t. is_seen before t ≡ false) (cell_names ds)
-  differ : AllPairs (λ x y. x ≢ y) (cell_names ds)
-
--- texts that differ by the test differ
-not_equal : (x y : List ℕ) → bytes_eq x y ≡ false → x ≢ y
-not_equal x y e f = no (sym e ∙ (bytes_eq-Decides x y).1 f)
-  where
-    no : false ≡ true → ⊥
-    no g = cc
-
--- a test that fails on the way to nothing
-unrepeated : (b : Bool) (at : ℕ) (o : Option ℕ) → cond b (Some at) o ≡ None → (b ≡ false) × (o ≡ None)
-unrepeated true at o e = cc
-unrepeated false at o e = (refl, e)
-
--- names that are not repeated are new
-are_new : (before ds : List Declared) → repeated before ds ≡ None → AreNew before ds
-are_new before [] e = record { unseen = All-nil (λ t. is_seen before t ≡ false); differ = λ i j d h k. absurd (omega (arith, k)) }
-are_new before (cell n w ∷ ds) e =
-    let p = unrepeated (is_some (find before n.text)) n.at (repeated (before ++ cell n w ∷ []) ds) e in
-    let r = are_new (before ++ cell n w ∷ []) ds p.1 in
-    record {
-      unseen = All-cons (λ t. is_seen before t ≡ false) n.text (cell_names ds) (sym (found_is_seen 0 0 before n.text) ∙ p.0) (λ k d lt. (seen_push before (cell n w) (get_or (cell_names ds) k d) (r.unseen k d lt)).0);
-      differ = AllPairs-cons (λ x y. x ≢ y) n.text (cell_names ds) (λ k d lt. not_equal n.text (get_or (cell_names ds) k d) (seen_push before (cell n w) (get_or (cell_names ds) k d) (r.unseen k d lt)).1) r.differ;
-    }
-are_new before (var n ∷ ds) e =
-    let p = unrepeated (is_some (find before n.text)) n.at (repeated (before ++ var n ∷ []) ds) e in
-    let r = are_new (before ++ var n ∷ []) ds p.1 in
-    record { unseen = λ k d lt. (seen_push before (var n) (get_or (cell_names ds) k d) (r.unseen k d lt)).0; differ = r.differ }
+words_fit (array n l at w ∷ ds) h = All-append IsWord (replicate l w) (cell_words ds) (All-replicate IsWord l w h.0.1) (words_fit ds h.1)
 
 -- SLOTS
 
@@ -105,52 +41,88 @@ ok_parts (Err at) f y e = cc
 ok_same : {A : Type 0} (x y : A) → ◌≡◌ {A = Result A ℕ} (Ok x) (Ok y) → x ≡ y
 ok_same x y e = cc
 
--- where each name that is found names what is there, statements with each name replaced name what is there
-module _ (look : List ℕ → Option Slot) (c v : ℕ) (there : (t : List ℕ) (s : Slot) → look t ≡ Some s → SlotFits c v s) where
-  slot_fits : (at : ℕ) (t : List ℕ) (s : Slot) → found at (look t) ≡ Ok s → SlotFits c v s
+-- where each name that is found names what is there, and none is misused, statements with each name replaced name what is there
+module _ (look : List ℕ → Option Slot) (c v : ℕ) (there : (t : List ℕ) (s : Slot) → look t ≡ Some s → AnyFits c v s) where
+  slot_fits : (at : ℕ) (t : List ℕ) (s : Slot) → found at (look t) ≡ Ok s → AnyFits c v s
   slot_fits at t s e = by (look t) refl e
     where
-      by : (o : Option Slot) → look t ≡ o → found at o ≡ Ok s → SlotFits c v s
-      by (Some x) f g = subst (SlotFits c v) (ok_same x s g) (there t x f)
+      by : (o : Option Slot) → look t ≡ o → found at o ≡ Ok s → AnyFits c v s
+      by (Some x) f g = subst (AnyFits c v) (ok_same x s g) (there t x f)
       by None f g = cc
 
-  expression_fits : (e : Expression Named) (x : Expression Slot) → HasWords e → renamed_expression look e ≡ Ok x → ExpressionFits c v x
-  expression_fits (literal w) x h e = subst (ExpressionFits c v) (ok_same (literal w) x e) h
-  expression_fits (name n) x h e =
+  expression_fits : (e : Expression Named) (x : Expression Slot) → HasWords e → misused_expression look e ≡ None → renamed_expression look e ≡ Ok x → ExpressionFits c v x
+  expression_fits (literal w) x h m e = subst (ExpressionFits c v) (ok_same (literal w) x e) h
+  expression_fits (name n) x h m e =
       let p = ok_parts (found n.at (look n.text)) (λ s. Ok (name s)) x e in
-      subst (ExpressionFits c v) (ok_same (name p.0) x p.1.1) (slot_fits n.at n.text p.0 p.1.0)
-  expression_fits (operation o a b) x h e =
+      subst (ExpressionFits c v) (ok_same (name p.0) x p.1.1) (bare_fits c v n.at (look n.text) p.0 p.1.0 (slot_fits n.at n.text p.0 p.1.0) m)
+  expression_fits (indexed n i) x h m e =
+      let p = ok_parts (found n.at (look n.text)) (λ s. renamed_expression look i >>= λ y. Ok (indexed s y)) x e in
+      let q = ok_parts (renamed_expression look i) (λ y. Ok (indexed p.0 y)) x p.1.1 in
+      let one = index_misuse n.at (look n.text) in
+      let other = misused_expression look i in
+      subst (ExpressionFits c v) (ok_same (indexed p.0 q.0) x q.1.1)
+      (index_fits c v n.at (look n.text) p.0 p.1.0 (slot_fits n.at n.text p.0 p.1.0) (first_left one other m), expression_fits i q.0 h (first_right one other m) q.1.0)
+  expression_fits (operation o a b) x h m e =
       let p = ok_parts (renamed_expression look a) (λ y. renamed_expression look b >>= λ z. Ok (operation o y z)) x e in
       let q = ok_parts (renamed_expression look b) (λ z. Ok (operation o p.0 z)) x p.1.1 in
-      subst (ExpressionFits c v) (ok_same (operation o p.0 q.0) x q.1.1) (expression_fits a p.0 h.0 p.1.0, expression_fits b q.0 h.1 q.1.0)
+      let one = misused_expression look a in
+      let other = misused_expression look b in
+      subst (ExpressionFits c v) (ok_same (operation o p.0 q.0) x q.1.1) (expression_fits a p.0 h.0 (first_left one other m) p.1.0, expression_fits b q.0 h.1 (first_right one other m) q.1.0)
 
-  statements_fit : (s : StatementList Named) (x : StatementList Slot) → HaveWords s → renamed look s ≡ Ok x → StatementsFit c v x
-  statements_fit none x h e = subst (StatementsFit c v) (ok_same none x e) tt
-  statements_fit (assign to e rest) x h f =
+  statements_fit : (s : StatementList Named) (x : StatementList Slot) → HaveWords s → misused look s ≡ None → renamed look s ≡ Ok x → StatementsFit c v x
+  statements_fit none x h m e = subst (StatementsFit c v) (ok_same none x e) tt
+  statements_fit (assign to e rest) x h m f =
       let p = ok_parts (found to.at (look to.text)) (λ s. renamed_expression look e >>= λ y. renamed look rest >>= λ r. Ok (assign s y r)) x f in
       let q = ok_parts (renamed_expression look e) (λ y. renamed look rest >>= λ r. Ok (assign p.0 y r)) x p.1.1 in
       let r = ok_parts (renamed look rest) (λ z. Ok (assign p.0 q.0 z)) x q.1.1 in
-      subst (StatementsFit c v) (ok_same (assign p.0 q.0 r.0) x r.1.1) (slot_fits to.at to.text p.0 p.1.0, expression_fits e q.0 h.0 q.1.0, statements_fit rest r.0 h.1 r.1.0)
-  statements_fit (loop e body rest) x h f =
+      let one = bare_misuse to.at (look to.text) in
+      let other = misused_expression look e in
+      let here = first_left (first_of one other) (misused look rest) m in
+      subst (StatementsFit c v) (ok_same (assign p.0 q.0 r.0) x r.1.1)
+      (bare_fits c v to.at (look to.text) p.0 p.1.0 (slot_fits to.at to.text p.0 p.1.0) (first_left one other here), expression_fits e q.0 h.0 (first_right one other here) q.1.0, statements_fit rest r.0 h.1 (first_right (first_of one other) (misused look rest) m) r.1.0)
+  statements_fit (assign_at to i e rest) x h m f =
+      let p = ok_parts (found to.at (look to.text)) (λ s. renamed_expression look i >>= λ y. renamed_expression look e >>= λ z. renamed look rest >>= λ r. Ok (assign_at s y z r)) x f in
+      let q = ok_parts (renamed_expression look i) (λ y. renamed_expression look e >>= λ z. renamed look rest >>= λ r. Ok (assign_at p.0 y z r)) x p.1.1 in
+      let u = ok_parts (renamed_expression look e) (λ z. renamed look rest >>= λ r. Ok (assign_at p.0 q.0 z r)) x q.1.1 in
+      let r = ok_parts (renamed look rest) (λ z. Ok (assign_at p.0 q.0 u.0 z)) x u.1.1 in
+      let one = index_misuse to.at (look to.text) in
+      let index = misused_expression look i in
+      let value = misused_expression look e in
+      let here = first_left (first_of one (first_of index value)) (misused look rest) m in
+      let inside = first_right one (first_of index value) here in
+      subst (StatementsFit c v) (ok_same (assign_at p.0 q.0 u.0 r.0) x r.1.1) (
+        index_fits c v to.at (look to.text) p.0 p.1.0 (slot_fits to.at to.text p.0 p.1.0) (first_left one (first_of index value) here),
+        expression_fits i q.0 h.0 (first_left index value inside) q.1.0,
+        expression_fits e u.0 h.1 (first_right index value inside) u.1.0,
+        statements_fit rest r.0 h.2 (first_right (first_of one (first_of index value)) (misused look rest) m) r.1.0,
+      )
+  statements_fit (loop e body rest) x h m f =
       let p = ok_parts (renamed_expression look e) (λ y. renamed look body >>= λ z. renamed look rest >>= λ r. Ok (loop y z r)) x f in
       let q = ok_parts (renamed look body) (λ z. renamed look rest >>= λ r. Ok (loop p.0 z r)) x p.1.1 in
       let r = ok_parts (renamed look rest) (λ z. Ok (loop p.0 q.0 z)) x q.1.1 in
-      subst (StatementsFit c v) (ok_same (loop p.0 q.0 r.0) x r.1.1) (expression_fits e p.0 h.0 p.1.0, statements_fit body q.0 h.1 q.1.0, statements_fit rest r.0 h.2 r.1.0)
-  statements_fit (choose e if_so if_not rest) x h f =
+      let one = misused_expression look e in
+      let other = misused look body in
+      let here = first_left (first_of one other) (misused look rest) m in
+      subst (StatementsFit c v) (ok_same (loop p.0 q.0 r.0) x r.1.1)
+      (expression_fits e p.0 h.0 (first_left one other here) p.1.0, statements_fit body q.0 h.1 (first_right one other here) q.1.0, statements_fit rest r.0 h.2 (first_right (first_of one other) (misused look rest) m) r.1.0)
+  statements_fit (choose e if_so if_not rest) x h m f =
       let p = ok_parts (renamed_expression look e) (λ y. renamed look if_so >>= λ z. renamed look if_not >>= λ u. renamed look rest >>= λ r. Ok (choose y z u r)) x f in
       let q = ok_parts (renamed look if_so) (λ z. renamed look if_not >>= λ u. renamed look rest >>= λ r. Ok (choose p.0 z u r)) x p.1.1 in
       let u = ok_parts (renamed look if_not) (λ y. renamed look rest >>= λ r. Ok (choose p.0 q.0 y r)) x q.1.1 in
       let r = ok_parts (renamed look rest) (λ z. Ok (choose p.0 q.0 u.0 z)) x u.1.1 in
-      subst (StatementsFit c v) (ok_same (choose p.0 q.0 u.0 r.0) x r.1.1)
-      (expression_fits e p.0 h.0 p.1.0, statements_fit if_so q.0 h.1 q.1.0, statements_fit if_not u.0 h.2 u.1.0, statements_fit rest r.0 h.3 r.1.0)
+      let one = misused_expression look e in
+      let first = misused look if_so in
+      let second = misused look if_not in
+      let here = first_left (first_of one (first_of first second)) (misused look rest) m in
+      let inside = first_right one (first_of first second) here in
+      subst (StatementsFit c v) (ok_same (choose p.0 q.0 u.0 r.0) x r.1.1) (
+        expression_fits e p.0 h.0 (first_left one (first_of first second) here) p.1.0,
+        statements_fit if_so q.0 h.1 (first_left first second inside) q.1.0,
+        statements_fit if_not u.0 h.2 (first_right first second inside) u.1.0,
+        statements_fit rest r.0 h.3 (first_right (first_of one (first_of first second)) (misused look rest) m) r.1.0,
+      )
 
 -- PROGRAMS
-
--- a program within the limits
-pub record IsWithinLimits (p : Program) : Type 0 where
-  pub few : length p.inits ≤ 1024
-  pub need : program_need p ≤ 32
-  pub weight : program_weight p ≤ 65536
 
 -- a program that is not refused is itself, and within the limits
 limited_program : (q p : Program) → limited q ≡ Ok p → (q ≡ p) × IsWithinLimits q
@@ -170,54 +142,54 @@ limited_program q p e =
     same : ◌≡◌ {A = Result Program SourceError} (Ok q) (Ok p) → q ≡ p
     same f = cc
 
--- the program of a tree: no name is declared twice, its statements are the tree's, and it is within the limits
+-- the program of a tree: no name is declared twice or misused, no length is wrong, its statements are the tree's, and it is within the limits
 record IsResolved (t : SyntaxTree) (p : Program) : Type 0 where
   body : StatementList Slot
   fresh : repeated [] t.decls ≡ None
   renames : renamed (find t.decls) t.body ≡ Ok body
+  used : misused (find t.decls) t.body ≡ None
+  lengths : wrong_length t.decls ≡ None
   is : record { names = cell_names t.decls; inits = cell_words t.decls; vars = variable_count t.decls; body = body } ≡ p
   limits : IsWithinLimits p
 
+-- nothing is refused at a place on the way to a program
+unrefused : (e : ℕ → SourceError) (o : Option ℕ) (other : Result Program SourceError) (p : Program) → refused_at e o other ≡ Ok p → (o ≡ None) × (other ≡ Ok p)
+unrefused e (Some at) other p h = cc
+unrefused e None other p h = (refl, h)
+
 -- so it is of the program that a tree is
 resolved_program : (t : SyntaxTree) (p : Program) → resolved t ≡ Ok p → IsResolved t p
-resolved_program t p e = first (repeated [] t.decls) refl e
+resolved_program t p e =
+    let first = unrefused errors.Twice (repeated [] t.decls) (program_with t.decls (misused (find t.decls) t.body) (renamed (find t.decls) t.body)) p e in
+    by (renamed (find t.decls) t.body) refl first.0 first.1
   where
-    second : (r : Result (StatementList Slot) ℕ) → renamed (find t.decls) t.body ≡ r → repeated [] t.decls ≡ None → program_with t.decls r ≡ Ok p → IsResolved t p
-    second (Err at) h f g = cc
-    second (Ok body) h f g =
-        let l = limited_program (record { names = cell_names t.decls; inits = cell_words t.decls; vars = variable_count t.decls; body = body }) p g in
-        record { body = body; fresh = f; renames = h; is = l.0; limits = subst IsWithinLimits l.0 l.1 }
+    by : (r : Result (StatementList Slot) ℕ) → renamed (find t.decls) t.body ≡ r → repeated [] t.decls ≡ None → program_with t.decls (misused (find t.decls) t.body) r ≡ Ok p → IsResolved t p
+    by (Err at) h f g = cc
+    by (Ok body) h f g =
+        let q : Program = record { names = cell_names t.decls; inits = cell_words t.decls; vars = variable_count t.decls; body = body } in
+        let well_used = unrefused errors.Array (misused (find t.decls) t.body) (refused_at errors.Length (wrong_length t.decls) (limited q)) p g in
+        let size = unrefused errors.Length (wrong_length t.decls) (limited q) p well_used.1 in
+        let l = limited_program q p size.1 in
+        record { body = body; fresh = f; renames = h; used = well_used.0; lengths = size.0; is = l.0; limits = subst IsWithinLimits l.0 l.1 }
 
-    first : (o : Option ℕ) → repeated [] t.decls ≡ o → refused_at o (program_with t.decls (renamed (find t.decls) t.body)) ≡ Ok p → IsResolved t p
-    first (Some at) f g = cc
-    first None f g = second (renamed (find t.decls) t.body) refl f g
+-- what a name names is there, of as many cells as there are initial words
+found_there : (ds : List Declared) → wrong_length ds ≡ None → (t : List ℕ) (s : Slot) → find ds t ≡ Some s → AnyFits (length (cell_words ds)) (variable_count ds) s
+found_there ds ok t s e =
+    let c : 0 + cell_count ds ≡ length (cell_words ds) = omega (arith, count_words ds) in
+    let v : 0 + variable_count ds ≡ variable_count ds = omega arith in
+    subst (λ k. AnyFits k (variable_count ds) s) c (subst (λ k. AnyFits (0 + cell_count ds) k s) v (found_fits 0 0 ds t s ok e))
 
--- what is so of a program: names of at most 32 bytes that differ, as many initial words, statements that name what is there
--- and have words as literals, and the limits
-pub record IsProper (p : Program) : Type 0 where
-  pub names : All IsNameText p.names
-  pub differ : AllPairs (λ x y. x ≢ y) p.names
-  pub as_many : length p.names ≡ length p.inits
-  pub words : All (λ w. w < 2 ^ 64) p.inits
-  pub fits : StatementsFit (length p.inits) p.vars p.body
-  pub limits : IsWithinLimits p
-
--- with none before, what is there is there
-slot_after_none : (c v : ℕ) (s : Slot) → SlotFits (0 + c) (0 + v) s → SlotFits c v s
-slot_after_none c v (Cell k) h = omega (arith, h)
-slot_after_none c v (Var x) h = omega (arith, h)
-
--- so it is of a text's program
+-- each program of a text is proper
 pub program_is_proper : (text : List ℕ) (p : Program) → IsProgramOf text p → IsProper p
 program_is_proper text p h =
     let t = h.0 in
     let r = resolved_program t p h.2 in
     let fit = source_fits text t h.1 in
     subst IsProper r.is (record {
-      names = names_fit t.decls fit.declarations;
-      differ = (are_new [] t.decls r.fresh).differ;
-      as_many = as_many_names t.decls;
+      names = names_lawful t.decls fit.declarations r.lengths;
+      differ = names_differ t.decls fit.declarations r.lengths r.fresh;
+      as_many = count_names t.decls ∙ sym (count_words t.decls);
       words = words_fit t.decls fit.declarations;
-      fits = statements_fit (find t.decls) (length (cell_words t.decls)) (variable_count t.decls) (λ text s e. slot_after_none (length (cell_words t.decls)) (variable_count t.decls) s (found_fits 0 0 t.decls text s e)) t.body r.body fit.literals r.renames;
+      fits = statements_fit (find t.decls) (length (cell_words t.decls)) (variable_count t.decls) (found_there t.decls r.lengths) t.body r.body fit.literals r.used r.renames;
       limits = subst IsWithinLimits (sym r.is) r.limits;
     })

@@ -4,7 +4,7 @@ use Rattle.ft_syntax.specs.declared.spot.Spot.{Spot}
 use Rattle.ft_syntax.specs.declared.stmt.Stmt.{Stmt}
 use Rattle.ft_syntax.specs.declared.source_error.SourceError.{SourceError}
 use Rattle.ft_syntax.specs.declared.source_error.SourceError.TheVariants.{Unknown, NoMemory}
-use Rattle.ft_syntax.specs.Plain.{StatementList, none, assign, loop, choose, follow, plain_statement, plain_list}
+use Rattle.ft_syntax.specs.Plain.{StatementList, none, assign, assign_at, loop, choose, follow, plain_statement, plain_list}
 use Rattle.ft_syntax.specs.Syntax.{Named, named}
 use Rattle.ft_syntax.proofs.PlainForms.{list_first, list_push, list_empty, statement_first, follow_follow}
 use Rattle.ft_scope.specs.declared.slot.Slot.{Slot}
@@ -41,6 +41,11 @@ module _ (look : List ℕ → Option Slot) (b : StatementList Named) where
       through (found to.at (look to.text)) (λ s. renamed_expression look e >>= λ x. renamed look (follow rest b) >>= λ r. Ok (assign s x r)) (λ s. renamed_expression look e >>= λ x. renamed look rest >>= λ r. Ok (assign s x r)) then_b
       (λ s. through (renamed_expression look e) (λ x. renamed look (follow rest b) >>= λ r. Ok (assign s x r)) (λ x. renamed look rest >>= λ r. Ok (assign s x r)) then_b
       (λ x. rest_step (renamed look (follow rest b)) (renamed look rest) (assign s x) (renamed_follow rest) (λ r y. refl)))
+  renamed_follow (assign_at to i e rest) =
+      through (found to.at (look to.text)) (λ s. renamed_expression look i >>= λ x. renamed_expression look e >>= λ y. renamed look (follow rest b) >>= λ r. Ok (assign_at s x y r)) (λ s. renamed_expression look i >>= λ x. renamed_expression look e >>= λ y. renamed look rest >>= λ r. Ok (assign_at s x y r)) then_b
+      (λ s. through (renamed_expression look i) (λ x. renamed_expression look e >>= λ y. renamed look (follow rest b) >>= λ r. Ok (assign_at s x y r)) (λ x. renamed_expression look e >>= λ y. renamed look rest >>= λ r. Ok (assign_at s x y r)) then_b
+      (λ x. through (renamed_expression look e) (λ y. renamed look (follow rest b) >>= λ r. Ok (assign_at s x y r)) (λ y. renamed look rest >>= λ r. Ok (assign_at s x y r)) then_b
+      (λ y. rest_step (renamed look (follow rest b)) (renamed look rest) (assign_at s x y) (renamed_follow rest) (λ r z. refl))))
   renamed_follow (loop e body rest) =
       through (renamed_expression look e) (λ x. renamed look body >>= λ y. renamed look (follow rest b) >>= λ r. Ok (loop x y r)) (λ x. renamed look body >>= λ y. renamed look rest >>= λ r. Ok (loop x y r)) then_b
       (λ x. through (renamed look body) (λ y. renamed look (follow rest b) >>= λ r. Ok (loop x y r)) (λ y. renamed look rest >>= λ r. Ok (loop x y r)) then_b

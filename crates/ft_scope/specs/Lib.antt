@@ -1,8 +1,11 @@
 pub mod Scope
+pub mod CellNames
 pub mod Size
 pub mod Props
 pub mod Resolved
 pub mod ProgramOf
 pub mod Outcome
+pub mod Proper
 pub mod Held
 pub mod Renames
+pub mod Made

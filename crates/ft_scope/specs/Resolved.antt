@@ -3,12 +3,13 @@ use Rattle.std.specs.Prelude.{ℕ, List, Option, Some, None, Result, Ok, Err, le
 use Rattle.ft_syntax.specs.Plain.{StatementList}
 use Rattle.ft_syntax.specs.Syntax.{SyntaxTree, Declared}
 use Rattle.ft_syntax.specs.declared.source_error.SourceError.{SourceError}
-use Rattle.ft_syntax.specs.declared.source_error.SourceError.TheVariants.{Twice, Unknown, Cells, Registers, Weight}
+use Rattle.ft_syntax.specs.declared.source_error.SourceError.TheVariants.{Twice, Unknown, Array, Length, Cells, Registers, Weight}
 use Rattle.ft_scope.specs.declared.slot.Slot.{Slot}
-use Rattle.ft_scope.specs.Scope.{find, repeated, renamed, cell_names, cell_words, variable_count}
+use Rattle.ft_scope.specs.CellNames.{cell_names}
+use Rattle.ft_scope.specs.Scope.{find, repeated, renamed, misused, wrong_length, cell_words, variable_count}
 use Rattle.ft_scope.specs.Size.{whole_need, whole_weight}
 
--- a program: the cells' names and initial words in order, how many variables there are, and the statements
+-- a program: the cells' names and initial words, in order, how many variables there are, and the statements
 pub record Program : Type 0 where
   pub names : List (List ℕ)
   pub inits : List ℕ
@@ -34,16 +35,19 @@ limited p =
     (refused_above 32 (program_need p) (Registers (program_need p))
     (refused_above 65536 (program_weight p) (Weight (program_weight p)) (Ok p)))
 
--- the program with these declarations and with statements in which each name was replaced, or the place of the first unknown name
-abbrev pub program_with : List Declared → Result (StatementList Slot) ℕ → Result Program SourceError
-program_with ds (Err at) = Err (Unknown at)
-program_with ds (Ok body) = limited (record { names = cell_names ds; inits = cell_words ds; vars = variable_count ds; body = body })
+-- a refusal at a place, where there is one
+abbrev pub refused_at : (ℕ → SourceError) → Option ℕ → Result Program SourceError → Result Program SourceError
+refused_at e (Some at) other = Err (e at)
+refused_at e None other = other
 
--- a refusal where a name was declared before
-abbrev pub refused_at : Option ℕ → Result Program SourceError → Result Program SourceError
-refused_at (Some at) other = Err (Twice at)
-refused_at None other = other
+-- the program with these declarations and with statements in which each name was replaced, or the place of the first unknown name; before its limits, the first misused name and the first wrong length refuse it
+abbrev pub program_with : List Declared → Option ℕ → Result (StatementList Slot) ℕ → Result Program SourceError
+program_with ds misuse (Err at) = Err (Unknown at)
+program_with ds misuse (Ok body) =
+    refused_at Array misuse
+    (refused_at Length (wrong_length ds)
+    (limited (record { names = cell_names ds; inits = cell_words ds; vars = variable_count ds; body = body })))
 
 -- the program that a tree is, or the first refusal of it
 abbrev pub resolved : SyntaxTree → Result Program SourceError
-resolved t = refused_at (repeated [] t.decls) (program_with t.decls (renamed (find t.decls) t.body))
+resolved t = refused_at Twice (repeated [] t.decls) (program_with t.decls (misused (find t.decls) t.body) (renamed (find t.decls) t.body))

@@ -1,8 +1,9 @@
-//! A law of the definitions, the contract of a function that does nothing.
+//! Laws of the definitions, each the contract of a function that does nothing.
 ghost use Rattle.std.specs.Prelude.{◌≡◌, ℕ, List, Result};
 ghost use Rattle.ft_syntax.specs.declared.source_error.SourceError as errors;
 ghost use Rattle.ft_scope.specs.Resolved.{Program};
-ghost use Rattle.ft_scope.specs.Outcome.{IsOutcome};
+ghost use Rattle.ft_scope.specs.Outcome.{IsOutcome, IsProgramOf};
+ghost use Rattle.ft_scope.specs.Proper.{IsProper};
 
 use ft_syntax::one_text_has_one_answer;
 
@@ -13,3 +14,9 @@ pub fn one_text_has_one_outcome()
 {
     one_text_has_one_answer();
 }
+
+/// In the program of a text the cells have names that differ, of at most 38 bytes, and as many initial
+/// words; each name in a statement names what is there; and the program is within the limits.
+pub fn programs_are_proper()
+    ensures { (text : List ℕ) (p : Program) → IsProgramOf text p → IsProper p }
+{}

@@ -1,20 +1,25 @@
 //! Names, limits and size of a source.
 //!
 //! The crate promises that `resolve` gives the program that a syntax tree is, with each name replaced by
-//! the cell or the variable that it names, or the first refusal of the tree; and that a program keeps
-//! the limits on cells, registers and weight. Its definitions: `specs/Scope.antt`, `specs/Size.antt`,
-//! `specs/Resolved.antt`, and `specs/Outcome.antt` for whole texts.
+//! the cell, the array or the variable that it names, or the first refusal of the tree; and that a program
+//! keeps the limits on cells, registers and weight. Its definitions: `specs/Scope.antt`,
+//! `specs/CellNames.antt`, `specs/Size.antt`, `specs/Resolved.antt`, and for whole texts
+//! `specs/Outcome.antt` and `specs/Proper.antt`.
 #![tactic(auto)]
 
+mod cell_names;
 mod laws;
+mod limits;
+mod making;
 mod measure;
+mod misuse;
 mod names;
 mod prog;
 mod renaming;
 mod resolving;
 mod slot;
 
-pub use laws::one_text_has_one_outcome;
+pub use laws::{one_text_has_one_outcome, programs_are_proper};
 pub use prog::Prog;
 pub use resolving::resolve;
 pub use slot::Slot;

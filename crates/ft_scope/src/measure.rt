@@ -33,6 +33,7 @@ fn weigh_slot(slot: Slot) -> u64
     match slot {
         Slot::Cell(_) => 4,
         Slot::Var(_) => 2,
+        Slot::Run { .. } => 4,
     }
 }
 
@@ -47,6 +48,13 @@ fn measure_expression(e: &Expr<Slot>) -> Measure
             need: 1,
             weight: weigh_slot(*slot),
         },
+        Expr::At { name: _, index } => {
+            let index = measure_expression(index);
+            Measure {
+                need: index.need,
+                weight: index.weight.saturating_add(4),
+            }
+        }
         Expr::Op { op: _, a, b } => {
             let a = measure_expression(a);
             let b = measure_expression(b);
@@ -85,6 +93,18 @@ fn measure_statement(s: &Stmt<Slot>) -> Measure
             Measure {
                 need: value.need,
                 weight: value.weight.saturating_add(weigh_slot(*to)),
+            }
+        }
+        Stmt::AssignAt {
+            to: _,
+            index,
+            value,
+        } => {
+            let index = measure_expression(index);
+            let value = measure_expression(value);
+            Measure {
+                need: index.need.max(value.need.saturating_add(1)),
+                weight: index.weight.saturating_add(value.weight).saturating_add(4),
             }
         }
         Stmt::While { test, body } => with_branch(measure_expression(test).and(measure_statements(

@@ -1,7 +1,7 @@
 //! The names that are declared.
-ghost use Rattle.std.specs.Prelude.{◌≡◌, ◌<◌, ◌^◌, ◌++◌, ℕ, List, [], ◌∷◌, Some, None, cond, length, IfOk, OnOk, IfErr, min};
+ghost use Rattle.std.specs.Prelude.{◌≡◌, ◌<◌, ◌^◌, ◌-◌, ◌++◌, ℕ, List, [], ◌∷◌, Some, None, cond, length, IfOk, OnOk, IfErr, min};
 ghost use Rattle.std.specs.Str.{bytes_eq};
-ghost use Rattle.ft_syntax.specs.Syntax.{Declared, cell, var, named, declared, declared_list};
+ghost use Rattle.ft_syntax.specs.Syntax.{Declared, cell, var, array, named, declared, declared_list};
 ghost use Rattle.ft_scope.specs.Scope.{repeated, declared_name};
 ghost use Rattle.ft_scope.specs.Held.{Holds, look, DeclareFails, TwiceFails};
 
@@ -10,13 +10,13 @@ use ft_syntax::{Decl, SourceError, Spot};
 use std::alloc::Global;
 use std::collections::BTreeMap;
 
-/// The declared names with what they name, the cells in order, and how many variables there are. The
-/// names are kept in order, so a text of any names is looked up in the same time.
+/// The declared names with what they name, how many cells there are, and how many variables. The
+/// number of cells stays at 2^64 - 1 where it would be greater. The names are kept in order, so a text
+/// of any names is looked up in the same time.
 #[derive(Drop)]
 pub struct Names<'a> {
     pub slots: BTreeMap<&'a [u8], Slot>,
-    pub cells: Vec<&'a [u8]>,
-    pub inits: Vec<u64>,
+    pub cells: u64,
     pub vars: usize,
 }
 
@@ -27,6 +27,13 @@ fn variable(number: usize) -> Slot
     Slot::Var(u8::try_from(number).unwrap_or(u8::MAX))
 }
 
+/// A number of cells; numbers above 2^32 - 1 are never used.
+fn narrow(number: u64) -> u32
+    ensures { result ≡ min number (2 ^ 32 - 1) }
+{
+    u32::try_from(number).unwrap_or(u32::MAX)
+}
+
 impl<'a> Names<'a> {
     /// No name.
     #[tactic(auto, unfolding(crate::specs::Held::look))]
@@ -35,8 +42,7 @@ impl<'a> Names<'a> {
     {
         Names {
             slots: BTreeMap::new(alloc),
-            cells: Vec::new(alloc),
-            inits: Vec::new(alloc),
+            cells: 0,
             vars: 0,
         }
     }
@@ -54,7 +60,6 @@ impl<'a> Names<'a> {
         ensures fresh { OnOk result (look self.old name.entry.text.now ≡ None) }
         ensures noted { OnOk result ((text : List ℕ) → look self.new text ≡ cond (bytes_eq name.entry.text.now text) (Some slot) (look self.old text)) }
         ensures cells { OnOk result (self.new.cells ≡ self.old.cells) }
-        ensures inits { OnOk result (self.new.inits ≡ self.old.inits) }
         ensures vars { OnOk result (self.new.vars ≡ self.old.vars) }
         ensures err { IfErr result (λ e. DeclareFails e name.entry.at (look self.old name.entry.text.now)) }
     {
@@ -66,20 +71,28 @@ impl<'a> Names<'a> {
     }
 
     /// Notes a cell.
-    fn cell(&mut self, name: Spot<'a>, init: u64) -> Result<(), SourceError>
-        requires { length self.old.inits.items < 2 ^ 32 }
-        ensures ok { OnOk result ((ds : List Declared) → Holds self.old ds → Holds self.new (ds ++ cell (named name.entry) init ∷ [])) }
+    fn cell(&mut self, name: Spot<'a>) -> Result<(), SourceError>
+        ensures ok { OnOk result ((ds : List Declared) (w : ℕ) → Holds self.old ds → Holds self.new (ds ++ cell (named name.entry) w ∷ [])) }
         ensures fresh { OnOk result (look self.old name.entry.text.now ≡ None) }
         ensures err { IfErr result (λ e. DeclareFails e name.entry.at (look self.old name.entry.text.now)) }
     {
-        let number = self.inits.len() as u32;
-        self.name(name, Slot::Cell(number))?;
-        let Ok(()) = self.cells.push(name.text) else {
-            return Err(SourceError::NoMemory);
+        self.name(name, Slot::Cell(narrow(self.cells)))?;
+        self.cells = self.cells.saturating_add(1);
+        Ok(())
+    }
+
+    /// Notes an array.
+    fn array(&mut self, name: Spot<'a>, length: u64) -> Result<(), SourceError>
+        ensures ok { OnOk result ((ds : List Declared) (at w : ℕ) → Holds self.old ds → Holds self.new (ds ++ array (named name.entry) length at w ∷ [])) }
+        ensures fresh { OnOk result (look self.old name.entry.text.now ≡ None) }
+        ensures err { IfErr result (λ e. DeclareFails e name.entry.at (look self.old name.entry.text.now)) }
+    {
+        let run = Slot::Run {
+            first: narrow(self.cells),
+            length: narrow(length),
         };
-        let Ok(()) = self.inits.push(init) else {
-            return Err(SourceError::NoMemory);
-        };
+        self.name(name, run)?;
+        self.cells = self.cells.saturating_add(length);
         Ok(())
     }
 
@@ -97,15 +110,20 @@ impl<'a> Names<'a> {
 
     /// Notes a declaration.
     fn declare(&mut self, d: &Decl<'a>) -> Result<(), SourceError>
-        requires cells { length self.old.inits.items < 2 ^ 32 }
         requires variables { self.old.vars < 2 ^ 32 }
         ensures ok { OnOk result ((ds : List Declared) → Holds self.old ds → Holds self.new (ds ++ declared d.now ∷ [])) }
         ensures fresh { OnOk result (look self.old (declared_name (declared d.now)).text ≡ None) }
         ensures err { IfErr result (λ e. DeclareFails e (declared_name (declared d.now)).at (look self.old (declared_name (declared d.now)).text)) }
     {
         match d {
-            Decl::Cell { name, init } => self.cell(*name, *init),
+            Decl::Cell { name, init: _ } => self.cell(*name),
             Decl::Var { name } => self.variable(*name),
+            Decl::Array {
+                name,
+                length,
+                length_at: _,
+                init: _,
+            } => self.array(*name, *length),
         }
     }
 }

@@ -7,16 +7,20 @@ ghost use Rattle.ft_scope.specs.Props.{statements_fit_prop};
 use crate::slot::Slot;
 use ft_syntax::Stmt;
 
-/// A program: the cells' names, which are slices of the source, and their initial words, both in order;
-/// the number of variables; and the statements. Each slot is one that is there. There are at most 1,024
-/// cells, the need is at most 32 register pairs, and the weight at most 65,536.
+/// A program: the cells' declared names, which are slices of the source, their places in their arrays,
+/// from 0 on, or `None` for a plain cell, and their initial words, all in order; the number of variables;
+/// and the statements. Each slot is one that is there; one with an index is a run of 1 to 1,024 cells, and
+/// one without an index is no run. There are at most 1,024 cells, the need is at most 32 register pairs, and
+/// the weight at most 65,536.
 #[derive(Debug, Drop)]
 pub struct Prog<'a> {
     pub names: Vec<&'a [u8]>,
+    pub places: Vec<Option<u32>>,
     pub inits: Vec<u64>,
     pub vars: u8,
     pub body: Vec<Stmt<Slot>>,
     pub ghost as_many: { length names.items ≡ length inits.items },
+    pub ghost as_many_places: { length places.items ≡ length inits.items },
     pub ghost fits: { StatementsFit (length inits.items) vars (plain_list same_slot body.items) } by { statements_fit_prop (length inits.items) vars (plain_list same_slot body.items) },
     pub ghost few_cells: { length inits.items ≤ 1024 },
     pub ghost small_need: { whole_need vars (plain_list same_slot body.items) ≤ 32 },

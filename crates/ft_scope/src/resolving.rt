@@ -1,59 +1,74 @@
 //! From a syntax tree to a program.
-ghost use Rattle.std.specs.Prelude.{◌≡◌, ◌≢◌, Ok, Err, IfOk, IfErr};
-ghost use Rattle.ft_syntax.specs.TreeOf.{tree_of};
+ghost use Rattle.std.specs.Prelude.{◌≡◌, ◌≢◌, ◌≤◌, Ok, Err, IfOk, IfErr, map};
+ghost use Rattle.ft_syntax.specs.Size.{node_count};
+ghost use Rattle.ft_syntax.specs.Syntax.{declared_list};
+ghost use Rattle.ft_syntax.specs.TreeOf.{tree_from, tree_of};
 ghost use Rattle.ft_syntax.specs.declared.source_error.SourceError.TheVariants as errors;
+ghost use Rattle.ft_scope.specs.Scope.{cell_texts, cell_places};
 ghost use Rattle.ft_scope.specs.Resolved.{resolved};
 ghost use Rattle.ft_scope.specs.ProgramOf.{program_of};
 
-use crate::measure::measure_statements;
-use crate::names::{Names, declared_names};
+use crate::limits::within_limits;
+use crate::making::{first_wrong_length, made_cells};
+use crate::names::declared_names;
 use crate::prog::Prog;
 use crate::renaming::rename_statements;
-use ft_syntax::{SourceError, Tree};
+use ft_syntax::{Decl, SourceError, Spot, Stmt, Tree};
 use std::alloc::Global;
 
-/// How many cells a source may have.
-const CELL_LIMIT: usize = 1_024;
-/// How many register pairs a source may need.
-const NEED_LIMIT: u64 = 32;
-/// How much a source may weigh.
-const WEIGHT_LIMIT: u64 = 65_536;
-
-/// The program that a tree is: each name is replaced by the cell or the variable that it names.
-///
-/// A tree that is no program is refused by its first refusal, in this order: `Twice` at the first name
-/// that was declared before; `Unknown` at the first name in a statement that is not declared; `Cells`,
-/// `Registers` and `Weight` with what is above the limit. The tree is spent in every case.
-pub fn resolve<'a>(alloc: Global, tree: Tree<'a>) -> Result<Prog<'a>, SourceError>
-    ensures ok { IfOk result (λ p. resolved (tree_of tree.entry) ≡ Ok (program_of p)) }
-    ensures err { IfErr result (λ e. e ≢ errors.NoMemory → resolved (tree_of tree.entry) ≡ Err e) }
+/// The program with these declarations and statements.
+fn resolve_parts<'a>(
+    alloc: Global,
+    decls: &[Decl<'a>],
+    body: Vec<Stmt<Spot<'a>>>,
+) -> Result<Prog<'a>, SourceError>
+    requires { node_count decls.now body.items ≤ 1048576 }
+    ensures ok { IfOk result (λ p. resolved (tree_from decls.now body.entry.items) ≡ Ok (program_of p)) }
+    ensures slices { IfOk result (λ p. map (λ r. r.now) p.names.items ≡ cell_texts (declared_list decls.now)) }
+    ensures places { IfOk result (λ p. p.places.items ≡ cell_places (declared_list decls.now)) }
+    ensures err { IfErr result (λ e. e ≢ errors.NoMemory → resolved (tree_from decls.now body.entry.items) ≡ Err e) }
 {
-    let Tree { decls, body } = tree;
-    let names = declared_names(alloc, &decls)?;
-    let body = match rename_statements(alloc, &names, body) {
+    let names = declared_names(alloc, decls)?;
+    let mut misuse = None;
+    let body = match rename_statements(alloc, &names, body, &mut misuse) {
         Ok(body) => body,
         Err(e) => return Err(e),
     };
-    let measure = measure_statements(&body);
-    let need = names.vars as u64 + 1 + measure.need;
-    let weight = 5 + 2 * (names.vars as u64) + measure.weight;
-    if names.inits.len() > CELL_LIMIT {
-        return Err(SourceError::Cells {
-            count: names.inits.len() as u64,
-        });
+    if let Some(at) = misuse {
+        return Err(SourceError::Array { at });
     }
-    if need > NEED_LIMIT {
-        return Err(SourceError::Registers { need });
+    if let Some(at) = first_wrong_length(decls) {
+        return Err(SourceError::Length { at });
     }
-    if weight > WEIGHT_LIMIT {
-        return Err(SourceError::Weight { weight });
+    if let Err(e) = within_limits(names.cells, names.vars, &body) {
+        return Err(e);
     }
-    let vars = names.vars as u8;
-    let Names { cells, inits, .. } = names;
+    let cells = match made_cells(alloc, decls) {
+        Ok(cells) => cells,
+        Err(e) => return Err(e),
+    };
     Ok(Prog {
-        names: cells,
-        inits,
-        vars,
+        names: cells.names,
+        places: cells.places,
+        inits: cells.inits,
+        vars: names.vars as u8,
         body,
     })
+}
+
+/// The program that a tree is: each name is replaced by the cell, the array or the variable that it names.
+///
+/// A tree that is no program is refused by its first refusal, in this order: `Twice` at the first name
+/// that was declared before; `Unknown` at the first name in a statement that is not declared; `Array` at
+/// the first name in a statement that is an array's and has no index, or has one and is no array's;
+/// `Length` at the first length of an array that is 0 or above 1,024; `Cells`, `Registers` and `Weight`
+/// with what is above the limit. No cell is made before. The tree is spent in every case.
+pub fn resolve<'a>(alloc: Global, tree: Tree<'a>) -> Result<Prog<'a>, SourceError>
+    ensures ok { IfOk result (λ p. resolved (tree_of tree.entry) ≡ Ok (program_of p)) }
+    ensures slices { IfOk result (λ p. map (λ r. r.now) p.names.items ≡ cell_texts (tree_of tree.entry).decls) }
+    ensures places { IfOk result (λ p. p.places.items ≡ cell_places (tree_of tree.entry).decls) }
+    ensures err { IfErr result (λ e. e ≢ errors.NoMemory → resolved (tree_of tree.entry) ≡ Err e) }
+{
+    let Tree { decls, body } = tree;
+    resolve_parts(alloc, &decls, body)
 }

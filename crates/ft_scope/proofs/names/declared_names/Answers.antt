@@ -1,13 +1,11 @@
-use Rattle.std.proofs.Common.{◌+◌, [], length, take, drop, sym, ap, ◌∙◌, subst, arith, length-take, get_or}
+use Rattle.std.proofs.Common.{◌+◌, take, drop, sym, ap, ◌∙◌, subst, arith, length-take, get_or}
 use Rattle.std.proofs.Math.ListN.{drop_of_length-le}
-use Rattle.ft_syntax.specs.declared.decl.Decl.{Decl}
-use Rattle.ft_syntax.specs.declared.decl.Decl.TheVariants.{Cell}
 use Rattle.ft_syntax.specs.Syntax.{declared, declared_list}
 use Rattle.ft_syntax.proofs.DeclaredLists.{declared_empty, declared_length}
 use Rattle.ft_scope.specs.Scope.{repeated, declared_name, find}
 use Rattle.ft_scope.specs.Held.{Holds, TwiceFails, look}
 use Rattle.ft_scope.proofs.Found.{counts_within, none_mapped, repeated_step, twice_fails}
-use Rattle.ft_scope.proofs.DeclaredNames.{declared_drop, declared_take}
+use Rattle.ft_scope.proofs.DeclaredNames.{declared_drop, declared_take, outside}
 use Rattle.ft_scope.proofs.names.declared_names.Goals as goal
 
 pub loop-d-init : goal.loop-d-init
@@ -16,20 +14,10 @@ loop-d-init c = record {
   fresh = ap (λ v. repeated v (declared_list c.args.decls.now)) (sym declared_empty);
 }
 
-pub declare-requires-clause-cells : goal.declare-requires-clause-cells
-declare-requires-clause-cells c =
-    let front = take c.loop-d.d-index c.args.decls.now in
-    let e = ap length c.loop-d.invariant.held.inits in
-    omega (arith, e, counts_within (declared_list front), declared_length front, length-take c.loop-d.d-index c.args.decls.now, c.requires)
-
-pub declare-requires-clause-variables : goal.declare-requires-clause-variables
-declare-requires-clause-variables c =
+pub declare-requires : goal.declare-requires
+declare-requires c =
     let front = take c.loop-d.d-index c.args.decls.now in
     omega (arith, c.loop-d.invariant.held.vars, counts_within (declared_list front), declared_length front, length-take c.loop-d.d-index c.args.decls.now, c.requires)
-
--- what an index outside a list gives
-abbrev outside : Decl
-outside = Cell (record { text = record { ref_ptr = (0, 0); now = [] }; at = 0 }) 0
 
 pub returns-in-Err-clause-err : goal.returns-in-Err-clause-err
 returns-in-Err-clause-err c =
