@@ -3,13 +3,13 @@ use Rattle.std.proofs.Common.{◌≡◌, ◌≢◌, ℕ, ◌+◌, ◌<◌, ◌�
 use Rattle.std.proofs.lemmas.Bool.{ne_eqb, eq-eqb}
 use Rattle.ft_isa.specs.Words.{apply}
 use Rattle.ft_scope.specs.declared.slot.Slot.{Slot}
-use Rattle.ft_scope.specs.declared.slot.Slot.TheVariants.{Cell, Var}
-use Rattle.ft_syntax.specs.Plain.{Expression, literal, name, operation}
+use Rattle.ft_scope.specs.declared.slot.Slot.TheVariants.{Cell, Var, Run}
+use Rattle.ft_syntax.specs.Plain.{Expression, literal, name, indexed, operation}
 use Rattle.ft_syntax.specs.Size.{expression_nodes}
 use Rattle.ft_scope.specs.Size.{ExpressionFits}
-use Rattle.ft_meaning.specs.Meaning.{State, value}
+use Rattle.ft_meaning.specs.Meaning.{State, cell_of_run, value}
 use Rattle.ft_lower.specs.declared.step3.Step3.{Step3}
-use Rattle.ft_lower.specs.declared.step3.Step3.TheVariants.{Put, Copy, Op, Load}
+use Rattle.ft_lower.specs.declared.step3.Step3.TheVariants.{Put, Copy, Op, Load, LoadAt}
 use Rattle.ft_lower.specs.Flow.{Blocks, Place, FlowState, on, first, goes_on, goes_to, with_pair, act, step_at}
 use Rattle.ft_lower.specs.Lowered.{expression_steps}
 use Rattle.ft_lower.proofs.Runs.{Reaches, reach_trans, reach_one, after, after-append, HasAt, has_front, has_back}
@@ -85,6 +85,25 @@ module _ (bs : Blocks) (n m : ℕ) (s : State) where
   expression_run (literal w) t p f le ok has l = one t w (literal w) (Put t w) p f le refl has.0 refl refl l
   expression_run (name (Var x)) t p f le ok has l = one t (f.pairs x) (name (Var x)) (Copy t x) p f le refl has.0 refl (l.vars x ok) l
   expression_run (name (Cell c)) t p f le ok has l = one t (slice_index f.cells c) (name (Cell c)) (Load t c) p f le refl has.0 refl (ap (λ cs. slice_index cs c) l.cells) l
+  expression_run (name (Run c k)) t p f le ok has l = absurd ok
+  expression_run (indexed (Var x) e) t p f le ok has l = absurd ok.0
+  expression_run (indexed (Cell c) e) t p f le ok has l = absurd ok.0
+  expression_run (indexed (Run c k) e) t p f le ok has l =
+      let ce = expression_steps t e in
+      let i = LoadAt t t c k in
+      let p1 = after p ce in
+      let E = expression_run e t p f le ok.1 (has_front bs p ce (i ∷ []) has) l in
+      let w = E.end.pairs t in
+      let v = slice_index E.end.cells (cell_of_run c k w) in
+      let g = goes_on (with_pair t v E.end) in
+      let last : on p1 ≡ after p (ce ++ i ∷ []) = sym (after-append p ce (i ∷ [])) in
+      record {
+        end = g;
+        reaches = reach_trans bs (expression_nodes e) 1 f E.end g E.reaches (reach_act bs n p1 s E.end g i E.like (has_back bs p ce (i ∷ []) has).0 refl);
+        like = moved n (on p1) _ s g last (put_like n t v p1 s E.end le E.like);
+        value = same_pair t v E.end ∙ ap (λ cs. slice_index cs (cell_of_run c k w)) E.like.cells ∙ ap (λ x. slice_index s.cells (cell_of_run c k x)) E.value;
+        lower = λ q h. other_pair t v E.end q (λ e. omega arith) ∙ E.lower q h;
+      }
   expression_run (operation o a b) t p f le ok has l =
       let ca = expression_steps t a in
       let cb = expression_steps (t + 1) b in

@@ -1,9 +1,9 @@
 -- The steps and blocks of statements in a row, and of the statements of the code.
 use Rattle.std.proofs.Common.{◌≡◌, ℕ, zero, suc, ◌+◌, ◌<◌, ◌≤◌, List, [], ◌∷◌, ◌++◌, max, length, drop, get_or, sym, ap, ◌∙◌, arith, append_assoc}
 use Rattle.std.proofs.lemmas.List.{append-nil, drop_all}
-use Rattle.ft_syntax.specs.Plain.{Expression, StatementList, none, assign, loop, choose, follow, plain_statement, plain_list}
+use Rattle.ft_syntax.specs.Plain.{Expression, StatementList, none, assign, assign_at, loop, choose, follow, plain_statement, plain_list}
 use Rattle.ft_syntax.specs.declared.stmt.Stmt.{Stmt}
-use Rattle.ft_syntax.proofs.PlainForms.{assign_form, while_form, if_form, statement_first, list_empty, list_first, list_drop}
+use Rattle.ft_syntax.proofs.PlainForms.{assign_form, assign_at_form, while_form, if_form, statement_first, list_empty, list_first, list_drop}
 use Rattle.ft_scope.specs.declared.slot.Slot.{Slot}
 use Rattle.ft_scope.specs.Size.{same_slot, most_need}
 use Rattle.ft_scope.proofs.Measures.{need_follow}
@@ -11,7 +11,7 @@ use Rattle.ft_lower.specs.declared.step3.Step3.{Step3}
 use Rattle.ft_lower.specs.declared.step3.Step3.TheVariants.{Exit, Go}
 use Rattle.ft_lower.specs.Lowered.{block_count, body_counts, expression_steps, write, statement_steps}
 
-pub ruleset forms = (assign_form, while_form, if_form)
+pub ruleset forms = (assign_form, assign_at_form, while_form, if_form)
 
 -- past the last statement none is left
 pub none_left : (xs : List (Stmt Slot)) (i : ℕ) → length xs ≤ i → plain_list same_slot (drop i xs) ≡ none
@@ -21,6 +21,7 @@ none_left xs i h = ap (plain_list same_slot) (drop_all i xs h) ∙ list_empty sa
 pub count_follow : (a b : StatementList Slot) → block_count (follow a b) ≡ block_count a + block_count b
 count_follow none b = omega arith
 count_follow (assign to e rest) b = count_follow rest b
+count_follow (assign_at to i e rest) b = count_follow rest b
 count_follow (loop e body rest) b = omega (arith, count_follow rest b)
 count_follow (choose e if_so if_not rest) b = omega (arith, count_follow rest b)
 
@@ -28,6 +29,7 @@ count_follow (choose e if_so if_not rest) b = omega (arith, count_follow rest b)
 pub counts_follow : (a b : StatementList Slot) → body_counts (follow a b) ≡ body_counts b ++ body_counts a
 counts_follow none b = sym (append-nil (body_counts b))
 counts_follow (assign to e rest) b = counts_follow rest b
+counts_follow (assign_at to i e rest) b = counts_follow rest b
 counts_follow (loop e body rest) b =
     let own = body_counts body ++ block_count body ∷ [] in
     ap (λ z. z ++ own) (counts_follow rest b) ∙ append_assoc (body_counts b) (body_counts rest) own
@@ -50,6 +52,10 @@ steps_follow n b c none y h = let k : b ≡ c = omega arith in ap (λ z. stateme
 steps_follow n b c (assign to e rest) y h =
     let ce = expression_steps (n + 1) e in
     ap (λ z. ce ++ (write n to ∷ z)) (steps_follow n b c rest y h) ∙ sym (append_assoc ce (write n to ∷ statement_steps n b rest) (statement_steps n c y))
+steps_follow n b c (assign_at to i e rest) y h =
+    let ci = expression_steps (n + 1) i in
+    let ce = expression_steps (n + 2) e in
+    ap (λ z. ci ++ (ce ++ (write n to ∷ z))) (steps_follow n b c rest y h) ∙ simp append_assoc
 steps_follow n b c (loop e body rest) y h =
     let ce = expression_steps (n + 1) e in
     let out = b + 2 + block_count body in

@@ -2,13 +2,13 @@
 use Rattle.std.proofs.Common.{ℕ, zero, suc, ◌+◌, ◌<◌, ◌≤◌, Bool, true, false, List, [], ◌∷◌, ◌++◌, length, arith}
 use Rattle.std.specs.List.{All}
 use Rattle.std.proofs.lemmas.List.Elements.{All-nil, All-cons, All-head, All-tail, All-append, All-push}
-use Rattle.ft_syntax.specs.Plain.{Expression, literal, name, operation, StatementList, none, assign, loop, choose}
+use Rattle.ft_syntax.specs.Plain.{Expression, literal, name, indexed, operation, StatementList, none, assign, assign_at, loop, choose}
 use Rattle.ft_scope.specs.declared.slot.Slot.{Slot}
-use Rattle.ft_scope.specs.declared.slot.Slot.TheVariants.{Cell, Var}
-use Rattle.ft_scope.specs.Size.{need, most_need, SlotFits, ExpressionFits, StatementsFit}
+use Rattle.ft_scope.specs.declared.slot.Slot.TheVariants.{Cell, Var, Run}
+use Rattle.ft_scope.specs.Size.{need, most_need, SlotFits, RunFits, ExpressionFits, StatementsFit}
 use Rattle.ft_scope.specs.Resolved.{Program, program_need}
 use Rattle.ft_lower.specs.declared.step3.Step3.{Step3}
-use Rattle.ft_lower.specs.declared.step3.Step3.TheVariants.{Put, Copy, Op, Load, Exit, Go, Stop}
+use Rattle.ft_lower.specs.declared.step3.Step3.TheVariants.{Put, Copy, Op, Load, LoadAt, Exit, Go, Stop}
 use Rattle.ft_lower.specs.Flow.{Blocks}
 use Rattle.ft_lower.specs.Size.{pairs_of, PairsBelow}
 use Rattle.ft_lower.specs.Well.{is_last}
@@ -18,6 +18,7 @@ use Rattle.ft_lower.specs.Lowered.{expression_steps, write, block_count, stateme
 pub need_some : (e : Expression Slot) → 0 < need e
 need_some (literal w) = omega arith
 need_some (name x) = omega arith
+need_some (indexed x i) = need_some i
 need_some (operation o a b) = omega (arith, need_some a)
 
 module _ (m : ℕ) where
@@ -53,6 +54,12 @@ module _ (m : ℕ) where
     expression_below (literal w) t le few ok = alone (Put t w) (one_pair t (omega arith))
     expression_below (name (Var x)) t le few ok = alone (Copy t x) (two_pairs t x (omega arith) (omega arith))
     expression_below (name (Cell k)) t le few ok = alone (Load t k) (one_pair t (omega arith))
+    expression_below (name (Run c k)) t le few ok = absurd ok
+    expression_below (indexed (Var x) i) t le few ok = absurd ok.0
+    expression_below (indexed (Cell k) i) t le few ok = absurd ok.0
+    expression_below (indexed (Run c k) i) t le few ok =
+        let some = need_some i in
+        All-push Below (expression_steps t i) (LoadAt t t c k) (expression_below i t le few ok.1) (two_pairs t t (omega arith) (omega arith))
     expression_below (operation o a b) t le few ok =
         let i = Op o t t (t + 1) in
         let cb = expression_steps (t + 1) b in
@@ -63,6 +70,12 @@ module _ (m : ℕ) where
     write_below : (to : Slot) → n + 1 < m → SlotFits cells n to → Below (write n to)
     write_below (Var x) h ok = two_pairs x (n + 1) (omega arith) h
     write_below (Cell k) h ok = two_pairs (n + 1) n h (omega arith)
+    write_below (Run c k) h ok = absurd ok
+
+    write_at_below : (to : Slot) → n + 2 < m → RunFits cells to → Below (write n to)
+    write_at_below (Var x) h ok = absurd ok
+    write_at_below (Cell k) h ok = absurd ok
+    write_at_below (Run c k) h ok = three_pairs (n + 1) (n + 2) n (omega arith) h (omega arith)
 
     statements_below : (st : StatementList Slot) (b : ℕ) → n + 1 + most_need st ≤ m → StatementsFit cells n st → All Below (statement_steps n b st)
     statements_below none b few ok = All-nil Below
@@ -70,6 +83,13 @@ module _ (m : ℕ) where
         let some = need_some e in
         All-append Below (expression_steps (n + 1) e) (write n to ∷ statement_steps n b rest) (expression_below e (n + 1) (omega arith) (omega arith) ok.1)
         (All-cons Below (write n to) (statement_steps n b rest) (write_below to (omega arith) ok.0) (statements_below rest b (omega arith) ok.2))
+    statements_below (assign_at to i e rest) b few ok =
+        let some = need_some e in
+        let ce = expression_steps (n + 2) e in
+        let cr = statement_steps n b rest in
+        All-append Below (expression_steps (n + 1) i) (ce ++ (write n to ∷ cr)) (expression_below i (n + 1) (omega arith) (omega arith) ok.1)
+        (All-append Below ce (write n to ∷ cr) (expression_below e (n + 2) (omega arith) (omega arith) ok.2)
+        (All-cons Below (write n to) cr (write_at_below to (omega arith) ok.0) (statements_below rest b (omega arith) ok.3)))
     statements_below (loop e body rest) b few ok =
         let some = need_some e in
         let out = b + 2 + block_count body in

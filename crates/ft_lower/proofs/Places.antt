@@ -1,8 +1,8 @@
 -- In which block steps end.
 use Rattle.std.proofs.Common.{◌≡◌, ℕ, zero, suc, ◌+◌, List, [], ◌∷◌, ◌++◌, refl, ap, ◌∙◌, arith}
 use Rattle.ft_scope.specs.declared.slot.Slot.{Slot}
-use Rattle.ft_scope.specs.declared.slot.Slot.TheVariants.{Cell, Var}
-use Rattle.ft_syntax.specs.Plain.{Expression, literal, name, operation, StatementList, none, assign, loop, choose}
+use Rattle.ft_scope.specs.declared.slot.Slot.TheVariants.{Cell, Var, Run}
+use Rattle.ft_syntax.specs.Plain.{Expression, literal, name, indexed, operation, StatementList, none, assign, assign_at, loop, choose}
 use Rattle.ft_lower.specs.declared.step3.Step3.{Step3}
 use Rattle.ft_lower.specs.declared.step3.Step3.TheVariants.{Put, Op, Go}
 use Rattle.ft_lower.specs.Flow.{Place, on, first}
@@ -17,16 +17,22 @@ block_append p a b = ap (λ (q : Place). q.block) (after-append p a b)
 read_next : (t : ℕ) (x : Slot) (p : Place) → next (read t x) p ≡ on p
 read_next t (Var x) p = refl
 read_next t (Cell c) p = refl
+read_next t (Run c l) p = refl
 
 -- a write ends no block
 write_next : (n : ℕ) (x : Slot) (p : Place) → next (write n x) p ≡ on p
 write_next n (Var x) p = refl
 write_next n (Cell c) p = refl
+write_next n (Run c l) p = refl
 
 -- an expression's steps end no block
 pub expression_block : (e : Expression Slot) (t : ℕ) (p : Place) → (after p (expression_steps t e)).block ≡ p.block
 expression_block (literal w) t p = refl
 expression_block (name x) t p = ap (λ (q : Place). q.block) (read_next t x p)
+expression_block (indexed x i) t p =
+    block_append p (expression_steps t i) (read t x ∷ [])
+    ∙ ap (λ (q : Place). q.block) (read_next t x (after p (expression_steps t i)))
+    ∙ expression_block i t p
 expression_block (operation o a b) t p =
     block_append p (expression_steps t a) (expression_steps (t + 1) b ++ Op o t t (t + 1) ∷ [])
     ∙ block_append (after p (expression_steps t a)) (expression_steps (t + 1) b) (Op o t t (t + 1) ∷ [])
@@ -49,6 +55,12 @@ statements_block (assign to x rest) n b p e =
     let p1 = after p (expression_steps (n + 1) x) in
     block_append p (expression_steps (n + 1) x) (write n to ∷ statement_steps n b rest)
     ∙ statements_block rest n b (next (write n to) p1) (write_block n to p1 ∙ expression_block x (n + 1) p ∙ e)
+statements_block (assign_at to i x rest) n b p e =
+    let p1 = after p (expression_steps (n + 1) i) in
+    let p2 = after p1 (expression_steps (n + 2) x) in
+    block_append p (expression_steps (n + 1) i) _
+    ∙ block_append p1 (expression_steps (n + 2) x) (write n to ∷ statement_steps n b rest)
+    ∙ statements_block rest n b (next (write n to) p2) (write_block n to p2 ∙ expression_block x (n + 2) p1 ∙ expression_block i (n + 1) p ∙ e)
 statements_block (loop x body rest) n b p e =
     let p1 = first (suc p.block) in
     let p2 = after p1 (expression_steps (n + 1) x) in

@@ -5,11 +5,11 @@ use Rattle.std.proofs.lemmas.List.{append-nil}
 use Rattle.std.proofs.lemmas.Option.{slice_get-get_or, unwrap_or-slice_get}
 use Rattle.ft_isa.specs.Words.{cell_address}
 use Rattle.ft_isa.specs.declared.output.Output.{Output}
-use Rattle.ft_meaning.specs.Meaning.{at_zero}
+use Rattle.ft_meaning.specs.Meaning.{at_zero, cell_of_run}
 use Rattle.ft_meaning.specs.Begins.{Begins}
 use Rattle.ft_meaning.proofs.Longer.{begins_refl, begins_trans}
 use Rattle.ft_lower.specs.declared.step3.Step3.{Step3}
-use Rattle.ft_lower.specs.declared.step3.Step3.TheVariants.{Put, Copy, Op, Load, Store, Exit, Go, Stop}
+use Rattle.ft_lower.specs.declared.step3.Step3.TheVariants.{Put, Copy, Op, Load, Store, LoadAt, StoreAt, Exit, Go, Stop}
 use Rattle.ft_lower.specs.Flow.{Blocks, Place, FlowState, on, first, goes_on, goes_to, with_pair, act, step_at, act_if, flow_step, steps}
 use Rattle.ft_lower.specs.Well.{is_last}
 use Rattle.ft_lower.specs.Lowered.{blocks_onto}
@@ -64,6 +64,8 @@ act_begins (Copy p q) f = begins_refl f.out
 act_begins (Op o p q s) f = begins_refl f.out
 act_begins (Load p c) f = begins_refl f.out
 act_begins (Store c q spare) f = (record { addr = cell_address c; value = f.pairs q } ∷ [], refl)
+act_begins (LoadAt p q c l) f = begins_refl f.out
+act_begins (StoreAt c l i q spare) f = (record { addr = cell_address (cell_of_run c l (f.pairs i)); value = f.pairs q } ∷ [], refl)
 act_begins (Exit q spare to) f = zero_begins (f.pairs q) f.out (goes_to to (with_pair spare 0 f)) (goes_on (with_pair spare 0 f)) (begins_refl f.out) (begins_refl f.out)
 act_begins (Go spare to) f = begins_refl f.out
 act_begins Stop f = begins_refl f.out

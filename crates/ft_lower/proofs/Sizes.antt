@@ -1,27 +1,34 @@
 -- How many instructions the steps of a program become.
 use Rattle.std.proofs.Common.{◌≡◌, ℕ, zero, suc, ◌+◌, ◌*◌, ◌≤◌, Bool, true, false, List, [], ◌∷◌, ◌++◌, refl, ◌∙◌, arith}
-use Rattle.ft_syntax.specs.Plain.{Expression, literal, name, operation, StatementList, none, assign, loop, choose}
+use Rattle.ft_syntax.specs.Plain.{Expression, literal, name, indexed, operation, StatementList, none, assign, assign_at, loop, choose}
 use Rattle.ft_scope.specs.declared.slot.Slot.{Slot}
-use Rattle.ft_scope.specs.declared.slot.Slot.TheVariants.{Cell, Var}
+use Rattle.ft_scope.specs.declared.slot.Slot.TheVariants.{Cell, Var, Run}
 use Rattle.ft_scope.specs.Size.{slot_weight, expression_weight, statements_weight}
 use Rattle.ft_scope.specs.Resolved.{Program, program_weight}
+use Rattle.ft_scope.proofs.Measures.{slot_within}
 use Rattle.ft_lower.specs.declared.step3.Step3.{Step3}
 use Rattle.ft_lower.specs.declared.step3.Step3.TheVariants.{Put, Op, Exit, Go, Stop}
 use Rattle.ft_lower.specs.Flow.{Blocks}
 use Rattle.ft_lower.specs.Size.{size, row_size, blocks_size}
 use Rattle.ft_lower.specs.Well.{is_last}
-use Rattle.ft_lower.specs.Lowered.{expression_steps, write, block_count, statement_steps, zeros, program_steps, blocks_onto, lowered}
+use Rattle.ft_lower.specs.Lowered.{read, expression_steps, write, block_count, statement_steps, zeros, program_steps, blocks_onto, lowered}
 
 -- two rows become what each becomes
 row_size-append : (a b : List Step3) → row_size (a ++ b) ≡ row_size a + row_size b
 row_size-append [] b = omega arith
 row_size-append (i ∷ a) b = omega (arith, row_size-append a b)
 
+-- a step that reads becomes as many instructions as its name weighs, at most
+read_size : (t : ℕ) (x : Slot) → size (read t x) ≤ slot_weight x
+read_size t (Var x) = omega arith
+read_size t (Cell k) = omega arith
+read_size t (Run c k) = omega arith
+
 -- an expression's steps become as many instructions as it weighs, at most
 expression_size : (e : Expression Slot) (t : ℕ) → row_size (expression_steps t e) ≤ expression_weight e
 expression_size (literal w) t = omega arith
-expression_size (name (Var x)) t = omega arith
-expression_size (name (Cell k)) t = omega arith
+expression_size (name x) t = omega (arith, read_size t x)
+expression_size (indexed x i) t = omega (arith, row_size-append (expression_steps t i) (read t x ∷ []), expression_size i t, read_size t x, slot_within x)
 expression_size (operation o a b) t =
     let i = Op o t t (t + 1) in
     let cb = expression_steps (t + 1) b in
@@ -31,11 +38,15 @@ expression_size (operation o a b) t =
 write_size : (n : ℕ) (x : Slot) → size (write n x) ≤ slot_weight x
 write_size n (Var x) = omega arith
 write_size n (Cell k) = omega arith
+write_size n (Run c k) = omega arith
 
 -- and so do the steps of statements: a loop's and a choice's weight of 16 pays their exit and their two jumps
 statements_size : (st : StatementList Slot) (n b : ℕ) → row_size (statement_steps n b st) ≤ statements_weight st
 statements_size none n b = omega arith
 statements_size (assign to e rest) n b = omega (arith, row_size-append (expression_steps (n + 1) e) (write n to ∷ statement_steps n b rest), expression_size e (n + 1), write_size n to, statements_size rest n b)
+statements_size (assign_at to i e rest) n b =
+    let cr = statement_steps n b rest in
+    omega (arith, row_size-append (expression_steps (n + 1) i) (expression_steps (n + 2) e ++ (write n to ∷ cr)), row_size-append (expression_steps (n + 2) e) (write n to ∷ cr), expression_size i (n + 1), expression_size e (n + 2), write_size n to, slot_within to, statements_size rest n b)
 statements_size (loop e body rest) n b =
     let go = Go n (b + 1) in
     let out = b + 2 + block_count body in
@@ -76,5 +87,6 @@ lowered_size p =
 pub count_weighs : (st : StatementList Slot) → block_count st ≤ statements_weight st
 count_weighs none = omega arith
 count_weighs (assign to e rest) = omega (arith, count_weighs rest)
+count_weighs (assign_at to i e rest) = omega (arith, count_weighs rest)
 count_weighs (loop e body rest) = omega (arith, count_weighs body, count_weighs rest)
 count_weighs (choose e x y rest) = omega (arith, count_weighs x, count_weighs y, count_weighs rest)

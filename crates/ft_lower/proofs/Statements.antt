@@ -3,12 +3,12 @@ use Rattle.std.proofs.Common.{◌≡◌, ℕ, zero, suc, ◌+◌, ◌*◌, ◌<�
 use Rattle.std.proofs.lemmas.Bool.{cases_eq}
 use Rattle.std.proofs.lemmas.List.{get_or-set_same, get_or-set_other, length-set}
 use Rattle.ft_scope.specs.declared.slot.Slot.{Slot}
-use Rattle.ft_scope.specs.declared.slot.Slot.TheVariants.{Cell, Var}
-use Rattle.ft_syntax.specs.Plain.{Expression, StatementList, none, assign, loop, choose}
+use Rattle.ft_scope.specs.declared.slot.Slot.TheVariants.{Cell, Var, Run}
+use Rattle.ft_syntax.specs.Plain.{Expression, StatementList, none, assign, assign_at, loop, choose}
 use Rattle.ft_syntax.specs.Size.{expression_nodes}
 use Rattle.ft_scope.specs.Size.{ExpressionFits, StatementsFit, SlotFits}
 use Rattle.ft_isa.specs.Words.{cell_address}
-use Rattle.ft_meaning.specs.Meaning.{State, Outcome, Ended, Cut, state_of, value, evaluated, assigned, with_left, then_do, at_zero, with_turn, loops, run}
+use Rattle.ft_meaning.specs.Meaning.{State, Outcome, Ended, Cut, state_of, cell_of_run, value, evaluated, evaluated_both, assigned, with_left, then_do, at_zero, with_turn, loops, run}
 use Rattle.ft_meaning.proofs.Longer.{run_grows, loops_grows}
 use Rattle.ft_lower.specs.declared.step3.Step3.TheVariants.{Exit, Go}
 use Rattle.ft_lower.specs.Flow.{Blocks, Place, FlowState, on, first, goes_on, goes_to, with_pair, with_cell, act, step_at}
@@ -88,6 +88,10 @@ ends_at bs n c p q s f r e h = subst (λ x. Runs bs n c x s f r) e h
 pub like_evaluated : (n : ℕ) (p : Place) (e : Expression Slot) (s : State) (f : FlowState) → Like n p s f → Like n p (evaluated e s) f
 like_evaluated n p e s f l = record { vars = l.vars; many = l.many; cells = l.cells; place = l.place; out = l.out; running = l.running }
 
+-- nor of that of an index and a value
+like_both : (n : ℕ) (p : Place) (i e : Expression Slot) (s : State) (f : FlowState) → Like n p s f → Like n p (evaluated_both i e s) f
+like_both n p i e s f l = record { vars = l.vars; many = l.many; cells = l.cells; place = l.place; out = l.out; running = l.running }
+
 -- nor about the turns that are left
 pub like_left : (n k : ℕ) (p : Place) (s : State) (f : FlowState) → Like n p s f → Like n p (with_left k s) f
 like_left n k p s f l = record { vars = l.vars; many = l.many; cells = l.cells; place = l.place; out = l.out; running = l.running }
@@ -126,6 +130,17 @@ module _ (bs : Blocks) (n m : ℕ) where
   set_var x y v vs g h old =
       elim (cases_eq y x) [ inl e ↦ subst (λ z. (with_pair x v g).pairs z ≡ slice_index (slice_set vs x v) z) (sym e) (same_pair x v g ∙ sym (get_or-set_same vs x v 0 h)) | inr ne ↦ other_pair x v g y ne ∙ old ∙ sym (get_or-set_other vs x y v 0 ne) ]
 
+  -- a cell that is set
+  set_cell : (c v : ℕ) (p : Place) (s : State) (f : FlowState) → Like n p s f → Like n (on p) (assigned (Cell c) v s) (goes_on (with_pair n 0 (with_cell c v f)))
+  set_cell c v p s f l = record {
+    vars = λ y h. other_pair n 0 f y (λ q. omega arith) ∙ l.vars y h;
+    many = l.many;
+    cells = ap (λ cs. slice_set cs c v) l.cells;
+    place = ap on l.place;
+    out = ap (λ o. o ++ record { addr = cell_address c; value = v } ∷ []) l.out;
+    running = l.running;
+  }
+
   -- a write is the assignment
   written : (to : Slot) (v : ℕ) (e : Expression Slot) (p : Place) (s : State) (f : FlowState) → SlotFits m n to → f.pairs (n + 1) ≡ v → Like n p s f → Like n (next (write n to) p) (assigned to v (evaluated e s)) (act (write n to) f)
   written (Var x) v e p s f ok is l =
@@ -139,26 +154,30 @@ module _ (bs : Blocks) (n m : ℕ) where
         running = l.running;
       } in
       subst (λ w. Like n (on p) (assigned (Var x) v (evaluated e s)) (goes_on (with_pair x w f))) (sym is) r
+  written (Run c k) v e p s f ok is l = absurd ok
   written (Cell c) v e p s f ok is l =
-      let r : Like n (on p) (assigned (Cell c) v (evaluated e s)) (goes_on (with_pair n 0 (with_cell c v f))) = record {
-        vars = λ y h. other_pair n 0 f y (λ q. omega arith) ∙ l.vars y h;
-        many = l.many;
-        cells = ap (λ cs. slice_set cs c v) l.cells;
-        place = ap on l.place;
-        out = ap (λ o. o ++ record { addr = cell_address c; value = v } ∷ []) l.out;
-        running = l.running;
-      } in
-      subst (λ w. Like n (on p) (assigned (Cell c) v (evaluated e s)) (goes_on (with_pair n 0 (with_cell c w f)))) (sym is) r
+      subst (λ w. Like n (on p) (assigned (Cell c) v (evaluated e s)) (goes_on (with_pair n 0 (with_cell c w f)))) (sym is)
+      (set_cell c v p (evaluated e s) f (like_evaluated n p e s f l))
+
+  -- a write with an index is the assignment to the cell that the index names
+  written_at : (c k w v : ℕ) (i e : Expression Slot) (p : Place) (s : State) (f : FlowState) → f.pairs (n + 1) ≡ w → f.pairs (n + 2) ≡ v → Like n p s f → Like n (on p) (assigned (Cell (cell_of_run c k w)) v (evaluated_both i e s)) (act (write n (Run c k)) f)
+  written_at c k w v i e p s f named is l =
+      let to = cell_of_run c k w in
+      subst (λ x. Like n (on p) (assigned (Cell to) v (evaluated_both i e s)) (goes_on (with_pair n 0 (with_cell (cell_of_run c k x) (f.pairs (n + 2)) f)))) (sym named)
+      (subst (λ x. Like n (on p) (assigned (Cell to) v (evaluated_both i e s)) (goes_on (with_pair n 0 (with_cell to x f)))) (sym is)
+      (set_cell to v p (evaluated_both i e s) f (like_both n p i e s f l)))
 
   -- an assignment takes as many steps as its work
   work_of : (to : Slot) (v : ℕ) (e : Expression Slot) (s : State) → expression_nodes e + 1 + 0 + 2 * s.work ≤ 0 + 2 * (assigned to v (evaluated e s)).work
   work_of (Var x) v e s = omega arith
   work_of (Cell c) v e s = omega arith
+  work_of (Run c k) v e s = omega arith
 
   -- an assignment takes no turn
   left_of : (to : Slot) (v : ℕ) (e : Expression Slot) (s : State) → s.left ≤ (assigned to v (evaluated e s)).left + (expression_nodes e + 1)
   left_of (Var x) v e s = omega arith
   left_of (Cell c) v e s = omega arith
+  left_of (Run c k) v e s = omega arith
 
   -- a choice gives no turn back
   zero_less : (v : ℕ) (s : State) (a b : Outcome) → (state_of a).left ≤ s.left → (state_of b).left ≤ s.left → (state_of (at_zero v a b)).left ≤ s.left
@@ -227,6 +246,28 @@ module _ (bs : Blocks) (n m : ℕ) where
       let to_g = reach_trans bs (expression_nodes x) 1 f V.end g V.reaches (reach_act bs n p1 s V.end g i V.like h.0 refl) in
       let R = statements_run rest b p2 s1 g (write_block n to p1 ∙ expression_block x (n + 1) p ∙ e) ok.2 h.1 W in
       ends_at bs n 0 _ _ s f (run rest s1) (sym (after-append p ce (i ∷ statement_steps n b rest))) (prepend bs n 0 0 (expression_nodes x + 1) _ s s1 f g (run rest s1) to_g (work_of to v x s) (left_of to v x s) R)
+  statements_run (assign_at (Var y) j x rest) b p s f e ok has l = absurd ok.0
+  statements_run (assign_at (Cell c) j x rest) b p s f e ok has l = absurd ok.0
+  statements_run (assign_at (Run c k) j x rest) b p s f e ok has l =
+      let cj = expression_steps (n + 1) j in
+      let cx = expression_steps (n + 2) x in
+      let w = value j s.vars s.cells in
+      let v = value x s.vars s.cells in
+      let i = write n (Run c k) in
+      let p1 = after p cj in
+      let p2 = after p1 cx in
+      let s1 = assigned (Cell (cell_of_run c k w)) v (evaluated_both j x s) in
+      let J = expression_run bs n m s j (n + 1) p f (omega arith) ok.1 (has_front bs p cj _ has) l in
+      let h = has_back bs p cj _ has in
+      let V = expression_run bs n m s x (n + 2) p1 J.end (omega arith) ok.2 (has_front bs p1 cx _ h) J.like in
+      let h2 = has_back bs p1 cx _ h in
+      let g = act i V.end in
+      let W = written_at c k w v j x p2 s V.end (V.lower (n + 1) (omega arith) ∙ J.value) V.value V.like in
+      let to_end = reach_trans bs (expression_nodes j) (expression_nodes x) f J.end V.end J.reaches V.reaches in
+      let to_g = reach_trans bs (expression_nodes j + expression_nodes x) 1 f V.end g to_end (reach_act bs n p2 s V.end g i V.like h2.0 refl) in
+      let R = statements_run rest b (on p2) s1 g (expression_block x (n + 2) p1 ∙ expression_block j (n + 1) p ∙ e) ok.3 h2.1 W in
+      ends_at bs n 0 _ _ s f (run rest s1) (sym (after-append p cj _ ∙ after-append p1 cx (i ∷ statement_steps n b rest)))
+      (prepend bs n 0 0 (expression_nodes j + expression_nodes x + 1) _ s s1 f g (run rest s1) to_g (omega arith) (omega arith) R)
   statements_run (loop x body rest) b p s f e ok has l =
       let head = b + 1 in
       let out = b + 2 + block_count body in

@@ -1,13 +1,13 @@
 -- The blocks of a program are well formed.
 use Rattle.std.proofs.Common.{◌≡◌, ◌≢◌, ℕ, zero, suc, ◌+◌, ◌<◌, ◌≤◌, Bool, true, false, cond, List, [], ◌∷◌, ◌++◌, length, ◌==◌, inl, inr, refl, sym, ap, ◌∙◌, subst, arith, append_assoc}
 use Rattle.std.proofs.lemmas.Bool.{ne_eqb, eq-eqb, cases_eq, lt-ltb}
-use Rattle.ft_syntax.specs.Plain.{Expression, literal, name, operation, StatementList, none, assign, loop, choose}
+use Rattle.ft_syntax.specs.Plain.{Expression, literal, name, indexed, operation, StatementList, none, assign, assign_at, loop, choose}
 use Rattle.ft_scope.specs.declared.slot.Slot.{Slot}
-use Rattle.ft_scope.specs.declared.slot.Slot.TheVariants.{Cell, Var}
-use Rattle.ft_scope.specs.Size.{SlotFits, ExpressionFits, StatementsFit}
+use Rattle.ft_scope.specs.declared.slot.Slot.TheVariants.{Cell, Var, Run}
+use Rattle.ft_scope.specs.Size.{SlotFits, RunFits, ExpressionFits, StatementsFit}
 use Rattle.ft_scope.specs.Resolved.{Program}
 use Rattle.ft_lower.specs.declared.step3.Step3.{Step3}
-use Rattle.ft_lower.specs.declared.step3.Step3.TheVariants.{Put, Op, Exit, Go, Stop}
+use Rattle.ft_lower.specs.declared.step3.Step3.TheVariants.{Put, Op, LoadAt, Exit, Go, Stop}
 use Rattle.ft_lower.specs.Flow.{Blocks, Place, on, first, block_of}
 use Rattle.ft_lower.specs.Well.{is_last, IsBlock, IsTarget, StepFits, Known, no_pair, pairs_below, learn, forget, known_after, KeepsVariables, ReadsKnown, RowIsWell, known_first, row_known, IsWell}
 use Rattle.ft_lower.specs.Lowered.{expression_steps, write, block_count, statement_steps, zeros, program_steps, blocks_onto, lowered}
@@ -98,6 +98,21 @@ module _ (n m : ℕ) (blocks : ℕ) where
   flat_expression (literal w) t k le fits h = record { well = ((fits, tt), tt); knows = λ x lt. learn_keeps t k x (h x lt); here = learn_same t k; lower = λ q lt. learn_other t k q (λ e. omega arith) }
   flat_expression (name (Var y)) t k le fits h = record { well = ((tt, h y fits), tt); knows = λ x lt. learn_keeps t k x (h x lt); here = learn_same t k; lower = λ q lt. learn_other t k q (λ e. omega arith) }
   flat_expression (name (Cell c)) t k le fits h = record { well = ((fits, tt), tt); knows = λ x lt. learn_keeps t k x (h x lt); here = learn_same t k; lower = λ q lt. learn_other t k q (λ e. omega arith) }
+  flat_expression (name (Run c l)) t k le fits h = absurd fits
+  flat_expression (indexed (Var y) e) t k le fits h = absurd fits.0
+  flat_expression (indexed (Cell c) e) t k le fits h = absurd fits.0
+  flat_expression (indexed (Run c l) e) t k le fits h =
+      let ce = expression_steps t e in
+      let i = LoadAt t t c l in
+      let E = flat_expression e t k le fits.1 h in
+      let k1 = walk k ce in
+      let at : walk k (ce ++ i ∷ []) ≡ learn t k1 = walk-append k ce (i ∷ []) in
+      record {
+        well = flat-append k ce (i ∷ []) E.well ((fits.0, E.here), tt);
+        knows = λ x lt. ap (λ (f : Known). f x) at ∙ learn_keeps t k1 x (E.knows x lt);
+        here = ap (λ (f : Known). f t) at ∙ learn_same t k1;
+        lower = λ q lt. ap (λ (f : Known). f q) at ∙ learn_other t k1 q (λ e. omega arith) ∙ E.lower q lt;
+      }
   flat_expression (operation o a b) t k le fits h =
       let ca = expression_steps t a in
       let cb = expression_steps (t + 1) b in
@@ -151,6 +166,15 @@ module _ (n m : ℕ) (blocks : ℕ) where
   flat_write : (to : Slot) (k : Known) (is : List Step3) → SlotFits m n to → k (n + 1) ≡ true → Knows n k → ((k1 : Known) → Knows n k1 → FlatRow k1 is) → FlatRow k (write n to ∷ is)
   flat_write (Var x) k is fits here h rest = let R = rest (learn x k) (λ y l. learn_keeps x k y (h y l)) in record { well = ((tt, here), R.well); knows = R.knows }
   flat_write (Cell c) k is fits here h rest = let R = rest (forget n k) (knows_forget k h) in record { well = ((fits, (here, λ e. omega arith)), R.well); knows = R.knows }
+  flat_write (Run c l) k is fits here h rest = absurd fits
+
+  -- an assignment with an index before a row
+  flat_write_at : (to : Slot) (k : Known) (is : List Step3) → RunFits m to → k (n + 1) ≡ true → k (n + 2) ≡ true → Knows n k → ((k1 : Known) → Knows n k1 → FlatRow k1 is) → FlatRow k (write n to ∷ is)
+  flat_write_at (Var x) k is fits index here h rest = absurd fits
+  flat_write_at (Cell c) k is fits index here h rest = absurd fits
+  flat_write_at (Run c l) k is fits index here h rest =
+      let R = rest (forget n k) (knows_forget k h) in
+      record { well = ((fits, (index, here, (λ e. omega arith), λ e. omega arith)), R.well); knows = R.knows }
 
   -- the steps of statements are well
   flat_statements : (st : StatementList Slot) (b : ℕ) (k : Known) → b + block_count st < blocks → StatementsFit m n st → Knows n k → FlatRow k (statement_steps n b st)
@@ -158,6 +182,15 @@ module _ (n m : ℕ) (blocks : ℕ) where
   flat_statements (assign to e rest) b k lt fits h =
       let E = flat_expression e (n + 1) k (omega arith) fits.1 h in
       flat_then k (expression_steps (n + 1) e) (write n to ∷ statement_steps n b rest) E.well (flat_write to _ (statement_steps n b rest) fits.0 E.here E.knows (λ k1 h1. flat_statements rest b k1 lt fits.2 h1))
+  flat_statements (assign_at to i e rest) b k lt fits h =
+      let ci = expression_steps (n + 1) i in
+      let ce = expression_steps (n + 2) e in
+      let cr = statement_steps n b rest in
+      let I = flat_expression i (n + 1) k (omega arith) fits.1 h in
+      let k1 = walk k ci in
+      let E = flat_expression e (n + 2) k1 (omega arith) fits.2 I.knows in
+      flat_then k ci (ce ++ (write n to ∷ cr)) I.well
+      (flat_then k1 ce (write n to ∷ cr) E.well (flat_write_at to (walk k1 ce) cr fits.0 (E.lower (n + 1) (omega arith) ∙ I.here) E.here E.knows (λ k2 h2. flat_statements rest b k2 lt fits.3 h2)))
   flat_statements (loop e body rest) b k lt fits h =
       let out = b + 2 + block_count body in
       let ce = expression_steps (n + 1) e in

@@ -3,9 +3,9 @@ use Rattle.std.specs.Prelude.{ℕ, zero, suc, Bool, true, false, cond, List, [],
 use Rattle.std.specs.Option.{unwrap_or}
 use Rattle.ft_isa.specs.Words.{apply, cell_address}
 use Rattle.ft_isa.specs.declared.output.Output.{Output}
-use Rattle.ft_meaning.specs.Meaning.{at_zero}
+use Rattle.ft_meaning.specs.Meaning.{at_zero, cell_of_run}
 use Rattle.ft_lower.specs.declared.step3.Step3.{Step3}
-use Rattle.ft_lower.specs.declared.step3.Step3.TheVariants.{Put, Copy, Op, Load, Store, Exit, Go, Stop}
+use Rattle.ft_lower.specs.declared.step3.Step3.TheVariants.{Put, Copy, Op, Load, Store, LoadAt, StoreAt, Exit, Go, Stop}
 use Rattle.ft_lower.specs.declared.flow.Flow.{Flow}
 
 -- the steps of each block
@@ -60,6 +60,8 @@ act (Copy p q) f = goes_on (with_pair p (f.pairs q) f)
 act (Op o p q s) f = goes_on (with_pair p (apply o (f.pairs q) (f.pairs s)) f)
 act (Load p c) f = goes_on (with_pair p (slice_index f.cells c) f)
 act (Store c q spare) f = goes_on (with_pair spare 0 (with_cell c (f.pairs q) f))
+act (LoadAt p q start length) f = goes_on (with_pair p (slice_index f.cells (cell_of_run start length (f.pairs q))) f)
+act (StoreAt start length i q spare) f = goes_on (with_pair spare 0 (with_cell (cell_of_run start length (f.pairs i)) (f.pairs q) f))
 act (Exit q spare to) f = at_zero (f.pairs q) (goes_to to (with_pair spare 0 f)) (goes_on (with_pair spare 0 f))
 act (Go spare to) f = goes_to to (with_pair spare 0 f)
 act Stop f = record f { done = true }

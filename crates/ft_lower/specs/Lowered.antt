@@ -1,34 +1,39 @@
 -- The steps of a program in a row, and the blocks that they are.
 use Rattle.std.specs.Prelude.{◌≡◌, ℕ, zero, suc, ◌+◌, true, false, List, [], ◌∷◌, ◌++◌}
-use Rattle.ft_syntax.specs.Plain.{Expression, literal, name, operation, StatementList, none, assign, loop, choose}
+use Rattle.ft_syntax.specs.Plain.{Expression, literal, name, indexed, operation, StatementList, none, assign, assign_at, loop, choose}
 use Rattle.ft_scope.specs.declared.slot.Slot.{Slot}
-use Rattle.ft_scope.specs.declared.slot.Slot.TheVariants.{Cell, Var}
+use Rattle.ft_scope.specs.declared.slot.Slot.TheVariants.{Cell, Var, Run}
 use Rattle.ft_scope.specs.Resolved.{Program}
 use Rattle.ft_lower.specs.declared.step3.Step3.{Step3}
-use Rattle.ft_lower.specs.declared.step3.Step3.TheVariants.{Put, Copy, Op, Load, Store, Exit, Go, Stop}
+use Rattle.ft_lower.specs.declared.step3.Step3.TheVariants.{Put, Copy, Op, Load, Store, LoadAt, StoreAt, Exit, Go, Stop}
 use Rattle.ft_lower.specs.Flow.{Blocks}
 use Rattle.ft_lower.specs.Well.{is_last}
 
--- the step that reads a cell or a variable into pair t
+-- the step that reads a cell or a variable into pair t; of an array, the cell that the word of this pair names
 abbrev pub read : ℕ → Slot → Step3
 read t (Var x) = Copy t x
 read t (Cell k) = Load t k
+read t (Run first length) = LoadAt t t first length
 
 -- the steps that leave an expression's word in pair t, by this pair and those above it
 abbrev pub expression_steps : ℕ → Expression Slot → List Step3
 expression_steps t (literal w) = Put t w ∷ []
 expression_steps t (name s) = read t s ∷ []
+expression_steps t (indexed s i) = expression_steps t i ++ read t s ∷ []
 expression_steps t (operation o a b) = expression_steps t a ++ (expression_steps (t + 1) b ++ Op o t t (t + 1) ∷ [])
 
--- the step that writes pair n + 1 to a cell or a variable, with the spare n
+-- the step that writes pair n + 1 to a cell or a variable, with the spare n; of an array, pair n + 2 to the cell that the word
+-- of pair n + 1 names
 abbrev pub write : ℕ → Slot → Step3
 write n (Var x) = Copy x (n + 1)
 write n (Cell k) = Store k (n + 1) n
+write n (Run first length) = StoreAt first length (n + 1) (n + 2) n
 
 -- how many blocks statements begin
 abbrev pub block_count : StatementList Slot → ℕ
 block_count none = 0
 block_count (assign to e rest) = block_count rest
+block_count (assign_at to i e rest) = block_count rest
 block_count (loop e body rest) = 2 + block_count body + block_count rest
 block_count (choose e if_so if_not rest) = 2 + block_count if_so + block_count if_not + block_count rest
 
@@ -37,6 +42,7 @@ block_count (choose e if_so if_not rest) = 2 + block_count if_so + block_count i
 abbrev pub body_counts : StatementList Slot → List ℕ
 body_counts none = []
 body_counts (assign to e rest) = body_counts rest
+body_counts (assign_at to i e rest) = body_counts rest
 body_counts (loop e body rest) = body_counts rest ++ (body_counts body ++ block_count body ∷ [])
 body_counts (choose e if_so if_not rest) =
     body_counts rest ++ (body_counts if_not ++ (body_counts if_so ++ block_count if_not ∷ block_count if_so ∷ []))
@@ -50,6 +56,7 @@ Tops numbers stack = (below : List ℕ) × (stack ≡ below ++ numbers)
 abbrev pub statement_steps : ℕ → ℕ → StatementList Slot → List Step3
 statement_steps n b none = []
 statement_steps n b (assign to e rest) = expression_steps (n + 1) e ++ (write n to ∷ statement_steps n b rest)
+statement_steps n b (assign_at to i e rest) = expression_steps (n + 1) i ++ (expression_steps (n + 2) e ++ (write n to ∷ statement_steps n b rest))
 statement_steps n b (loop e body rest) =
     Go n (b + 1)
     ∷ (expression_steps (n + 1) e

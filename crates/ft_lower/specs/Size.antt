@@ -2,7 +2,7 @@
 use Rattle.std.specs.Prelude.{ℕ, ◌+◌, ◌<◌, List, [], ◌∷◌}
 use Rattle.std.specs.List.{All}
 use Rattle.ft_lower.specs.declared.step3.Step3.{Step3}
-use Rattle.ft_lower.specs.declared.step3.Step3.TheVariants.{Put, Copy, Op, Load, Store, Exit, Go, Stop}
+use Rattle.ft_lower.specs.declared.step3.Step3.TheVariants.{Put, Copy, Op, Load, Store, LoadAt, StoreAt, Exit, Go, Stop}
 use Rattle.ft_lower.specs.Flow.{Blocks}
 
 -- how many instructions a step becomes
@@ -12,6 +12,8 @@ size (Copy p q) = 2
 size (Op o p q s) = 2
 size (Load p c) = 4
 size (Store c q spare) = 4
+size (LoadAt p q first length) = 4
+size (StoreAt first length i q spare) = 4
 size (Exit q spare to) = 4
 size (Go spare to) = 4
 size Stop = 1
@@ -33,6 +35,8 @@ pairs_of (Copy p q) = p ∷ q ∷ []
 pairs_of (Op o p q s) = p ∷ q ∷ s ∷ []
 pairs_of (Load p c) = p ∷ []
 pairs_of (Store c q spare) = q ∷ spare ∷ []
+pairs_of (LoadAt p q first length) = p ∷ q ∷ []
+pairs_of (StoreAt first length i q spare) = i ∷ q ∷ spare ∷ []
 pairs_of (Exit q spare to) = q ∷ spare ∷ []
 pairs_of (Go spare to) = spare ∷ []
 pairs_of Stop = []

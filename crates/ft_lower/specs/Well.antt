@@ -1,8 +1,10 @@
 -- Well formed flows: blocks end rightly, jumps go to blocks that are there, and steps read pairs that are known.
 use Rattle.std.specs.Prelude.{◌≡◌, ◌≢◌, ℕ, zero, suc, ◌<◌, ◌≤◌, Bool, true, false, cond, List, [], ◌∷◌, ◌==◌, nat_lt, length, take}
 use Rattle.ft_isa.specs.Words.{IsWord}
+use Rattle.ft_scope.specs.declared.slot.Slot.TheVariants.{Run}
+use Rattle.ft_scope.specs.Size.{RunFits}
 use Rattle.ft_lower.specs.declared.step3.Step3.{Step3}
-use Rattle.ft_lower.specs.declared.step3.Step3.TheVariants.{Put, Copy, Op, Load, Store, Exit, Go, Stop}
+use Rattle.ft_lower.specs.declared.step3.Step3.TheVariants.{Put, Copy, Op, Load, Store, LoadAt, StoreAt, Exit, Go, Stop}
 use Rattle.ft_lower.specs.Flow.{Blocks, Place, block_of}
 use Rattle.ft_lower.specs.Size.{PairsBelow, blocks_size}
 
@@ -13,6 +15,8 @@ is_last (Copy p q) = false
 is_last (Op o p q s) = false
 is_last (Load p c) = false
 is_last (Store c q spare) = false
+is_last (LoadAt p q first length) = false
+is_last (StoreAt first length i q spare) = false
 is_last (Exit q spare to) = false
 is_last (Go spare to) = true
 is_last Stop = true
@@ -27,13 +31,15 @@ pub record IsTarget (blocks to : ℕ) : Type 0 where
   pub there : to < blocks
   pub no_entry : 0 < to
 
--- a word is one, and cells and targets are there
+-- a word is one, and cells, arrays and targets are there
 abbrev pub StepFits : ℕ → ℕ → Step3 → Type 0
 StepFits cells blocks (Put p w) = IsWord w
 StepFits cells blocks (Copy p q) = Unit {0}
 StepFits cells blocks (Op o p q s) = Unit {0}
 StepFits cells blocks (Load p c) = c < cells
 StepFits cells blocks (Store c q spare) = c < cells
+StepFits cells blocks (LoadAt p q first length) = RunFits cells (Run first length)
+StepFits cells blocks (StoreAt first length i q spare) = RunFits cells (Run first length)
 StepFits cells blocks (Exit q spare to) = IsTarget blocks to
 StepFits cells blocks (Go spare to) = IsTarget blocks to
 StepFits cells blocks Stop = Unit {0}
@@ -65,6 +71,8 @@ known_after (Copy p q) k = learn p k
 known_after (Op o p q s) k = learn p k
 known_after (Load p c) k = learn p k
 known_after (Store c q spare) k = forget spare k
+known_after (LoadAt p q first length) k = learn p k
+known_after (StoreAt first length i q spare) k = forget spare k
 known_after (Exit q spare to) k = forget spare k
 known_after (Go spare to) k = forget spare k
 known_after Stop k = k
@@ -81,6 +89,8 @@ ReadsKnown vars k (Copy p q) = k q ≡ true
 ReadsKnown vars k (Op o p q s) = (k q ≡ true) × (k s ≡ true)
 ReadsKnown vars k (Load p c) = Unit {0}
 ReadsKnown vars k (Store c q spare) = (k q ≡ true) × (q ≢ spare)
+ReadsKnown vars k (LoadAt p q first length) = k q ≡ true
+ReadsKnown vars k (StoreAt first length i q spare) = (k i ≡ true) × (k q ≡ true) × (i ≢ spare) × (q ≢ spare)
 ReadsKnown vars k (Exit q spare to) = (k q ≡ true) × (q ≢ spare) × KeepsVariables vars k spare
 ReadsKnown vars k (Go spare to) = KeepsVariables vars k spare
 ReadsKnown vars k Stop = Unit {0}

@@ -34,6 +34,7 @@ fn count_statement(counts: &mut Vec<u32>, s: &Stmt<Slot>) -> Result<u32, AllocEr
 {
     match s {
         Stmt::Assign { .. } => Ok(0),
+        Stmt::AssignAt { .. } => Ok(0),
         Stmt::While { body, .. } => {
             let inner = count_blocks(counts, body)?;
             counts.push(inner)?;

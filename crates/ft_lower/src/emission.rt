@@ -4,7 +4,7 @@ ghost use Rattle.ft_syntax.specs.Plain.{none, plain_expression, plain_statement,
 ghost use Rattle.ft_scope.specs.Size.{same_slot, need, most_need};
 ghost use Rattle.ft_scope.specs.ProgramOf.{program_of};
 ghost use Rattle.ft_lower.specs.declared.step3.Step3.TheVariants.{Exit};
-ghost use Rattle.ft_lower.specs.Lowered.{block_count, body_counts, Tops, expression_steps, write, statement_steps, zeros, program_steps};
+ghost use Rattle.ft_lower.specs.Lowered.{block_count, body_counts, Tops, read, expression_steps, write, statement_steps, zeros, program_steps};
 
 use crate::counting::count_blocks;
 use crate::step3::Step3;
@@ -20,6 +20,25 @@ fn put(steps: &mut Vec<Step3>, step: Step3) -> Result<(), AllocError>
     Ok(())
 }
 
+/// The step that reads a cell or a variable into pair p; of an array, the cell that the word of this pair names.
+fn read_step(p: u8, from: Slot) -> Step3
+    ensures { result ≡ read p from }
+{
+    match from {
+        Slot::Var(q) => Step3::Copy { p, q },
+        Slot::Cell(cell) => Step3::Load { p, cell },
+        Slot::Run { first, length } => {
+            let q = p;
+            Step3::LoadAt {
+                p,
+                q,
+                first,
+                length,
+            }
+        }
+    }
+}
+
 /// The steps that leave an expression's word in pair p, by this pair and those above it.
 fn emit_expression(steps: &mut Vec<Step3>, p: u8, e: &Expr<Slot>) -> Result<(), AllocError>
     requires pairs { p + need (plain_expression same_slot e.now) ≤ 32 }
@@ -27,8 +46,11 @@ fn emit_expression(steps: &mut Vec<Step3>, p: u8, e: &Expr<Slot>) -> Result<(), 
 {
     match e {
         Expr::Literal(word) => put(steps, Step3::Put { p, word: *word }),
-        Expr::Name(Slot::Var(x)) => put(steps, Step3::Copy { p, q: *x }),
-        Expr::Name(Slot::Cell(k)) => put(steps, Step3::Load { p, cell: *k }),
+        Expr::Name(slot) => put(steps, read_step(p, *slot)),
+        Expr::At { name, index } => {
+            emit_expression(steps, p, index)?;
+            put(steps, read_step(p, *name))
+        }
         Expr::Op { op, a, b } => {
             emit_expression(steps, p, a)?;
             emit_expression(steps, p + 1, b)?;
@@ -38,15 +60,26 @@ fn emit_expression(steps: &mut Vec<Step3>, p: u8, e: &Expr<Slot>) -> Result<(), 
     }
 }
 
-/// The step that writes the pair after the spare to a cell or a variable.
+/// The step that writes the pair after the spare to a cell or a variable; of an array, the second pair after
+/// the spare to the cell that the word of the first one names.
 fn write_step(spare: u8, to: Slot) -> Step3
-    requires { spare < 255 }
+    requires { spare < 254 }
     ensures { result ≡ write spare to }
 {
-    let q = spare + 1;
     match to {
-        Slot::Var(p) => Step3::Copy { p, q },
-        Slot::Cell(cell) => Step3::Store { cell, q, spare },
+        Slot::Var(p) => Step3::Copy { p, q: spare + 1 },
+        Slot::Cell(cell) => Step3::Store {
+            cell,
+            q: spare + 1,
+            spare,
+        },
+        Slot::Run { first, length } => Step3::StoreAt {
+            first,
+            length,
+            i: spare + 1,
+            q: spare + 2,
+            spare,
+        },
     }
 }
 
@@ -112,6 +145,12 @@ fn emit_statement(
     match s {
         Stmt::Assign { to, value } => {
             emit_expression(steps, spare + 1, value)?;
+            put(steps, write_step(spare, *to))?;
+            Ok(block)
+        }
+        Stmt::AssignAt { to, index, value } => {
+            emit_expression(steps, spare + 1, index)?;
+            emit_expression(steps, spare + 2, value)?;
             put(steps, write_step(spare, *to))?;
             Ok(block)
         }

@@ -1,7 +1,8 @@
-//! A law of the definitions, the contract of a function that does nothing.
+//! Laws of the definitions, each the contract of a function that does nothing.
 ghost use Rattle.std.specs.Prelude.{◌≡◌, true, [], ◌∷◌};
 ghost use Rattle.ft_scope.specs.Resolved.{program_need, program_weight};
 ghost use Rattle.ft_meaning.specs.Fibonacci.{fibonacci, puts_out};
+ghost use Rattle.ft_meaning.specs.ArrayProgram.{array_program, array_outputs};
 ghost use Rattle.ft_lower.specs.Flow.{flow_run};
 ghost use Rattle.ft_lower.specs.Size.{blocks_size, PairsBelow};
 ghost use Rattle.ft_lower.specs.Well.{IsWell};
@@ -17,4 +18,16 @@ pub fn fibonacci_numbers_are_run()
     ensures pairs { PairsBelow 7 (lowered fibonacci) }
     ensures done { (flow_run (lowered fibonacci) (0 ∷ []) 240).done ≡ true }
     ensures out { (flow_run (lowered fibonacci) (0 ∷ []) 240).out ≡ puts_out (0 ∷ 1 ∷ 1 ∷ 2 ∷ 3 ∷ 5 ∷ 8 ∷ 13 ∷ 21 ∷ 34 ∷ []) }
+{}
+
+/// The array program of the documents needs 5 pairs and weighs 49. Its blocks are well formed, become 41
+/// instructions, name pairs below 5, and their run is done after 63 steps with four words.
+pub fn array_words_are_run()
+    ensures need { program_need array_program ≡ 5 }
+    ensures weight { program_weight array_program ≡ 49 }
+    ensures well { IsWell 1 3 (lowered array_program) }
+    ensures size { blocks_size (lowered array_program) ≡ 41 }
+    ensures pairs { PairsBelow 5 (lowered array_program) }
+    ensures done { (flow_run (lowered array_program) (0 ∷ 0 ∷ 0 ∷ []) 63).done ≡ true }
+    ensures out { (flow_run (lowered array_program) (0 ∷ 0 ∷ 0 ∷ []) 63).out ≡ array_outputs }
 {}

@@ -16,6 +16,6 @@ mod lowering;
 mod step3;
 
 pub use flow::Flow;
-pub use laws::fibonacci_numbers_are_run;
+pub use laws::{array_words_are_run, fibonacci_numbers_are_run};
 pub use lowering::lower;
 pub use step3::Step3;

@@ -1,24 +1,65 @@
 //! Three-address steps over register pairs.
 use ft_isa::Op;
 
-/// A step of a flow. The numbers `p`, `q`, `s` and `spare` name register pairs below 32; a step that has
-/// a `spare` leaves 0 in that pair. A cell and a block are named by their numbers.
+/// A step of a flow. The numbers `p`, `q`, `s`, `i` and `spare` name register pairs below 32; a step that has
+/// a `spare` leaves 0 in that pair. A cell and a block are named by their numbers, and
+/// the cells of an array by the first one and their length, 1 to 1,024.
 #[derive(Clone, Copy, Debug, PartialEq, Eq)]
 pub enum Step3 {
     /// Pair `p` gets a word.
-    Put { p: u8, word: u64 },
+    Put {
+        p: u8,
+        word: u64,
+    },
     /// Pair `p` gets the word of pair `q`.
-    Copy { p: u8, q: u8 },
+    Copy {
+        p: u8,
+        q: u8,
+    },
     /// Pair `p` gets what the operation gives of the words of the pairs `q` and `s`.
-    Op { op: Op, p: u8, q: u8, s: u8 },
+    Op {
+        op: Op,
+        p: u8,
+        q: u8,
+        s: u8,
+    },
     /// Pair `p` gets the word of a cell.
-    Load { p: u8, cell: u32 },
+    Load {
+        p: u8,
+        cell: u32,
+    },
     /// A cell gets the word of pair `q`, which is an output.
-    Store { cell: u32, q: u8, spare: u8 },
+    Store {
+        cell: u32,
+        q: u8,
+        spare: u8,
+    },
+    /// Pair `p` gets the word of the cell at `first` plus the word of pair `q` modulo `length`.
+    LoadAt {
+        p: u8,
+        q: u8,
+        first: u32,
+        length: u32,
+    },
+    /// The cell at `first` plus the word of pair `i` modulo `length` gets the word of pair `q`, which is an output.
+    StoreAt {
+        first: u32,
+        length: u32,
+        i: u8,
+        q: u8,
+        spare: u8,
+    },
     /// On to block `to` where pair `q` holds 0, and else to the next step.
-    Exit { q: u8, spare: u8, to: u32 },
+    Exit {
+        q: u8,
+        spare: u8,
+        to: u32,
+    },
     /// On to block `to`.
-    Go { spare: u8, to: u32 },
+    Go {
+        spare: u8,
+        to: u32,
+    },
     /// The end.
     Stop,
 }

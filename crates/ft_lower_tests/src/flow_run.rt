@@ -30,6 +30,15 @@ fn set(words: &mut Vec<u64>, at: usize, word: u64) {
     }
 }
 
+/// The cell that a word names among so many cells from the first one on.
+fn cell_of_run(first: u32, length: u32, word: u64) -> u32 {
+    if length == 0 {
+        return first;
+    }
+    let place = word % u64::from(length);
+    first.wrapping_add(u32::try_from(place).unwrap_or(u32::MAX))
+}
+
 impl FlowRun {
     /// A run at its start.
     pub fn new(rt: &impl AllocGlobal, cells: &[u64]) -> Result<FlowRun, Fail> {
@@ -64,6 +73,14 @@ impl FlowRun {
         self.index = 0;
     }
 
+    /// Puts the word of a pair into a cell, which is an output.
+    fn store(&mut self, cell: u32, q: u8) -> Result<(), Fail> {
+        let word = self.pair(q);
+        set(&mut self.cells, cell as usize, word);
+        self.out.push((cell, word))?;
+        Ok(())
+    }
+
     /// Runs one step.
     fn act(&mut self, step: Step3) -> Result<(), Fail> {
         self.index = self.index.wrapping_add(1);
@@ -73,9 +90,26 @@ impl FlowRun {
             Step3::Op { op, p, q, s } => self.put(p, apply(op, self.pair(q), self.pair(s))),
             Step3::Load { p, cell } => self.put(p, self.cell(cell)),
             Step3::Store { cell, q, spare } => {
-                let word = self.pair(q);
-                set(&mut self.cells, cell as usize, word);
-                self.out.push((cell, word))?;
+                self.store(cell, q)?;
+                self.put(spare, 0);
+            }
+            Step3::LoadAt {
+                p,
+                q,
+                first,
+                length,
+            } => {
+                let cell = cell_of_run(first, length, self.pair(q));
+                self.put(p, self.cell(cell));
+            }
+            Step3::StoreAt {
+                first,
+                length,
+                i,
+                q,
+                spare,
+            } => {
+                self.store(cell_of_run(first, length, self.pair(i)), q)?;
                 self.put(spare, 0);
             }
             Step3::Exit { q, spare, to } => {

@@ -13,6 +13,9 @@ type Row = (&'static [u8], &'static [(u32, u64)]);
 const FIBONACCI: &[u8] =
     b"cell out = 0; var a; var b; var t; var i; b = 1; while (i < 10) { out = a; t = a + b; a = b; b = t; i = i + 1; }";
 
+/// The array program of the documents.
+const ARRAY: &[u8] = b"cell a[3] = 0; var i; while (i < 4) { a[i] = i ^ 5; i = i + 1; }";
+
 /// A source's flow, and the initial words of its cells.
 fn lowered(rt: &(impl AllocGlobal + Abort), text: &[u8]) -> Result<(Flow, Vec<u64>), Fail> {
     let Ok(tree) = parse(rt.alloc(), text) else {
@@ -32,6 +35,7 @@ fn size(step: Step3) -> usize {
     match step {
         Step3::Put { .. } | Step3::Copy { .. } | Step3::Op { .. } => 2,
         Step3::Load { .. } | Step3::Store { .. } | Step3::Exit { .. } | Step3::Go { .. } => 4,
+        Step3::LoadAt { .. } | Step3::StoreAt { .. } => 4,
         Step3::Stop => 1,
     }
 }
@@ -102,6 +106,51 @@ fn sources_put_out_what_they_mean(rt: HostRuntime) -> Result<(), Fail> {
         assert!(&rt; run.done, "done");
         assert!(&rt; run.out.as_slice() == out, "outputs");
     }
+    Ok(())
+}
+
+#[test]
+fn sources_with_arrays_put_out_what_they_mean(rt: HostRuntime) -> Result<(), Fail> {
+    let rows: &[Row] = &[
+        (ARRAY, &[(0, 5), (1, 4), (2, 7), (0, 6)]),
+        (
+            b"cell a[2] = 1; a[0 - 1] = 7; a[0] = a[18446744073709551615] << 64;",
+            &[(1, 7), (0, 0)],
+        ),
+        (
+            b"cell p = 1; cell a[3] = 2; a[1] = 9; p = a[a[p - 1] + 2];",
+            &[(2, 9), (0, 9)],
+        ),
+        (
+            b"cell a[1024] = 3; a[1023] = a[2048] + 1; a[5] = a[1023] >> 2 | 8;",
+            &[(1023, 4), (5, 9)],
+        ),
+        (
+            b"cell a[1] = 6; cell b[1023] = 5; b[a[7]] = b[2] & 6; b[1022] = b[6 + 1023] ^ 1;",
+            &[(7, 4), (1023, 5)],
+        ),
+        (
+            b"cell c = 6; c = c << 64; c = 6 >> 64; c = c | 1 << 63; c = c >> 63;",
+            &[(0, 0), (0, 0), (0, 9223372036854775808), (0, 1)],
+        ),
+    ];
+    for row in rows {
+        let (text, out) = *row;
+        let (flow, cells) = lowered(&rt, text)?;
+        let mut run = FlowRun::new(&rt, &cells)?;
+        run.run(&flow, 152)?;
+        assert!(&rt; run.done, "done");
+        assert!(&rt; run.out.as_slice() == out, "outputs");
+    }
+    Ok(())
+}
+
+#[test]
+fn the_array_flow_is_small(rt: HostRuntime) -> Result<(), Fail> {
+    let (flow, _) = lowered(&rt, ARRAY)?;
+    assert!(&rt; flow.vars == 1);
+    assert!(&rt; flow.cells == 3);
+    assert!(&rt; flow_size(&flow) <= 49);
     Ok(())
 }
 

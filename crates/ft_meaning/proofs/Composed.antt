@@ -1,11 +1,13 @@
 -- Runs of the code, one after the other, against the definition.
-use Rattle.std.proofs.Common.{◌≡◌, ℕ, ◌-◌, List, [], map, replicate, Option, Result, Ok, Err, Bor, sym, ap, ◌∙◌, subst, arith}
+use Rattle.std.proofs.Common.{◌≡◌, ℕ, suc, ◌-◌, List, [], ◌∷◌, length, map, replicate, Option, Result, Ok, Err, Vec, Global, refl, sym, ap, ◌∙◌, subst, arith}
+use Rattle.std.proofs.lemmas.List.{length-map}
 use Rattle.ft_edge.specs.Puts.{BreaksOff}
 use Rattle.ft_isa.specs.declared.output.Output.{Output}
 use Rattle.ft_syntax.specs.declared.stmt.Stmt.{Stmt}
 use Rattle.ft_syntax.specs.Plain.{plain_list}
 use Rattle.ft_scope.specs.declared.slot.Slot.{Slot}
 use Rattle.ft_scope.specs.declared.prog.Prog.{Prog}
+use Rattle.ft_scope.specs.CellNames.{joined_names}
 use Rattle.ft_scope.specs.Size.{same_slot}
 use Rattle.ft_scope.specs.Resolved.{Program}
 use Rattle.ft_scope.specs.ProgramOf.{program_of}
@@ -93,11 +95,25 @@ start_is : (p : Program) (t : ℕ) (r : Run) → r.vars.items ≡ replicate p.va
 start_is p t r a b c = λ i. record { vars = a i; cells = b i; out = []; left = c i; work = 0 }
 
 -- a run of the whole program from its start
-pub meant : (prog : Prog) (t : ℕ) (r q : Run) (ns : List (Bor (List ℕ))) (bs : List (Stmt Slot)) (w0 w1 : Option (List ℕ)) (p0 p1 : Option (List (List ℕ))) (res : Result (Unit {0}) Stop) →
-    ns ≡ prog.names.items → bs ≡ prog.body.items → r.vars.items ≡ replicate prog.vars 0 → r.cells.items ≡ prog.inits.items → r.left ≡ t →
-    RunsTo (run (plain_list same_slot bs)) (map (λ n. n.now) ns) r q (sink_of w0 p0) (sink_of w1 p1) res → Meant (answer res) (program_of prog).names (meaning (program_of prog) t) w0 w1 p0 p1
-meant prog t r q ns bs w0 w1 p0 p1 res e f a b c h =
-    subst (λ v. Meant (answer res) (map (λ n. n.now) v) (meaning (program_of prog) t) w0 w1 p0 p1) e
-    (subst (λ m. Meant (answer res) (map (λ n. n.now) ns) m w0 w1 p0 p1)
+pub meant : (prog : Prog) (t : ℕ) (r q : Run) (names : List (List ℕ)) (bs : List (Stmt Slot)) (w0 w1 : Option (List ℕ)) (p0 p1 : Option (List (List ℕ))) (res : Result (Unit {0}) Stop) →
+    names ≡ (program_of prog).names → bs ≡ prog.body.items → r.vars.items ≡ replicate prog.vars 0 → r.cells.items ≡ prog.inits.items → r.left ≡ t →
+    RunsTo (run (plain_list same_slot bs)) names r q (sink_of w0 p0) (sink_of w1 p1) res → Meant (answer res) (program_of prog).names (meaning (program_of prog) t) w0 w1 p0 p1
+meant prog t r q names bs w0 w1 p0 p1 res e f a b c h =
+    subst (λ v. Meant (answer res) v (meaning (program_of prog) t) w0 w1 p0 p1) e
+    (subst (λ m. Meant (answer res) names m w0 w1 p0 p1)
     (ap (λ v. run (plain_list same_slot v) (state r [] 0)) f ∙ ap (run (plain_list same_slot prog.body.items)) (start_is (program_of prog) t r a b c))
-    (meant_from (run (plain_list same_slot bs)) (map (λ n. n.now) ns) r q w0 w1 p0 p1 res h))
+    (meant_from (run (plain_list same_slot bs)) names r q w0 w1 p0 p1 res h))
+
+-- as many names as declared ones, of which there are as many as places
+joined_length : (ts : List (List ℕ)) (ps : List (Option ℕ)) → length ts ≡ length ps → length (joined_names ts ps) ≡ length ts
+joined_length [] ps h = refl
+joined_length (t ∷ ts) [] h = absurd (omega arith)
+joined_length (t ∷ ts) (p ∷ ps) h = ap suc (joined_length ts ps (omega arith))
+
+-- a program has as many names as cells
+pub names_many : (p : Prog) (ns : List (Vec ℕ Global)) → map (λ n. n.items) ns ≡ (program_of p).names → length ns ≡ length p.inits.items
+names_many p ns e =
+    let texts = map (λ r. r.now) p.names.items in
+    let many : length texts ≡ length p.names.items = length-map p.names.items (λ r. r.now) in
+    let joined = joined_length texts p.places.items (omega (arith, many, p.as_many, p.as_many_places)) in
+    omega (arith, length-map ns (λ n. n.items), ap length e, joined, many, p.as_many)

@@ -3,11 +3,11 @@ use Rattle.std.proofs.Common.{◌≡◌, ℕ, zero, suc, ◌+◌, ◌≤◌, Lis
 use Rattle.std.proofs.lemmas.List.{append-nil, length-set}
 use Rattle.ft_isa.specs.Words.{cell_address}
 use Rattle.ft_isa.specs.declared.output.Output.{Output}
-use Rattle.ft_syntax.specs.Plain.{Expression, StatementList, none, assign, loop, choose}
+use Rattle.ft_syntax.specs.Plain.{Expression, StatementList, none, assign, assign_at, loop, choose}
 use Rattle.ft_scope.specs.declared.slot.Slot.{Slot}
-use Rattle.ft_scope.specs.declared.slot.Slot.TheVariants.{Cell, Var}
+use Rattle.ft_scope.specs.declared.slot.Slot.TheVariants.{Cell, Var, Run}
 use Rattle.ft_scope.specs.Resolved.{Program}
-use Rattle.ft_meaning.specs.Meaning.{State, Outcome, Ended, Cut, state_of, value, evaluated, assigned, with_left, then_do, at_zero, with_turn, loops, run, start, meaning}
+use Rattle.ft_meaning.specs.Meaning.{State, Outcome, Ended, Cut, state_of, indexed_cell, value, evaluated, evaluated_both, assigned, with_left, then_do, at_zero, with_turn, loops, run, start, meaning}
 use Rattle.ft_meaning.specs.Begins.{Begins}
 
 -- an ended run is the same but for the turns that are left over, and what a cut one put out begins what the other puts out
@@ -33,9 +33,13 @@ grows_trans a b c p q = record { left = omega (arith, p.left, q.left); out = beg
 pub evaluated_grows : (e : Expression Slot) (s : State) → Grows s (evaluated e s)
 evaluated_grows e s = record { left = omega arith; out = begins_refl s.out; vars = refl }
 
+both_grow : (i e : Expression Slot) (s : State) → Grows s (evaluated_both i e s)
+both_grow i e s = record { left = omega arith; out = begins_refl s.out; vars = refl }
+
 pub assigned_grows : (n : Slot) (v : ℕ) (s : State) → Grows s (assigned n v s)
 assigned_grows (Var x) v s = record { left = omega arith; out = begins_refl s.out; vars = length-set s.vars x v }
 assigned_grows (Cell c) v s = record { left = omega arith; out = (record { addr = cell_address c; value = v } ∷ [], refl); vars = refl }
+assigned_grows (Run c l) v s = record { left = omega arith; out = begins_refl s.out; vars = refl }
 
 left_grows : (s t : State) (l : ℕ) → l ≤ s.left → Grows (with_left l s) t → Grows s t
 left_grows s t l h g = record { left = omega (arith, g.left); out = g.out; vars = g.vars }
@@ -62,6 +66,11 @@ pub run_grows : (b : StatementList Slot) (s : State) → Grows s (state_of (run 
 run_grows none s = record { left = omega arith; out = begins_refl s.out; vars = refl }
 run_grows (assign to e rest) s =
     grows_trans s _ _ (grows_trans s (evaluated e s) _ (evaluated_grows e s) (assigned_grows to (value e s.vars s.cells) (evaluated e s))) (run_grows rest (assigned to (value e s.vars s.cells) (evaluated e s)))
+run_grows (assign_at to i e rest) s =
+    let c = Cell (indexed_cell to (value i s.vars s.cells)) in
+    let v = value e s.vars s.cells in
+    let s1 = evaluated_both i e s in
+    grows_trans s _ _ (grows_trans s s1 _ (both_grow i e s) (assigned_grows c v s1)) (run_grows rest (assigned c v s1))
 run_grows (loop e body rest) s =
     then_grows s (loops s.left e (run body) s) (run rest) (loops_grows s.left e (run body) s (λ s1. run_grows body s1)) (λ s1. run_grows rest s1)
 run_grows (choose e a b rest) s =
@@ -103,6 +112,7 @@ longer_loops d (suc n) (suc m) e body s h k b grow =
 assigned_more : (d : ℕ) (n : Slot) (v : ℕ) (s : State) → assigned n v (more d s) ≡ more d (assigned n v s)
 assigned_more d (Var x) v s = refl
 assigned_more d (Cell c) v s = refl
+assigned_more d (Run c l) v s = refl
 
 zero_longer : (d v : ℕ) (a b x y : Outcome) → Longer d a x → Longer d b y → Longer d (at_zero v a b) (at_zero v x y)
 zero_longer d zero a b x y p q = p
@@ -113,6 +123,7 @@ longer_run d none s = refl
 longer_run d (assign to e rest) s =
     let v = value e s.vars s.cells in
     subst (λ x. Longer d (run rest (assigned to v (evaluated e s))) (run rest x)) (sym (assigned_more d to v (evaluated e s))) (longer_run d rest (assigned to v (evaluated e s)))
+longer_run d (assign_at to i e rest) s = longer_run d rest (assigned (Cell (indexed_cell to (value i s.vars s.cells))) (value e s.vars s.cells) (evaluated_both i e s))
 longer_run d (loop e body rest) s =
     then_longer d s.left (loops s.left e (run body) s) (loops (s.left + d) e (run body) (more d s)) (run rest) (run rest) (loops_grows s.left e (run body) s (run_grows body)).left (longer_loops d s.left (s.left + d) e (run body) s (omega arith) (omega arith) (longer_run d body) (run_grows body)) (λ t le. longer_run d rest t) (run_grows rest)
 longer_run d (choose e a b rest) s =

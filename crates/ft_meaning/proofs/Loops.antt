@@ -1,9 +1,10 @@
 -- A turn of a loop, and statements one after the other.
 use Rattle.std.proofs.Common.{◌≡◌, ◌≢◌, ℕ, zero, suc, ◌≤◌, refl, sym, ap, ◌∙◌, subst, arith}
-use Rattle.ft_syntax.specs.Plain.{Expression, StatementList, none, assign, loop, choose, follow}
+use Rattle.ft_syntax.specs.Plain.{Expression, StatementList, none, assign, assign_at, loop, choose, follow}
 use Rattle.ft_scope.specs.declared.slot.Slot.{Slot}
+use Rattle.ft_scope.specs.declared.slot.Slot.TheVariants.{Cell}
 use Rattle.ft_scope.specs.Size.{ExpressionFits, StatementsFit}
-use Rattle.ft_meaning.specs.Meaning.{State, Outcome, Ended, Cut, value, evaluated, assigned, with_left, then_do, at_zero, with_turn, loops, run}
+use Rattle.ft_meaning.specs.Meaning.{State, Outcome, Ended, Cut, indexed_cell, value, evaluated, evaluated_both, assigned, with_left, then_do, at_zero, with_turn, loops, run}
 
 pub at_value : {A : Type 0} (v : ℕ) (a b : A) → v ≢ 0 → at_zero v a b ≡ b
 at_value zero a b ne = absurd (ne refl)
@@ -42,6 +43,7 @@ then_then (Cut s) f g h e = refl
 pub run_follow : (a b : StatementList Slot) (s : State) → run (follow a b) s ≡ then_do (run a s) (run b)
 run_follow none b s = refl
 run_follow (assign to e rest) b s = run_follow rest b (assigned to (value e s.vars s.cells) (evaluated e s))
+run_follow (assign_at to i e rest) b s = run_follow rest b (assigned (Cell (indexed_cell to (value i s.vars s.cells))) (value e s.vars s.cells) (evaluated_both i e s))
 run_follow (loop e body rest) b s = then_then (loops s.left e (run body) s) (run rest) (run b) (run (follow rest b)) (run_follow rest b)
 run_follow (choose e if_so if_not rest) b s =
     then_then (at_zero (value e s.vars s.cells) (run if_not (evaluated e s)) (run if_so (evaluated e s))) (run rest) (run b) (run (follow rest b)) (run_follow rest b)
@@ -50,6 +52,7 @@ run_follow (choose e if_so if_not rest) b s =
 pub fits_parts : (c v : ℕ) (a b : StatementList Slot) → StatementsFit c v (follow a b) → StatementsFit c v a × StatementsFit c v b
 fits_parts c v none b h = (tt, h)
 fits_parts c v (assign to e rest) b h = let p = fits_parts c v rest b h.2 in ((h.0, h.1, p.0), p.1)
+fits_parts c v (assign_at to i e rest) b h = let p = fits_parts c v rest b h.3 in ((h.0, h.1, h.2, p.0), p.1)
 fits_parts c v (loop e body rest) b h = let p = fits_parts c v rest b h.2 in ((h.0, h.1, p.0), p.1)
 fits_parts c v (choose e if_so if_not rest) b h = let p = fits_parts c v rest b h.3 in ((h.0, h.1, h.2, p.0), p.1)
 

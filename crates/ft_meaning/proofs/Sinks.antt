@@ -1,5 +1,5 @@
 -- What a sink has after one more line, and where a put fails.
-use Rattle.std.proofs.Common.{◌≡◌, ℕ, zero, suc, ◌+◌, ◌-◌, ◌<◌, ◌≤◌, max, take, add-one, List, [], ◌∷◌, ◌++◌, length, map, get_or, Option, Bor, refl, sym, ap, ◌∙◌, subst, arith}
+use Rattle.std.proofs.Common.{◌≡◌, ℕ, zero, suc, ◌+◌, ◌-◌, ◌<◌, ◌≤◌, max, take, add-one, List, [], ◌∷◌, ◌++◌, length, map, get_or, Option, Vec, Global, refl, sym, ap, ◌∙◌, subst, arith}
 use Rattle.std.proofs.lemmas.List.{map-append}
 use Rattle.std.proofs.Math.Seq.{take-suc}
 use Rattle.std.specs.Io.KnownBytes.{append_known}
@@ -47,15 +47,10 @@ breaks_longer names old new before now xs ys b more =
     (breaks_before (output_lines names xs) (output_lines names more.0) old new before now b)
 
 -- the name of a cell is the one that the code finds
-pub name_found : (xs : List (Bor (List ℕ))) (k : ℕ) (d : Bor (List ℕ)) → k < length xs → name_of (map (λ n. n.now) xs) k ≡ (get_or xs k d).now
+pub name_found : (xs : List (Vec ℕ Global)) (k : ℕ) (d : Vec ℕ Global) → k < length xs → name_of (map (λ n. n.items) xs) k ≡ (get_or xs k d).items
 name_found [] k d h = absurd (omega arith)
 name_found (x ∷ xs) zero d h = refl
 name_found (x ∷ xs) (suc k) d h = name_found xs k d (omega arith)
-
--- as many names in either form
-pub names_length : (xs : List (Bor (List ℕ))) → length (map (λ n. n.now) xs) ≡ length xs
-names_length [] = refl
-names_length (x ∷ xs) = ap suc (names_length xs)
 
 -- there is room for each name
 pub room_for : (names : List (List ℕ)) (room k : ℕ) → HasRoom names room → length (name_of names k) ≤ room
@@ -78,13 +73,13 @@ room_push : (names : List (List ℕ)) (n : List ℕ) (room : ℕ) → HasRoom na
 room_push [] n room h g = (g, tt)
 room_push (m ∷ names) n room h g = (h.0, room_push names n room h.1 g)
 
-map_push : (xs : List (Bor (List ℕ))) (x : Bor (List ℕ)) → map (λ n. n.now) (xs ++ x ∷ []) ≡ map (λ n. n.now) xs ++ x.now ∷ []
+map_push : (xs : List (Vec ℕ Global)) (x : Vec ℕ Global) → map (λ n. n.items) (xs ++ x ∷ []) ≡ map (λ n. n.items) xs ++ x.items ∷ []
 map_push [] x = refl
-map_push (y ∷ xs) x = ap (λ v. y.now ∷ v) (map_push xs x)
+map_push (y ∷ xs) x = ap (λ v. y.items ∷ v) (map_push xs x)
 
 -- one more name
-pub room_step : (xs : List (Bor (List ℕ))) (i a b : ℕ) (d : Bor (List ℕ)) → i < length xs → HasRoom (map (λ n. n.now) (take i xs)) a → b ≡ max (length (get_or xs i d).now) a → HasRoom (map (λ n. n.now) (take (i + 1) xs)) b
+pub room_step : (xs : List (Vec ℕ Global)) (i a b : ℕ) (d : Vec ℕ Global) → i < length xs → HasRoom (map (λ n. n.items) (take i xs)) a → b ≡ max (length (get_or xs i d).items) a → HasRoom (map (λ n. n.items) (take (i + 1) xs)) b
 room_step xs i a b d h r e =
-    subst (λ v. HasRoom (map (λ n. n.now) v) b) (rw add-one (sym (take-suc xs i d h)))
+    subst (λ v. HasRoom (map (λ n. n.items) v) b) (rw add-one (sym (take-suc xs i d h)))
     (subst (λ v. HasRoom v b) (sym (map_push (take i xs) (get_or xs i d)))
-    (room_push (map (λ n. n.now) (take i xs)) (get_or xs i d).now b (more_room (map (λ n. n.now) (take i xs)) a b (omega (arith, e)) r) (omega (arith, e))))
+    (room_push (map (λ n. n.items) (take i xs)) (get_or xs i d).items b (more_room (map (λ n. n.items) (take i xs)) a b (omega (arith, e)) r) (omega (arith, e))))

@@ -1,11 +1,11 @@
 -- What a program means, with a budget of loop turns over the whole run.
-use Rattle.std.specs.Prelude.{ℕ, zero, suc, ◌+◌, List, [], ◌∷◌, ◌++◌, slice_index, slice_set, replicate}
+use Rattle.std.specs.Prelude.{ℕ, zero, suc, ◌+◌, ◌%◌, List, [], ◌∷◌, ◌++◌, slice_index, slice_set, replicate}
 use Rattle.ft_isa.specs.Words.{apply, cell_address}
 use Rattle.ft_isa.specs.declared.output.Output.{Output}
-use Rattle.ft_syntax.specs.Plain.{Expression, literal, name, operation, StatementList, none, assign, loop, choose}
+use Rattle.ft_syntax.specs.Plain.{Expression, literal, name, indexed, operation, StatementList, none, assign, assign_at, loop, choose}
 use Rattle.ft_syntax.specs.Size.{expression_nodes}
 use Rattle.ft_scope.specs.declared.slot.Slot.{Slot}
-use Rattle.ft_scope.specs.declared.slot.Slot.TheVariants.{Cell, Var}
+use Rattle.ft_scope.specs.declared.slot.Slot.TheVariants.{Cell, Var, Run}
 use Rattle.ft_scope.specs.Resolved.{Program}
 
 -- where a run is: the words of variables and cells, the outputs so far, the turns that are left and the work done
@@ -34,24 +34,41 @@ outputs r = (state_of r).out
 abbrev pub work : Outcome → ℕ
 work r = (state_of r).work
 
--- the word of a cell or a variable
+-- the cell that a word names among so many cells from the first one on
+abbrev pub cell_of_run : ℕ → ℕ → ℕ → ℕ
+cell_of_run first length w = first + w % length
+
+-- the cell of an array that a word names; what is no array has none
+abbrev pub indexed_cell : Slot → ℕ → ℕ
+indexed_cell (Run first length) w = cell_of_run first length w
+indexed_cell (Cell k) w = k
+indexed_cell (Var x) w = 0
+
+-- the word of a cell or a variable; an array has none
 abbrev pub slot_value : Slot → List ℕ → List ℕ → ℕ
 slot_value (Var x) vars cells = slice_index vars x
 slot_value (Cell k) vars cells = slice_index cells k
+slot_value (Run first length) vars cells = 0
 
 -- the word of an expression, by the words of the variables and the cells
 abbrev pub value : Expression Slot → List ℕ → List ℕ → ℕ
 value (literal w) vars cells = w
 value (name s) vars cells = slot_value s vars cells
+value (indexed s i) vars cells = slice_index cells (indexed_cell s (value i vars cells))
 value (operation o a b) vars cells = apply o (value a vars cells) (value b vars cells)
 
 -- after an expression was evaluated for an assignment or a test
 abbrev pub evaluated : Expression Slot → State → State
 evaluated e s = record s { work = s.work + (expression_nodes e + 1) }
 
--- after a word was assigned; an assignment to a cell is an output, also where the word is the old one
+-- after an index and an expression were evaluated for an assignment
+abbrev pub evaluated_both : Expression Slot → Expression Slot → State → State
+evaluated_both i e s = record s { work = s.work + (expression_nodes i + expression_nodes e + 1) }
+
+-- after a word was assigned; an assignment to a cell is an output, also where the word is the old one; an array by itself is assigned nothing
 abbrev pub assigned : Slot → ℕ → State → State
 assigned (Var x) v s = record s { vars = slice_set s.vars x v }
+assigned (Run first length) v s = s
 assigned (Cell k) v s = record s { cells = slice_set s.cells k v; out = s.out ++ record { addr = cell_address k; value = v } ∷ [] }
 
 -- with so many turns left
@@ -83,6 +100,7 @@ loops (suc n) e body s =
 abbrev pub run : StatementList Slot → State → Outcome
 run none s = Ended s
 run (assign to e rest) s = run rest (assigned to (value e s.vars s.cells) (evaluated e s))
+run (assign_at to i e rest) s = run rest (assigned (Cell (indexed_cell to (value i s.vars s.cells))) (value e s.vars s.cells) (evaluated_both i e s))
 run (loop e body rest) s = then_do (loops s.left e (run body) s) (run rest)
 run (choose e if_so if_not rest) s = then_do (at_zero (value e s.vars s.cells) (run if_not (evaluated e s)) (run if_so (evaluated e s))) (run rest)
 

@@ -4,6 +4,7 @@ ghost use Rattle.ft_scope.specs.Resolved.{Program};
 ghost use Rattle.ft_meaning.specs.Meaning.{State, Ended, Cut, with_left, outputs, work, meaning};
 ghost use Rattle.ft_meaning.specs.Begins.{Begins};
 ghost use Rattle.ft_meaning.specs.Fibonacci.{fibonacci, puts_out};
+ghost use Rattle.ft_meaning.specs.ArrayProgram.{array_program, array_outputs};
 
 /// With more turns an ended meaning is the same, but for the turns that are left over, and the outputs
 /// of a cut one begin the outputs.
@@ -16,4 +17,11 @@ pub fn more_turns_extend_a_meaning()
 pub fn fibonacci_numbers_are_meant()
     ensures out { outputs (meaning fibonacci 10) ≡ puts_out (0 ∷ 1 ∷ 1 ∷ 2 ∷ 3 ∷ 5 ∷ 8 ∷ 13 ∷ 21 ∷ 34 ∷ []) }
     ensures work { work (meaning fibonacci 10) ≡ 186 }
+{}
+
+/// The array program of the documents puts out four words, of which the last goes to the first cell again, with the
+/// work 56.
+pub fn array_words_are_meant()
+    ensures out { outputs (meaning array_program 4) ≡ array_outputs }
+    ensures work { work (meaning array_program 4) ≡ 56 }
 {}

@@ -12,6 +12,6 @@ mod output_line;
 mod run;
 mod whole;
 
-pub use laws::{fibonacci_numbers_are_meant, more_turns_extend_a_meaning};
+pub use laws::{array_words_are_meant, fibonacci_numbers_are_meant, more_turns_extend_a_meaning};
 pub use mean_end::MeanEnd;
 pub use whole::mean;

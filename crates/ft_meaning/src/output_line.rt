@@ -10,8 +10,8 @@ use ft_edge::{Failed, Sink};
 use ft_isa::{VALUE_ROOM, write_line};
 
 /// The length of the longest name.
-pub fn longest(names: &[&[u8]]) -> usize
-    ensures { HasRoom (map (λ r. r.now) names.now) result }
+pub fn longest(names: &[Vec<u8>]) -> usize
+    ensures { HasRoom (map (λ n. n.items) names.now) result }
 {
     let mut most = 0;
     for name in names {

@@ -1,9 +1,9 @@
 //! A run of a program, which puts its outputs as they come.
 ghost use Rattle.std.specs.Prelude.{◌≡◌, ◌<◌, ◌≤◌, length, map};
 ghost use Rattle.ft_syntax.specs.Plain.{none, plain_expression, plain_statement, plain_list};
-ghost use Rattle.ft_scope.specs.Size.{same_slot, SlotFits, ExpressionFits, StatementsFit};
+ghost use Rattle.ft_scope.specs.Size.{same_slot, SlotFits, RunFits, ExpressionFits, StatementsFit};
 ghost use Rattle.ft_scope.specs.declared.slot.Slot.TheVariants.{Cell};
-ghost use Rattle.ft_meaning.specs.Meaning.{value, assigned, loops, run, Ended};
+ghost use Rattle.ft_meaning.specs.Meaning.{indexed_cell, value, assigned, loops, run, Ended};
 ghost use Rattle.ft_meaning.specs.Runs.{sink_of, Keeps, Ready, RunsTo, Excused};
 
 use crate::output_line::put_line;
@@ -30,6 +30,18 @@ pub struct Run {
     pub line: Vec<u8>,
 }
 
+/// The cell of an array that a word names, of so many cells in all.
+fn cell_at(array: Slot, word: u64, cells: usize) -> usize
+    requires { RunFits cells array }
+    ensures within { result < cells }
+    ensures cell { result ≡ indexed_cell array word }
+{
+    match array {
+        Slot::Run { first, length } => first as usize + (word % u64::from(length)) as usize,
+        Slot::Cell(_) | Slot::Var(_) => unreachable!(),
+    }
+}
+
 /// An expression's word, by the words of the variables and the cells.
 fn word_of(e: &Expr<Slot>, vars: &[u64], cells: &[u64]) -> u64
     requires { ExpressionFits (length cells.now) (length vars.now) (plain_expression same_slot e.now) }
@@ -39,6 +51,11 @@ fn word_of(e: &Expr<Slot>, vars: &[u64], cells: &[u64]) -> u64
         Expr::Literal(word) => *word,
         Expr::Name(Slot::Var(x)) => vars[usize::from(*x)],
         Expr::Name(Slot::Cell(k)) => cells[*k as usize],
+        Expr::Name(Slot::Run { .. }) => 0,
+        Expr::At { name, index } => {
+            let word = word_of(index, vars, cells);
+            cells[cell_at(*name, word, cells.len())]
+        }
         Expr::Op { op, a, b } => {
             let x = word_of(a, vars, cells);
             let y = word_of(b, vars, cells);
@@ -56,23 +73,32 @@ impl Run {
         word_of(e, &self.vars, &self.cells)
     }
 
+    /// The cell of an array that an index names.
+    fn cell(&self, array: Slot, index: &Expr<Slot>) -> usize
+        requires array { RunFits (length self.now.cells.items) array }
+        requires index { ExpressionFits (length self.now.cells.items) (length self.now.vars.items) (plain_expression same_slot index.now) }
+        ensures within { result < length self.now.cells.items }
+        ensures cell { result ≡ indexed_cell array (value (plain_expression same_slot index.now) self.now.vars.items self.now.cells.items) }
+    {
+        cell_at(array, self.word(index), self.cells.len())
+    }
+
     /// Assigns a word to a cell, and puts it.
     fn assign_cell<K: Sink>(
         &mut self,
-        names: &[&[u8]],
-        k: u32,
+        names: &[Vec<u8>],
+        k: usize,
         word: u64,
         out: &mut K,
     ) -> Result<(), Stop>
         requires fits { k < length self.old.cells.items }
-        requires ready { Ready (map (λ n. n.now) names.now) self.old }
-        ensures runs { RunsTo (λ s. Ended (assigned (Cell k) word s)) (map (λ n. n.now) names.now) self.old self.new (sink_of (K.written out.old) (K.pieces out.old)) (sink_of (K.written out.new) (K.pieces out.new)) result }
+        requires ready { Ready (map (λ n. n.items) names.now) self.old }
+        ensures runs { RunsTo (λ s. Ended (assigned (Cell k) word s)) (map (λ n. n.items) names.now) self.old self.new (sink_of (K.written out.old) (K.pieces out.old)) (sink_of (K.written out.new) (K.pieces out.new)) result }
         ensures keeps { Keeps self.old self.new }
         ensures count { K.failures out.old ≤ K.failures out.new }
         ensures cause { Excused result (K.failures out.old) (K.failures out.new) }
     {
-        let k = k as usize;
-        match put_line(names[k], word, &mut self.line, out) {
+        match put_line(&names[k], word, &mut self.line, out) {
             Ok(()) => {}
             Err(_) => return Err(Stop::WriteFault),
         }
@@ -83,24 +109,25 @@ impl Run {
     /// Assigns a word, and puts a cell's.
     fn assign<K: Sink>(
         &mut self,
-        names: &[&[u8]],
+        names: &[Vec<u8>],
         to: Slot,
         word: u64,
         out: &mut K,
     ) -> Result<(), Stop>
         requires fits { SlotFits (length self.old.cells.items) (length self.old.vars.items) to }
-        requires ready { Ready (map (λ n. n.now) names.now) self.old }
-        ensures runs { RunsTo (λ s. Ended (assigned to word s)) (map (λ n. n.now) names.now) self.old self.new (sink_of (K.written out.old) (K.pieces out.old)) (sink_of (K.written out.new) (K.pieces out.new)) result }
+        requires ready { Ready (map (λ n. n.items) names.now) self.old }
+        ensures runs { RunsTo (λ s. Ended (assigned to word s)) (map (λ n. n.items) names.now) self.old self.new (sink_of (K.written out.old) (K.pieces out.old)) (sink_of (K.written out.new) (K.pieces out.new)) result }
         ensures keeps { Keeps self.old self.new }
         ensures count { K.failures out.old ≤ K.failures out.new }
         ensures cause { Excused result (K.failures out.old) (K.failures out.new) }
     {
         match to {
-            Slot::Cell(k) => self.assign_cell(names, k, word, out),
+            Slot::Cell(k) => self.assign_cell(names, k as usize, word, out),
             Slot::Var(x) => {
                 self.vars[usize::from(x)] = word;
                 Ok(())
             }
+            Slot::Run { .. } => Ok(()),
         }
     }
 
@@ -108,13 +135,13 @@ impl Run {
     #[cycle(run)]
     pub fn statements<K: Sink>(
         &mut self,
-        names: &[&[u8]],
+        names: &[Vec<u8>],
         all: &[Stmt<Slot>],
         out: &mut K,
     ) -> Result<(), Stop>
         requires fits { StatementsFit (length self.old.cells.items) (length self.old.vars.items) (plain_list same_slot all.now) }
-        requires ready { Ready (map (λ n. n.now) names.now) self.old }
-        ensures runs { RunsTo (run (plain_list same_slot all.now)) (map (λ n. n.now) names.now) self.old self.new (sink_of (K.written out.old) (K.pieces out.old)) (sink_of (K.written out.new) (K.pieces out.new)) result }
+        requires ready { Ready (map (λ n. n.items) names.now) self.old }
+        ensures runs { RunsTo (run (plain_list same_slot all.now)) (map (λ n. n.items) names.now) self.old self.new (sink_of (K.written out.old) (K.pieces out.old)) (sink_of (K.written out.new) (K.pieces out.new)) result }
         ensures keeps { Keeps self.old self.new }
         ensures count { K.failures out.old ≤ K.failures out.new }
         ensures cause { Excused result (K.failures out.old) (K.failures out.new) }
@@ -131,13 +158,13 @@ impl Run {
     #[cycle(run)]
     fn statement<K: Sink>(
         &mut self,
-        names: &[&[u8]],
+        names: &[Vec<u8>],
         s: &Stmt<Slot>,
         out: &mut K,
     ) -> Result<(), Stop>
         requires fits { StatementsFit (length self.old.cells.items) (length self.old.vars.items) (plain_statement same_slot s.now none) }
-        requires ready { Ready (map (λ n. n.now) names.now) self.old }
-        ensures runs { RunsTo (run (plain_statement same_slot s.now none)) (map (λ n. n.now) names.now) self.old self.new (sink_of (K.written out.old) (K.pieces out.old)) (sink_of (K.written out.new) (K.pieces out.new)) result }
+        requires ready { Ready (map (λ n. n.items) names.now) self.old }
+        ensures runs { RunsTo (run (plain_statement same_slot s.now none)) (map (λ n. n.items) names.now) self.old self.new (sink_of (K.written out.old) (K.pieces out.old)) (sink_of (K.written out.new) (K.pieces out.new)) result }
         ensures keeps { Keeps self.old self.new }
         ensures count { K.failures out.old ≤ K.failures out.new }
         ensures cause { Excused result (K.failures out.old) (K.failures out.new) }
@@ -146,6 +173,11 @@ impl Run {
             Stmt::Assign { to, value } => {
                 let word = self.word(value);
                 self.assign(names, *to, word, out)
+            }
+            Stmt::AssignAt { to, index, value } => {
+                let k = self.cell(*to, index);
+                let word = self.word(value);
+                self.assign_cell(names, k, word, out)
             }
             Stmt::While { test, body } => self.repeat(names, body, test, out),
             Stmt::If { test, yes, no } => {
@@ -162,15 +194,15 @@ impl Run {
     #[cycle(run)]
     fn repeat<K: Sink>(
         &mut self,
-        names: &[&[u8]],
+        names: &[Vec<u8>],
         body: &[Stmt<Slot>],
         test: &Expr<Slot>,
         out: &mut K,
     ) -> Result<(), Stop>
         requires test { ExpressionFits (length self.old.cells.items) (length self.old.vars.items) (plain_expression same_slot test.now) }
         requires body { StatementsFit (length self.old.cells.items) (length self.old.vars.items) (plain_list same_slot body.now) }
-        requires ready { Ready (map (λ n. n.now) names.now) self.old }
-        ensures runs { RunsTo (loops self.old.left (plain_expression same_slot test.now) (run (plain_list same_slot body.now))) (map (λ n. n.now) names.now) self.old self.new (sink_of (K.written out.old) (K.pieces out.old)) (sink_of (K.written out.new) (K.pieces out.new)) result }
+        requires ready { Ready (map (λ n. n.items) names.now) self.old }
+        ensures runs { RunsTo (loops self.old.left (plain_expression same_slot test.now) (run (plain_list same_slot body.now))) (map (λ n. n.items) names.now) self.old self.new (sink_of (K.written out.old) (K.pieces out.old)) (sink_of (K.written out.new) (K.pieces out.new)) result }
         ensures keeps { Keeps self.old self.new }
         ensures count { K.failures out.old ≤ K.failures out.new }
         ensures cause { Excused result (K.failures out.old) (K.failures out.new) }

@@ -1,5 +1,5 @@
 //! A program's meaning.
-ghost use Rattle.std.specs.Prelude.{◌≡◌, ◌≤◌, map, replicate, IfOk};
+ghost use Rattle.std.specs.Prelude.{◌≡◌, ◌≤◌, length, map, replicate, IfOk};
 ghost use Rattle.ft_scope.specs.ProgramOf.{program_of};
 ghost use Rattle.ft_meaning.specs.Meaning.{meaning, outputs};
 ghost use Rattle.ft_meaning.specs.Lines.{output_lines};
@@ -14,14 +14,15 @@ use ft_isa::{NoMemory, VALUE_ROOM};
 use ft_scope::Prog;
 use std::alloc::Global;
 
-/// A run of a program at its start, with so many turns.
-fn start(alloc: Global, prog: &Prog<'_>, turns: u64) -> Result<Run, NoMemory>
+/// A run of a program at its start, with so many turns and room for the lines of cells with these names.
+fn start(alloc: Global, prog: &Prog<'_>, names: &[Vec<u8>], turns: u64) -> Result<Run, NoMemory>
+    requires { length names.now ≡ length prog.now.inits.items }
     ensures vars { IfOk result (λ r. r.vars.items ≡ replicate prog.now.vars 0) }
     ensures cells { IfOk result (λ r. r.cells.items ≡ prog.now.inits.items) }
     ensures left { IfOk result (λ r. r.left ≡ turns) }
-    ensures ready { IfOk result (Ready (map (λ n. n.now) prog.now.names.items)) }
+    ensures ready { IfOk result (Ready (map (λ n. n.items) names.now)) }
 {
-    let Some(room) = longest(&prog.names).checked_add(VALUE_ROOM) else {
+    let Some(room) = longest(names).checked_add(VALUE_ROOM) else {
         return Err(NoMemory);
     };
     Ok(Run {
@@ -45,10 +46,13 @@ pub fn mean<K: Sink>(alloc: Global, prog: &Prog<'_>, turns: u64, out: &mut K) ->
     ensures count { K.failures out.old ≤ K.failures out.new }
     ensures cause { IsExcused result (K.failures out.old) (K.failures out.new) }
 {
-    let Ok(mut state) = start(alloc, prog, turns) else {
+    let Ok(names) = prog.cell_names(alloc) else {
         return MeanEnd::NoMemory;
     };
-    match state.statements(&prog.names, &prog.body, out) {
+    let Ok(mut state) = start(alloc, prog, &names, turns) else {
+        return MeanEnd::NoMemory;
+    };
+    match state.statements(&names, &prog.body, out) {
         Ok(()) => MeanEnd::Ended,
         Err(Stop::Cut) => MeanEnd::Cut,
         Err(Stop::WriteFault) => MeanEnd::WriteFault,

@@ -2,7 +2,7 @@ use Rattle.std.proofs.Common.{◌≡◌, [], ◌∷◌, ◌++◌, arith, rules, 
 use Rattle.std.proofs.lemmas.List.{append-nil}
 use Rattle.ft_syntax.specs.declared.stmt.Stmt.TheViews.{the_lemmas}
 use Rattle.ft_syntax.specs.Plain.{none, plain_expression, plain_statement, plain_list}
-use Rattle.ft_syntax.proofs.PlainForms.{matched_while, matched_if, assign_form}
+use Rattle.ft_syntax.proofs.PlainForms.{matched_while, matched_if, assign_form, assign_at_form}
 use Rattle.ft_scope.specs.Size.{same_slot}
 use Rattle.ft_lower.specs.Lowered.{block_count, body_counts}
 use Rattle.ft_lower.proofs.Forms.{none_left, count_left, counts_left, count_drop}
@@ -82,6 +82,12 @@ pub count_statement-returns-in-Assign-clause-counts : goal.count_statement-retur
 count_statement-returns-in-Assign-clause-counts t c =
     let old = c.args.counts.now.items in
     let is = ap (λ s. plain_statement same_slot s none) c.in-Assign.is ∙ assign_form same_slot c.in-Assign.to c.in-Assign.value none in
+    sym (append-nil old) ∙ ap (λ st. old ++ body_counts st) (sym is)
+
+pub count_statement-returns-in-AssignAt-clause-counts : goal.count_statement-returns-in-AssignAt-clause-counts
+count_statement-returns-in-AssignAt-clause-counts t c =
+    let old = c.args.counts.now.items in
+    let is = ap (λ s. plain_statement same_slot s none) c.in-AssignAt.is ∙ assign_at_form same_slot c.in-AssignAt.to c.in-AssignAt.index c.in-AssignAt.value none in
     sym (append-nil old) ∙ ap (λ st. old ++ body_counts st) (sym is)
 
 pub count_statement-returns-in_ok-push-in-While-clause-counts : goal.count_statement-returns-in_ok-push-in-While-clause-counts

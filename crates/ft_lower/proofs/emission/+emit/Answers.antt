@@ -2,7 +2,7 @@ use Rattle.std.proofs.Common.{◌≡◌, arith, rules, sym, ap, ◌∙◌, ◌+�
 use Rattle.std.proofs.lemmas.List.{append-nil, append_cancel_right, same_from_push}
 use Rattle.ft_syntax.specs.declared.stmt.Stmt.TheViews.{the_lemmas}
 use Rattle.ft_syntax.specs.Plain.{none, plain_expression, plain_statement, plain_list}
-use Rattle.ft_syntax.proofs.PlainForms.{matched_while, matched_if, assign_form}
+use Rattle.ft_syntax.proofs.PlainForms.{matched_while, matched_if, assign_form, assign_at_form}
 use Rattle.ft_scope.specs.Size.{same_slot, most_need}
 use Rattle.ft_lower.specs.Lowered.{block_count, body_counts, expression_steps, write, statement_steps}
 use Rattle.ft_lower.proofs.Forms.{none_left, count_left, counts_left, need_left, steps_left, loop_steps, choice_steps}
@@ -201,6 +201,30 @@ pub emit_statement-returns-in_ok-put-in-Assign-clause-counts : goal.emit_stateme
 emit_statement-returns-in_ok-put-in-Assign-clause-counts t c =
     let old = c.args.counts.now.items in
     let is = ap (λ s. plain_statement same_slot s none) c.in-Assign.is ∙ assign_form same_slot c.in-Assign.to c.in-Assign.value none in
+    sym (append-nil old) ∙ ap (λ st. old ++ body_counts st) (sym is)
+
+-- ASSIGNMENTS WITH AN INDEX
+
+pub emit_statement-returns-in_ok-put-in-AssignAt-clause-steps : goal.emit_statement-returns-in_ok-put-in-AssignAt-clause-steps
+emit_statement-returns-in_ok-put-in-AssignAt-clause-steps t c =
+    let to = c.in-AssignAt.to in
+    let n = c.args.spare in
+    let old = c.args.steps.now.items in
+    let ci = expression_steps (n + 1) (plain_expression same_slot c.in-AssignAt.index) in
+    let ce = expression_steps (n + 2) (plain_expression same_slot c.in-AssignAt.value) in
+    let is = ap (λ s. plain_statement same_slot s none) c.in-AssignAt.is ∙ assign_at_form same_slot to c.in-AssignAt.index c.in-AssignAt.value none in
+    c.in_ok-put-in-AssignAt.ensures
+    ∙ ap (λ w. c.emit_expression-in-AssignAt-2.new.steps.items ++ w ∷ []) c.write_step-in-AssignAt.ensures
+    ∙ ap (λ z. z ++ write n to ∷ []) c.in_ok-emit_expression-in-AssignAt-2.ensures
+    ∙ ap (λ z. (z ++ ce) ++ write n to ∷ []) c.in_ok-emit_expression-in-AssignAt.ensures
+    ∙ append_assoc (old ++ ci) ce (write n to ∷ [])
+    ∙ append_assoc old ci (ce ++ write n to ∷ [])
+    ∙ ap (λ st. old ++ statement_steps n c.args.block st) (sym is)
+
+pub emit_statement-returns-in_ok-put-in-AssignAt-clause-counts : goal.emit_statement-returns-in_ok-put-in-AssignAt-clause-counts
+emit_statement-returns-in_ok-put-in-AssignAt-clause-counts t c =
+    let old = c.args.counts.now.items in
+    let is = ap (λ s. plain_statement same_slot s none) c.in-AssignAt.is ∙ assign_at_form same_slot c.in-AssignAt.to c.in-AssignAt.index c.in-AssignAt.value none in
     sym (append-nil old) ∙ ap (λ st. old ++ body_counts st) (sym is)
 
 -- ALL STATEMENTS

@@ -8,11 +8,11 @@ use Rattle.ft_meaning.proofs.run.Run.+run.Given as goal
 
 abbrev pub invariant-repeat-loop-self : goal.invariant-repeat-loop-self
 invariant-repeat-loop-self g l = record {
-  runs : (first : Told) (o : List Output) (w : ℕ) → sink_of (g.K.Sink.written l.initial.out) (g.K.Sink.pieces l.initial.out) ≡ told (map (λ n. n.now) l.names) first o →
-      (p : List Output) × (v : ℕ) × (m : ℕ) × (l.self.left ≤ m) × (loops l.initial.self.left (plain_expression same_slot l.test) (run (plain_list same_slot l.body)) (state l.initial.self o w) ≡ loops m (plain_expression same_slot l.test) (run (plain_list same_slot l.body)) (state l.self p v)) × (sink_of (g.K.Sink.written l.out) (g.K.Sink.pieces l.out) ≡ told (map (λ n. n.now) l.names) first p);
+  runs : (first : Told) (o : List Output) (w : ℕ) → sink_of (g.K.Sink.written l.initial.out) (g.K.Sink.pieces l.initial.out) ≡ told (map (λ n. n.items) l.names) first o →
+      (p : List Output) × (v : ℕ) × (m : ℕ) × (l.self.left ≤ m) × (loops l.initial.self.left (plain_expression same_slot l.test) (run (plain_list same_slot l.body)) (state l.initial.self o w) ≡ loops m (plain_expression same_slot l.test) (run (plain_list same_slot l.body)) (state l.self p v)) × (sink_of (g.K.Sink.written l.out) (g.K.Sink.pieces l.out) ≡ told (map (λ n. n.items) l.names) first p);
   test : ExpressionFits (length l.self.cells.items) (length l.self.vars.items) (plain_expression same_slot l.test);
   body : StatementsFit (length l.self.cells.items) (length l.self.vars.items) (plain_list same_slot l.body);
-  ready : Ready (map (λ n. n.now) l.names) l.self;
+  ready : Ready (map (λ n. n.items) l.names) l.self;
   keeps : Keeps l.initial.self l.self;
   count : g.K.Sink.failures l.out ≡ g.K.Sink.failures l.initial.out;
 }
@@ -22,10 +22,10 @@ decreases-repeat-loop-self g l = l.self.left
 
 abbrev pub invariant-statements-loop-s : goal.invariant-statements-loop-s
 invariant-statements-loop-s g l = record {
-  runs : (first : Told) (o : List Output) (w : ℕ) → sink_of (g.K.Sink.written l.initial.out) (g.K.Sink.pieces l.initial.out) ≡ told (map (λ n. n.now) l.names) first o →
-      (p : List Output) × (v : ℕ) × (run (plain_list same_slot l.all) (state l.initial.self o w) ≡ run (plain_list same_slot (drop l.s-index l.all)) (state l.self p v)) × (sink_of (g.K.Sink.written l.out) (g.K.Sink.pieces l.out) ≡ told (map (λ n. n.now) l.names) first p);
+  runs : (first : Told) (o : List Output) (w : ℕ) → sink_of (g.K.Sink.written l.initial.out) (g.K.Sink.pieces l.initial.out) ≡ told (map (λ n. n.items) l.names) first o →
+      (p : List Output) × (v : ℕ) × (run (plain_list same_slot l.all) (state l.initial.self o w) ≡ run (plain_list same_slot (drop l.s-index l.all)) (state l.self p v)) × (sink_of (g.K.Sink.written l.out) (g.K.Sink.pieces l.out) ≡ told (map (λ n. n.items) l.names) first p);
   fits : StatementsFit (length l.self.cells.items) (length l.self.vars.items) (plain_list same_slot (drop l.s-index l.all));
-  ready : Ready (map (λ n. n.now) l.names) l.self;
+  ready : Ready (map (λ n. n.items) l.names) l.self;
   keeps : Keeps l.initial.self l.self;
   count : g.K.Sink.failures l.out ≡ g.K.Sink.failures l.initial.out;
 }
