@@ -7,7 +7,7 @@ use Rattle.std.proofs.Math.Seq.{drop-append_seam, take-append_seam}
 use Rattle.ft_isa.specs.declared.instr.Subst.{Subst}
 use Rattle.ft_isa.specs.declared.instr.Instr.{Instr}
 use Rattle.ft_lower.specs.declared.step3.Step3.{Step3}
-use Rattle.ft_lower.specs.declared.step3.Step3.TheVariants.{Put, Copy, Op, Load, Store, Exit, Go, Stop}
+use Rattle.ft_lower.specs.declared.step3.Step3.TheVariants.{Put, Copy, Op, Load, Store, LoadAt, StoreAt, Exit, Go, Stop}
 use Rattle.ft_lower.specs.Flow.{Blocks}
 use Rattle.ft_lower.specs.Size.{size, row_size, blocks_size}
 use Rattle.ft_dup.specs.Images.{image, row_images, blocks_images, starts_from}
@@ -30,6 +30,8 @@ module _ (vars : ℕ) (start : ℕ → ℕ) where
   step_added w (Op o p q r) = []
   step_added w (Load p c) = []
   step_added w (Store c q spare) = []
+  step_added w (LoadAt p q begin many) = []
+  step_added w (StoreAt begin many i q spare) = []
   step_added w (Exit q spare to) = jump_subst vars w ∷ []
   step_added w (Go spare to) = jump_subst vars w ∷ []
   step_added w Stop = []
@@ -68,6 +70,8 @@ module _ (vars : ℕ) (start : ℕ → ℕ) where
   added_step scope w (Op o p q r) = sym (append-nil w.substs)
   added_step scope w (Load p c) = sym (append-nil w.substs)
   added_step scope w (Store c q spare) = sym (append-nil w.substs)
+  added_step scope w (LoadAt p q begin many) = sym (append-nil w.substs)
+  added_step scope w (StoreAt begin many i q spare) = sym (append-nil w.substs)
   added_step scope w (Exit q spare to) = refl
   added_step scope w (Go spare to) = refl
   added_step scope w Stop = sym (append-nil w.substs)
@@ -96,6 +100,8 @@ module _ (vars : ℕ) (start : ℕ → ℕ) where
   placed_step w (Op o p q r) us more = refl
   placed_step w (Load p c) us more = refl
   placed_step w (Store c q spare) us more = refl
+  placed_step w (LoadAt p q begin many) us more = refl
+  placed_step w (StoreAt begin many i q spare) us more = refl
   placed_step w (Exit q spare to) us more = refl
   placed_step w (Go spare to) us more = refl
   placed_step w Stop us more = refl
@@ -128,6 +134,8 @@ module _ (vars : ℕ) (start : ℕ → ℕ) where
   step_length u (Op o p q r) = refl
   step_length u (Load p c) = refl
   step_length u (Store c q spare) = refl
+  step_length u (LoadAt p q begin many) = refl
+  step_length u (StoreAt begin many i q spare) = refl
   step_length u (Exit q spare to) = refl
   step_length u (Go spare to) = refl
   step_length u Stop = refl

@@ -3,17 +3,19 @@ use Rattle.std.proofs.Common.{eqb-true, ◌≡◌, ◌≢◌, ℕ, zero, suc, �
 use Rattle.std.specs.List.{find}
 use Rattle.std.proofs.lemmas.Bool.{ne_eqb, eq-eqb}
 use Rattle.std.proofs.lemmas.List.{length-take}
-use Rattle.ft_isa.specs.Words.{code_address}
+use Rattle.ft_isa.specs.Words.{code_address, cell_address}
+use Rattle.ft_isa.specs.declared.op.Op.TheVariants.{Add}
 use Rattle.ft_static.specs.declared.node.Node.{Node}
+use Rattle.ft_static.specs.declared.node.Shape.TheVariants as shape
 use Rattle.ft_types.specs.declared.object.Block.{Block}
 use Rattle.ft_types.specs.Objects.{start_of as start_of_block}
 use Rattle.ft_lower.specs.declared.step3.Step3.{Step3}
-use Rattle.ft_lower.specs.declared.step3.Step3.TheVariants.{Put, Copy, Op, Load, Store, Exit, Go, Stop}
+use Rattle.ft_lower.specs.declared.step3.Step3.TheVariants.{Put, Copy, Op, Load, Store, LoadAt, StoreAt, Exit, Go, Stop}
 use Rattle.ft_lower.specs.Flow.{Blocks}
 use Rattle.ft_lower.specs.Size.{size, row_size, blocks_size}
 use Rattle.ft_lower.specs.Well.{IsBlock}
 use Rattle.ft_dup.specs.Images.{starts_from, start_of}
-use Rattle.ft_compile.specs.Emitted.{Noted, with_jump, step_noted, row_noted, begun, scope_of_block, blocks_noted, block_from, blocks_at}
+use Rattle.ft_compile.specs.Emitted.{Noted, node, pair_node, with_node, with_address_nodes, with_jump, step_noted, row_noted, begun, scope_of_block, blocks_noted, block_from, blocks_at}
 use Rattle.ft_compile.proofs.Lists.{length_more}
 use Rattle.ft_compile.proofs.Walked.{block_noted, RowsAreFine}
 
@@ -27,6 +29,16 @@ pushes_one ns x n h = let l = length_more ns x in omega arith
 pushes_two : (ns : List Node) (x y : Node) (n : ℕ) → 2 ≤ n → length ((ns ++ x ∷ []) ++ y ∷ []) ≤ length ns + n
 pushes_two ns x y n h = let l = length_more ns x in let m = length_more (ns ++ x ∷ []) y in omega arith
 
+-- the nodes of an address are three
+address_length : (scope begin many q : ℕ) (w : Noted) → length (with_address_nodes scope begin many q w).nodes ≡ length w.nodes + 3
+address_length scope begin many q w =
+    let w1 = with_node scope (shape.Word (cell_address begin)) w in
+    let w2 = with_node scope (shape.Rem (pair_node w q) many) w1 in
+    let a = length_more w.nodes (node scope (shape.Word (cell_address begin))) in
+    let b = length_more w1.nodes (node scope (shape.Rem (pair_node w q) many)) in
+    let c = length_more w2.nodes (node scope (shape.Op Add (length w.nodes) (length w.nodes + 1))) in
+    omega arith
+
 -- each instruction gives a node at most
 pub nodes_step : (vars scope : ℕ) (w : Noted) (i : Step3) → length (step_noted vars scope w i).nodes ≤ length w.nodes + size i
 nodes_step vars scope w (Put p v) = pushes_one w.nodes _ 2 (omega arith)
@@ -34,6 +46,8 @@ nodes_step vars scope w (Copy p q) = pushes_two w.nodes _ _ 2 (omega arith)
 nodes_step vars scope w (Op o p q r) = pushes_one w.nodes _ 2 (omega arith)
 nodes_step vars scope w (Load p c) = pushes_two w.nodes _ _ 4 (omega arith)
 nodes_step vars scope w (Store c q spare) = pushes_two w.nodes _ _ 4 (omega arith)
+nodes_step vars scope w (LoadAt p q begin many) = omega (arith, address_length scope begin many q w, pushes_one (with_address_nodes scope begin many q w).nodes (node scope (shape.Sel w.memory (length w.nodes + 2))) 1 (omega arith))
+nodes_step vars scope w (StoreAt begin many i q spare) = omega (arith, address_length scope begin many i w, pushes_one (with_address_nodes scope begin many i w).nodes (node scope (shape.Upd w.memory (length w.nodes + 2) (pair_node w q))) 1 (omega arith))
 nodes_step vars scope w (Exit q spare to) = omega arith
 nodes_step vars scope w (Go spare to) = omega arith
 nodes_step vars scope w Stop = omega arith
@@ -59,6 +73,8 @@ rows_step vars scope w (Copy p q) few = omega arith
 rows_step vars scope w (Op o p q r) few = omega arith
 rows_step vars scope w (Load p c) few = omega arith
 rows_step vars scope w (Store c q spare) few = omega arith
+rows_step vars scope w (LoadAt p q begin many) few = omega arith
+rows_step vars scope w (StoreAt begin many i q spare) few = omega arith
 rows_step vars scope w (Exit q spare to) few = rows_jump vars w few
 rows_step vars scope w (Go spare to) few = rows_jump vars w few
 rows_step vars scope w Stop few = omega arith
@@ -86,6 +102,8 @@ block_has_some (i ∷ is) h = omega (arith, some i)
     some (Op o p q r) = omega arith
     some (Load p c) = omega arith
     some (Store c q spare) = omega arith
+    some (LoadAt p q begin many) = omega arith
+    some (StoreAt begin many i q spare) = omega arith
     some (Exit q spare to) = omega arith
     some (Go spare to) = omega arith
     some Stop = omega arith

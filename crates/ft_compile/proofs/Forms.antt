@@ -7,7 +7,7 @@ use Rattle.ft_isa.specs.Registers.{reg_if}
 use Rattle.ft_isa.specs.declared.op.Op.{Op}
 use Rattle.ft_static.specs.declared.node.Shape.TheVariants as shape
 use Rattle.ft_static.specs.Form.{nought}
-use Rattle.ft_static.specs.NormalForm.{constant, norm_op, norm_sel, norm_upd, norm_integer, norm_memory}
+use Rattle.ft_static.specs.NormalForm.{constant, norm_op, norm_rem, norm_sel, norm_upd, norm_integer, norm_memory}
 use Rattle.ft_static.specs.FormUnder.{norm_under, norm_memory_under}
 use Rattle.ft_static.specs.NodeRules.{AreNodes}
 use Rattle.ft_static.specs.NodeTree.{integer_part, memory_part}
@@ -44,6 +44,11 @@ module _ (o : Object) (N : AreNodes o.nodes) (n scope : ℕ) where
   pub operation_form : (p : Op) (a b : ℕ) → slice_get o.nodes n ≡ Some (node scope (shape.Op p a b)) → integer_form_of o n ≡ norm_op p (integer_form_of o a) (integer_form_of o b)
   unfolding integer_form_of
   operation_form p a b e = ap (λ t. norm_integer (integer_part t)) (tree_at-row o.nodes n (node scope (shape.Op p a b)) N e)
+
+  -- that of a remainder is made of the form of what is divided
+  pub rem_form : (a m : ℕ) → slice_get o.nodes n ≡ Some (node scope (shape.Rem a m)) → integer_form_of o n ≡ norm_rem (integer_form_of o a) m
+  unfolding integer_form_of
+  rem_form a m e = ap (λ t. norm_integer (integer_part t)) (tree_at-row o.nodes n (node scope (shape.Rem a m)) N e)
 
   -- that of a word of a memory is made of the forms of memory and address
   pub sel_form : (m a : ℕ) → slice_get o.nodes n ≡ Some (node scope (shape.Sel m a)) → integer_form_of o n ≡ norm_sel (memory_form_of o m) (integer_form_of o a)

@@ -27,11 +27,13 @@ use Rattle.ft_typing.specs.Accepted.{Applies, last_row, next_row}
 use Rattle.ft_types.specs.Objects.{reg_rows, queue_rows, ints_of, memory_of, scope_of, scope_of_node}
 use Rattle.ft_typing.specs.Context.{Typed, d_zero, d_code, d_conditional, Context, typed, with_type, rows_of, replacement, typed_row, registers_after, start_context, integer_form_of, memory_form_of, integer_form_after, memory_form_after, queue_pair, FormPair, TypedRegisters}
 use Rattle.ft_isa.specs.BasicTypes.{code, int, ref}
-use Rattle.ft_typing.specs.TypedWord.{has_type, is_seen_as, same_basic}
+use Rattle.ft_typing.specs.TypedWord.{has_type, is_seen_as, same_basic, run_type}
 use Rattle.ft_typing.specs.TypingRow.{Outcome, Goes, Ends, same_colour, need, for_typed, for_code_over, for_zero, for_target, for_conditional, is_like, are_like, is_queue_like, is_annotated, is_empty, leads, row}
 use Rattle.ft_types.proofs.Maps.{get-insert}
+use Rattle.ft_scope.specs.declared.slot.Slot.TheVariants.{Run}
+use Rattle.ft_scope.specs.Size.{RunFits}
 use Rattle.ft_lower.specs.declared.step3.Step3.{Step3}
-use Rattle.ft_lower.specs.declared.step3.Step3.TheVariants.{Put, Copy, Op, Load, Store, Exit, Go, Stop}
+use Rattle.ft_lower.specs.declared.step3.Step3.TheVariants.{Put, Copy, Op, Load, Store, LoadAt, StoreAt, Exit, Go, Stop}
 use Rattle.ft_lower.specs.Size.{pairs_of}
 use Rattle.ft_lower.specs.Well.{Known, forget, known_after, known_first, is_last, IsBlock, KeepsVariables, IsTarget, StepFits, ReadsKnown, RowIsWell}
 use Rattle.ft_dup.specs.Images.{green, blue}
@@ -211,6 +213,7 @@ passes_applies o c d (i ∷ is) js p a = next_row p.0 p.1 (passes_applies o p.0 
 
 module _ (o : Object) (vars : ℕ) (T : HasTypes o vars) (cells blocks : ℕ) (start : ℕ → ℕ) (small : cells ≤ 1024)
     (refs : (c : ℕ) → c < cells → has_type o (cell_address c) (ref int) ≡ true)
+    (arrays : (begin many : ℕ) → RunFits cells (Run begin many) → run_type o begin many ≡ Some int)
     (targets : (b : ℕ) → IsTarget blocks b → has_type o (code_address (start b)) (code 1) ≡ true) where
   -- what a jump's substitution puts, where its rows are among all
   puts_these : (scope : ℕ) (w : Noted) → length w.pairs ≡ 32 → Starts (with_jump vars w).rows o.substs → PutsThese o vars T scope w.pairs w.memory (jump_subst vars w)
@@ -302,11 +305,13 @@ module _ (o : Object) (vars : ℕ) (T : HasTypes o vars) (cells blocks : ℕ) (s
 
   -- a step that does not end its block
   step_leads : (scope : ℕ) (k : Known) (w : Noted) (c : Context) (i : Step3) → is_last i ≡ false → StepFits cells blocks i → All (λ p. p < 32) (pairs_of i) → ReadsKnown vars k i → Starts (step_noted vars scope w i).nodes o.nodes → Starts (step_noted vars scope w i).rows o.substs → IsNamed o.nodes scope k (length w.nodes) w.pairs w.memory → IsGood o scope k w.pairs w.memory c → Leads o c (coded_step start (jump_subst vars w) i) scope (known_after i k) (step_noted vars scope w i)
-  step_leads scope k w c (Put p v) e fits ps reads sn sr h G = straight_leads o T.nodes cells refs start (jump_subst vars w) vars scope blocks k w c (Put p v) tt fits ps reads sn G
-  step_leads scope k w c (Copy p q) e fits ps reads sn sr h G = straight_leads o T.nodes cells refs start (jump_subst vars w) vars scope blocks k w c (Copy p q) tt fits ps reads sn G
-  step_leads scope k w c (Op op p q r) e fits ps reads sn sr h G = straight_leads o T.nodes cells refs start (jump_subst vars w) vars scope blocks k w c (Op op p q r) tt fits ps reads sn G
-  step_leads scope k w c (Load p cl) e fits ps reads sn sr h G = straight_leads o T.nodes cells refs start (jump_subst vars w) vars scope blocks k w c (Load p cl) tt fits ps reads sn G
-  step_leads scope k w c (Store cl q spare) e fits ps reads sn sr h G = straight_leads o T.nodes cells refs start (jump_subst vars w) vars scope blocks k w c (Store cl q spare) tt fits ps reads sn G
+  step_leads scope k w c (Put p v) e fits ps reads sn sr h G = straight_leads o T.nodes cells refs arrays start (jump_subst vars w) vars scope blocks k w c (Put p v) tt fits ps reads sn G
+  step_leads scope k w c (Copy p q) e fits ps reads sn sr h G = straight_leads o T.nodes cells refs arrays start (jump_subst vars w) vars scope blocks k w c (Copy p q) tt fits ps reads sn G
+  step_leads scope k w c (Op op p q r) e fits ps reads sn sr h G = straight_leads o T.nodes cells refs arrays start (jump_subst vars w) vars scope blocks k w c (Op op p q r) tt fits ps reads sn G
+  step_leads scope k w c (Load p cl) e fits ps reads sn sr h G = straight_leads o T.nodes cells refs arrays start (jump_subst vars w) vars scope blocks k w c (Load p cl) tt fits ps reads sn G
+  step_leads scope k w c (Store cl q spare) e fits ps reads sn sr h G = straight_leads o T.nodes cells refs arrays start (jump_subst vars w) vars scope blocks k w c (Store cl q spare) tt fits ps reads sn G
+  step_leads scope k w c (LoadAt p q begin many) e fits ps reads sn sr h G = straight_leads o T.nodes cells refs arrays start (jump_subst vars w) vars scope blocks k w c (LoadAt p q begin many) tt fits ps reads sn G
+  step_leads scope k w c (StoreAt begin many i q spare) e fits ps reads sn sr h G = straight_leads o T.nodes cells refs arrays start (jump_subst vars w) vars scope blocks k w c (StoreAt begin many i q spare) tt fits ps reads sn G
   step_leads scope k w c (Exit q spare to) e fits ps reads sn sr h G = exit_leads scope k w c q spare to fits (ps 0 0 (omega arith)) (ps 1 0 (omega arith)) reads sr h G
   step_leads scope k w c (Go spare to) e fits ps reads sn sr h G = cc
   step_leads scope k w c Stop e fits ps reads sn sr h G = cc
@@ -318,6 +323,8 @@ module _ (o : Object) (vars : ℕ) (T : HasTypes o vars) (cells blocks : ℕ) (s
   last_applies scope k w c (Op op p q r) e fits ps reads sr h G = cc
   last_applies scope k w c (Load p cl) e fits ps reads sr h G = cc
   last_applies scope k w c (Store cl q spare) e fits ps reads sr h G = cc
+  last_applies scope k w c (LoadAt p q begin many) e fits ps reads sr h G = cc
+  last_applies scope k w c (StoreAt begin many i q spare) e fits ps reads sr h G = cc
   last_applies scope k w c (Exit q spare to) e fits ps reads sr h G = cc
   last_applies scope k w c (Go spare to) e fits ps reads sr h G = go_applies scope k w c spare to fits (ps 0 0 (omega arith)) reads sr h G
   last_applies scope k w c Stop e fits ps reads sr h G = last_row (halt_row o c G.zero G.queue)

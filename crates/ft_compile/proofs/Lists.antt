@@ -28,10 +28,22 @@ get_front (y ∷ ys) rest (suc k) x e = get_front ys rest k x e
 pub get_starts : {X : Type 0} (xs ys : List X) (k : ℕ) (x : X) → Starts xs ys → slice_get xs k ≡ Some x → slice_get ys k ≡ Some x
 get_starts xs ys k x p e = subst (λ l. slice_get l k ≡ Some x) p.1 (get_front xs p.0 k x e)
 
+-- what begins with one more begins
+pub starts_less : {X : Type 0} (xs ys : List X) (x : X) → Starts (xs ++ x ∷ []) ys → Starts xs ys
+starts_less xs ys x s = starts_trans xs (xs ++ x ∷ []) ys (x ∷ [], refl) s
+
+-- what begins a list begins it with one more
+pub starts_more : {X : Type 0} (xs ys : List X) (y : X) → Starts xs ys → Starts xs (ys ++ y ∷ [])
+starts_more xs ys y s = starts_trans xs ys (ys ++ y ∷ []) s (y ∷ [], refl)
+
 -- one more is the last
 pub get_last : {X : Type 0} (xs : List X) (x : X) → slice_get (xs ++ x ∷ []) (length xs) ≡ Some x
 get_last [] x = refl
 get_last (y ∷ ys) x = get_last ys x
+
+-- where a list with one more begins another, that one stands in the other
+pub get_newest : {X : Type 0} (xs ys : List X) (x : X) → Starts (xs ++ x ∷ []) ys → slice_get ys (length xs) ≡ Some x
+get_newest xs ys x s = get_starts (xs ++ x ∷ []) ys (length xs) x s (get_last xs x)
 
 -- what stands in a list with one more stood there before, or is that one
 pub get_push : {X : Type 0} (xs : List X) (y : X) (k : ℕ) (x : X) → slice_get (xs ++ y ∷ []) k ≡ Some x → (slice_get xs k ≡ Some x) ⊎ ((k ≡ length xs) × (y ≡ x))

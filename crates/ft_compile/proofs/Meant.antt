@@ -12,7 +12,7 @@ use Rattle.ft_meaning.specs.Meaning.{State, Outcome, Ended, outputs, meaning}
 use Rattle.ft_meaning.specs.Begins.{Begins}
 use Rattle.ft_meaning.proofs.Longer.{begins_refl, begins_trans}
 use Rattle.ft_lower.specs.declared.step3.Step3.{Step3}
-use Rattle.ft_lower.specs.declared.step3.Step3.TheVariants.{Put, Copy, Op, Load, Store, Exit, Go, Stop}
+use Rattle.ft_lower.specs.declared.step3.Step3.TheVariants.{Put, Copy, Op, Load, Store, LoadAt, StoreAt, Exit, Go, Stop}
 use Rattle.ft_lower.specs.Flow.{Blocks, FlowState, flow_step, flow_run, flow_start}
 use Rattle.ft_lower.specs.Flow as flow
 use Rattle.ft_lower.specs.Lowers.{Lowers}
@@ -79,6 +79,8 @@ size_most (Copy p q) = omega arith
 size_most (Op o p q s) = omega arith
 size_most (Load p c) = omega arith
 size_most (Store c q s) = omega arith
+size_most (LoadAt p q begin many) = omega arith
+size_most (StoreAt begin many i q s) = omega arith
 size_most (Exit q s to) = omega arith
 size_most (Go s to) = omega arith
 size_most Stop = omega arith

@@ -1,20 +1,20 @@
 -- The nodes that are noted obey the rules, and each known pair has one.
-use Rattle.std.proofs.Common.{◌≡◌, ◌≢◌, ℕ, ◌<◌, ◌≤◌, Bool, true, false, cond, List, [], ◌∷◌, ◌++◌, length, inl, inr, Some, refl, sym, ap, ◌∙◌, subst, arith, slice_get}
+use Rattle.std.proofs.Common.{◌≡◌, ◌≢◌, ℕ, ◌+◌, ◌<◌, ◌≤◌, Bool, true, false, cond, List, [], ◌∷◌, ◌++◌, length, inl, inr, Some, refl, sym, ap, ◌∙◌, subst, arith, slice_get}
 use Rattle.std.specs.Prelude.{All, slice_index, slice_set}
 use Rattle.std.proofs.lemmas.Bool.{ne_eqb, eq-eqb, cases_eq}
 use Rattle.std.proofs.lemmas.List.{get_or-set_same, get_or-set_other, length-set}
 use Rattle.ft_static.specs.declared.node.Node.{Node}
 use Rattle.ft_static.specs.declared.node.Shape.{Shape}
 use Rattle.ft_static.specs.declared.node.Shape.TheVariants as shape
-use Rattle.ft_static.specs.NodeRules.{is_memory, MayName, IsShape, IsNode}
+use Rattle.ft_static.specs.NodeRules.{is_memory, MayName, IsLength, IsShape, IsNode}
 use Rattle.ft_isa.specs.Words.{IsWord, cell_address}
 use Rattle.ft_isa.specs.declared.op.Op.TheVariants.{Add}
 use Rattle.ft_lower.specs.declared.step3.Step3.{Step3}
-use Rattle.ft_lower.specs.declared.step3.Step3.TheVariants.{Put, Copy, Op, Load, Store, Exit, Go, Stop}
+use Rattle.ft_lower.specs.declared.step3.Step3.TheVariants.{Put, Copy, Op, Load, Store, LoadAt, StoreAt, Exit, Go, Stop}
 use Rattle.ft_lower.specs.Size.{pairs_of}
 use Rattle.ft_lower.specs.Well.{Known, learn, forget, known_after, StepFits, ReadsKnown}
-use Rattle.ft_compile.specs.Emitted.{Noted, node, pair_node, with_node, with_pair_node, with_memory_node, step_noted}
-use Rattle.ft_compile.proofs.Lists.{Starts, starts_trans, get_starts, get_last, get_push, length_more}
+use Rattle.ft_compile.specs.Emitted.{Noted, node, pair_node, with_node, with_pair_node, with_memory_node, with_address_nodes, step_noted}
+use Rattle.ft_compile.proofs.Lists.{Starts, starts_less, get_newest, get_push, length_more}
 
 -- what a step keeps of what is known
 pub learned : (k : Known) (p q : ℕ) → q ≢ p → learn p k q ≡ true → k q ≡ true
@@ -45,7 +45,7 @@ module _ (F : List Node) where
   new_named ns scope x memory s e = record {
     lower = let l = length_more ns (node scope x) in omega arith;
     node = node scope x;
-    found = get_starts _ F (length ns) (node scope x) s (get_last ns (node scope x));
+    found = get_newest ns F (node scope x) s;
     sort = e;
     scope_within = omega arith;
   }
@@ -92,10 +92,10 @@ module _ (F : List Node) where
         fine = fine_push w.nodes (node scope x) h.fine (record { scope = le; shape = ok });
       }
 
-  -- a word before it
-  word_node : (scope : ℕ) (k : Known) (w : Noted) (v : ℕ) → scope ≤ 128 → IsWord v → IsLawful scope k w → IsLawful scope k (with_node scope (shape.Word v) w)
-  word_node scope k w v le ok h =
-      let l = length_more w.nodes (node scope (shape.Word v)) in
+  -- one node, for a part of another one
+  part_node : (scope : ℕ) (k : Known) (w : Noted) (x : Shape) → scope ≤ 128 → IsShape F (length w.nodes) scope x → IsLawful scope k w → IsLawful scope k (with_node scope x w)
+  part_node scope k w x le ok h =
+      let l = length_more w.nodes (node scope x) in
       record {
         named = record {
           pair = λ q known. named_later _ _ scope false (slice_index w.pairs q) (omega arith) (h.named.pair q known);
@@ -103,7 +103,7 @@ module _ (F : List Node) where
           many = h.named.many;
           small = h.named.small;
         };
-        fine = fine_push w.nodes (node scope (shape.Word v)) h.fine (record { scope = le; shape = ok });
+        fine = fine_push w.nodes (node scope x) h.fine (record { scope = le; shape = ok });
       }
 
   -- one node, for the memory, after a store that leaves no spare
@@ -115,13 +115,37 @@ module _ (F : List Node) where
         fine = fine_push w.nodes (node scope x) h.fine (record { scope = le; shape = ok });
       }
 
-  -- the walk with one more node begins all
-  first_of_two : (scope : ℕ) (w : Noted) (x y : Shape) → Starts ((w.nodes ++ node scope x ∷ []) ++ node scope y ∷ []) F → Starts (w.nodes ++ node scope x ∷ []) F
-  first_of_two scope w x y s = starts_trans (w.nodes ++ node scope x ∷ []) ((w.nodes ++ node scope x ∷ []) ++ node scope y ∷ []) F (node scope y ∷ [], refl) s
-
   -- a cell's address is a word
   pub address_is_word : (cells c : ℕ) → cells ≤ 1024 → c < cells → IsWord (cell_address c)
   address_is_word cells c few lt = omega arith
+
+  -- after the nodes of the address of the cell of an array that a known pair names
+  record IsAddressed (scope : ℕ) (k : Known) (before w : Noted) : Type 0 where
+    lawful : IsLawful scope k w
+    named : MayName F (length w.nodes) scope false (length before.nodes + 2)
+
+  -- these nodes are lawful
+  address_lawful : (scope : ℕ) (k : Known) (w : Noted) (begin many q : ℕ) → scope ≤ 128 → IsWord (cell_address begin) → IsLength many → k q ≡ true → Starts (with_address_nodes scope begin many q w).nodes F → IsLawful scope k w → IsAddressed scope k w (with_address_nodes scope begin many q w)
+  address_lawful scope k w begin many q le word fits known s h =
+      let a = shape.Word (cell_address begin) in
+      let r = shape.Rem (pair_node w q) many in
+      let t = shape.Op Add (length w.nodes) (length w.nodes + 1) in
+      let w1 = with_node scope a w in
+      let w2 = with_node scope r w1 in
+      let s2 : Starts w2.nodes F = starts_less w2.nodes F (node scope t) s in
+      let s1 : Starts w1.nodes F = starts_less w1.nodes F (node scope r) s2 in
+      let l1 = length_more w.nodes (node scope a) in
+      let l2 = length_more w1.nodes (node scope r) in
+      let n1 : length w1.nodes ≡ length w.nodes + 1 = omega arith in
+      let n2 : length w2.nodes ≡ length w.nodes + 2 = omega arith in
+      let h1 = part_node scope k w a le word h in
+      let h2 = part_node scope k w1 r le (h1.named.pair q known, fits) h1 in
+      let first = named_later (length w1.nodes) (length w2.nodes) scope false (length w.nodes) (omega arith) (new_named w.nodes scope a false s1 refl) in
+      let second = subst (MayName F (length w2.nodes) scope false) n1 (new_named w1.nodes scope r false s2 refl) in
+      record {
+        lawful = part_node scope k w2 t le (first, second) h2;
+        named = subst (MayName F (length (with_address_nodes scope begin many q w).nodes) scope false) n2 (new_named w2.nodes scope t false s refl);
+      }
 
   -- a step that is well notes lawful nodes
   pub step_lawful : (vars scope cells blocks : ℕ) (k : Known) (w : Noted) (i : Step3) → scope ≤ 128 → cells ≤ 1024 → StepFits cells blocks i → All (λ p. p < 32) (pairs_of i) → ReadsKnown vars k i → Starts (step_noted vars scope w i).nodes F → IsLawful scope k w → IsLawful scope (known_after i k) (step_noted vars scope w i)
@@ -129,24 +153,35 @@ module _ (F : List Node) where
       one_node scope k w p (shape.Word v) le (ps 0 0 (omega arith)) s refl fits h
   step_lawful vars scope cells blocks k w (Copy p q) le few fits ps reads s h =
       let zeroed = with_node scope (shape.Word 0) w in
-      let g = word_node scope k w 0 le (omega arith) h in
-      let l = length_more w.nodes (node scope (shape.Word 0)) in
+      let g = part_node scope k w (shape.Word 0) le (let z : IsWord 0 = omega arith in z) h in
       one_node scope k zeroed p (shape.Op Add (pair_node w q) (length w.nodes)) le (ps 0 0 (omega arith)) s refl
-      (g.named.pair q reads, new_named w.nodes scope (shape.Word 0) false (first_of_two scope w _ _ s) refl) g
+      (g.named.pair q reads, new_named w.nodes scope (shape.Word 0) false (starts_less zeroed.nodes F _ s) refl) g
   step_lawful vars scope cells blocks k w (Op o p q r) le few fits ps reads s h =
       one_node scope k w p (shape.Op o (pair_node w q) (pair_node w r)) le (ps 0 0 (omega arith)) s refl (h.named.pair q reads.0, h.named.pair r reads.1) h
   step_lawful vars scope cells blocks k w (Load p c) le few fits ps reads s h =
       let a = shape.Word (cell_address c) in
       let at = with_node scope a w in
-      let g = word_node scope k w (cell_address c) le (address_is_word cells c few fits) h in
+      let g = part_node scope k w a le (address_is_word cells c few fits) h in
       one_node scope k at p (shape.Sel w.memory (length w.nodes)) le (ps 0 0 (omega arith)) s refl
-      (g.named.memory_node, new_named w.nodes scope a false (first_of_two scope w _ _ s) refl) g
+      (g.named.memory_node, new_named w.nodes scope a false (starts_less at.nodes F _ s) refl) g
   step_lawful vars scope cells blocks k w (Store c q spare) le few fits ps reads s h =
       let a = shape.Word (cell_address c) in
       let at = with_node scope a w in
-      let g = word_node scope k w (cell_address c) le (address_is_word cells c few fits) h in
+      let g = part_node scope k w a le (address_is_word cells c few fits) h in
       memory_node scope k at spare (shape.Upd w.memory (length w.nodes) (pair_node w q)) le s refl
-      (g.named.memory_node, new_named w.nodes scope a false (first_of_two scope w _ _ s) refl, g.named.pair q reads.0) g
+      (g.named.memory_node, new_named w.nodes scope a false (starts_less at.nodes F _ s) refl, g.named.pair q reads.0) g
+  step_lawful vars scope cells blocks k w (LoadAt p q begin many) le few fits ps reads s h =
+      let at = with_address_nodes scope begin many q w in
+      let x = shape.Sel w.memory (length w.nodes + 2) in
+      let word = address_is_word cells begin few (omega (arith, fits.0, fits.2)) in
+      let g = address_lawful scope k w begin many q le word (fits.0, fits.1) reads (starts_less at.nodes F (node scope x) s) h in
+      one_node scope k at p x le (ps 0 0 (omega arith)) s refl (g.lawful.named.memory_node, g.named) g.lawful
+  step_lawful vars scope cells blocks k w (StoreAt begin many e q spare) le few fits ps reads s h =
+      let at = with_address_nodes scope begin many e w in
+      let x = shape.Upd w.memory (length w.nodes + 2) (pair_node w q) in
+      let word = address_is_word cells begin few (omega (arith, fits.0, fits.2)) in
+      let g = address_lawful scope k w begin many e le word (fits.0, fits.1) reads.0 (starts_less at.nodes F (node scope x) s) h in
+      memory_node scope k at spare x le s refl (g.lawful.named.memory_node, g.named, g.lawful.named.pair q reads.1) g.lawful
   step_lawful vars scope cells blocks k w (Exit q spare to) le few fits ps reads s h = record {
     named = named_spare scope k (length w.nodes) (length w.nodes) w.pairs w.memory spare w.memory (omega arith) h.named h.named.memory_node;
     fine = h.fine;

@@ -1,9 +1,8 @@
 -- The object of well formed blocks carries them, and is spellable and accepted.
-use Rattle.std.proofs.Common.{◌≡◌, ◌≢◌, ℕ, zero, suc, ◌+◌, ◌-◌, ◌*◌, ◌<◌, ◌≤◌, Bool, true, false, cond, ◌==◌, List, [], ◌∷◌, ◌++◌, length, Option, Some, None, refl, sym, ap, ◌∙◌, subst, arith, slice_get, map}
-use Rattle.std.specs.Prelude.{All, slice_range, if◌then◌else◌}
+use Rattle.std.proofs.Common.{◌≡◌, ◌≢◌, ℕ, zero, suc, ◌+◌, ◌*◌, ◌<◌, ◌≤◌, Bool, true, false, cond, ◌==◌, List, [], ◌∷◌, ◌++◌, length, Option, Some, refl, sym, ap, ◌∙◌, subst, arith, slice_get, map}
+use Rattle.std.specs.Prelude.{All, slice_range}
 use Rattle.std.specs.List.{AllPairs, find, zip}
 use Rattle.std.specs.Option.{option_map, unwrap_or}
-use Rattle.std.proofs.lemmas.Bool.{le-leb}
 use Rattle.std.proofs.lemmas.List.Elements.{All-nil, All-cons, All-tail, All-head}
 use Rattle.std.proofs.lemmas.Option.{slice_get-map, slice_get_within}
 use Rattle.ft_isa.specs.Words.{IsWord, code_address, cell_address}
@@ -20,8 +19,11 @@ use Rattle.ft_typing.specs.Context.{start_context}
 use Rattle.ft_types.specs.Objects.{name_of, basic_of, start_of as start_of_block, code_type_of, block_type, block_instrs}
 use Rattle.ft_types.specs.Spellable.{IsCell, IsSpellable, Cover, substs_of, IsNodeIn, IsInstr}
 use Rattle.ft_isa.specs.BasicTypes.{code, int, ref}
-use Rattle.ft_typing.specs.TypedWord.{cell_of, cell_type, block_at, HasType, has_type}
+use Rattle.ft_typing.specs.TypedWord.{cell_type, run_type, block_at, HasType, has_type}
 use Rattle.ft_typing.proofs.TypedWords.{has_type_decides}
+use Rattle.ft_typing.proofs.Runs.{cell_at_address, run_type_is}
+use Rattle.ft_scope.specs.declared.slot.Slot.TheVariants.{Run}
+use Rattle.ft_scope.specs.Size.{RunFits}
 use Rattle.ft_lower.specs.Flow.{Blocks}
 use Rattle.ft_lower.specs.Size.{blocks_size}
 use Rattle.ft_lower.specs.Well.{IsTarget, IsWell, known_first}
@@ -255,16 +257,19 @@ module _ (names : List (List ℕ)) (inits : List ℕ) (vars : ℕ) (bs : Blocks)
 
   -- ACCEPTED
 
+  -- the type of the cell at a cell's address
+  type_there : (c : ℕ) → c < length inits → cell_type o (cell_address c) ≡ Some int
+  type_there c lt = ap (option_map basic_of) (cell_at_address o c) ∙ cell_there names inits c C.as_many lt
+
   -- a cell's address has the type of one
   refs : (c : ℕ) → c < length inits → has_type o (cell_address c) (ref int) ≡ true
-  unfolding cell_of
-  refs c lt =
-      let z : cell_address c - cell_address 0 ≡ c = omega arith in
-      let e : cell_type o (cell_address c) ≡ Some int =
-      ap (λ b. option_map basic_of (if b then slice_get o.cells (cell_address c - cell_address 0) else None)) (le-leb (cell_address 0) (cell_address c) (omega arith))
-      ∙ ap (λ k. option_map basic_of (slice_get o.cells k)) z
-      ∙ cell_there names inits c C.as_many lt in
-      (has_type_decides o (cell_address c) (ref int)).1 e
+  refs c lt = (has_type_decides o (cell_address c) (ref int)).1 (type_there c lt)
+
+  -- the cells of an array are of one type
+  arrays : (begin many : ℕ) → RunFits (length inits) (Run begin many) → run_type o begin many ≡ Some int
+  arrays begin many fits =
+      let within : begin + many ≤ length o.cells = omega (arith, cell_count, fits.2) in
+      (run_type_is o begin many int fits.0 within).1 (record { each = λ k lt. type_there (begin + k) (omega (arith, lt, fits.2)); referable = omega arith })
 
   -- the code address of a jump's target has that of a block of code type 1
   targets : (b : ℕ) → IsTarget (length bs) b → has_type o (code_address (start b)) (code 1) ≡ true
@@ -284,7 +289,7 @@ module _ (names : List (List ℕ)) (inits : List ℕ) (vars : ℕ) (bs : Blocks)
       let z : b ≡ b + 0 = omega arith in
       subst (λ n. Applies o (start_context o (type_of_block o vars types n)) r) z
       (subst (Applies o (start_context o (type_of_block o vars types b))) q
-      (row_applies o vars types (length inits) (length bs) start C.few refs targets (scope_of_block vars b) (known_first vars b) (begun w) (start_context o (type_of_block o vars types b)) x
+      (row_applies o vars types (length inits) (length bs) start C.few refs arrays targets (scope_of_block vars b) (known_first vars b) (begun w) (start_context o (type_of_block o vars types b)) x
       (scope_within vars b W.few_variables) f.0.ended f.0.well f.0.pairs hn hr
       (begun_lawful o.nodes vars b w W.few_variables s (starts_trans w.nodes v.nodes o.nodes wg.nodes hn) h.fine)
       (begins_good o vars types b)))

@@ -9,10 +9,12 @@ use Rattle.ft_isa.specs.declared.instr.Subst.{Subst}
 use Rattle.ft_isa.specs.declared.instr.Instr.{Instr}
 use Rattle.ft_static.specs.declared.node.Node.{Node}
 use Rattle.ft_static.specs.declared.node.Shape.TheVariants as shape
-use Rattle.ft_types.specs.Spellable.{IsBasic, IsNodeIn, IsRegRow, AreRising, IsQueueRow, IsCodeType, HasCodeType, AreBlocks, BeginAtZero, IsInstr, substs_of, reg_row_count, queue_row_count}
+use Rattle.ft_types.specs.Spellable.{IsBasic, IsNodeIn, IsRegRow, AreRising, IsQueueRow, IsCodeType, HasCodeType, AreBlocks, BeginAtZero, IsRun, IsInstr, substs_of, reg_row_count, queue_row_count}
 use Rattle.ft_isa.specs.BasicTypes.{code, int, ref}
+use Rattle.ft_scope.specs.declared.slot.Slot.TheVariants.{Run}
+use Rattle.ft_scope.specs.Size.{RunFits}
 use Rattle.ft_lower.specs.declared.step3.Step3.{Step3}
-use Rattle.ft_lower.specs.declared.step3.Step3.TheVariants.{Put, Copy, Op, Load, Store, Exit, Go, Stop}
+use Rattle.ft_lower.specs.declared.step3.Step3.TheVariants.{Put, Copy, Op, Load, Store, LoadAt, StoreAt, Exit, Go, Stop}
 use Rattle.ft_lower.specs.Flow.{Blocks}
 use Rattle.ft_lower.specs.Size.{row_size, blocks_size}
 use Rattle.ft_lower.specs.Well.{Known, known_after, StepFits, RowIsWell}
@@ -39,6 +41,10 @@ ref_int_is_basic = record { refs = omega arith; base = tt }
 code_one_is_basic : IsBasic 2 (code 1)
 code_one_is_basic = record { refs = omega arith; base = omega arith }
 
+-- the cells of an array are there
+run_there : (cells begin many : ℕ) → RunFits cells (Run begin many) → IsRun cells begin many
+run_there cells begin many fits = record { begins = omega (arith, fits.0, fits.2); length = (fits.0, fits.1); ends = fits.2 }
+
 module _ (vars : ℕ) (start : ℕ → ℕ) (cells blocks : ℕ) (small : cells ≤ 1024) (words : (b : ℕ) → IsWord (code_address (start b))) where
   -- the instructions of a step obey the rules
   instrs_step : (u : Subst) (i : Step3) → StepFits cells blocks i → AllByRecursion (IsInstr 2 cells) (coded_step start u i)
@@ -47,6 +53,8 @@ module _ (vars : ℕ) (start : ℕ → ℕ) (cells blocks : ℕ) (small : cells 
   instrs_step u (Op o p q r) fits = (tt, (tt, tt))
   instrs_step u (Load p c) fits = let a = address_is_word [] cells c small fits in ((a, ref_int_is_basic), ((a, ref_int_is_basic), (tt, (tt, tt))))
   instrs_step u (Store c q spare) fits = let a = address_is_word [] cells c small fits in ((a, ref_int_is_basic), ((a, ref_int_is_basic), (tt, (tt, tt))))
+  instrs_step u (LoadAt p q begin many) fits = let r = run_there cells begin many fits in (r, (r, (tt, (tt, tt))))
+  instrs_step u (StoreAt begin many i q spare) fits = let r = run_there cells begin many fits in (r, (r, (tt, (tt, tt))))
   instrs_step u (Exit q spare to) fits = ((words to, code_one_is_basic), ((words to, code_one_is_basic), (tt, (tt, tt))))
   instrs_step u (Go spare to) fits = ((words to, code_one_is_basic), ((words to, code_one_is_basic), (tt, (tt, tt))))
   instrs_step u Stop fits = (tt, tt)
@@ -78,6 +86,8 @@ module _ (vars : ℕ) (start : ℕ → ℕ) where
   substs_step w (Op o p q r) rest = refl
   substs_step w (Load p c) rest = refl
   substs_step w (Store c q spare) rest = refl
+  substs_step w (LoadAt p q begin many) rest = refl
+  substs_step w (StoreAt begin many i q spare) rest = refl
   substs_step w (Exit q spare to) rest = refl
   substs_step w (Go spare to) rest = refl
   substs_step w Stop rest = refl

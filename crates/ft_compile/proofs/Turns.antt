@@ -11,9 +11,9 @@ use Rattle.ft_types.specs.declared.object.RegType.{RegType}
 use Rattle.ft_isa.specs.BasicTypes.{int}
 use Rattle.ft_dup.specs.Images.{green, blue}
 use Rattle.ft_lower.specs.declared.step3.Step3.{Step3}
-use Rattle.ft_lower.specs.declared.step3.Step3.TheVariants.{Put, Copy, Op, Load, Store, Exit, Go, Stop}
+use Rattle.ft_lower.specs.declared.step3.Step3.TheVariants.{Put, Copy, Op, Load, Store, LoadAt, StoreAt, Exit, Go, Stop}
 use Rattle.ft_lower.specs.Flow.{Blocks}
-use Rattle.ft_lower.specs.Size.{size, row_size, blocks_size}
+use Rattle.ft_lower.specs.Size.{row_size, blocks_size}
 use Rattle.ft_compile.specs.Emitted.{Noted, step_noted, row_noted, begun, block_from, blocks_at, scope_of_block, blocks_noted, at_first, green_row, blue_row, variable_node}
 use Rattle.ft_compile.specs.Viewed.{HasRoom}
 use Rattle.ft_compile.proofs.Counted.{nodes_step, rows_step, nodes_row, rows_row}
@@ -39,6 +39,8 @@ pairs_step vars scope w (Copy p q) = length-set w.pairs p _
 pairs_step vars scope w (Op o p q r) = length-set w.pairs p _
 pairs_step vars scope w (Load p c) = length-set w.pairs p _
 pairs_step vars scope w (Store c q spare) = refl
+pairs_step vars scope w (LoadAt p q begin many) = length-set w.pairs p _
+pairs_step vars scope w (StoreAt begin many i q spare) = refl
 pairs_step vars scope w (Exit q spare to) = refl
 pairs_step vars scope w (Go spare to) = refl
 pairs_step vars scope w Stop = refl

@@ -10,18 +10,19 @@ use Rattle.std.proofs.lemmas.List.FromFn.{length-range_with_len, get_or-range_wi
 use Rattle.std.proofs.lemmas.Option.{slice_get-get_or, slice_get-map}
 use Rattle.std.proofs.Common.{length-append}
 use Rattle.std.proofs.lemmas.List.{length-map}
+use Rattle.ft_isa.specs.Words.{cell_address}
 use Rattle.ft_isa.specs.declared.instr.Subst.{Subst}
 use Rattle.ft_static.specs.declared.node.Node.{Node}
 use Rattle.ft_static.specs.declared.node.Shape.TheVariants as shape
 use Rattle.ft_static.specs.NodeRules.{MayName, IsNode}
 use Rattle.ft_types.specs.Spellable.{IsNodeIn, IsSubst, Cover}
 use Rattle.ft_lower.specs.declared.step3.Step3.{Step3}
-use Rattle.ft_lower.specs.declared.step3.Step3.TheVariants.{Put, Copy, Op, Load, Store, Exit, Go, Stop}
+use Rattle.ft_lower.specs.declared.step3.Step3.TheVariants.{Put, Copy, Op, Load, Store, LoadAt, StoreAt, Exit, Go, Stop}
 use Rattle.ft_lower.specs.Flow.{Blocks, block_of}
 use Rattle.ft_lower.specs.Size.{pairs_of, PairsBelow}
 use Rattle.ft_lower.specs.Well.{Known, known_after, known_first, KeepsVariables, ReadsKnown, IsBlock, RowIsWell, IsWell}
-use Rattle.ft_compile.specs.Emitted.{Noted, node, with_jump, jump_subst, step_noted, row_noted, first_pairs, begun, scope_of_block, blocks_noted, variable_node, at_first}
-use Rattle.ft_compile.proofs.Lists.{Starts, starts_refl, starts_trans, starts_length, get_starts}
+use Rattle.ft_compile.specs.Emitted.{Noted, node, pair_node, with_node, with_address_nodes, with_jump, jump_subst, step_noted, row_noted, first_pairs, begun, scope_of_block, blocks_noted, variable_node, at_first}
+use Rattle.ft_compile.proofs.Lists.{Starts, starts_refl, starts_trans, starts_more, starts_length, get_starts}
 use Rattle.ft_compile.proofs.Named.{AreFine, IsNamed, IsLawful, step_lawful}
 
 -- WHAT IS NOTED ONLY GROWS
@@ -39,13 +40,22 @@ grows_refl w = record { nodes = starts_refl w.nodes; rows = starts_refl w.rows }
 pub grows_trans : (u v w : Noted) → Grows u v → Grows v w → Grows u w
 grows_trans u v w p q = record { nodes = starts_trans u.nodes v.nodes w.nodes p.nodes q.nodes; rows = starts_trans u.rows v.rows w.rows p.rows q.rows }
 
+-- the nodes of an address are added at the end
+address_grows : (scope begin many q : ℕ) (w : Noted) → Starts w.nodes (with_address_nodes scope begin many q w).nodes
+address_grows scope begin many q w =
+    let w1 = with_node scope (shape.Word (cell_address begin)) w in
+    let w2 = with_node scope (shape.Rem (pair_node w q) many) w1 in
+    starts_more w.nodes w2.nodes _ (starts_more w.nodes w1.nodes _ (_, refl))
+
 -- a step adds at the ends
 pub step_grows : (vars scope : ℕ) (w : Noted) (i : Step3) → Grows w (step_noted vars scope w i)
 step_grows vars scope w (Put p v) = record { nodes = (node scope (shape.Word v) ∷ [], refl); rows = starts_refl w.rows }
-step_grows vars scope w (Copy p q) = record { nodes = starts_trans w.nodes (w.nodes ++ node scope (shape.Word 0) ∷ []) _ (_, refl) (_, refl); rows = starts_refl w.rows }
+step_grows vars scope w (Copy p q) = record { nodes = starts_more w.nodes (w.nodes ++ node scope (shape.Word 0) ∷ []) _ (_, refl); rows = starts_refl w.rows }
 step_grows vars scope w (Op o p q r) = record { nodes = (_, refl); rows = starts_refl w.rows }
-step_grows vars scope w (Load p c) = let a = shape.Word (1048576 + c) in record { nodes = starts_trans w.nodes (w.nodes ++ node scope a ∷ []) _ (_, refl) (_, refl); rows = starts_refl w.rows }
-step_grows vars scope w (Store c q spare) = let a = shape.Word (1048576 + c) in record { nodes = starts_trans w.nodes (w.nodes ++ node scope a ∷ []) _ (_, refl) (_, refl); rows = starts_refl w.rows }
+step_grows vars scope w (Load p c) = let a = shape.Word (1048576 + c) in record { nodes = starts_more w.nodes (w.nodes ++ node scope a ∷ []) _ (_, refl); rows = starts_refl w.rows }
+step_grows vars scope w (Store c q spare) = let a = shape.Word (1048576 + c) in record { nodes = starts_more w.nodes (w.nodes ++ node scope a ∷ []) _ (_, refl); rows = starts_refl w.rows }
+step_grows vars scope w (LoadAt p q begin many) = record { nodes = starts_more w.nodes (with_address_nodes scope begin many q w).nodes _ (address_grows scope begin many q w); rows = starts_refl w.rows }
+step_grows vars scope w (StoreAt begin many i q spare) = record { nodes = starts_more w.nodes (with_address_nodes scope begin many i w).nodes _ (address_grows scope begin many i w); rows = starts_refl w.rows }
 step_grows vars scope w (Exit q spare to) = record { nodes = starts_refl w.nodes; rows = (take vars w.pairs, refl) }
 step_grows vars scope w (Go spare to) = record { nodes = starts_refl w.nodes; rows = (take vars w.pairs, refl) }
 step_grows vars scope w Stop = grows_refl w
@@ -148,6 +158,8 @@ module _ (F : List Node) (R : List ℕ) where
   step_covered vars scope k w (Op o p q r) few le reads sn sr h c = record { rows = c.rows; chain = c.chain }
   step_covered vars scope k w (Load p a) few le reads sn sr h c = record { rows = c.rows; chain = c.chain }
   step_covered vars scope k w (Store a q spare) few le reads sn sr h c = record { rows = c.rows; chain = c.chain }
+  step_covered vars scope k w (LoadAt p q begin many) few le reads sn sr h c = record { rows = c.rows; chain = c.chain }
+  step_covered vars scope k w (StoreAt begin many i q spare) few le reads sn sr h c = record { rows = c.rows; chain = c.chain }
   step_covered vars scope k w (Exit q spare to) few le reads sn sr h c = jump_covered vars scope spare k w few le sn sr h reads.2 c
   step_covered vars scope k w (Go spare to) few le reads sn sr h c = jump_covered vars scope spare k w few le sn sr h reads c
   step_covered vars scope k w Stop few le reads sn sr h c = c

@@ -18,7 +18,7 @@ use Rattle.ft_types.specs.declared.object.RegType.{RegType}
 use Rattle.ft_isa.specs.BasicTypes.{int}
 use Rattle.ft_scope.specs.Resolved.{Program, program_need, program_weight}
 use Rattle.ft_lower.specs.declared.step3.Step3.{Step3}
-use Rattle.ft_lower.specs.declared.step3.Step3.TheVariants.{Put, Copy, Op, Load, Store, Exit, Go, Stop}
+use Rattle.ft_lower.specs.declared.step3.Step3.TheVariants.{Put, Copy, Op, Load, Store, LoadAt, StoreAt, Exit, Go, Stop}
 use Rattle.ft_lower.specs.Flow.{Blocks}
 use Rattle.ft_lower.specs.Lowers.{Lowers}
 use Rattle.ft_lower.specs.Size.{PairsBelow, blocks_size}
@@ -54,6 +54,12 @@ with_pair_node scope p x w = record w { nodes = w.nodes ++ node scope x ∷ []; 
 abbrev pub with_memory_node : ℕ → Shape → Noted → Noted
 with_memory_node scope x w = record w { nodes = w.nodes ++ node scope x ∷ []; memory = length w.nodes }
 
+-- with three more nodes, of which the last is the address of the cell of an array that a word names
+abbrev pub with_address_nodes : ℕ → ℕ → ℕ → ℕ → Noted → Noted
+with_address_nodes scope start many q w =
+    with_node scope (shape.Op Add (length w.nodes) (length w.nodes + 1))
+    (with_node scope (shape.Rem (pair_node w q) many) (with_node scope (shape.Word (cell_address start)) w))
+
 -- the substitution of a jump: the variables' integers as they are, and the memory
 abbrev pub jump_subst : ℕ → Noted → Subst
 jump_subst vars w = record { first = length w.rows; past = length w.rows + vars; memory = w.memory }
@@ -69,6 +75,8 @@ step_noted vars scope w (Copy p q) = with_pair_node scope p (shape.Op Add (pair_
 step_noted vars scope w (Op o p q s) = with_pair_node scope p (shape.Op o (pair_node w q) (pair_node w s)) w
 step_noted vars scope w (Load p c) = with_pair_node scope p (shape.Sel w.memory (length w.nodes)) (with_node scope (shape.Word (cell_address c)) w)
 step_noted vars scope w (Store c q spare) = with_memory_node scope (shape.Upd w.memory (length w.nodes) (pair_node w q)) (with_node scope (shape.Word (cell_address c)) w)
+step_noted vars scope w (LoadAt p q start many) = with_pair_node scope p (shape.Sel w.memory (length w.nodes + 2)) (with_address_nodes scope start many q w)
+step_noted vars scope w (StoreAt start many i q spare) = with_memory_node scope (shape.Upd w.memory (length w.nodes + 2) (pair_node w q)) (with_address_nodes scope start many i w)
 step_noted vars scope w (Exit q spare to) = with_jump vars w
 step_noted vars scope w (Go spare to) = with_jump vars w
 step_noted vars scope w Stop = w

@@ -8,26 +8,26 @@ use ft_types::{Cell, Table};
 use std::alloc::{AllocError, Global};
 
 /// A cell of type `int` with this name and initial word.
-fn cell_of(alloc: Global, name: &[u8], init: u64) -> Result<Cell, AllocError>
-    ensures { IfOk result (λ c. c ≡ cell_from (name.now, init)) }
+fn cell_of(name: Vec<u8>, init: u64) -> Cell
+    ensures { result ≡ cell_from (name.items, init) }
 {
-    let mut bytes = Vec::with_capacity(alloc, name.len())?;
-    bytes.extend_from_slice(name)?;
-    Ok(Cell {
-        name: Table::from_vec(bytes),
+    Cell {
+        name: Table::from_vec(name),
         basic: INT,
         init,
-    })
+    }
 }
 
 /// The cells of type `int` with these names and initial words, of which there are as many.
-pub fn cells_of(alloc: Global, names: &[&[u8]], inits: &[u64]) -> Result<Vec<Cell>, AllocError>
-    requires { length names.now ≡ length inits.now }
-    ensures { IfOk result (λ v. v.items ≡ map cell_from (zip (map (λ r. r.now) names.now) inits.now)) }
+pub fn cells_of(alloc: Global, names: Vec<Vec<u8>>, inits: &[u64]) -> Result<Vec<Cell>, AllocError>
+    requires { length names.items ≡ length inits.now }
+    ensures { IfOk result (λ v. v.items ≡ map cell_from (zip (map (λ n. n.items) names.items) inits.now)) }
 {
     let mut cells = Vec::with_capacity(alloc, names.len())?;
-    for k in 0..names.len() {
-        cells.push(cell_of(alloc, names[k], inits[k])?)?;
+    let mut k = 0;
+    for name in names {
+        cells.push(cell_of(name, inits[k]))?;
+        k += 1;
     }
     Ok(cells)
 }

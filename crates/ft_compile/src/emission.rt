@@ -1,5 +1,6 @@
 //! The object of a flow.
-ghost use Rattle.std.specs.Prelude.{◌≡◌, ◌≤◌, length, map, IfOk};
+ghost use Rattle.std.specs.Prelude.{◌≡◌, ◌≤◌, length, IfOk};
+ghost use Rattle.ft_scope.specs.ProgramOf.{program_of};
 ghost use Rattle.ft_lower.specs.Flow.{blocks_of};
 ghost use Rattle.ft_lower.specs.Size.{PairsBelow, blocks_size};
 ghost use Rattle.ft_dup.specs.Images.{doubled, starts};
@@ -11,26 +12,24 @@ use crate::notes::Notes;
 use crate::placing::{blocks_from, place};
 use crate::walking::note_flow;
 use ft_dup::Doubled;
+use ft_isa::NoMemory;
 use ft_lower::Flow;
 use ft_scope::Prog;
 use ft_types::{Object, Table};
-use std::alloc::{AllocError, Global};
+use std::alloc::Global;
 
 /// The object of a program's flow and its doubled code.
-pub fn emit(
-    alloc: Global,
-    prog: &Prog<'_>,
-    flow: &Flow,
-    code: &Doubled,
-) -> Result<Object, AllocError>
+pub fn emit(alloc: Global, prog: &Prog<'_>, flow: &Flow, code: &Doubled) -> Result<Object, NoMemory>
+    requires names { length (program_of prog.now).names ≡ length prog.now.inits.items }
     requires vars { flow.now.vars ≤ 32 }
     requires pairs { PairsBelow 32 (blocks_of flow.now) }
     requires short { blocks_size (blocks_of flow.now) ≤ 65536 }
     requires instrs { code.now.instrs.items ≡ doubled (blocks_of flow.now) }
     requires starts { code.now.starts.items ≡ starts (blocks_of flow.now) }
-    ensures { IfOk result (λ o. o ≡ emitted (map (λ r. r.now) prog.now.names.items) prog.now.inits.items flow.now.vars (blocks_of flow.now)) }
+    ensures { IfOk result (λ o. o ≡ emitted (program_of prog.now).names prog.now.inits.items flow.now.vars (blocks_of flow.now)) }
 {
-    let cells = cells_of(alloc, &prog.names, &prog.inits)?;
+    let names = prog.cell_names(alloc)?;
+    let cells = cells_of(alloc, names, &prog.inits)?;
     let notes = note_flow(alloc, flow)?;
     let types = types_of(alloc, flow.vars)?;
     let blocks = blocks_from(alloc, &code.starts)?;

@@ -13,7 +13,7 @@ pub fn emitted_objects_are_accepted()
     ensures { EmittedObjectsAreAccepted }
 {}
 
-/// The cells of a text's program have names of 1 to 32 bytes that differ, and there are at most 1,024.
+/// The cells of a text's program have names of 1 to 38 bytes that differ and are lawful in objects, and there are at most 1,024.
 pub fn programs_have_cells()
     ensures { ProgramsHaveCells }
 {}

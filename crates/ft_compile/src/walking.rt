@@ -3,7 +3,7 @@ ghost use Rattle.std.specs.Prelude.{◌≡◌, ◌≤◌, ◌<◌, ◌+◌, ℕ,
 ghost use Rattle.std.specs.List.{All};
 ghost use Rattle.ft_lower.specs.Flow.{blocks_of};
 ghost use Rattle.ft_lower.specs.Size.{PairsBelow, blocks_size, pairs_of, row_size, size};
-ghost use Rattle.ft_compile.specs.Emitted.{noted, row_noted, step_noted};
+ghost use Rattle.ft_compile.specs.Emitted.{noted, row_noted, step_noted, with_address_nodes};
 ghost use Rattle.ft_compile.specs.Viewed.{HasRoom, noted_of};
 
 use crate::notes::Notes;
@@ -79,6 +79,80 @@ fn note_store(notes: &mut Notes, scope: u8, cell: u32, q: u8) -> Result<(), Allo
     Ok(())
 }
 
+/// Notes the address of the cell of an array that the word of pair `q` names, and gives its node.
+fn note_address(
+    notes: &mut Notes,
+    scope: u8,
+    first: u32,
+    count: u32,
+    q: u8,
+) -> Result<u32, AllocError>
+    requires q { q < 32 }
+    requires room { length notes.old.nodes.items + 3 ≤ 1048576 }
+    ensures number { IfOk result (λ n. n ≡ length notes.old.nodes.items + 2) }
+    ensures noted { OnOk result (noted_of notes.new ≡ with_address_nodes scope first count q (noted_of notes.old)) }
+{
+    let word = notes.pairs[q as usize];
+    let start = notes.put(scope, Shape::Word(FIRST_CELL + u64::from(first)))?;
+    let place = notes.put(
+        scope,
+        Shape::Rem {
+            a: word,
+            length: count,
+        },
+    )?;
+    let address = notes.put(
+        scope,
+        Shape::Op {
+            op: Op::Add,
+            a: start,
+            b: place,
+        },
+    )?;
+    Ok(address)
+}
+
+/// Notes a load of the cell of an array that pair `q` names, to pair `p`.
+fn note_load_at(
+    notes: &mut Notes,
+    scope: u8,
+    p: u8,
+    q: u8,
+    first: u32,
+    count: u32,
+) -> Result<(), AllocError>
+    requires p { p < 32 }
+    requires q { q < 32 }
+    requires room { length notes.old.nodes.items + 4 ≤ 1048576 }
+    ensures { OnOk result ((vars : ℕ) → noted_of notes.new ≡ step_noted vars scope (noted_of notes.old) (Step3.LoadAt p q first count)) }
+{
+    let memory = notes.memory;
+    let at = note_address(notes, scope, first, count, q)?;
+    notes.set_pair(scope, p, Shape::Sel { memory, at })?;
+    Ok(())
+}
+
+/// Notes a store of pair `q` to the cell of an array that pair `i` names.
+fn note_store_at(
+    notes: &mut Notes,
+    scope: u8,
+    first: u32,
+    count: u32,
+    i: u8,
+    q: u8,
+) -> Result<(), AllocError>
+    requires i { i < 32 }
+    requires q { q < 32 }
+    requires room { length notes.old.nodes.items + 4 ≤ 1048576 }
+    ensures { OnOk result ((vars spare : ℕ) → noted_of notes.new ≡ step_noted vars scope (noted_of notes.old) (Step3.StoreAt first count i q spare)) }
+{
+    let memory = notes.memory;
+    let value = notes.pairs[q as usize];
+    let at = note_address(notes, scope, first, count, i)?;
+    notes.set_memory(scope, Shape::Upd { memory, at, value })?;
+    Ok(())
+}
+
 /// Notes a step of a block of this scope, in a flow of so many variables.
 fn note_step(notes: &mut Notes, vars: u8, scope: u8, step: Step3) -> Result<(), AllocError>
     requires vars { vars ≤ 32 }
@@ -92,6 +166,19 @@ fn note_step(notes: &mut Notes, vars: u8, scope: u8, step: Step3) -> Result<(), 
         Step3::Op { op, p, q, s } => note_operation(notes, scope, op, p, q, s)?,
         Step3::Load { p, cell } => note_load(notes, scope, p, cell)?,
         Step3::Store { cell, q, .. } => note_store(notes, scope, cell, q)?,
+        Step3::LoadAt {
+            p,
+            q,
+            first,
+            length,
+        } => note_load_at(notes, scope, p, q, first, length)?,
+        Step3::StoreAt {
+            first,
+            length,
+            i,
+            q,
+            ..
+        } => note_store_at(notes, scope, first, length, i, q)?,
         Step3::Exit { .. } | Step3::Go { .. } => notes.jump(vars)?,
         Step3::Stop => {}
     }

@@ -11,6 +11,9 @@ pub const FIBONACCI: &[u8] =
 pub const NUMBERS: &str =
     "out 0\nout 1\nout 1\nout 2\nout 3\nout 5\nout 8\nout 13\nout 21\nout 34\n";
 
+/// An array that a loop writes round and round.
+pub const ARRAY: &[u8] = b"cell a[3] = 0; var i; while (i < 4) { a[i] = i ^ 5; i = i + 1; }";
+
 /// How many bytes the object of a row's source has at most.
 const OBJECT_ROOM: usize = 10_000;
 

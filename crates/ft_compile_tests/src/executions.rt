@@ -1,11 +1,14 @@
 //! What `exec` writes of sources, and the runs of the objects that they are compiled to.
-use crate::compiled::{FIBONACCI, NUMBERS, with_object};
+use crate::compiled::{ARRAY, FIBONACCI, NUMBERS, with_object};
 use ft_edge::{MemShelf, MemSink};
 use ft_tests::{Row, check_file, check_row, status_of};
 use std::test::Fail;
 
 /// A loop without an end.
 const ENDLESS: &[u8] = b"cell out = 0; while (1) { out = out + 1; }";
+
+/// What is written to the array.
+const ARRAY_LINES: &str = "a[0] 5\na[1] 4\na[2] 7\na[0] 6\n";
 
 /// Sources, each with the row over it.
 const EXECUTIONS: &[(&[u8], Row)] = &[
@@ -22,6 +25,16 @@ const EXECUTIONS: &[(&[u8], Row)] = &[
     (
         b"cell a = 3; cell b = 0; if (a < 4) { b = a * a; } else { b = 1; } if (b == 1) { a = 0; } b = b - 10;",
         ("exec file", "b 9\nb 18446744073709551615\n", 0),
+    ),
+    (ARRAY, ("exec file", ARRAY_LINES, 0)),
+    (ARRAY, ("mean file", ARRAY_LINES, 0)),
+    (
+        b"cell a[2] = 1; a[0] = a[1] << 1; a[a[0] + 1] = a[a[1]] | 4;",
+        ("exec file", "a[0] 2\na[1] 5\n", 0),
+    ),
+    (
+        b"cell b[1024] = 7; b[18446744073709551615] = b[1023] << 64; b[1024] = b[1] & 13;",
+        ("exec file", "b[1023] 0\nb[0] 5\n", 0),
     ),
 ];
 

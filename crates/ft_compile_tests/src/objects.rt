@@ -1,5 +1,5 @@
 //! The objects that sources are compiled to.
-use crate::compiled::{FIBONACCI, object_of, with_object};
+use crate::compiled::{ARRAY, FIBONACCI, object_of, with_object};
 use ft_edge::MemSink;
 use ft_object::{decode, encode};
 use ft_tests::check_row;
@@ -14,6 +14,7 @@ const SOURCES: &[&[u8]] = &[
     b"cell _a1 = 3; cell b = 4; var x; x = _a1; if (x == 3) { b = x * x - 1; } else { _a1 = b; }",
     b"var x; while (0) { x = 1; }",
     FIBONACCI,
+    ARRAY,
 ];
 
 #[test]

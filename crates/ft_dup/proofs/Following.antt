@@ -8,6 +8,7 @@ use Rattle.std.proofs.lemmas.Bool.{ne_eqb, eq-eqb, cases_eq, ltb-true}
 use Rattle.std.proofs.lemmas.List.{length-set, append-nil}
 use Rattle.std.proofs.lemmas.List.Elements.{All-head, All-tail, All-set}
 use Rattle.std.proofs.lemmas.Option.{slice_get-get_or, slice_get-map, slice_get_cases, slice_get_within}
+use Rattle.std.proofs.Math.Nat.{mod-lt}
 use Rattle.std.proofs.Math.Seq.{get_or-append_seam, take-append_seam}
 use Rattle.ft_isa.specs.Words.{IsWord, apply, cell_address, code_address}
 use Rattle.ft_isa.specs.declared.plan.Wild.{Wild}
@@ -18,8 +19,9 @@ use Rattle.ft_types.specs.Objects.{start_of as start_of_block, block_start, entr
 use Rattle.ft_semantics.specs.State.{Registers, Cells, cell_at, tabulate, green_zero}
 use Rattle.ft_semantics.specs.Run.{Ran, run}
 use Rattle.ft_types.proofs.Maps.{get-insert}
+use Rattle.ft_meaning.specs.Meaning.{cell_of_run}
 use Rattle.ft_lower.specs.declared.step3.Step3.{Step3}
-use Rattle.ft_lower.specs.declared.step3.Step3.TheVariants.{Put, Copy, Op, Load, Store, Exit, Go, Stop}
+use Rattle.ft_lower.specs.declared.step3.Step3.TheVariants.{Put, Copy, Op, Load, Store, LoadAt, StoreAt, Exit, Go, Stop}
 use Rattle.ft_lower.specs.Flow.{Blocks, Place, FlowState, on, first, goes_on, goes_to, with_pair, with_cell, block_of, act, act_if, step_at, flow_step, steps, flow_start}
 use Rattle.ft_lower.specs.Size.{size, row_size, pairs_of}
 use Rattle.ft_lower.specs.Well.{IsBlock, IsTarget, Known, no_pair, pairs_below, forget, known_after, KeepsVariables, RowIsWell, known_first, row_known, known_at, IsWell}
@@ -28,7 +30,7 @@ use Rattle.ft_dup.specs.Doubles.{bare, init_of_cell, words_of, Carries, cost, co
 use Rattle.ft_dup.proofs.Places.{mapped_length, first_start, block_is}
 use Rattle.ft_dup.proofs.Stretches.{machine_steps, run_is, Leads, spot, stands, ran, fetched_state, two_any}
 use Rattle.ft_dup.proofs.Pairs.{PairsHeld, CellsHold}
-use Rattle.ft_dup.proofs.Rows.{Below, Row, put_row, copy_row, op_row, load_row, store_row, go_row, exit_zero_row, exit_other_row}
+use Rattle.ft_dup.proofs.Rows.{Below, Row, put_row, copy_row, op_row, load_row, store_row, load_at_row, store_at_row, go_row, exit_zero_row, exit_other_row}
 use Rattle.ft_dup.proofs.Laying.{row_size-append, blocks_length, Laid, laid}
 
 -- WHAT IS KNOWN
@@ -41,6 +43,10 @@ row_known-append k (x ∷ o) i = row_known-append (known_after x k) o i
 -- false is not true
 no_known : false ≡ true → ⊥
 no_known e = cc
+
+-- the cell of an array that a word names is there
+named_cell : (begin many x cells : ℕ) → 0 < many → begin + many ≤ cells → cell_of_run begin many x < cells
+named_cell begin many x cells some within = omega (arith, mod-lt x some, within)
 
 -- RUNS SIDE BY SIDE
 
@@ -63,6 +69,8 @@ size_some (Copy p q) = omega arith
 size_some (Op o p q s) = omega arith
 size_some (Load p c) = omega arith
 size_some (Store c q s) = omega arith
+size_some (LoadAt p q first m) = omega arith
+size_some (StoreAt first m i q s) = omega arith
 size_some (Exit q s to) = omega arith
 size_some (Go s to) = omega arith
 size_some Stop = omega arith
@@ -232,6 +240,18 @@ module _ (o : Object) (vars cells : ℕ) (bs : Blocks) (W : IsWell vars cells bs
       on_row k f (goes_on (with_pair s 0 (with_cell x (f.pairs q) f))) i (suc (suc (suc (suc i)))) m c (Store x q s) front rest known next A A.ended refl refl (omega arith)
       (record { many = length-set f.cells x (f.pairs q) ∙ A.many; words = All-set IsWord f.cells x (f.pairs q) (A.holds q A.well.1.0).word A.words; running = A.running })
       (store_row o w known i x q s m c f (start_of bs) n L.has h lt A.well.1 A.holds A.memory)
+  by_step k f i m c (LoadAt p q begin many) front rest known next A L n h =
+      let x = cell_of_run begin many (f.pairs q) in
+      let lt : x < length f.cells = let y = named_cell begin many (f.pairs q) cells A.well.0.0 A.well.0.2 in let z = A.many in omega arith in
+      on_row k f (goes_on (with_pair p (slice_index f.cells x) f)) i (suc (suc (suc (suc i)))) m c (LoadAt p q begin many) front rest known next A A.ended refl refl (omega arith) (record { many = A.many; words = A.words; running = A.running })
+      (load_at_row o w known i p q begin many m c f (start_of bs) n L.has h lt (A.words x 0 lt) A.well.1 A.holds A.memory)
+  by_step k f i m c (StoreAt begin many e q s) front rest known next A L n h =
+      let r = A.well.1 in
+      let x = cell_of_run begin many (f.pairs e) in
+      let lt : x < length f.cells = let y = named_cell begin many (f.pairs e) cells A.well.0.0 A.well.0.2 in let z = A.many in omega arith in
+      on_row k f (goes_on (with_pair s 0 (with_cell x (f.pairs q) f))) i (suc (suc (suc (suc i)))) m c (StoreAt begin many e q s) front rest known next A A.ended refl refl (omega arith)
+      (record { many = length-set f.cells x (f.pairs q) ∙ A.many; words = All-set IsWord f.cells x (f.pairs q) (A.holds q r.1).word A.words; running = A.running })
+      (store_at_row o w known i begin many e q s m c f (start_of bs) n L.has h lt r.0 r.1 r.3 A.holds A.memory)
   by_step k f i m c (Exit q s to) front rest known next A L n h = exit_by (f.pairs q) k f i m c q s to front rest known next A L n h refl
   by_step k f i m c (Go s to) front rest known next A L n h =
       to_row k f (goes_to to (with_pair s 0 f)) i to s m c (Go s to) front rest known next A A.well.0 A.well.1 refl refl (record { many = A.many; words = A.words; running = A.running })

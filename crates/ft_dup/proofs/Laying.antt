@@ -4,7 +4,7 @@ use Rattle.std.proofs.Math.Seq.{get_or-append_seam}
 use Rattle.std.proofs.lemmas.Option.{slice_get-get_or}
 use Rattle.ft_isa.specs.declared.instr.Instr.{Instr}
 use Rattle.ft_lower.specs.declared.step3.Step3.{Step3}
-use Rattle.ft_lower.specs.declared.step3.Step3.TheVariants.{Put, Copy, Op, Load, Store, Exit, Go, Stop}
+use Rattle.ft_lower.specs.declared.step3.Step3.TheVariants.{Put, Copy, Op, Load, Store, LoadAt, StoreAt, Exit, Go, Stop}
 use Rattle.ft_lower.specs.Flow.{Blocks, block_of}
 use Rattle.ft_lower.specs.Size.{size, row_size, blocks_size}
 use Rattle.ft_dup.specs.Images.{image, row_images, blocks_images, start_of, doubled}
@@ -31,6 +31,8 @@ image_length start (Copy p q) = refl
 image_length start (Op o p q s) = refl
 image_length start (Load p c) = refl
 image_length start (Store c q s) = refl
+image_length start (LoadAt p q first m) = refl
+image_length start (StoreAt first m i q s) = refl
 image_length start (Exit q s to) = refl
 image_length start (Go s to) = refl
 image_length start Stop = refl

@@ -4,7 +4,7 @@ use Rattle.std.specs.List.{All}
 use Rattle.std.proofs.Math.ListN.{get_or-map}
 use Rattle.std.proofs.lemmas.List.Elements.{All-head, All-tail, All-cons, All-nil, All-from_get_or}
 use Rattle.ft_lower.specs.declared.step3.Step3.{Step3}
-use Rattle.ft_lower.specs.declared.step3.Step3.TheVariants.{Put, Copy, Op, Load, Store, Exit, Go, Stop}
+use Rattle.ft_lower.specs.declared.step3.Step3.TheVariants.{Put, Copy, Op, Load, Store, LoadAt, StoreAt, Exit, Go, Stop}
 use Rattle.ft_lower.specs.Flow.{Blocks, block_of}
 use Rattle.ft_lower.specs.Size.{row_size}
 use Rattle.ft_lower.specs.Well.{Known, StepFits, RowIsWell, known_after, known_first, IsWell}
@@ -52,6 +52,8 @@ module _ (f g : ℕ → ℕ) (n : ℕ) (same : (b : ℕ) → b < n → f b ≡ g
   image_same (Op o p q s) h = refl
   image_same (Load p c) h = refl
   image_same (Store c q spare) h = refl
+  image_same (LoadAt p q first m) h = refl
+  image_same (StoreAt first m i q spare) h = refl
   image_same (Exit q spare to) h = ap (λ t. image (λ b. t) (Exit q spare to)) (same to h.there)
   image_same (Go spare to) h = ap (λ t. image (λ b. t) (Go spare to)) (same to h.there)
   image_same Stop h = refl
@@ -87,6 +89,8 @@ target_of cells blocks (Copy p q) h = tt
 target_of cells blocks (Op o p q s) h = tt
 target_of cells blocks (Load p c) h = tt
 target_of cells blocks (Store c q spare) h = tt
+target_of cells blocks (LoadAt p q first m) h = tt
+target_of cells blocks (StoreAt first m i q spare) h = tt
 target_of cells blocks (Exit q spare to) h = h
 target_of cells blocks (Go spare to) h = h
 target_of cells blocks Stop h = tt

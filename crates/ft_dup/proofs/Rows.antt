@@ -3,7 +3,7 @@ use Rattle.std.proofs.Common.{◌≡◌, ◌≢◌, ℕ, suc, ◌+◌, ◌<◌, 
 use Rattle.std.specs.List.{All}
 use Rattle.std.proofs.lemmas.List.Elements.{All-head, All-tail}
 use Rattle.ft_isa.specs.BasicTypes.{int}
-use Rattle.ft_isa.specs.Words.{IsWord, apply, cell_address, code_address}
+use Rattle.ft_isa.specs.Words.{IsWord, apply, cell_address, cell_in_run, code_address}
 use Rattle.ft_isa.specs.declared.colour.Colour.TheVariants.{Green, Blue}
 use Rattle.ft_isa.specs.declared.op.Op.{Op as Operation}
 use Rattle.ft_isa.specs.declared.op.Op.TheVariants as op
@@ -12,15 +12,16 @@ use Rattle.ft_isa.specs.declared.plan.Wild.{Wild}
 use Rattle.ft_isa.specs.declared.instr.Instr.{Instr}
 use Rattle.ft_isa.specs.declared.instr.Instr.TheVariants as instr
 use Rattle.ft_types.specs.declared.object.Object.{Object}
-use Rattle.ft_semantics.specs.State.{Registers, Cells, with_held, with_cell}
-use Rattle.ft_lower.specs.declared.step3.Step3.TheVariants.{Put, Copy, Op, Load, Store, Exit, Go}
+use Rattle.ft_semantics.specs.State.{Registers, Cells, held, with_held, with_cell}
+use Rattle.ft_meaning.specs.Meaning.{cell_of_run}
+use Rattle.ft_lower.specs.declared.step3.Step3.TheVariants.{Put, Copy, Op, Load, Store, LoadAt, StoreAt, Exit, Go}
 use Rattle.ft_lower.specs.Flow.{FlowState, goes_on, goes_to, with_pair}
 use Rattle.ft_lower.specs.Flow as flow
 use Rattle.ft_lower.specs.Size.{pairs_of}
 use Rattle.ft_lower.specs.Well.{Known, learn, forget}
-use Rattle.ft_dup.specs.Images.{green, blue, image}
+use Rattle.ft_dup.specs.Images.{green, blue, loads, stores, image}
 use Rattle.ft_dup.specs.Doubles.{bare}
-use Rattle.ft_dup.proofs.Stretches.{Leads, lead_on, spot, col, mov, op_reg, op_word, load, store_green, store_blue, jump_green, jump_blue, branch_green_zero, branch_green_other, branch_blue_zero, branch_blue_other}
+use Rattle.ft_dup.proofs.Stretches.{Leads, lead_on, spot, col, mov, op_reg, op_word, index, load, store_green, store_blue, jump_green, jump_blue, branch_green_zero, branch_green_other, branch_blue_zero, branch_blue_other}
 use Rattle.ft_isa.proofs.Operations.{apply_is_word}
 use Rattle.ft_dup.proofs.Pairs.{add_nothing, PairsHeld, two_held, green_read, blue_read, blue_left, pair_kept, holds_learn, holds_forget, CellsHold, cell_there, cells_set}
 
@@ -99,12 +100,11 @@ module _ (o : Object) (w : List Wild) where
         memory = cells;
       }
 
-  -- `Load` by its four instructions
-  pub load_row : (k : Known) (i p n : ℕ) (m : Registers) (c : Cells) (f : FlowState) (start : ℕ → ℕ) → i + 4 < 65537 → HasInstrs (map bare o.instrs) i (image start (Load p n)) → Below (pairs_of (Load p n)) → n < length f.cells → IsWord (slice_index f.cells n) → PairsHeld k m f.pairs → CellsHold c f.cells → Row (learn p k) 8 i (suc (suc (suc (suc i)))) m c f (goes_on (with_pair p (slice_index f.cells n) f))
-  load_row k i p n m c f start short has pairs there word h cells =
+  -- what two loads do of the address of a cell, which two instructions before them put into both registers of their pair
+  loads_row : (k : Known) (i p n : ℕ) (m : Registers) (c : Cells) (f : FlowState) → i + 4 < 65537 → p < 32 → Leads o 4 (spot i m 0 [] c w f.out) (spot (suc (suc i)) (two_held m p (col Green (cell_address n)) (col Blue (cell_address n))) 0 [] c w f.out) → HasInstrs (map bare o.instrs) (suc (suc i)) (loads p) → n < length f.cells → IsWord (slice_index f.cells n) → PairsHeld k m f.pairs → CellsHold c f.cells → Row (learn p k) 8 i (suc (suc (suc (suc i)))) m c f (goes_on (with_pair p (slice_index f.cells n) f))
+  loads_row k i p n m c f short lt before has there word h cells =
       let a = cell_address n in
       let v = slice_index f.cells n in
-      let lt = first_pair p [] pairs in
       let at = cell_there c f.cells n cells there in
       let m2 = two_held m p (col Green a) (col Blue a) in
       let m3 = with_held m2 (green p).number (col Green v) in
@@ -112,33 +112,62 @@ module _ (o : Object) (w : List Wild) where
         regs = two_held m2 p (col Green v) (col Blue v);
         cells = c;
         leads =
-            lead_on o 4 4 _ _ _ (two_moves i p a m c f.out (omega arith) has.0 has.1.0)
+            lead_on o 4 4 _ _ _ before
             (lead_on o 2 2 _ _ _
-            (load o w (suc (suc i)) (omega arith) m2 c f.out (green p) (green p) a v Green has.1.1.0 (green_read m p (col Green a) (col Blue a) lt) at)
-            (load o w (suc (suc (suc i))) (omega arith) m3 c f.out (blue p) (blue p) a v Blue has.1.1.1.0 (blue_left m2 p p (col Green v) lt lt ∙ blue_read m p (col Green a) (col Blue a)) at));
+            (load o w (suc (suc i)) (omega arith) m2 c f.out (green p) (green p) a v Green has.0 (green_read m p (col Green a) (col Blue a) lt) at)
+            (load o w (suc (suc (suc i))) (omega arith) m3 c f.out (blue p) (blue p) a v Blue has.1.0 (blue_left m2 p p (col Green v) lt lt ∙ blue_read m p (col Green a) (col Blue a)) at));
         holds = holds_learn k m2 f p v lt word (λ q ne known. pair_kept m f.pairs f.pairs p q (col Green a) (col Blue a) lt ne refl (h q known));
         memory = cells;
       }
 
-  -- `Store` by its four instructions
-  pub store_row : (k : Known) (i n q s : ℕ) (m : Registers) (c : Cells) (f : FlowState) (start : ℕ → ℕ) → i + 4 < 65537 → HasInstrs (map bare o.instrs) i (image start (Store n q s)) → Below (pairs_of (Store n q s)) → n < length f.cells → (k q ≡ true) × (q ≢ s) → PairsHeld k m f.pairs → CellsHold c f.cells → Row (forget s k) 8 i (suc (suc (suc (suc i)))) m c f (goes_on (with_pair s 0 (flow.with_cell n (f.pairs q) f)))
-  store_row k i n q s m c f start short has pairs there reads h cells =
+  -- what two stores do of the address of a cell, which two instructions before them put into both registers of the spare
+  stores_row : (k : Known) (i n q s : ℕ) (m : Registers) (c : Cells) (f : FlowState) → i + 4 < 65537 → s < 32 → Leads o 4 (spot i m 0 [] c w f.out) (spot (suc (suc i)) (two_held m s (col Green (cell_address n)) (col Blue (cell_address n))) 0 [] c w f.out) → HasInstrs (map bare o.instrs) (suc (suc i)) (stores s q) → n < length f.cells → k q ≡ true → q ≢ s → PairsHeld k m f.pairs → CellsHold c f.cells → Row (forget s k) 8 i (suc (suc (suc (suc i)))) m c f (goes_on (with_pair s 0 (flow.with_cell n (f.pairs q) f)))
+  stores_row k i n q s m c f short lt before has there known ne h cells =
       let a = cell_address n in
       let v = f.pairs q in
-      let lt = second_pair q s [] pairs in
-      let K = pair_kept m f.pairs f.pairs s q (col Green a) (col Blue a) lt reads.1 refl (h q reads.0) in
+      let K = pair_kept m f.pairs f.pairs s q (col Green a) (col Blue a) lt ne refl (h q known) in
       let m2 = two_held m s (col Green a) (col Blue a) in
       record {
         regs = m2;
         cells = with_cell c a v;
         leads =
-            lead_on o 4 4 _ _ _ (two_moves i s a m c f.out (omega arith) has.0 has.1.0)
+            lead_on o 4 4 _ _ _ before
             (lead_on o 2 2 _ _ _
-            (store_green o w (suc (suc i)) (omega arith) m2 c f.out (green s) (green q) a v has.1.1.0 (green_read m s (col Green a) (col Blue a) lt) K.green)
-            (store_blue o w (suc (suc (suc i))) (omega arith) m2 c f.out (blue s) (blue q) a v (slice_index f.cells n) has.1.1.1.0 (blue_read m s (col Green a) (col Blue a)) K.blue (cell_there c f.cells n cells there)));
+            (store_green o w (suc (suc i)) (omega arith) m2 c f.out (green s) (green q) a v has.0 (green_read m s (col Green a) (col Blue a) lt) K.green)
+            (store_blue o w (suc (suc (suc i))) (omega arith) m2 c f.out (blue s) (blue q) a v (slice_index f.cells n) has.1.0 (blue_read m s (col Green a) (col Blue a)) K.blue (cell_there c f.cells n cells there)));
         holds = holds_forget k m f s 0 (col Green a) (col Blue a) lt h;
         memory = cells_set c f.cells n v there cells;
       }
+
+  -- `Load` by its four instructions
+  pub load_row : (k : Known) (i p n : ℕ) (m : Registers) (c : Cells) (f : FlowState) (start : ℕ → ℕ) → i + 4 < 65537 → HasInstrs (map bare o.instrs) i (image start (Load p n)) → Below (pairs_of (Load p n)) → n < length f.cells → IsWord (slice_index f.cells n) → PairsHeld k m f.pairs → CellsHold c f.cells → Row (learn p k) 8 i (suc (suc (suc (suc i)))) m c f (goes_on (with_pair p (slice_index f.cells n) f))
+  load_row k i p n m c f start short has pairs there word h cells =
+      loads_row k i p n m c f short (first_pair p [] pairs) (two_moves i p (cell_address n) m c f.out (omega arith) has.0 has.1.0) has.1.1 there word h cells
+
+  -- `Store` by its four instructions
+  pub store_row : (k : Known) (i n q s : ℕ) (m : Registers) (c : Cells) (f : FlowState) (start : ℕ → ℕ) → i + 4 < 65537 → HasInstrs (map bare o.instrs) i (image start (Store n q s)) → Below (pairs_of (Store n q s)) → n < length f.cells → (k q ≡ true) × (q ≢ s) → PairsHeld k m f.pairs → CellsHold c f.cells → Row (forget s k) 8 i (suc (suc (suc (suc i)))) m c f (goes_on (with_pair s 0 (flow.with_cell n (f.pairs q) f)))
+  store_row k i n q s m c f start short has pairs there reads h cells =
+      stores_row k i n q s m c f short (second_pair q s [] pairs) (two_moves i s (cell_address n) m c f.out (omega arith) has.0 has.1.0) has.1.1 there reads.0 reads.1 h cells
+
+  -- the address of the cell of an array that the word of a pair names, in both registers of another one or of the same
+  two_indexes : (i p q x first n : ℕ) (m : Registers) (c : Cells) (os : List Output) → i + 2 < 65537 → p < 32 → q < 32 → slice_get (map bare o.instrs) i ≡ Some (instr.Idx (green p) (green q) first n) → slice_get (map bare o.instrs) (suc i) ≡ Some (instr.Idx (blue p) (blue q) first n) → held m (green q).number ≡ col Green x → held m (blue q).number ≡ col Blue x → Leads o 4 (spot i m 0 [] c w os) (spot (suc (suc i)) (two_held m p (col Green (cell_in_run first n x)) (col Blue (cell_in_run first n x))) 0 [] c w os)
+  two_indexes i p q x first n m c os short lp lq a b green_word blue_word =
+      let v = col Green (cell_in_run first n x) in
+      lead_on o 2 2 _ _ _ (index o w i (omega arith) m c os (green p) (green q) first n x Green a green_word) (index o w (suc i) (omega arith) (with_held m (green p).number v) c os (blue p) (blue q) first n x Blue b (blue_left m p q v lp lq ∙ blue_word))
+
+  -- `LoadAt` by its four instructions
+  pub load_at_row : (k : Known) (i p q first n : ℕ) (m : Registers) (c : Cells) (f : FlowState) (start : ℕ → ℕ) → i + 4 < 65537 → HasInstrs (map bare o.instrs) i (image start (LoadAt p q first n)) → Below (pairs_of (LoadAt p q first n)) → cell_of_run first n (f.pairs q) < length f.cells → IsWord (slice_index f.cells (cell_of_run first n (f.pairs q))) → k q ≡ true → PairsHeld k m f.pairs → CellsHold c f.cells → Row (learn p k) 8 i (suc (suc (suc (suc i)))) m c f (goes_on (with_pair p (slice_index f.cells (cell_of_run first n (f.pairs q))) f))
+  load_at_row k i p q first n m c f start short has pairs there word known h cells =
+      let Q = h q known in
+      let lt = first_pair p (q ∷ []) pairs in
+      loads_row k i p (cell_of_run first n (f.pairs q)) m c f short lt (two_indexes i p q (f.pairs q) first n m c f.out (omega arith) lt Q.below has.0 has.1.0 Q.green Q.blue) has.1.1 there word h cells
+
+  -- `StoreAt` by its four instructions
+  pub store_at_row : (k : Known) (i first n x q s : ℕ) (m : Registers) (c : Cells) (f : FlowState) (start : ℕ → ℕ) → i + 4 < 65537 → HasInstrs (map bare o.instrs) i (image start (StoreAt first n x q s)) → Below (pairs_of (StoreAt first n x q s)) → cell_of_run first n (f.pairs x) < length f.cells → k x ≡ true → k q ≡ true → q ≢ s → PairsHeld k m f.pairs → CellsHold c f.cells → Row (forget s k) 8 i (suc (suc (suc (suc i)))) m c f (goes_on (with_pair s 0 (flow.with_cell (cell_of_run first n (f.pairs x)) (f.pairs q) f)))
+  store_at_row k i first n x q s m c f start short has pairs there named known ne h cells =
+      let X = h x named in
+      let lt = second_pair q s [] (All-tail (λ q. q < 32) x (q ∷ s ∷ []) pairs) in
+      stores_row k i (cell_of_run first n (f.pairs x)) q s m c f short lt (two_indexes i s x (f.pairs x) first n m c f.out (omega arith) lt X.below has.0 has.1.0 X.green X.blue) has.1.1 there known ne h cells
 
   -- the target's code address in both registers of the spare
   to_spare : (i s t : ℕ) (m : Registers) (c : Cells) (os : List Output) → i + 2 < 65537 → slice_get (map bare o.instrs) i ≡ Some (instr.Mov (green s) (col Green (code_address t)) int) → slice_get (map bare o.instrs) (suc i) ≡ Some (instr.Mov (blue s) (col Blue (code_address t)) int) → Leads o 4 (spot i m 0 [] c w os) (spot (suc (suc i)) (two_held m s (col Green (suc t)) (col Blue (suc t))) 0 [] c w os)

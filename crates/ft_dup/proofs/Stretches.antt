@@ -3,7 +3,7 @@ use Rattle.std.proofs.Common.{◌≡◌, ◌≢◌, ℕ, zero, suc, ◌+◌, ◌
 use Rattle.std.proofs.lemmas.Bool.{ne_eqb, eq-eqb}
 use Rattle.std.proofs.lemmas.List.{append-nil}
 use Rattle.ft_isa.specs.BasicTypes.{int}
-use Rattle.ft_isa.specs.Words.{apply}
+use Rattle.ft_isa.specs.Words.{apply, cell_in_run}
 use Rattle.ft_isa.specs.Pending.{Pending, newest_at}
 use Rattle.ft_isa.specs.declared.colour.Colour.{Colour}
 use Rattle.ft_isa.specs.declared.colour.Colour.TheVariants.{Green, Blue}
@@ -162,6 +162,12 @@ module _ (o : Object) (w : List Wild) (i : ℕ) (short : i < 65537) where
   op_word m c os op rd rs x y k at es = two_quiet o _ i m 0 [] c w os _ at (λ I.
       ap (λ (h : Coloured). machine.writes rd h.colour (apply op h.word y) (fetched_state i m 0 [] c I) w) es
       ∙ goes_by (with_held m rd.number (col k (apply op x y))) 0 [] c)
+
+  -- the address of the cell of a run that a register names
+  pub index : (m : Registers) (c : Cells) (os : List Output) (rd rs : Reg) (first n x : ℕ) (k : Colour) → slice_get (map bare o.instrs) i ≡ Some (instr.Idx rd rs first n) → held m rs.number ≡ col k x → Leads o 2 (spot i m 0 [] c w os) (spot (suc i) (with_held m rd.number (col k (cell_in_run first n x))) 0 [] c w os)
+  index m c os rd rs first n x k at es = two_quiet o _ i m 0 [] c w os _ at (λ I.
+      ap (λ (h : Coloured). machine.writes rd h.colour (cell_in_run first n h.word) (fetched_state i m 0 [] c I) w) es
+      ∙ goes_by (with_held m rd.number (col k (cell_in_run first n x))) 0 [] c)
 
   -- what stands in a cell is found where nothing is pending
   finds : (k : Colour) (m : Registers) (c : Cells) (a : ℕ) (I : Instr) → machine.found k (fetched_state i m 0 [] c I) a ≡ cell_at c a

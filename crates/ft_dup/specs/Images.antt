@@ -15,7 +15,7 @@ use Rattle.ft_isa.specs.declared.op.Op.TheVariants.{Add}
 use Rattle.ft_isa.specs.declared.instr.Instr.{Instr}
 use Rattle.ft_isa.specs.declared.instr.Instr.TheVariants as instr
 use Rattle.ft_lower.specs.declared.step3.Step3.{Step3}
-use Rattle.ft_lower.specs.declared.step3.Step3.TheVariants.{Put, Copy, Op, Load, Store, Exit, Go, Stop}
+use Rattle.ft_lower.specs.declared.step3.Step3.TheVariants.{Put, Copy, Op, Load, Store, LoadAt, StoreAt, Exit, Go, Stop}
 use Rattle.ft_lower.specs.Flow.{Blocks}
 use Rattle.ft_lower.specs.Size.{row_size}
 
@@ -45,13 +45,27 @@ empty = record { first = 0; past = 0; memory = 0 }
 abbrev pub moves : ℕ → ℕ → Basic → List Instr → List Instr
 moves p w b rest = instr.Mov (green p) (green_word w) b ∷ instr.Mov (blue p) (blue_word w) b ∷ rest
 
+-- green and blue addresses of the cell of an array that the word of pair q names, to the two registers of pair p
+abbrev pub indexes : ℕ → ℕ → ℕ → ℕ → List Instr → List Instr
+indexes p q first length rest = instr.Idx (green p) (green q) first length ∷ instr.Idx (blue p) (blue q) first length ∷ rest
+
+-- green and blue loads from the addresses in both registers of a pair, to these registers
+abbrev pub loads : ℕ → List Instr
+loads p = instr.Ld Green (green p) (green p) ∷ instr.Ld Blue (blue p) (blue p) ∷ []
+
+-- green and blue stores of pair q to the addresses in both registers of a pair
+abbrev pub stores : ℕ → ℕ → List Instr
+stores p q = instr.St Green (green p) (green q) ∷ instr.St Blue (blue p) (blue q) ∷ []
+
 -- the instructions of a step, where `start b` is the place of the first instruction of block b
 abbrev pub image : (ℕ → ℕ) → Step3 → List Instr
 image start (Put p w) = moves p w int []
 image start (Copy p q) = instr.OpWord Add (green p) (green q) (green_word 0) ∷ instr.OpWord Add (blue p) (blue q) (blue_word 0) ∷ []
 image start (Op o p q s) = instr.OpReg o (green p) (green q) (green s) ∷ instr.OpReg o (blue p) (blue q) (blue s) ∷ []
-image start (Load p c) = moves p (cell_address c) (ref int) (instr.Ld Green (green p) (green p) ∷ instr.Ld Blue (blue p) (blue p) ∷ [])
-image start (Store c q spare) = moves spare (cell_address c) (ref int) (instr.St Green (green spare) (green q) ∷ instr.St Blue (blue spare) (blue q) ∷ [])
+image start (Load p c) = moves p (cell_address c) (ref int) (loads p)
+image start (Store c q spare) = moves spare (cell_address c) (ref int) (stores spare q)
+image start (LoadAt p q first length) = indexes p q first length (loads p)
+image start (StoreAt first length i q spare) = indexes spare i first length (stores spare q)
 image start (Exit q spare to) = moves spare (code_address (start to)) (code 1) (instr.BzG (green q) (green spare) ∷ instr.BzB (blue q) (blue spare) empty ∷ [])
 image start (Go spare to) = moves spare (code_address (start to)) (code 1) (instr.JmpG (green spare) ∷ instr.JmpB (blue spare) empty ∷ [])
 image start Stop = instr.Halt ∷ []

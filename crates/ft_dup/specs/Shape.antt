@@ -2,7 +2,7 @@
 use Rattle.std.specs.Prelude.{ℕ, ◌<◌, ◌≤◌, length}
 use Rattle.std.specs.List.{All}
 use Rattle.ft_lower.specs.declared.step3.Step3.{Step3}
-use Rattle.ft_lower.specs.declared.step3.Step3.TheVariants.{Put, Copy, Op, Load, Store, Exit, Go, Stop}
+use Rattle.ft_lower.specs.declared.step3.Step3.TheVariants.{Put, Copy, Op, Load, Store, LoadAt, StoreAt, Exit, Go, Stop}
 use Rattle.ft_lower.specs.Flow.{Blocks, block_of}
 use Rattle.ft_lower.specs.Size.{PairsBelow, blocks_size}
 use Rattle.ft_lower.specs.Well.{IsBlock, IsTarget}
@@ -14,6 +14,8 @@ HasTarget blocks (Copy p q) = Unit {0}
 HasTarget blocks (Op o p q s) = Unit {0}
 HasTarget blocks (Load p c) = Unit {0}
 HasTarget blocks (Store c q spare) = Unit {0}
+HasTarget blocks (LoadAt p q first length) = Unit {0}
+HasTarget blocks (StoreAt first length i q spare) = Unit {0}
 HasTarget blocks (Exit q spare to) = IsTarget blocks to
 HasTarget blocks (Go spare to) = IsTarget blocks to
 HasTarget blocks Stop = Unit {0}

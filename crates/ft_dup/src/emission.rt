@@ -3,7 +3,7 @@ ghost use Rattle.std.specs.Prelude.{◌≡◌, ◌<◌, ◌++◌, ◌∷◌, [],
 ghost use Rattle.std.specs.List.{All};
 ghost use Rattle.ft_lower.specs.Size.{pairs_of};
 ghost use Rattle.ft_dup.specs.Shape.{HasTarget};
-ghost use Rattle.ft_dup.specs.Images.{blue_word, green_word, image, moves};
+ghost use Rattle.ft_dup.specs.Images.{blue_word, green_word, image, indexes, loads, moves, stores};
 
 use crate::registers::{blue_register, green_register};
 use ft_isa::{Base, Basic, Colour, Coloured, FIRST_CELL, INT, Instr, Op, REF_INT, Subst};
@@ -73,6 +73,36 @@ fn put_moves(code: &mut Vec<Instr>, pair: u8, word: u64, basic: Basic) -> Result
     Ok(())
 }
 
+/// Adds the addresses of the cell of an array that the word of pair `q` names, to both registers of pair `p`.
+fn put_indexes(
+    code: &mut Vec<Instr>,
+    p: u8,
+    q: u8,
+    first: u32,
+    length: u32,
+) -> Result<(), AllocError>
+    requires p { p < 32 }
+    requires q { q < 32 }
+    ensures { OnOk result (code.new.items ≡ code.old.items ++ indexes p q first length []) }
+{
+    put_pair(
+        code,
+        Instr::Idx {
+            rd: green_register(p),
+            rs: green_register(q),
+            first,
+            length,
+        },
+        Instr::Idx {
+            rd: blue_register(p),
+            rs: blue_register(q),
+            first,
+            length,
+        },
+    )?;
+    Ok(())
+}
+
 /// Adds the copy of pair `q` to pair `p`.
 fn put_copy(code: &mut Vec<Instr>, p: u8, q: u8) -> Result<(), AllocError>
     requires p { p < 32 }
@@ -122,25 +152,56 @@ fn put_operation(code: &mut Vec<Instr>, op: Op, p: u8, q: u8, s: u8) -> Result<(
     Ok(())
 }
 
+/// Adds loads from the addresses in both registers of a pair, to these registers.
+fn put_loads(code: &mut Vec<Instr>, pair: u8) -> Result<(), AllocError>
+    requires { pair < 32 }
+    ensures { OnOk result (code.new.items ≡ code.old.items ++ loads pair) }
+{
+    put_pair(
+        code,
+        Instr::Ld {
+            colour: Colour::Green,
+            rd: green_register(pair),
+            rs: green_register(pair),
+        },
+        Instr::Ld {
+            colour: Colour::Blue,
+            rd: blue_register(pair),
+            rs: blue_register(pair),
+        },
+    )?;
+    Ok(())
+}
+
+/// Adds stores of pair `q` to the addresses in both registers of pair `at`.
+fn put_stores(code: &mut Vec<Instr>, at: u8, q: u8) -> Result<(), AllocError>
+    requires at { at < 32 }
+    requires q { q < 32 }
+    ensures { OnOk result (code.new.items ≡ code.old.items ++ stores at q) }
+{
+    put_pair(
+        code,
+        Instr::St {
+            colour: Colour::Green,
+            rd: green_register(at),
+            rs: green_register(q),
+        },
+        Instr::St {
+            colour: Colour::Blue,
+            rd: blue_register(at),
+            rs: blue_register(q),
+        },
+    )?;
+    Ok(())
+}
+
 /// Adds the load of a cell to pair `p`.
 fn put_load(code: &mut Vec<Instr>, p: u8, cell: u32) -> Result<(), AllocError>
     requires { p < 32 }
     ensures { OnOk result (code.new.items ≡ code.old.items ++ image (λ b. 0) (Step3.Load p cell)) }
 {
     put_moves(code, p, FIRST_CELL + u64::from(cell), REF_INT)?;
-    put_pair(
-        code,
-        Instr::Ld {
-            colour: Colour::Green,
-            rd: green_register(p),
-            rs: green_register(p),
-        },
-        Instr::Ld {
-            colour: Colour::Blue,
-            rd: blue_register(p),
-            rs: blue_register(p),
-        },
-    )?;
+    put_loads(code, p)?;
     Ok(())
 }
 
@@ -151,19 +212,43 @@ fn put_store(code: &mut Vec<Instr>, cell: u32, q: u8, spare: u8) -> Result<(), A
     ensures { OnOk result (code.new.items ≡ code.old.items ++ image (λ b. 0) (Step3.Store cell q spare)) }
 {
     put_moves(code, spare, FIRST_CELL + u64::from(cell), REF_INT)?;
-    put_pair(
-        code,
-        Instr::St {
-            colour: Colour::Green,
-            rd: green_register(spare),
-            rs: green_register(q),
-        },
-        Instr::St {
-            colour: Colour::Blue,
-            rd: blue_register(spare),
-            rs: blue_register(q),
-        },
-    )?;
+    put_stores(code, spare, q)?;
+    Ok(())
+}
+
+/// Adds the load of the cell of an array that pair `q` names, to pair `p`.
+fn put_load_at(
+    code: &mut Vec<Instr>,
+    p: u8,
+    q: u8,
+    first: u32,
+    length: u32,
+) -> Result<(), AllocError>
+    requires p { p < 32 }
+    requires q { q < 32 }
+    ensures { OnOk result (code.new.items ≡ code.old.items ++ image (λ b. 0) (Step3.LoadAt p q first length)) }
+{
+    put_indexes(code, p, q, first, length)?;
+    put_loads(code, p)?;
+    Ok(())
+}
+
+/// Adds the store of pair `q` to the cell of an array that pair `i` names.
+fn put_store_at(
+    code: &mut Vec<Instr>,
+    first: u32,
+    length: u32,
+    i: u8,
+    q: u8,
+    spare: u8,
+) -> Result<(), AllocError>
+    requires i { i < 32 }
+    requires q { q < 32 }
+    requires spare { spare < 32 }
+    ensures { OnOk result (code.new.items ≡ code.old.items ++ image (λ b. 0) (Step3.StoreAt first length i q spare)) }
+{
+    put_indexes(code, spare, i, first, length)?;
+    put_stores(code, spare, q)?;
     Ok(())
 }
 
@@ -224,6 +309,19 @@ pub(crate) fn put_step(
         Step3::Op { op, p, q, s } => put_operation(code, op, p, q, s)?,
         Step3::Load { p, cell } => put_load(code, p, cell)?,
         Step3::Store { cell, q, spare } => put_store(code, cell, q, spare)?,
+        Step3::LoadAt {
+            p,
+            q,
+            first,
+            length,
+        } => put_load_at(code, p, q, first, length)?,
+        Step3::StoreAt {
+            first,
+            length,
+            i,
+            q,
+            spare,
+        } => put_store_at(code, first, length, i, q, spare)?,
         Step3::Exit { q, spare, to } => put_exit(code, q, spare, starts[to as usize])?,
         Step3::Go { spare, to } => put_go(code, spare, starts[to as usize])?,
         Step3::Stop => code.push(Instr::Halt)?,

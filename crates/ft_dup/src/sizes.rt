@@ -12,7 +12,12 @@ fn step_size(step: &Step3) -> u32
 {
     match *step {
         Step3::Put { .. } | Step3::Copy { .. } | Step3::Op { .. } => 2,
-        Step3::Load { .. } | Step3::Store { .. } | Step3::Exit { .. } | Step3::Go { .. } => 4,
+        Step3::Load { .. }
+        | Step3::Store { .. }
+        | Step3::LoadAt { .. }
+        | Step3::StoreAt { .. }
+        | Step3::Exit { .. }
+        | Step3::Go { .. } => 4,
         Step3::Stop => 1,
     }
 }

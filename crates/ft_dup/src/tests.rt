@@ -108,10 +108,51 @@ fn cell_code() -> [Instr; 8] {
     ]
 }
 
+fn index(number: u8, named: u8) -> Instr
+    requires number { number < 64 }
+    requires named { named < 64 }
+{
+    Instr::Idx {
+        rd: r(number),
+        rs: r(named),
+        first: 3,
+        length: 4,
+    }
+}
+
+fn array_code() -> [Instr; 8] {
+    [
+        index(2, 0),
+        index(34, 32),
+        Instr::Ld {
+            colour: Colour::Green,
+            rd: r(2),
+            rs: r(2),
+        },
+        Instr::Ld {
+            colour: Colour::Blue,
+            rd: r(34),
+            rs: r(34),
+        },
+        index(1, 0),
+        index(33, 32),
+        Instr::St {
+            colour: Colour::Green,
+            rd: r(1),
+            rs: r(2),
+        },
+        Instr::St {
+            colour: Colour::Blue,
+            rd: r(33),
+            rs: r(34),
+        },
+    ]
+}
+
 fn jump_code() -> [Instr; 9] {
     [
-        moved(1, green(27), 0, Base::Code(1)),
-        moved(33, blue(27), 0, Base::Code(1)),
+        moved(1, green(35), 0, Base::Code(1)),
+        moved(33, blue(35), 0, Base::Code(1)),
         Instr::BzG { rz: r(0), rd: r(1) },
         Instr::BzB {
             rz: r(32),
@@ -150,6 +191,19 @@ fn each_kind_of_step_becomes_its_instructions(rt: HostRuntime) -> Result<(), Fai
             q: 2,
             spare: 1
         },
+        Step3::LoadAt {
+            p: 2,
+            q: 0,
+            first: 3,
+            length: 4
+        },
+        Step3::StoreAt {
+            first: 3,
+            length: 4,
+            i: 0,
+            q: 2,
+            spare: 1
+        },
         Step3::Exit {
             q: 0,
             spare: 1,
@@ -166,9 +220,10 @@ fn each_kind_of_step_becomes_its_instructions(rt: HostRuntime) -> Result<(), Fai
     let doubled = duplicate(alloc, &flow)?;
     let mut expected = Vec::from_slice(alloc, entry_code().as_slice())?;
     expected.extend_from_slice(cell_code().as_slice())?;
+    expected.extend_from_slice(array_code().as_slice())?;
     expected.extend_from_slice(jump_code().as_slice())?;
     assert_eq!(rt; doubled.instrs.as_slice(), expected.as_slice());
-    assert_eq!(rt; doubled.starts.as_slice(), [0, 10, 26].as_slice());
+    assert_eq!(rt; doubled.starts.as_slice(), [0, 10, 34].as_slice());
     assert_eq!(rt; doubled.vars, 1);
     Ok(())
 }

@@ -14,3 +14,9 @@ returns-in_ok-note_load-in-Load c = c.in_ok-note_load-in-Load.ensures c.args.var
 
 pub returns-in_ok-note_store-in-Store : goal.returns-in_ok-note_store-in-Store
 returns-in_ok-note_store-in-Store c = c.in_ok-note_store-in-Store.ensures c.args.vars c.in-Store.spare ∙ ap (step_noted c.args.vars c.args.scope (noted_of c.args.notes.now)) (sym c.in-Store.is)
+
+pub returns-in_ok-note_load_at-in-LoadAt : goal.returns-in_ok-note_load_at-in-LoadAt
+returns-in_ok-note_load_at-in-LoadAt c = c.in_ok-note_load_at-in-LoadAt.ensures c.args.vars ∙ ap (step_noted c.args.vars c.args.scope (noted_of c.args.notes.now)) (sym c.in-LoadAt.is)
+
+pub returns-in_ok-note_store_at-in-StoreAt : goal.returns-in_ok-note_store_at-in-StoreAt
+returns-in_ok-note_store_at-in-StoreAt c = c.in_ok-note_store_at-in-StoreAt.ensures c.args.vars c.in-StoreAt.spare ∙ ap (step_noted c.args.vars c.args.scope (noted_of c.args.notes.now)) (sym c.in-StoreAt.is)

@@ -12,3 +12,9 @@ returns-in_ok-put_store-in-Store c = rw c.in-Store.is c.in_ok-put_store-in-Store
 
 pub returns-in_ok-put_exit-in-Exit : goal.returns-in_ok-put_exit-in-Exit
 returns-in_ok-put_exit-in-Exit c = rw c.in-Exit.is c.in_ok-put_exit-in-Exit.ensures
+
+pub returns-in_ok-put_load_at-in-LoadAt : goal.returns-in_ok-put_load_at-in-LoadAt
+returns-in_ok-put_load_at-in-LoadAt c = rw c.in-LoadAt.is c.in_ok-put_load_at-in-LoadAt.ensures
+
+pub returns-in_ok-put_store_at-in-StoreAt : goal.returns-in_ok-put_store_at-in-StoreAt
+returns-in_ok-put_store_at-in-StoreAt c = rw c.in-StoreAt.is c.in_ok-put_store_at-in-StoreAt.ensures
