@@ -9,6 +9,9 @@ const FIBONACCI: &[u8] =
 /// A loop without an end.
 const ENDLESS: &[u8] = b"cell out = 0; while (1) { out = out + 1; }";
 
+/// An array that is written past its end.
+const ARRAY: &[u8] = b"cell a[3] = 0; var i; while (i < 4) { a[i] = i ^ 5; i = i + 1; }";
+
 /// Sources, each with the row over it.
 const SOURCES: &[(&[u8], Row)] = &[
     (
@@ -26,6 +29,16 @@ const SOURCES: &[(&[u8], Row)] = &[
     (ENDLESS, ("mean file --steps 3", "usage\n", 2)),
     (ENDLESS, ("mean missing", "", 3)),
     (b"cell c = 18446744073709551615;", ("mean file", "", 0)),
+    (ARRAY, ("mean file", "a[0] 5\na[1] 4\na[2] 7\na[0] 6\n", 0)),
+    (ARRAY, ("mean file --turns 2", "a[0] 5\na[1] 4\n", 9)),
+    (
+        b"cell a[2] = 1; a[0 - 1] = 7; a[0] = a[18446744073709551615] << 64;",
+        ("mean file", "a[1] 7\na[0] 0\n", 0),
+    ),
+    (
+        b"cell c = 2; cell a[1023] = 3; a[1022] = a[2046] + 1; c = a[a[1022] + 1018];",
+        ("mean file", "a[1022] 4\nc 4\n", 0),
+    ),
 ];
 
 #[test]

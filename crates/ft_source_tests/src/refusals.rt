@@ -13,6 +13,9 @@ const REFUSALS: &[(&str, &str)] = &[
     ("x = 1 % 2;", "source 2 6\n"),
     ("var x; cell x = 1;", "source 6 12\n"),
     ("y = 1;", "source 7 0\n"),
+    ("cell a[0] = 1;", "source 12 7\n"),
+    ("cell a[2] = 1; a = 3;", "source 11 15\n"),
+    ("cell a[2] = 0; a = 1; y = 1;", "source 7 22\n"),
 ];
 
 /// Fails unless each command refuses a source with this line.

@@ -61,6 +61,8 @@ source_number (source.Unknown at) = 7
 source_number (source.Cells count) = 8
 source_number (source.Registers need) = 9
 source_number (source.Weight weight) = 10
+source_number (source.Array at) = 11
+source_number (source.Length at) = 12
 source_number source.NoMemory = 0
 
 -- what it tells: a place, or what is above a limit
@@ -75,6 +77,8 @@ source_told (source.Unknown at) = at
 source_told (source.Cells count) = count
 source_told (source.Registers need) = need
 source_told (source.Weight weight) = weight
+source_told (source.Array at) = at
+source_told (source.Length at) = at
 source_told source.NoMemory = 0
 
 -- `source`, the refusal's number, and what it tells

@@ -145,6 +145,8 @@ fn source_number(error: SourceError) -> u64
         SourceError::Cells { count: _ } => 8,
         SourceError::Registers { need: _ } => 9,
         SourceError::Weight { weight: _ } => 10,
+        SourceError::Array { at: _ } => 11,
+        SourceError::Length { at: _ } => 12,
         SourceError::NoMemory => 0,
     }
 }
@@ -164,6 +166,8 @@ fn source_told(error: SourceError) -> u64
         SourceError::Cells { count } => count,
         SourceError::Registers { need } => need,
         SourceError::Weight { weight } => weight,
+        SourceError::Array { at } => at as u64,
+        SourceError::Length { at } => at as u64,
         SourceError::NoMemory => 0,
     }
 }
