@@ -55,7 +55,8 @@ def classes(text):
                 end += 1
             kind = "number"
         else:
-            kind = "operator" if first in "=+-*<" else "mark" if first in ";(){}" else "fault"
+            end += text[at:at + 2] in ("==", "<<", ">>")
+            kind = "operator" if first in "=+-*<&|^" or end - at == 2 else "mark" if first in ";()[]{}" else "fault"
         found += [kind] * (end - at)
     return found
 

@@ -5,8 +5,8 @@ endif
 
 " Of two that begin at one place, the later one counts.
 syntax match talftFault /[^ \t\r]/
-syntax match talftMark /[;(){}]/
-syntax match talftOperator /[-+*<=]\|==/
+syntax match talftMark /[][;(){}]/
+syntax match talftOperator /[-+*<=&|^]\|==\|<<\|>>/
 syntax match talftNumber /[0-9]\+/
 syntax match talftName /[A-Za-z_][A-Za-z0-9_]*/
 syntax match talftDeclaration /\%(cell\|var\)[A-Za-z0-9_]\@!/
