@@ -22,5 +22,5 @@ for program in sieve sort crc32 ring filter life; do
   "$top/talft" campaign "$program.obj" --faults array.faults --steps 100000 >verdicts
   report "a campaign over $program" 0 $?
   report "the faults of a campaign over $program" 'faults 1000 corrupt 0' "$(sed -n 's/^\(faults [0-9]*\) .* \(corrupt [0-9]*\)$/\1 \2/p' verdicts)"
-  ends_early "a fault that is detected in $program" "$program.obj" "$(sed -n 's/ detected .*//p' verdicts | tail -n 1)"
+  ends_early "a fault that is detected in $program" "$program.obj" "$(sed -n '/^faults/d; s/ detected .*//p' verdicts | tail -n 1)"
 done

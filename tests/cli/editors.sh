@@ -17,7 +17,7 @@ cd "$top/examples" || exit 2
 completes 'a command' 'campaign check compile' 'talft c'
 completes 'each command' 'campaign check compile debug demo exec mean run survey trial upgrade' 'talft '
 completes 'an object' 'five.obj' 'talft run fi'
-completes 'a source' 'fibonacci.src' 'talft mean fi'
+completes 'a source' 'fibonacci.src' 'talft mean fib'
 completes 'a file of another kind' 'README.md' 'talft run REA'
 completes 'no file for a number of turns' '' 'talft demo '
 completes 'the options of run' '--fault --steps --wild' 'talft run five.obj '
