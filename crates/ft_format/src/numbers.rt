@@ -1,8 +1,8 @@
 //! Big-endian numbers at the front of bytes, and at the end of those that are written.
-ghost use Rattle.std.specs.Prelude.{◌≡◌, ◌≤◌, ◌+◌, length, drop, OnOk};
+ghost use Rattle.std.specs.Prelude.{◌≡◌, ◌≤◌, ◌+◌, ◌∷◌, [], length, drop, OnOk};
 ghost use Rattle.std.specs.Int.{w8, w16, w32, w64};
 ghost use Rattle.ft_format.specs.Puts.{Puts};
-ghost use Rattle.ft_format.specs.Layout.{number_of, bytes_of};
+ghost use Rattle.ft_format.specs.Layout.{number_of, bytes_of, written, code_layout};
 
 use byteorder::{BigEndian, ByteOrder};
 use ft_isa::NoMemory;
@@ -62,7 +62,7 @@ pub(crate) fn read_u64(bytes: &[u8]) -> (u64, &[u8])
 }
 
 /// Puts bytes at the end.
-fn put(out: &mut Vec<u8>, bytes: &[u8]) -> Result<(), NoMemory>
+pub(crate) fn put(out: &mut Vec<u8>, bytes: &[u8]) -> Result<(), NoMemory>
     ensures { OnOk result (Puts out.old.items out.new.items (bytes.now)) }
 {
     out.extend_from_slice(bytes)?;
@@ -105,4 +105,15 @@ pub(crate) fn put_u64(out: &mut Vec<u8>, n: u64) -> Result<(), NoMemory>
     let mut bytes = [0; 8];
     BigEndian::write_u64(&mut bytes, n);
     put(out, &bytes)
+}
+
+/// The bytes of a record of four numbers of one byte and three of four bytes.
+#[tactic(auto, unfolding(crate::specs::Layout::written, crate::specs::Layout::bytes_of))]
+pub(crate) fn code_bytes(a: u8, b: u8, c: u8, d: u8, x: u32, y: u32, z: u32) -> [u8; 16]
+    ensures { result ≡ written code_layout (a ∷ b ∷ c ∷ d ∷ x ∷ y ∷ z ∷ []) }
+{
+    let [x0, x1, x2, x3] = x.to_be_bytes();
+    let [y0, y1, y2, y3] = y.to_be_bytes();
+    let [z0, z1, z2, z3] = z.to_be_bytes();
+    [a, b, c, d, x0, x1, x2, x3, y0, y1, y2, y3, z0, z1, z2, z3]
 }

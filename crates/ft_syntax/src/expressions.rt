@@ -3,7 +3,7 @@ ghost use Rattle.std.specs.Prelude.{◌≡◌, ◌+◌, ◌<◌, ◌≤◌, leng
 ghost use Rattle.ft_syntax.specs.Plain.{indexed as indexed_of};
 ghost use Rattle.ft_syntax.specs.Syntax.{named};
 ghost use Rattle.ft_syntax.specs.Machine.{NamedExpression, NamedStatements, Waiting, Context, Block, want, had, had_name, empty, paren, loop_test, choice_test, loop_brace, choice_brace, push};
-ghost use Rattle.ft_syntax.specs.View.{from, expression, Refuses, NoOperator, lexemes, kind_of};
+ghost use Rattle.ft_syntax.specs.View.{from, expression, waiting, Refuses, NoOperator, lexemes, kind_of};
 
 use crate::expr::Expr;
 use crate::operator::Operator;
@@ -142,6 +142,29 @@ impl<'a, 't> Parser<'a, 't> {
         indexed(alloc, name, index)
     }
 
+    /// Reads the rest of an expression, where operands wait already.
+    #[cycle(expression)]
+    fn operations(
+        &mut self,
+        alloc: Global,
+        mut pending: Pending<'a>,
+    ) -> Result<Expr<Spot<'a>>, SourceError>
+        requires { self.old.opened ≤ 100 }
+        ensures ok { IfOk result (λ e. (x : Context) → from self.old (want (waiting pending.entry) x) ≡ from self.new (had empty (expression e) x)) }
+        ensures ended { OnOk result (NoOperator (lexemes self.new.rest.now)) }
+        ensures shorter { OnOk result (length self.new.rest.now < length self.old.rest.now) }
+        ensures same { OnOk result (self.new.opened ≡ self.old.opened) }
+        ensures err { IfErr result (λ e. (x : Context) → Refuses e (from self.old (want (waiting pending.entry) x))) }
+    {
+        loop {
+            let a = self.atom(alloc)?;
+            let Some(operator) = self.operator()? else {
+                return pending.close(alloc, a);
+            };
+            pending.push(alloc, a, operator)?;
+        }
+    }
+
     /// Reads the longest expression.
     #[cycle(expression)]
     pub fn expr(&mut self, alloc: Global) -> Result<Expr<Spot<'a>>, SourceError>
@@ -152,13 +175,12 @@ impl<'a, 't> Parser<'a, 't> {
         ensures same { OnOk result (self.new.opened ≡ self.old.opened) }
         ensures err { IfErr result (λ e. (x : Context) → Refuses e (from self.old (want empty x))) }
     {
+        let first = self.atom(alloc)?;
+        let Some(operator) = self.operator()? else {
+            return Ok(first);
+        };
         let mut pending = Pending::new();
-        loop {
-            let a = self.atom(alloc)?;
-            let Some(operator) = self.operator()? else {
-                return pending.close(alloc, a);
-            };
-            pending = pending.push(alloc, operator, a)?;
-        }
+        pending.push(alloc, first, operator)?;
+        self.operations(alloc, pending)
     }
 }

@@ -1,8 +1,7 @@
 //! Operands that wait for the operators after them.
-ghost use Rattle.std.specs.Prelude.{◌≡◌, Some, IfOk, IfErr, option_map};
+ghost use Rattle.std.specs.Prelude.{◌≡◌, Some, None, IfOk, OnOk, IfErr, option_map};
 ghost use Rattle.ft_syntax.specs.Plain.{operation as operation_of};
-ghost use Rattle.ft_lexer.specs.declared.kind.Kind.TheVariants.{Star, Less, EqEq};
-ghost use Rattle.ft_syntax.specs.Machine.{empty, close, push, after_term, after_shift, after_bits, join, join_signed};
+ghost use Rattle.ft_syntax.specs.Machine.{empty, close, push, product_of, sum_of, shift_of, bits_of, less_of, join, join_signed};
 ghost use Rattle.ft_syntax.specs.View.{expression, waiting, signed, kind_of};
 
 use crate::expr::Expr;
@@ -38,200 +37,108 @@ impl<'a> Pending<'a> {
         }
     }
 
+    /// Takes the product that an operand ends.
+    fn take_product(
+        &mut self,
+        alloc: Global,
+        a: Expr<Spot<'a>>,
+    ) -> Result<Expr<Spot<'a>>, SourceError>
+        ensures ok { IfOk result (λ e. expression e ≡ product_of (waiting self.old) (expression a.entry)) }
+        ensures left { OnOk result (waiting self.new ≡ record { equal = (waiting self.old).equal; less = (waiting self.old).less; bits = (waiting self.old).bits; shift = (waiting self.old).shift; sum = (waiting self.old).sum; product = None }) }
+        ensures err { IfErr result (λ e. e ≡ SourceError.NoMemory) }
+    {
+        join(alloc, Op::Mul, self.product.take(), a)
+    }
+
+    /// Takes the sum that an operand ends.
+    fn take_sum(&mut self, alloc: Global, a: Expr<Spot<'a>>) -> Result<Expr<Spot<'a>>, SourceError>
+        ensures ok { IfOk result (λ e. expression e ≡ sum_of (waiting self.old) (expression a.entry)) }
+        ensures left { OnOk result (waiting self.new ≡ record { equal = (waiting self.old).equal; less = (waiting self.old).less; bits = (waiting self.old).bits; shift = (waiting self.old).shift; sum = None; product = None }) }
+        ensures err { IfErr result (λ e. e ≡ SourceError.NoMemory) }
+    {
+        let a = self.take_product(alloc, a)?;
+        join_signed(alloc, self.sum.take(), a)
+    }
+
+    /// Takes the shift that an operand ends.
+    fn take_shift(
+        &mut self,
+        alloc: Global,
+        a: Expr<Spot<'a>>,
+    ) -> Result<Expr<Spot<'a>>, SourceError>
+        ensures ok { IfOk result (λ e. expression e ≡ shift_of (waiting self.old) (expression a.entry)) }
+        ensures left { OnOk result (waiting self.new ≡ record { equal = (waiting self.old).equal; less = (waiting self.old).less; bits = (waiting self.old).bits; shift = None; sum = None; product = None }) }
+        ensures err { IfErr result (λ e. e ≡ SourceError.NoMemory) }
+    {
+        let a = self.take_sum(alloc, a)?;
+        join_signed(alloc, self.shift.take(), a)
+    }
+
+    /// Takes the operation on bits that an operand ends.
+    fn take_bits(&mut self, alloc: Global, a: Expr<Spot<'a>>) -> Result<Expr<Spot<'a>>, SourceError>
+        ensures ok { IfOk result (λ e. expression e ≡ bits_of (waiting self.old) (expression a.entry)) }
+        ensures left { OnOk result (waiting self.new ≡ record { equal = (waiting self.old).equal; less = (waiting self.old).less; bits = None; shift = None; sum = None; product = None }) }
+        ensures err { IfErr result (λ e. e ≡ SourceError.NoMemory) }
+    {
+        let a = self.take_shift(alloc, a)?;
+        join_signed(alloc, self.bits.take(), a)
+    }
+
+    /// Takes the comparison by `<` that an operand ends.
+    fn take_less(&mut self, alloc: Global, a: Expr<Spot<'a>>) -> Result<Expr<Spot<'a>>, SourceError>
+        ensures ok { IfOk result (λ e. expression e ≡ less_of (waiting self.old) (expression a.entry)) }
+        ensures left { OnOk result (waiting self.new ≡ record { equal = (waiting self.old).equal; less = None; bits = None; shift = None; sum = None; product = None }) }
+        ensures err { IfErr result (λ e. e ≡ SourceError.NoMemory) }
+    {
+        let a = self.take_bits(alloc, a)?;
+        join(alloc, Op::Ltu, self.less.take(), a)
+    }
+
+    /// Takes the whole expression that an operand ends.
+    fn take_equal(
+        &mut self,
+        alloc: Global,
+        a: Expr<Spot<'a>>,
+    ) -> Result<Expr<Spot<'a>>, SourceError>
+        ensures ok { IfOk result (λ e. expression e ≡ close (waiting self.old) (expression a.entry)) }
+        ensures left { OnOk result (waiting self.new ≡ empty) }
+        ensures err { IfErr result (λ e. e ≡ SourceError.NoMemory) }
+    {
+        let a = self.take_less(alloc, a)?;
+        join(alloc, Op::Eq, self.equal.take(), a)
+    }
+
     /// The whole expression, after its last operand.
-    pub fn close(self, alloc: Global, a: Expr<Spot<'a>>) -> Result<Expr<Spot<'a>>, SourceError>
+    pub fn close(mut self, alloc: Global, a: Expr<Spot<'a>>) -> Result<Expr<Spot<'a>>, SourceError>
         ensures ok { IfOk result (λ e. expression e ≡ close (waiting self.entry) (expression a.entry)) }
         ensures err { IfErr result (λ e. e ≡ SourceError.NoMemory) }
     {
-        let Pending {
-            equal,
-            less,
-            bits,
-            shift,
-            sum,
-            product,
-        } = self;
-        let a = join(alloc, Op::Mul, product, a)?;
-        let a = join_signed(alloc, sum, a)?;
-        let a = join_signed(alloc, shift, a)?;
-        let a = join_signed(alloc, bits, a)?;
-        let a = join(alloc, Op::Ltu, less, a)?;
-        join(alloc, Op::Eq, equal, a)
+        self.take_equal(alloc, a)
     }
 
-    /// What waits after an operator.
+    /// Notes an operand and the operator after it.
     pub fn push(
-        self,
+        &mut self,
         alloc: Global,
-        operator: Operator,
         a: Expr<Spot<'a>>,
-    ) -> Result<Pending<'a>, SourceError>
-        ensures ok { IfOk result (λ p. push (kind_of operator) (waiting self.entry) (expression a.entry) ≡ Some (waiting p)) }
+        operator: Operator,
+    ) -> Result<(), SourceError>
+        ensures ok { OnOk result (push (kind_of operator) (waiting self.old) (expression a.entry) ≡ Some (waiting self.new)) }
         ensures err { IfErr result (λ e. e ≡ SourceError.NoMemory) }
     {
         match operator {
-            Operator::Star => self.with_factor(alloc, a),
-            Operator::Plus => self.with_term(alloc, Op::Add, a),
-            Operator::Minus => self.with_term(alloc, Op::Sub, a),
-            Operator::Up => self.with_shift(alloc, Op::Shl, a),
-            Operator::Down => self.with_shift(alloc, Op::Shr, a),
-            Operator::And => self.with_bits(alloc, Op::And, a),
-            Operator::Or => self.with_bits(alloc, Op::Or, a),
-            Operator::Xor => self.with_bits(alloc, Op::Xor, a),
-            Operator::Less => self.with_less(alloc, a),
-            Operator::Equal => self.with_equal(alloc, a),
+            Operator::Star => self.product = Some(self.take_product(alloc, a)?),
+            Operator::Plus => self.sum = Some((Op::Add, self.take_sum(alloc, a)?)),
+            Operator::Minus => self.sum = Some((Op::Sub, self.take_sum(alloc, a)?)),
+            Operator::Up => self.shift = Some((Op::Shl, self.take_shift(alloc, a)?)),
+            Operator::Down => self.shift = Some((Op::Shr, self.take_shift(alloc, a)?)),
+            Operator::And => self.bits = Some((Op::And, self.take_bits(alloc, a)?)),
+            Operator::Or => self.bits = Some((Op::Or, self.take_bits(alloc, a)?)),
+            Operator::Xor => self.bits = Some((Op::Xor, self.take_bits(alloc, a)?)),
+            Operator::Less => self.less = Some(self.take_less(alloc, a)?),
+            Operator::Equal => self.equal = Some(self.take_equal(alloc, a)?),
         }
-    }
-
-    /// What waits after a `*`.
-    fn with_factor(self, alloc: Global, a: Expr<Spot<'a>>) -> Result<Pending<'a>, SourceError>
-        ensures ok { IfOk result (λ p. push Star (waiting self.entry) (expression a.entry) ≡ Some (waiting p)) }
-        ensures err { IfErr result (λ e. e ≡ SourceError.NoMemory) }
-    {
-        let Pending {
-            equal,
-            less,
-            bits,
-            shift,
-            sum,
-            product,
-        } = self;
-        let a = join(alloc, Op::Mul, product, a)?;
-        Ok(Pending {
-            equal,
-            less,
-            bits,
-            shift,
-            sum,
-            product: Some(a),
-        })
-    }
-
-    /// What waits after a `+` or a `-`.
-    fn with_term(self, alloc: Global, op: Op, a: Expr<Spot<'a>>) -> Result<Pending<'a>, SourceError>
-        ensures ok { IfOk result (λ p. waiting p ≡ after_term op (waiting self.entry) (expression a.entry)) }
-        ensures err { IfErr result (λ e. e ≡ SourceError.NoMemory) }
-    {
-        let Pending {
-            equal,
-            less,
-            bits,
-            shift,
-            sum,
-            product,
-        } = self;
-        let a = join(alloc, Op::Mul, product, a)?;
-        let a = join_signed(alloc, sum, a)?;
-        Ok(Pending {
-            equal,
-            less,
-            bits,
-            shift,
-            sum: Some((op, a)),
-            product: None,
-        })
-    }
-
-    /// What waits after a `<<` or a `>>`.
-    fn with_shift(
-        self,
-        alloc: Global,
-        op: Op,
-        a: Expr<Spot<'a>>,
-    ) -> Result<Pending<'a>, SourceError>
-        ensures ok { IfOk result (λ p. waiting p ≡ after_shift op (waiting self.entry) (expression a.entry)) }
-        ensures err { IfErr result (λ e. e ≡ SourceError.NoMemory) }
-    {
-        let Pending {
-            equal,
-            less,
-            bits,
-            shift,
-            sum,
-            product,
-        } = self;
-        let a = join(alloc, Op::Mul, product, a)?;
-        let a = join_signed(alloc, sum, a)?;
-        let a = join_signed(alloc, shift, a)?;
-        Ok(Pending {
-            equal,
-            less,
-            bits,
-            shift: Some((op, a)),
-            sum: None,
-            product: None,
-        })
-    }
-
-    /// What waits after a `&`, a `|` or a `^`.
-    fn with_bits(self, alloc: Global, op: Op, a: Expr<Spot<'a>>) -> Result<Pending<'a>, SourceError>
-        ensures ok { IfOk result (λ p. waiting p ≡ after_bits op (waiting self.entry) (expression a.entry)) }
-        ensures err { IfErr result (λ e. e ≡ SourceError.NoMemory) }
-    {
-        let Pending {
-            equal,
-            less,
-            bits,
-            shift,
-            sum,
-            product,
-        } = self;
-        let a = join(alloc, Op::Mul, product, a)?;
-        let a = join_signed(alloc, sum, a)?;
-        let a = join_signed(alloc, shift, a)?;
-        let a = join_signed(alloc, bits, a)?;
-        Ok(Pending {
-            equal,
-            less,
-            bits: Some((op, a)),
-            shift: None,
-            sum: None,
-            product: None,
-        })
-    }
-
-    /// What waits after a `<`.
-    fn with_less(self, alloc: Global, a: Expr<Spot<'a>>) -> Result<Pending<'a>, SourceError>
-        ensures ok { IfOk result (λ p. push Less (waiting self.entry) (expression a.entry) ≡ Some (waiting p)) }
-        ensures err { IfErr result (λ e. e ≡ SourceError.NoMemory) }
-    {
-        let Pending {
-            equal,
-            less,
-            bits,
-            shift,
-            sum,
-            product,
-        } = self;
-        let a = join(alloc, Op::Mul, product, a)?;
-        let a = join_signed(alloc, sum, a)?;
-        let a = join_signed(alloc, shift, a)?;
-        let a = join_signed(alloc, bits, a)?;
-        let a = join(alloc, Op::Ltu, less, a)?;
-        Ok(Pending {
-            equal,
-            less: Some(a),
-            bits: None,
-            shift: None,
-            sum: None,
-            product: None,
-        })
-    }
-
-    /// What waits after a `==`.
-    fn with_equal(self, alloc: Global, a: Expr<Spot<'a>>) -> Result<Pending<'a>, SourceError>
-        ensures ok { IfOk result (λ p. push EqEq (waiting self.entry) (expression a.entry) ≡ Some (waiting p)) }
-        ensures err { IfErr result (λ e. e ≡ SourceError.NoMemory) }
-    {
-        let a = self.close(alloc, a)?;
-        Ok(Pending {
-            equal: Some(a),
-            less: None,
-            bits: None,
-            shift: None,
-            sum: None,
-            product: None,
-        })
+        Ok(())
     }
 }
 

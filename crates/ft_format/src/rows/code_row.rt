@@ -4,7 +4,7 @@ ghost use Rattle.ft_format.specs.Layout.{numbers, written, code_layout};
 ghost use Rattle.ft_format.specs.Puts.{Puts};
 ghost use Rattle.ft_format.specs.Fields.{code_numbers};
 
-use crate::numbers::{put_u8, put_u32, read_u8, read_u32};
+use crate::numbers::{code_bytes, put, read_u8, read_u32};
 use ft_isa::NoMemory;
 
 /// The numbers of an instruction's record: kind, a, b, c, x, and the two halves of v.
@@ -45,17 +45,12 @@ impl CodeRow {
     }
 
     /// Puts the record's bytes at the end. Where memory runs out, some of them may stand there.
-    #[tactic(auto, unfolding(crate::specs::Layout::written))]
     pub fn write(self, out: &mut Vec<u8>) -> Result<(), NoMemory>
         ensures { OnOk result (Puts out.old.items out.new.items (written code_layout (code_numbers self))) }
     {
-        put_u8(out, self.kind)?;
-        put_u8(out, self.a)?;
-        put_u8(out, self.b)?;
-        put_u8(out, self.c)?;
-        put_u32(out, self.x)?;
-        put_u32(out, self.high)?;
-        put_u32(out, self.low)?;
-        Ok(())
+        let bytes = code_bytes(
+            self.kind, self.a, self.b, self.c, self.x, self.high, self.low,
+        );
+        put(out, &bytes)
     }
 }

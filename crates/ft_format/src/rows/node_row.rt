@@ -5,7 +5,7 @@ ghost use Rattle.ft_format.specs.Layout.{numbers, written, code_layout};
 ghost use Rattle.ft_format.specs.Puts.{Puts};
 ghost use Rattle.ft_format.specs.Fields.{node_numbers};
 
-use crate::numbers::{put_u8, put_u32, read_u8, read_u32};
+use crate::numbers::{code_bytes, put, read_u8, read_u32};
 use ft_isa::NoMemory;
 use ft_types::row_words;
 
@@ -57,17 +57,12 @@ impl NodeRow {
     }
 
     /// Puts the record's bytes at the end. Where memory runs out, some of them may stand there.
-    #[tactic(auto, unfolding(crate::specs::Layout::written))]
     pub fn write(self, out: &mut Vec<u8>) -> Result<(), NoMemory>
         ensures { OnOk result (Puts out.old.items out.new.items (written code_layout (node_numbers self))) }
     {
-        put_u8(out, self.kind)?;
-        put_u8(out, self.op)?;
-        put_u8(out, self.scope)?;
-        put_u8(out, self.pad)?;
-        put_u32(out, self.a)?;
-        put_u32(out, self.b)?;
-        put_u32(out, self.c)?;
-        Ok(())
+        let bytes = code_bytes(
+            self.kind, self.op, self.scope, self.pad, self.a, self.b, self.c,
+        );
+        put(out, &bytes)
     }
 }
