@@ -1,1 +1,4 @@
 pub mod Puts
+mod Sections
+pub mod Fitting
+mod Spelled

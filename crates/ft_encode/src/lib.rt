@@ -1,11 +1,14 @@
 //! Objects as bytes, written.
 //!
-//! The crate promises that `encode` writes the version 2 spelling of an object that obeys the rules of
-//! the format, so that reading it gives the object back, and each version 2 file is written by it. The format's definitions and laws are those of
+//! The crate promises that `spell` writes the version 2 layout of an object's tables, and that `encode`
+//! writes that of an object that obeys the rules of the format, so that reading it gives the object
+//! back, and each version 2 file is written by it. The format's definitions and laws are those of
 //! `ft_format`; `specs/Written.antt` has the bytes of each record.
 #![tactic(auto)]
 
+mod laws;
 mod record;
 mod writing;
 
-pub use writing::encode;
+pub use laws::fitting_objects_are_read;
+pub use writing::{encode, spell};

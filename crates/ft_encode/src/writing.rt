@@ -1,11 +1,12 @@
 //! Writing objects.
-ghost use Rattle.std.specs.Prelude.{◌≡◌, ◌≤◌, ◌++◌, ℕ, [], List, None, length, sum_by, IfOk, OnOk};
+ghost use Rattle.std.specs.Prelude.{◌≡◌, ◌<◌, ◌^◌, ◌++◌, ℕ, [], List, None, length, sum_by, IfOk, OnOk};
 ghost use Rattle.std.specs.List.{flat_map};
 ghost use Rattle.ft_types.specs.declared.object.Object.{Object};
 ghost use Rattle.ft_types.specs.Objects.{name_of, regs_of, queue_of};
 ghost use Rattle.ft_types.specs.Spellable.{IsSpellable};
 ghost use Rattle.ft_format.specs.Layout.{spelled, cell_layout, type_layout};
-ghost use Rattle.ft_format.specs.Broken.{IsSmall, broken, object_of};
+ghost use Rattle.ft_format.specs.Broken.{broken, object_of, total};
+ghost use Rattle.ft_encode.specs.Fits.{HasCounts};
 ghost use Rattle.ft_format.specs.Rows.{cell_rows, type_rows, header_row, spelling};
 ghost use Rattle.ft_format.specs.Fields.{header_numbers};
 ghost use Rattle.ft_format.specs.Format.{Spells};
@@ -15,14 +16,14 @@ ghost use Rattle.ft_format.specs.Puts.{Puts};
 ghost use Rattle.ft_encode.specs.Written.{reg_bytes, pair_bytes};
 
 use crate::record::{base_code, base_type, write_all};
-use ft_format::{CellRow, Header, Places, TypeRow, Version};
+use ft_format::{CellRow, Header, TypeRow, Version};
 use ft_isa::NoMemory;
 use ft_types::{Cell, CodeType, Object};
 use std::alloc::Global;
 
 /// How many register rows code types have.
 fn count_regs(types: &[CodeType]) -> u32
-    requires { sum_by (λ t. length (regs_of t)) types.now ≤ 262144 }
+    requires { sum_by (λ t. length (regs_of t)) types.now < 2 ^ 32 }
     ensures { result ≡ sum_by (λ t. length (regs_of t)) types.now }
 {
     let mut count: u32 = 0;
@@ -34,7 +35,7 @@ fn count_regs(types: &[CodeType]) -> u32
 
 /// How many queue rows code types have.
 fn count_queue(types: &[CodeType]) -> u32
-    requires { sum_by (λ t. length (queue_of t)) types.now ≤ 32768 }
+    requires { sum_by (λ t. length (queue_of t)) types.now < 2 ^ 32 }
     ensures { result ≡ sum_by (λ t. length (queue_of t)) types.now }
 {
     let mut count: u32 = 0;
@@ -46,7 +47,7 @@ fn count_queue(types: &[CodeType]) -> u32
 
 /// How many bytes the names of cells have.
 fn count_names(cells: &[Cell]) -> u32
-    requires { sum_by (λ c. length (name_of c)) cells.now ≤ 40960 }
+    requires { sum_by (λ c. length (name_of c)) cells.now < 2 ^ 32 }
     ensures { result ≡ sum_by (λ c. length (name_of c)) cells.now }
 {
     let mut count: u32 = 0;
@@ -58,9 +59,8 @@ fn count_names(cells: &[Cell]) -> u32
 
 /// The header of an object, in version 2.
 fn header_of(object: &Object) -> Header
-    requires { IsSpellable object.now }
-    ensures row { header_numbers result ≡ header_row Second object.now }
-    ensures small { IsSmall result }
+    requires { HasCounts object.now }
+    ensures { header_numbers result ≡ header_row Second object.now }
 {
     Header {
         magic: Version::Second.magic(),
@@ -79,7 +79,7 @@ fn header_of(object: &Object) -> Header
 
 /// Puts the records of cells at the end.
 fn write_cells(cells: &[Cell], out: &mut Vec<u8>) -> Result<(), NoMemory>
-    requires { sum_by (λ c. length (name_of c)) cells.now ≤ 40960 }
+    requires { sum_by (λ c. length (name_of c)) cells.now < 2 ^ 32 }
     ensures { OnOk result (Puts out.old.items out.new.items (spelled cell_layout (cell_rows 0 cells.now))) }
 {
     let mut past: u32 = 0;
@@ -99,8 +99,8 @@ fn write_cells(cells: &[Cell], out: &mut Vec<u8>) -> Result<(), NoMemory>
 
 /// Puts the records of code types at the end.
 fn write_types(types: &[CodeType], out: &mut Vec<u8>) -> Result<(), NoMemory>
-    requires regs { sum_by (λ t. length (regs_of t)) types.now ≤ 262144 }
-    requires queue { sum_by (λ t. length (queue_of t)) types.now ≤ 32768 }
+    requires regs { sum_by (λ t. length (regs_of t)) types.now < 2 ^ 32 }
+    requires queue { sum_by (λ t. length (queue_of t)) types.now < 2 ^ 32 }
     ensures { OnOk result (Puts out.old.items out.new.items (spelled type_layout (type_rows 0 0 types.now))) }
 {
     let mut regs: u32 = 0;
@@ -152,6 +152,38 @@ fn write_names(cells: &[Cell], out: &mut Vec<u8>) -> Result<(), NoMemory>
     Ok(())
 }
 
+/// How many bytes the counts of a header give.
+fn size_of(header: Header) -> usize
+    ensures { result ≡ total header }
+{
+    let cells = 48 + 16 * header.cells as usize;
+    let nodes = cells + 16 * header.nodes as usize;
+    let types = nodes + 16 * header.types as usize;
+    let rows = types + 12 * header.regs as usize + 8 * header.queue as usize;
+    let code = rows + 8 * header.blocks as usize + 16 * header.instrs as usize;
+    code + 4 * header.substs as usize + header.names as usize
+}
+
+/// The version 2 layout of an object's tables, whether or not they obey the rules of the format.
+pub fn spell(alloc: Global, object: &Object) -> Result<Vec<u8>, NoMemory>
+    requires { HasCounts object.now }
+    ensures { IfOk result (λ bytes. bytes.items ≡ spelling Second object.now) }
+{
+    let header = header_of(object);
+    let mut out = Vec::with_capacity(alloc, size_of(header))?;
+    header.write(&mut out)?;
+    write_cells(object.cells.as_slice(), &mut out)?;
+    write_all(object.nodes.as_slice(), &mut out)?;
+    write_types(object.types.as_slice(), &mut out)?;
+    write_regs(object.types.as_slice(), &mut out)?;
+    write_queue(object.types.as_slice(), &mut out)?;
+    write_all(object.blocks.as_slice(), &mut out)?;
+    write_all(object.instrs.as_slice(), &mut out)?;
+    write_all(object.substs.as_slice(), &mut out)?;
+    write_names(object.cells.as_slice(), &mut out)?;
+    Ok(out)
+}
+
 /// The version 2 spelling of an object that obeys the rules of the format.
 pub fn encode(alloc: Global, object: &Object) -> Result<Vec<u8>, NoMemory>
     requires { IsSpellable object.now }
@@ -165,17 +197,5 @@ pub fn encode(alloc: Global, object: &Object) -> Result<Vec<u8>, NoMemory>
     // It begins no other spelling.
     ensures apart { IfOk result (λ bytes. (rest : List ℕ) (v : Version) (other : Object) → Spells (bytes.items ++ rest) v other → rest ≡ []) }
 {
-    let header = header_of(object);
-    let mut out = Vec::with_capacity(alloc, Places::of(header).end)?;
-    header.write(&mut out)?;
-    write_cells(object.cells.as_slice(), &mut out)?;
-    write_all(object.nodes.as_slice(), &mut out)?;
-    write_types(object.types.as_slice(), &mut out)?;
-    write_regs(object.types.as_slice(), &mut out)?;
-    write_queue(object.types.as_slice(), &mut out)?;
-    write_all(object.blocks.as_slice(), &mut out)?;
-    write_all(object.instrs.as_slice(), &mut out)?;
-    write_all(object.substs.as_slice(), &mut out)?;
-    write_names(object.cells.as_slice(), &mut out)?;
-    Ok(out)
+    spell(alloc, object)
 }

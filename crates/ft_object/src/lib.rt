@@ -2,7 +2,8 @@
 //!
 //! The crate promises that `decode` gives the one object that bytes spell, or else the first rule of
 //! the format that they break with its place. The format's definitions and laws are those of
-//! `ft_format`; `specs/Judged.antt` says what a reader may answer. Writing is `encode` of `ft_encode`.
+//! `ft_format`; `specs/Judged.antt` says what a reader may answer. Writing is `encode` and
+//! `spell` of `ft_encode`.
 #![tactic(auto)]
 
 mod copying;
@@ -11,6 +12,6 @@ mod memory;
 mod reading;
 
 pub use decode_error::DecodeError;
-pub use ft_encode::encode;
+pub use ft_encode::{encode, spell};
 pub use ft_format::ObjectError;
 pub use reading::decode;

@@ -1,0 +1,15 @@
+pub mod FieldLaws
+pub mod FormLaws
+pub mod Order
+pub mod Texts
+pub mod Lawful
+pub mod Faults
+pub mod Single
+pub mod WordLaws
+pub mod HeldLaws
+pub mod Turned
+pub mod WriteLaws
+pub mod Total
+pub mod Sizes
+pub mod Judged
+pub mod PieceLaws

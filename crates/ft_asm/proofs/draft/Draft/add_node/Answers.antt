@@ -1,0 +1,10 @@
+use Rattle.std.proofs.Common.{◌≡◌, true, is_ok, ap, sym, ◌∙◌}
+use Rattle.std.proofs.lemmas.Bool.{cond-true}
+use Rattle.ft_asm.proofs.HeldLaws.{node_held}
+use Rattle.ft_asm.proofs.draft.Draft.add_node.Goals as goal
+
+pub returns : goal.returns
+returns c =
+    let ok : is_ok c.push.result ≡ true = sym c.map_err.ensures.variant ∙ ap is_ok c.in_ok-map_err.was in
+    let pushed = c.push.ensures.items ∙ cond-true _ _ _ ok in
+    node_held c.args.self.now (record c.args.self.now { nodes = c.push.new.self }) c.args.node c.in-Start.is pushed

@@ -1,0 +1,11 @@
+pub mod Words
+pub mod Lines
+pub mod Listings
+pub mod Reads
+pub mod Refusals
+pub mod Forms
+pub mod Drafts
+pub mod Said
+pub mod Held
+pub mod Turns
+pub mod Pieces

@@ -1,0 +1,27 @@
+-- What the assembler answers, against the answers that apply.
+use Rattle.std.specs.Prelude.{◌≡◌, List, ℕ, Result, Ok, Err}
+use Rattle.ft_types.specs.declared.object.Object as objects
+use Rattle.ft_asm.specs.declared.asm_error.AsmError.{AsmError}
+use Rattle.ft_asm.specs.declared.asm_error.AsmError.TheVariants as errors
+use Rattle.ft_asm.specs.Reads.{Answer, Is, TooLong, Text, Order, Broken, Applies}
+
+-- a refusal applies to the text; out of memory says nothing
+abbrev pub IsRefusal : List ℕ → AsmError → Type 0
+IsRefusal text (errors.Text line) = Applies text (Text line)
+IsRefusal text (errors.Order line) = Applies text (Order line)
+IsRefusal text errors.TooLong = Applies text TooLong
+IsRefusal text (errors.Object error) = Applies text (Broken error)
+IsRefusal text errors.NoMemory = Unit {0}
+
+-- an error is this answer, unless memory ran out
+abbrev pub IsError : AsmError → Answer → Type 0
+IsError (errors.Text line) answer = Text line ≡ answer
+IsError (errors.Order line) answer = Order line ≡ answer
+IsError errors.TooLong answer = TooLong ≡ answer
+IsError (errors.Object error) answer = Broken error ≡ answer
+IsError errors.NoMemory answer = Unit {0}
+
+-- what was given is this answer, unless memory ran out
+abbrev pub Gives : Result objects.Object AsmError → Answer → Type 0
+Gives (Ok object) answer = Is object ≡ answer
+Gives (Err error) answer = IsError error answer

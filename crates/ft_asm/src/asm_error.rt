@@ -1,0 +1,24 @@
+//! Why a text is refused.
+use ft_object::ObjectError;
+use thiserror::Error;
+
+/// Why a text is refused. `line` counts lines from 1.
+#[derive(Clone, Copy, Debug, PartialEq, Eq, Error)]
+pub enum AsmError {
+    /// This is the first line at fault, and it is none of the forms.
+    #[error("asm 1 {line}")]
+    Text { line: u32 },
+    /// This is the first line at fault: it is one of the forms, but no text of the order has the lines up
+    /// to it. Or no line is at fault, and this line, after the last, is missing.
+    #[error("asm 2 {line}")]
+    Order { line: u32 },
+    /// The text has more than 134,217,728 bytes.
+    #[error("asm 3 134217728")]
+    TooLong,
+    /// The spelling of the tables that the text means breaks this rule of the object format, the first.
+    #[error("{0}")]
+    Object(ObjectError),
+    /// There was no memory left.
+    #[error("out of memory")]
+    NoMemory,
+}

@@ -1,0 +1,112 @@
+//! Texts, read as objects.
+ghost use Rattle.std.specs.Prelude.{◌≡◌, ◌≤◌, length, None, IfOk, IfErr};
+ghost use Rattle.ft_types.specs.Spellable.{IsSpellable};
+ghost use Rattle.ft_encode.specs.Fits.{Fits};
+ghost use Rattle.ft_asm.specs.Reads.{Reads, Answer, Is, Applies, rule_broken};
+ghost use Rattle.ft_asm.specs.Refusals.{IsRefusal, Gives};
+ghost use Rattle.ft_asm.specs.Drafts as drafts;
+ghost use Rattle.ft_asm.specs.Held.{Holds};
+ghost use Rattle.ft_asm.specs.Turns.{Turns, Judges};
+
+use crate::asm_error::AsmError;
+use crate::draft::Draft;
+use crate::forms::{Said, read_form};
+use ft_isa::NoMemory;
+use ft_object::spell;
+use ft_text::read_line;
+use ft_types::Object;
+use ft_view::View;
+use std::alloc::Global;
+
+/// The most bytes of a text.
+const LIMIT: usize = 134_217_728;
+
+/// What a line makes of the lines so far.
+enum Turn {
+    /// They go on.
+    On,
+    /// It is none of the forms.
+    Bad,
+    /// It may not stand here.
+    Stuck,
+}
+
+/// Takes one line more.
+fn take_line(draft: &mut Draft, alloc: Global, line: &[u8]) -> Result<Turn, NoMemory>
+    ensures { (d : drafts.Draft) → Holds draft.old d → IfOk result (λ turn. Turns turn draft.new d line.now) }
+{
+    match read_form(alloc, line)? {
+        Said::Nothing => Ok(Turn::On),
+        Said::Bad => Ok(Turn::Bad),
+        Said::Line(said) => {
+            if draft.add(alloc, said)? {
+                Ok(Turn::On)
+            } else {
+                Ok(Turn::Stuck)
+            }
+        }
+    }
+}
+
+/// The object whose tables a text means, whether or not they obey the rules of the format.
+fn read_tables(alloc: Global, text: &[u8]) -> Result<Object, AsmError>
+    ensures few { IfOk result (λ object. length text.now ≤ 134217728) }
+    ensures reads { IfOk result (Reads text.now) }
+    ensures refused { IfErr result (IsRefusal text.now) }
+{
+    if text.len() > LIMIT {
+        return Err(AsmError::TooLong);
+    }
+    let mut draft = Draft::new(alloc);
+    let mut rest = text;
+    let mut number: u32 = 1;
+    while let Some((line, after)) = read_line(rest) {
+        let Ok(turn) = take_line(&mut draft, alloc, line) else {
+            return Err(AsmError::NoMemory);
+        };
+        match turn {
+            Turn::On => {}
+            Turn::Bad => return Err(AsmError::Text { line: number }),
+            Turn::Stuck => return Err(AsmError::Order { line: number }),
+        }
+        rest = after;
+        number += 1;
+    }
+    match draft.finish() {
+        Some(object) => Ok(object),
+        None => Err(AsmError::Order { line: number }),
+    }
+}
+
+/// The object, where its tables obey the rules of the format.
+fn judge(alloc: Global, object: Object) -> Result<Object, AsmError>
+    requires { Fits object }
+    ensures same { IfOk result (λ judged. judged ≡ object) }
+    ensures unbroken { IfOk result (λ judged. rule_broken object ≡ None) }
+    ensures lawful { IfOk result (λ judged. IsSpellable object) }
+    ensures broken { IfErr result (λ error. Judges error object) }
+{
+    let Ok(bytes) = spell(alloc, &object) else {
+        return Err(AsmError::NoMemory);
+    };
+    match View::over(bytes.as_slice()) {
+        Ok(_) => Ok(object),
+        Err(error) => Err(AsmError::Object(error)),
+    }
+}
+
+/// The object that a text reads as; or the first line at fault; or the first rule of the format that the
+/// spelling of its tables breaks, with its place; or out of memory. The text is read in one pass, and
+/// the memory that is taken grows as its tables do.
+pub fn assemble(alloc: Global, text: &[u8]) -> Result<Object, AsmError>
+    // What is given is the object that the text reads as, and it obeys the rules.
+    ensures reads { IfOk result (λ object. Applies text.now (Is object)) }
+    ensures lawful { IfOk result IsSpellable }
+    // A refusal comes only where it applies to the text.
+    ensures refused { IfErr result (IsRefusal text.now) }
+    // Whatever answer applies to the text, it is the one that is given, unless memory runs out.
+    ensures exact { (answer : Answer) → Applies text.now answer → Gives result answer }
+{
+    let object = read_tables(alloc, text)?;
+    judge(alloc, object)
+}

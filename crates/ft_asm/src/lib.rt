@@ -1,0 +1,27 @@
+//! Assembly text: objects as lines of words.
+//!
+//! The crate promises that `assemble` gives the one object that a text reads as, or refuses the text
+//! exactly, and that `disassemble` gives the text of an object, which reads as that object and no other.
+//! `specs/Words.antt`, `specs/Lines.antt` and `specs/Listings.antt` say what lines mean,
+//! `specs/Reads.antt` which text reads as which object and what a text is refused for.
+#![tactic(auto)]
+
+mod asm_error;
+mod assembly;
+mod code_forms;
+mod disassembly;
+mod draft;
+mod fields;
+mod forms;
+mod instructions;
+mod laws;
+mod line;
+mod node_forms;
+mod words;
+mod writing;
+
+pub use asm_error::AsmError;
+pub use assembly::assemble;
+pub use disassembly::disassemble;
+pub use laws::{answers_are_one, readings_are_one, texts_are_read};
+pub use line::{Code, Line};
