@@ -1,0 +1,11 @@
+pub mod Lists
+pub mod BlockRanges
+pub mod SameRows
+pub mod Permits
+pub mod Crossing
+pub mod QueueLengths
+pub mod Accepted
+pub mod Effects
+pub mod Lockstep
+pub mod Chains
+pub mod Unique

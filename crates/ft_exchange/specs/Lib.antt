@@ -1,0 +1,3 @@
+pub mod Exchange
+pub mod Scheduled
+pub mod Alike

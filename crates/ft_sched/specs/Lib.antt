@@ -1,0 +1,6 @@
+pub mod Registers
+pub mod LastPlaces
+pub mod Inside
+pub mod Waiting
+pub mod Arranged
+pub mod UpTo

@@ -1,0 +1,153 @@
+//! The order in which a schedule has its instructions, made from left to right.
+//!
+//! Leading instructions keep their order, and so do trailing ones. So a trailing instruction waits until
+//! it is known that no leading one passes it. A leading instruction stops at the last one that it may not
+//! pass: what waits is laid down up to there, and then the leading instruction itself. Each instruction
+//! waits once at most, so the work grows with their number.
+ghost use Rattle.std.specs.Prelude.{◌≡◌, ◌+◌, ◌-◌, ◌<◌, ◌≤◌, ◌^◌, [], true, not, nat_lt, length, cond, OnOk};
+ghost use Rattle.ft_exchange.specs.Exchange.{is_leading, is_fixed};
+ghost use Rattle.ft_sched.specs.Waiting.{holds_back};
+ghost use Rattle.ft_sched.specs.Arranged.{Lays, LaysFirst, LaysAll, GetsPlace};
+
+use crate::instruction::{is_blue_store, is_fixed, is_green_store, is_leading};
+use crate::waiting::Waiting;
+use ft_isa::Instr;
+use std::alloc::{AllocError, Global};
+
+/// The instructions that are laid down for good, and those that wait behind them. In the block that is
+/// being scheduled so many pairs were queued, those that wait at its start and its green stores, and so
+/// many were committed, its blue stores.
+#[derive(Drop)]
+pub struct Order {
+    laid: Vec<Instr>,
+    waiting: Waiting,
+    queued: usize,
+    committed: usize,
+    ghost queued_few: { queued ≤ 8 + length laid.items },
+    ghost committed_few: { committed ≤ length laid.items },
+}
+
+/// A count with one more, where it counts.
+fn with(count: usize, counts: bool) -> usize
+    requires { count + 1 < 2 ^ 64 }
+    ensures { result ≡ count + cond counts 1 0 }
+{
+    if counts { count + 1 } else { count }
+}
+
+impl Order {
+    /// Nothing is laid down, and nothing waits.
+    pub fn new(alloc: Global) -> Order
+        ensures laid { result.laid.items ≡ [] }
+        ensures waiting { result.waiting ≡ [] }
+    {
+        Order {
+            laid: Vec::new(alloc),
+            waiting: Waiting::new(alloc),
+            queued: 0,
+            committed: 0,
+        }
+    }
+
+    /// The instructions in their order.
+    pub fn into_laid(self) -> Vec<Instr>
+        ensures { result.items ≡ self.laid.items }
+    {
+        self.laid
+    }
+
+    /// A block begins, at whose start so many pairs are queued.
+    pub fn begin_block(&mut self, rows: u32)
+        requires { rows ≤ 8 }
+        ensures laid { self.new.laid.items ≡ self.old.laid.items }
+        ensures waiting { self.new.waiting ≡ self.old.waiting }
+        ensures queued { self.new.queued ≡ rows }
+        ensures committed { self.new.committed ≡ 0 }
+    {
+        self.queued = rows as usize;
+        self.committed = 0;
+    }
+
+    /// Lays an instruction down.
+    fn lay(&mut self, instr: Instr) -> Result<(), AllocError>
+        ensures lays { OnOk result (Lays instr self.old.laid.items self.new.laid.items self.old.queued self.new.queued self.old.committed self.new.committed) }
+        ensures waiting { OnOk result (self.new.waiting ≡ self.old.waiting) }
+    {
+        let queues = is_green_store(&instr);
+        let commits = is_blue_store(&instr);
+        self.laid.push(instr)?;
+        self.queued = with(self.queued, queues);
+        self.committed = with(self.committed, commits);
+        Ok(())
+    }
+
+    /// Lays the oldest instruction that waits down.
+    fn lay_first(&mut self) -> Result<(), AllocError>
+        requires { 0 < length self.old.waiting }
+        ensures { OnOk result (LaysFirst self.old.laid.items self.new.laid.items self.old.waiting self.new.waiting self.old.queued self.new.queued self.old.committed self.new.committed) }
+    {
+        let first = self.waiting.take();
+        self.lay(first)
+    }
+
+    /// Whether the static queue is full behind what is laid down.
+    fn is_full(&self) -> bool
+        ensures { result ≡ not (nat_lt (self.now.queued - self.now.committed) 8) }
+    {
+        self.queued.saturating_sub(self.committed) >= 8
+    }
+
+    /// Whether an instruction has to wait for one that waits.
+    fn holds_back(&self, instr: &Instr) -> bool
+        ensures { result ≡ holds_back (self.now.queued - self.now.committed) self.now.waiting instr.now }
+    {
+        if self.waiting.has_conflict(instr) {
+            return true;
+        }
+        is_green_store(instr) && self.is_full() && self.waiting.has_blue_store()
+    }
+
+    /// Lays a leading instruction down, behind the last one that it may not pass.
+    fn lead(&mut self, instr: Instr) -> Result<(), AllocError>
+        requires { is_leading instr ≡ true }
+        ensures { OnOk result (GetsPlace instr self.old.laid.items self.old.waiting self.old.queued self.old.committed self.new.laid.items self.new.waiting self.new.queued self.new.committed) }
+    {
+        while self.holds_back(&instr) {
+            self.lay_first()?;
+        }
+        self.lay(instr)
+    }
+
+    /// Lays all instructions that wait down.
+    pub fn lay_all(&mut self) -> Result<(), AllocError>
+        ensures waiting { OnOk result (self.new.waiting ≡ []) }
+        ensures lays { OnOk result (LaysAll self.old.laid.items self.old.waiting self.old.queued self.old.committed self.new.laid.items self.new.queued self.new.committed) }
+    {
+        while !self.waiting.is_empty() {
+            self.lay_first()?;
+        }
+        Ok(())
+    }
+
+    /// Lays an instruction down that stands fixed, behind all that wait.
+    fn fix(&mut self, instr: Instr) -> Result<(), AllocError>
+        requires { is_fixed instr ≡ true }
+        ensures { OnOk result (GetsPlace instr self.old.laid.items self.old.waiting self.old.queued self.old.committed self.new.laid.items self.new.waiting self.new.queued self.new.committed) }
+    {
+        self.lay_all()?;
+        self.lay(instr)
+    }
+
+    /// Gives the next instruction of the block its place.
+    pub fn place(&mut self, instr: Instr) -> Result<(), AllocError>
+        ensures { OnOk result (GetsPlace instr self.old.laid.items self.old.waiting self.old.queued self.old.committed self.new.laid.items self.new.waiting self.new.queued self.new.committed) }
+    {
+        if is_leading(&instr) {
+            return self.lead(instr);
+        }
+        if is_fixed(&instr) {
+            return self.fix(instr);
+        }
+        self.waiting.push(instr)
+    }
+}
