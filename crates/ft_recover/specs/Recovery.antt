@@ -1,0 +1,56 @@
+-- What a recovery answers and puts.
+use Rattle.std.specs.Prelude.{◌≡◌, ℕ, List, length, Option, Some, None}
+use Rattle.ft_edge.specs.Causes.{Rose}
+use Rattle.ft_edge.specs.Puts.{PutsLines, BreaksOff, PutsNothing}
+use Rattle.ft_isa.specs.declared.output.Output.{Output}
+use Rattle.ft_isa.specs.declared.plan.Strike.{Strike}
+use Rattle.ft_isa.specs.declared.plan.Wild.{Wild}
+use Rattle.ft_types.specs.declared.object.Object.{Object}
+use Rattle.ft_semantics.specs.declared.status.Status.{Status}
+use Rattle.ft_semantics.specs.declared.status.Status.TheVariants as status
+use Rattle.ft_semantics.specs.Run.{outputs_after, status_after}
+use Rattle.ft_machine.specs.Drives.{output_lines}
+use Rattle.ft_recover.specs.declared.recover_end.RecoverEnd.{RecoverEnd}
+use Rattle.ft_recover.specs.declared.recover_end.RecoverEnd.TheVariants.{Done, OutOfSteps, WriteFault, NoMemory}
+
+-- how many outputs a run with this status has committed, where it is detected
+abbrev pub count_at : Status → List Output → Option ℕ
+count_at status.Running outputs = None
+count_at status.Done outputs = None
+count_at status.Detected outputs = Some (length outputs)
+
+-- the number of outputs that the run under a plan has committed after n steps, where it is detected then
+abbrev pub restart_output : Object → Option Strike → List Wild → ℕ → Option ℕ
+restart_output o strike w n = count_at (status_after o strike w n) (outputs_after o strike w n)
+
+-- the lines of all outputs of the run without a fault after n steps, one for each
+abbrev pub whole_output : Object → List Wild → ℕ → List (List ℕ)
+whole_output o w n = output_lines o (outputs_after o None w n)
+
+-- a recovery that ended so, where the run without a fault has this status
+abbrev pub EndsAs : RecoverEnd → Status → Type 0
+EndsAs (Done again) s = s ≡ status.Done
+EndsAs (OutOfSteps again) s = s ≡ status.Running
+EndsAs WriteFault s = Unit {0}
+EndsAs NoMemory s = Unit {0}
+
+-- a recovery tells this restart, or none
+abbrev pub Restarts : RecoverEnd → Option ℕ → Type 0
+Restarts (Done again) restart = again ≡ restart
+Restarts (OutOfSteps again) restart = again ≡ restart
+Restarts WriteFault restart = Unit {0}
+Restarts NoMemory restart = Unit {0}
+
+-- all lines were put, each as one piece; or a put failed, which was the last; or nothing was put
+abbrev pub Puts : RecoverEnd → List (List ℕ) → Option (List ℕ) → Option (List ℕ) → Option (List (List ℕ)) → Option (List (List ℕ)) → Type 0
+Puts (Done again) lines old new before now = PutsLines lines old new before now
+Puts (OutOfSteps again) lines old new before now = PutsLines lines old new before now
+Puts WriteFault lines old new before now = BreaksOff lines old new before now
+Puts NoMemory lines old new before now = PutsNothing old new before now
+
+-- only a count that rose excuses a failed put, and where no put failed the count stays
+abbrev pub IsExcused : RecoverEnd → ℕ → ℕ → Type 0
+IsExcused (Done again) before now = now ≡ before
+IsExcused (OutOfSteps again) before now = now ≡ before
+IsExcused WriteFault before now = Rose before now
+IsExcused NoMemory before now = now ≡ before

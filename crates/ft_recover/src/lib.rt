@@ -1,0 +1,14 @@
+//! Recovery: the whole output of an accepted program under at most one fault.
+//!
+//! The crate promises that `recover` puts exactly the outputs of the run without a fault, each once, and
+//! ends as that run does. Where the fault is detected, it starts the program again and leaves out the
+//! outputs that were committed. Its definitions are in `specs/Recovery.antt`.
+#![tactic(auto)]
+
+mod passing;
+mod recover_end;
+mod recovery;
+mod runs;
+
+pub use recover_end::RecoverEnd;
+pub use recovery::recover;
