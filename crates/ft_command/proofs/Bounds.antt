@@ -51,6 +51,7 @@ few_of : (v : Verb) (operand : Word) (given : Given) → IsUpTo (allowed_of v).s
 few_of verb.Check operand given h = tt
 few_of verb.Run operand given h = tt
 few_of verb.Trial operand given h = tt
+few_of verb.Recover operand given h = tt
 few_of verb.Campaign operand given h = few_of_list (λ faults. Campaigns (campaign_of operand given faults)) given.faults (λ w. few_by_default given.steps h)
 few_of verb.Survey operand given h = few_of_list (λ faults. Surveys (campaign_of operand given faults)) given.faults (λ w. few_by_default given.steps h)
 few_of verb.Compile operand given h = tt
@@ -59,6 +60,9 @@ few_of verb.Mean operand given h = tt
 few_of verb.Debug operand given h = tt
 few_of verb.Demo operand given h = few_of_turns (turns_up_to 10921 operand)
 few_of verb.Upgrade operand given h = tt
+few_of verb.Assemble operand given h = tt
+few_of verb.Disassemble operand given h = tt
+few_of verb.Schedule operand given h = tt
 
 none_up_to : (v : Verb) → IsUpTo (allowed_of v).steps none_given.steps
 none_up_to v = tt
@@ -85,6 +89,7 @@ turns_of : (v : Verb) (operand : Word) (given : Given) → HasTurnsIfSome (reque
 turns_of verb.Check operand given = tt
 turns_of verb.Run operand given = tt
 turns_of verb.Trial operand given = tt
+turns_of verb.Recover operand given = tt
 turns_of verb.Campaign operand given = turns_of_list (λ faults. Campaigns (campaign_of operand given faults)) given.faults (λ w. tt)
 turns_of verb.Survey operand given = turns_of_list (λ faults. Surveys (campaign_of operand given faults)) given.faults (λ w. tt)
 turns_of verb.Compile operand given = tt
@@ -93,6 +98,9 @@ turns_of verb.Mean operand given = tt
 turns_of verb.Debug operand given = tt
 turns_of verb.Demo operand given = turns_of_number (turns_up_to 10921 operand) (turns_within 10921 operand)
 turns_of verb.Upgrade operand given = tt
+turns_of verb.Assemble operand given = tt
+turns_of verb.Disassemble operand given = tt
+turns_of verb.Schedule operand given = tt
 
 -- a demonstration that words ask for has from 1 to 10,921 turns
 pub few_turns : (words : List Word) (request : Request) → AreCommand words request → HasTurns request

@@ -4,21 +4,25 @@ use Rattle.std.specs.Option.{option_map, unwrap_or}
 use Rattle.ft_command.specs.declared.verb.Verb.{Verb}
 use Rattle.ft_command.specs.declared.verb.Verb.TheVariants as verb
 use Rattle.ft_command.specs.Options.{Word, Given, none_given, GivesAll}
-use Rattle.ft_command.specs.Commands.{name_of, allowed_of, turns_up_to, request_of, Request, Usage, Checks, Runs, Trials, Campaigns, Surveys, Compiles, Executes, Means, Debugs, Demonstrates, Upgrades, AreCommand, Asks}
+use Rattle.ft_command.specs.Commands.{name_of, allowed_of, turns_up_to, request_of, Request, Usage, Checks, Runs, Trials, Campaigns, Surveys, Compiles, Executes, Means, Debugs, Demonstrates, Upgrades, Assembles, Disassembles, AreCommand, Asks, Schedules, Recovers}
 
 -- the command that a name is of, by its letters
 verb_by : Word → Verb
 verb_by w =
-    if slice_index w 1 == 104 then verb.Check
+    if slice_index w 2 == 99 then verb.Recover
+    else if slice_index w 1 == 104 then verb.Check
     else if slice_index w 0 == 114 then verb.Run
     else if slice_index w 0 == 116 then verb.Trial
     else if slice_index w 0 == 101 then verb.Exec
     else if slice_index w 1 == 111 then verb.Compile
     else if slice_index w 0 == 99 then verb.Campaign
+    else if slice_index w 1 == 99 then verb.Schedule
     else if slice_index w 0 == 115 then verb.Survey
     else if slice_index w 2 == 98 then verb.Debug
+    else if slice_index w 1 == 105 then verb.Disassemble
     else if slice_index w 0 == 100 then verb.Demo
     else if slice_index w 0 == 117 then verb.Upgrade
+    else if slice_index w 0 == 97 then verb.Assemble
     else verb.Mean
 
 verb_by-name_of : (v : Verb) → verb_by (name_of v) ≡ v
@@ -26,6 +30,7 @@ unfolding verb_by
 verb_by-name_of verb.Check = refl
 verb_by-name_of verb.Run = refl
 verb_by-name_of verb.Trial = refl
+verb_by-name_of verb.Recover = refl
 verb_by-name_of verb.Campaign = refl
 verb_by-name_of verb.Survey = refl
 verb_by-name_of verb.Compile = refl
@@ -34,6 +39,9 @@ verb_by-name_of verb.Mean = refl
 verb_by-name_of verb.Debug = refl
 verb_by-name_of verb.Demo = refl
 verb_by-name_of verb.Upgrade = refl
+verb_by-name_of verb.Assemble = refl
+verb_by-name_of verb.Disassemble = refl
+verb_by-name_of verb.Schedule = refl
 
 -- commands with one name are one
 same_verb : (u v : Verb) → name_of u ≡ name_of v → u ≡ v
@@ -73,6 +81,7 @@ no_usage : (v : Verb) (operand : Word) (given : Given) → request_of v operand 
 no_usage verb.Check operand given e = absurd (cc)
 no_usage verb.Run operand given e = absurd (cc)
 no_usage verb.Trial operand given e = absurd (cc)
+no_usage verb.Recover operand given e = absurd (cc)
 no_usage verb.Campaign operand given e = no_usage_of _ given.faults (λ w h. cc) e
 no_usage verb.Survey operand given e = no_usage_of _ given.faults (λ w h. cc) e
 no_usage verb.Compile operand given e = absurd (cc)
@@ -81,6 +90,9 @@ no_usage verb.Mean operand given e = absurd (cc)
 no_usage verb.Debug operand given e = absurd (cc)
 no_usage verb.Demo operand given e = no_usage_of_number (turns_up_to 10921 operand) e
 no_usage verb.Upgrade operand given e = absurd (cc)
+no_usage verb.Assemble operand given e = absurd (cc)
+no_usage verb.Disassemble operand given e = absurd (cc)
+no_usage verb.Schedule operand given e = absurd (cc)
 
 -- what a command asks for, the words ask for
 pub asks : (words : List Word) (request : Request) → AreCommand words request → Asks words request
@@ -88,6 +100,7 @@ asks words Usage h = absurd (no_usage h.verb h.operand h.given h.request_is)
 asks words (Checks object) h = h
 asks words (Runs run) h = h
 asks words (Trials run) h = h
+asks words (Recovers run) h = h
 asks words (Campaigns campaign) h = h
 asks words (Surveys campaign) h = h
 asks words (Compiles source) h = h
@@ -96,6 +109,9 @@ asks words (Means meaning) h = h
 asks words (Debugs debugging) h = h
 asks words (Demonstrates turns) h = h
 asks words (Upgrades object) h = h
+asks words (Assembles text) h = h
+asks words (Disassembles object) h = h
+asks words (Schedules object) h = h
 
 -- what words ask for but usage, they are a command for
 pub by_command : (words : List Word) (request other : Request) → AreCommand words request → Asks words other → AreCommand words other
@@ -103,6 +119,7 @@ by_command words request Usage asked usage = absurd (usage request asked)
 by_command words request (Checks object) asked h = h
 by_command words request (Runs run) asked h = h
 by_command words request (Trials run) asked h = h
+by_command words request (Recovers run) asked h = h
 by_command words request (Campaigns campaign) asked h = h
 by_command words request (Surveys campaign) asked h = h
 by_command words request (Compiles source) asked h = h
@@ -111,6 +128,9 @@ by_command words request (Means meaning) asked h = h
 by_command words request (Debugs debugging) asked h = h
 by_command words request (Demonstrates turns) asked h = h
 by_command words request (Upgrades object) asked h = h
+by_command words request (Assembles text) asked h = h
+by_command words request (Disassembles object) asked h = h
+by_command words request (Schedules object) asked h = h
 
 -- words that are a command ask for nothing else
 pub asks_only : (words options : List Word) (v : Verb) (operand : Word) (given : Given) (request : Request) → words ≡ name_of v ∷ operand ∷ options
@@ -141,6 +161,7 @@ usage_only words none Usage h = refl
 usage_only words none (Checks object) h = absurd (none (Checks object) h)
 usage_only words none (Runs run) h = absurd (none (Runs run) h)
 usage_only words none (Trials run) h = absurd (none (Trials run) h)
+usage_only words none (Recovers run) h = absurd (none (Recovers run) h)
 usage_only words none (Campaigns campaign) h = absurd (none (Campaigns campaign) h)
 usage_only words none (Surveys campaign) h = absurd (none (Surveys campaign) h)
 usage_only words none (Compiles source) h = absurd (none (Compiles source) h)
@@ -149,3 +170,6 @@ usage_only words none (Means meaning) h = absurd (none (Means meaning) h)
 usage_only words none (Debugs debugging) h = absurd (none (Debugs debugging) h)
 usage_only words none (Demonstrates turns) h = absurd (none (Demonstrates turns) h)
 usage_only words none (Upgrades object) h = absurd (none (Upgrades object) h)
+usage_only words none (Assembles text) h = absurd (none (Assembles text) h)
+usage_only words none (Disassembles object) h = absurd (none (Disassembles object) h)
+usage_only words none (Schedules object) h = absurd (none (Schedules object) h)

@@ -10,7 +10,7 @@ use Rattle.ft_command.specs.declared.allowed.Allowed.{Allowed}
 use Rattle.ft_command.specs.declared.verb.Verb.{Verb}
 use Rattle.ft_command.specs.declared.verb.Verb.TheVariants as verb
 use Rattle.ft_command.specs.Options.{Word, Given, none_given, IsNumberUpTo, GivesSteps, GivesTurns, GivesStrike, GivesWild, GivesFaults, Gives, by_steps, by_turns, by_strike, by_wild, by_faults, GivesAll}
-use Rattle.ft_command.specs.Commands.{allowed_of, Request, Usage, Checks, Runs, Trials, Campaigns, Surveys, Compiles, Executes, Means, Debugs, Demonstrates, Upgrades, AreCommand, Asks}
+use Rattle.ft_command.specs.Commands.{allowed_of, Request, Usage, Checks, Runs, Trials, Campaigns, Surveys, Compiles, Executes, Means, Debugs, Demonstrates, Upgrades, Assembles, Disassembles, AreCommand, Asks, Schedules, Recovers}
 use Rattle.ft_command.proofs.Given.{steps_only, turns_only, strike_only, wild_only, faults_only}
 use Rattle.ft_command.proofs.Commands.{asks_only, usage_only}
 
@@ -65,6 +65,7 @@ steps_are_words : (v : Verb) → IsAWordIfSome (allowed_of v).steps
 steps_are_words verb.Check = tt
 steps_are_words verb.Run = lit< tt
 steps_are_words verb.Trial = lit< tt
+steps_are_words verb.Recover = lit< tt
 steps_are_words verb.Campaign = lit< tt
 steps_are_words verb.Survey = lit< tt
 steps_are_words verb.Compile = tt
@@ -73,11 +74,15 @@ steps_are_words verb.Mean = tt
 steps_are_words verb.Debug = tt
 steps_are_words verb.Demo = tt
 steps_are_words verb.Upgrade = tt
+steps_are_words verb.Assemble = tt
+steps_are_words verb.Disassemble = tt
+steps_are_words verb.Schedule = tt
 
 turns_are_words : (v : Verb) → IsAWordIfSome (allowed_of v).turns
 turns_are_words verb.Check = tt
 turns_are_words verb.Run = tt
 turns_are_words verb.Trial = tt
+turns_are_words verb.Recover = tt
 turns_are_words verb.Campaign = tt
 turns_are_words verb.Survey = tt
 turns_are_words verb.Compile = tt
@@ -86,6 +91,9 @@ turns_are_words verb.Mean = lit< tt
 turns_are_words verb.Debug = tt
 turns_are_words verb.Demo = tt
 turns_are_words verb.Upgrade = tt
+turns_are_words verb.Assemble = tt
+turns_are_words verb.Disassemble = tt
+turns_are_words verb.Schedule = tt
 
 one_command : (words : List Word) (request other : Request) → AreCommand words request → Asks words other → request ≡ other
 one_command words request other h i =
@@ -99,6 +107,7 @@ one_request words Usage b h i = sym (usage_only words h b i)
 one_request words (Checks object) b h i = one_command words (Checks object) b h i
 one_request words (Runs run) b h i = one_command words (Runs run) b h i
 one_request words (Trials run) b h i = one_command words (Trials run) b h i
+one_request words (Recovers run) b h i = one_command words (Recovers run) b h i
 one_request words (Campaigns campaign) b h i = one_command words (Campaigns campaign) b h i
 one_request words (Surveys campaign) b h i = one_command words (Surveys campaign) b h i
 one_request words (Compiles source) b h i = one_command words (Compiles source) b h i
@@ -107,3 +116,6 @@ one_request words (Means meaning) b h i = one_command words (Means meaning) b h 
 one_request words (Debugs debugging) b h i = one_command words (Debugs debugging) b h i
 one_request words (Demonstrates turns) b h i = one_command words (Demonstrates turns) b h i
 one_request words (Upgrades object) b h i = one_command words (Upgrades object) b h i
+one_request words (Assembles text) b h i = one_command words (Assembles text) b h i
+one_request words (Disassembles object) b h i = one_command words (Disassembles object) b h i
+one_request words (Schedules object) b h i = one_command words (Schedules object) b h i

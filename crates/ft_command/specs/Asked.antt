@@ -10,7 +10,7 @@ use Rattle.ft_command.specs.declared.command.Debugging as declared_debugging
 use Rattle.ft_command.specs.declared.command.Command as declared_command
 use Rattle.ft_command.specs.declared.command.Command.TheVariants as commands
 use Rattle.ft_command.specs.Options.{Given}
-use Rattle.ft_command.specs.Commands.{Run, Campaign, Meaning, Execution, Debugging, Request, Usage, Checks, Runs, Trials, Campaigns, Surveys, Compiles, Executes, Means, Debugs, Demonstrates, Upgrades}
+use Rattle.ft_command.specs.Commands.{Run, Campaign, Meaning, Execution, Debugging, Request, Usage, Checks, Runs, Trials, Campaigns, Surveys, Compiles, Executes, Means, Debugs, Demonstrates, Upgrades, Assembles, Disassembles, Schedules, Recovers}
 
 -- the options that the code has taken so far
 abbrev pub given_of : Options → Given
@@ -38,6 +38,7 @@ asked commands.Usage = Usage
 asked (commands.Check object) = Checks object.now
 asked (commands.Run run) = Runs (run_view run)
 asked (commands.Trial run) = Trials (run_view run)
+asked (commands.Recover run) = Recovers (run_view run)
 asked (commands.Campaign campaign) = Campaigns (campaign_view campaign)
 asked (commands.Survey campaign) = Surveys (campaign_view campaign)
 asked (commands.Compile source) = Compiles source.now
@@ -46,6 +47,9 @@ asked (commands.Mean meaning) = Means (meaning_view meaning)
 asked (commands.Debug debugging) = Debugs (debugging_view debugging)
 asked (commands.Demo turns) = Demonstrates turns
 asked (commands.Upgrade object) = Upgrades object.now
+asked (commands.Assemble text) = Assembles text.now
+asked (commands.Disassemble object) = Disassembles object.now
+asked (commands.Schedule object) = Schedules object.now
 
 -- the request that the code has read, or the wish for usage where there is none
 abbrev pub asked_or_usage : Option declared_command.Command → Option Request

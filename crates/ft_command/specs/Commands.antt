@@ -1,5 +1,5 @@
 -- What words ask for: the table of commands.
-use Rattle.std.specs.Prelude.{◌≡◌, ℕ, zero, suc, ◌≤◌, true, false, if◌then◌else◌, List, [], ◌∷◌, Option, Some, None, codes, decimal}
+use Rattle.std.specs.Prelude.{◌≡◌, ℕ, zero, suc, ◌≤◌, Bool, true, false, if◌then◌else◌, List, [], ◌∷◌, Option, Some, None, codes, decimal}
 use Rattle.std.specs.Option.{unwrap_or, option_map}
 use Rattle.std.specs.Str.{bytes_eq}
 use Rattle.ft_isa.specs.declared.plan.Strike.{Strike}
@@ -14,6 +14,7 @@ abbrev pub name_of : Verb → Word
 name_of verb.Check = codes "check"
 name_of verb.Run = codes "run"
 name_of verb.Trial = codes "trial"
+name_of verb.Recover = codes "recover"
 name_of verb.Campaign = codes "campaign"
 name_of verb.Survey = codes "survey"
 name_of verb.Compile = codes "compile"
@@ -22,6 +23,27 @@ name_of verb.Mean = codes "mean"
 name_of verb.Debug = codes "debug"
 name_of verb.Demo = codes "demo"
 name_of verb.Upgrade = codes "upgrade"
+name_of verb.Assemble = codes "asm"
+name_of verb.Disassemble = codes "dis"
+name_of verb.Schedule = codes "schedule"
+
+-- whether a command takes an object
+abbrev pub takes_object : Verb → Bool
+takes_object verb.Check = true
+takes_object verb.Run = true
+takes_object verb.Recover = true
+takes_object verb.Trial = true
+takes_object verb.Campaign = true
+takes_object verb.Survey = true
+takes_object verb.Compile = false
+takes_object verb.Exec = false
+takes_object verb.Mean = false
+takes_object verb.Debug = true
+takes_object verb.Demo = false
+takes_object verb.Upgrade = true
+takes_object verb.Assemble = false
+takes_object verb.Disassemble = true
+takes_object verb.Schedule = true
 
 -- no options
 abbrev pub no_options : Allowed
@@ -52,6 +74,7 @@ abbrev pub allowed_of : Verb → Allowed
 allowed_of verb.Check = no_options
 allowed_of verb.Run = run_options
 allowed_of verb.Trial = run_options
+allowed_of verb.Recover = run_options
 allowed_of verb.Campaign = campaign_options
 allowed_of verb.Survey = campaign_options
 allowed_of verb.Compile = no_options
@@ -60,6 +83,9 @@ allowed_of verb.Mean = meaning_options
 allowed_of verb.Debug = debugging_options
 allowed_of verb.Demo = no_options
 allowed_of verb.Upgrade = no_options
+allowed_of verb.Assemble = no_options
+allowed_of verb.Disassemble = no_options
+allowed_of verb.Schedule = no_options
 
 -- the run of an object, for at most so many steps, under a plan
 pub record Run : Type 0 where
@@ -135,6 +161,8 @@ pub data Request : Type 0 where
   Runs : Run → Request
   -- the run of an object that is not checked
   Trials : Run → Request
+  -- the run of an object that is accepted, and where a fault is detected its run again
+  Recovers : Run → Request
   -- a campaign on an object that is accepted
   Campaigns : Campaign → Request
   -- a campaign on an object that is not checked
@@ -151,12 +179,19 @@ pub data Request : Type 0 where
   Demonstrates : ℕ → Request
   -- an object in version 2 of the format
   Upgrades : Word → Request
+  -- the object of an assembly text
+  Assembles : Word → Request
+  -- the assembly text of an object
+  Disassembles : Word → Request
+  -- the schedule of an object
+  Schedules : Word → Request
 
 -- what a command asks for, with its operand and its options; campaigns need their list, and a demonstration a number of turns
 abbrev pub request_of : Verb → Word → Given → Option Request
 request_of verb.Check operand given = Some (Checks operand)
 request_of verb.Run operand given = Some (Runs (run_of operand given))
 request_of verb.Trial operand given = Some (Trials (run_of operand given))
+request_of verb.Recover operand given = Some (Recovers (run_of operand given))
 request_of verb.Campaign operand given = option_map (λ faults. Campaigns (campaign_of operand given faults)) given.faults
 request_of verb.Survey operand given = option_map (λ faults. Surveys (campaign_of operand given faults)) given.faults
 request_of verb.Compile operand given = Some (Compiles operand)
@@ -165,6 +200,9 @@ request_of verb.Mean operand given = Some (Means (meaning_of operand given))
 request_of verb.Debug operand given = Some (Debugs (debugging_of operand given))
 request_of verb.Demo operand given = option_map Demonstrates (turns_up_to 10921 operand)
 request_of verb.Upgrade operand given = Some (Upgrades operand)
+request_of verb.Assemble operand given = Some (Assembles operand)
+request_of verb.Disassemble operand given = Some (Disassembles operand)
+request_of verb.Schedule operand given = Some (Schedules operand)
 
 -- the words are a command, its operand, and options that it takes, and ask for this
 pub record AreCommand (words : List Word) (request : Request) : Type 0 where
@@ -182,6 +220,7 @@ Asks words Usage = (request : Request) → ¬ (AreCommand words request)
 Asks words (Checks object) = AreCommand words (Checks object)
 Asks words (Runs run) = AreCommand words (Runs run)
 Asks words (Trials run) = AreCommand words (Trials run)
+Asks words (Recovers run) = AreCommand words (Recovers run)
 Asks words (Campaigns campaign) = AreCommand words (Campaigns campaign)
 Asks words (Surveys campaign) = AreCommand words (Surveys campaign)
 Asks words (Compiles source) = AreCommand words (Compiles source)
@@ -190,6 +229,9 @@ Asks words (Means meaning) = AreCommand words (Means meaning)
 Asks words (Debugs debugging) = AreCommand words (Debugs debugging)
 Asks words (Demonstrates turns) = AreCommand words (Demonstrates turns)
 Asks words (Upgrades object) = AreCommand words (Upgrades object)
+Asks words (Assembles text) = AreCommand words (Assembles text)
+Asks words (Disassembles object) = AreCommand words (Disassembles object)
+Asks words (Schedules object) = AreCommand words (Schedules object)
 
 -- each run of a campaign takes at most 1,000,000 steps
 abbrev pub HasFewSteps : Request → Type 0
@@ -197,6 +239,7 @@ HasFewSteps Usage = Unit {0}
 HasFewSteps (Checks object) = Unit {0}
 HasFewSteps (Runs run) = Unit {0}
 HasFewSteps (Trials run) = Unit {0}
+HasFewSteps (Recovers run) = Unit {0}
 HasFewSteps (Campaigns campaign) = campaign.steps ≤ 1000000
 HasFewSteps (Surveys campaign) = campaign.steps ≤ 1000000
 HasFewSteps (Compiles source) = Unit {0}
@@ -205,6 +248,9 @@ HasFewSteps (Means meaning) = Unit {0}
 HasFewSteps (Debugs debugging) = Unit {0}
 HasFewSteps (Demonstrates turns) = Unit {0}
 HasFewSteps (Upgrades object) = Unit {0}
+HasFewSteps (Assembles text) = Unit {0}
+HasFewSteps (Disassembles object) = Unit {0}
+HasFewSteps (Schedules object) = Unit {0}
 
 -- a demonstration has from 1 to 10,921 turns
 abbrev pub HasTurns : Request → Type 0
@@ -212,6 +258,7 @@ HasTurns Usage = Unit {0}
 HasTurns (Checks object) = Unit {0}
 HasTurns (Runs run) = Unit {0}
 HasTurns (Trials run) = Unit {0}
+HasTurns (Recovers run) = Unit {0}
 HasTurns (Campaigns campaign) = Unit {0}
 HasTurns (Surveys campaign) = Unit {0}
 HasTurns (Compiles source) = Unit {0}
@@ -220,3 +267,6 @@ HasTurns (Means meaning) = Unit {0}
 HasTurns (Debugs debugging) = Unit {0}
 HasTurns (Demonstrates turns) = (1 ≤ turns) × (turns ≤ 10921)
 HasTurns (Upgrades object) = Unit {0}
+HasTurns (Assembles text) = Unit {0}
+HasTurns (Disassembles object) = Unit {0}
+HasTurns (Schedules object) = Unit {0}

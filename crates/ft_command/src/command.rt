@@ -28,6 +28,8 @@ pub enum Command<'w> {
     Run(Run<'w>),
     /// Runs an object without checking it.
     Trial(Run<'w>),
+    /// Checks an object and runs it, again where a fault is detected.
+    Recover(Run<'w>),
     /// Checks an object and tries a list of faults on it.
     Campaign(Campaign<'w>),
     /// Tries a list of faults on an object without checking it.
@@ -44,6 +46,12 @@ pub enum Command<'w> {
     Demo(u32),
     /// Writes the object of this file in version 2 of the format.
     Upgrade(&'w str),
+    /// Reads the assembly text of this file and writes its object.
+    Assemble(&'w str),
+    /// Writes the assembly text of the object of this file.
+    Disassemble(&'w str),
+    /// Checks the object of this file and writes its schedule.
+    Schedule(&'w str),
 }
 
 /// The run of an object: the file's name, how many steps at the most, and the plan.
@@ -174,6 +182,7 @@ fn command_from<'w>(
         Verb::Check => Command::Check(operand),
         Verb::Run => Command::Run(run_of(alloc, operand, options)),
         Verb::Trial => Command::Trial(run_of(alloc, operand, options)),
+        Verb::Recover => Command::Recover(run_of(alloc, operand, options)),
         Verb::Campaign => {
             let Some(faults) = options.faults else {
                 return None;
@@ -195,6 +204,9 @@ fn command_from<'w>(
             None => return None,
         },
         Verb::Upgrade => Command::Upgrade(operand),
+        Verb::Assemble => Command::Assemble(operand),
+        Verb::Disassemble => Command::Disassemble(operand),
+        Verb::Schedule => Command::Schedule(operand),
     };
     Some(command)
 }

@@ -1,6 +1,6 @@
 //! The first word of a command.
-ghost use Rattle.std.specs.Prelude.{◌≡◌, Some, IfSome};
-ghost use Rattle.ft_command.specs.Commands.{name_of, allowed_of};
+ghost use Rattle.std.specs.Prelude.{◌≡◌, true, false, Some, IfSome};
+ghost use Rattle.ft_command.specs.Commands.{name_of, takes_object, allowed_of};
 
 use crate::allowed::Allowed;
 
@@ -31,6 +31,8 @@ pub enum Verb {
     Run,
     /// `trial`: runs an object without checking it.
     Trial,
+    /// `recover`: checks an object and runs it, again where a fault is detected.
+    Recover,
     /// `campaign`: checks an object and tries a list of faults on it.
     Campaign,
     /// `survey`: tries a list of faults on an object without checking it.
@@ -47,13 +49,19 @@ pub enum Verb {
     Demo,
     /// `upgrade`: writes an object in version 2 of the format.
     Upgrade,
+    /// `asm`: reads an assembly text and writes its object.
+    Assemble,
+    /// `dis`: writes the assembly text of an object.
+    Disassemble,
+    /// `schedule`: checks an object and writes its schedule.
+    Schedule,
 }
 
 impl Verb {
-    /// The command of this name.
-    pub(crate) fn read(word: &str) -> Option<Verb>
+    /// The command of this name that takes an object.
+    fn over_object(word: &str) -> Option<Verb>
         ensures some { IfSome result (λ verb. word.now ≡ name_of verb) }
-        ensures exact { (verb : _) → word.now ≡ name_of verb → result ≡ Some verb }
+        ensures exact { (verb : _) → takes_object verb ≡ true → word.now ≡ name_of verb → result ≡ Some verb }
     {
         if word == "check" {
             return Some(Verb::Check);
@@ -64,12 +72,35 @@ impl Verb {
         if word == "trial" {
             return Some(Verb::Trial);
         }
+        if word == "recover" {
+            return Some(Verb::Recover);
+        }
         if word == "campaign" {
             return Some(Verb::Campaign);
         }
         if word == "survey" {
             return Some(Verb::Survey);
         }
+        if word == "debug" {
+            return Some(Verb::Debug);
+        }
+        if word == "upgrade" {
+            return Some(Verb::Upgrade);
+        }
+        if word == "dis" {
+            return Some(Verb::Disassemble);
+        }
+        if word == "schedule" {
+            return Some(Verb::Schedule);
+        }
+        None
+    }
+
+    /// The command of this name that takes a source, an assembly text or a number.
+    fn over_other(word: &str) -> Option<Verb>
+        ensures some { IfSome result (λ verb. word.now ≡ name_of verb) }
+        ensures exact { (verb : _) → takes_object verb ≡ false → word.now ≡ name_of verb → result ≡ Some verb }
+    {
         if word == "compile" {
             return Some(Verb::Compile);
         }
@@ -79,16 +110,24 @@ impl Verb {
         if word == "mean" {
             return Some(Verb::Mean);
         }
-        if word == "debug" {
-            return Some(Verb::Debug);
-        }
         if word == "demo" {
             return Some(Verb::Demo);
         }
-        if word == "upgrade" {
-            return Some(Verb::Upgrade);
+        if word == "asm" {
+            return Some(Verb::Assemble);
         }
         None
+    }
+
+    /// The command of this name.
+    pub(crate) fn read(word: &str) -> Option<Verb>
+        ensures some { IfSome result (λ verb. word.now ≡ name_of verb) }
+        ensures exact { (verb : _) → word.now ≡ name_of verb → result ≡ Some verb }
+    {
+        match Verb::over_object(word) {
+            Some(verb) => Some(verb),
+            None => Verb::over_other(word),
+        }
     }
 
     /// The options that the command takes.
@@ -96,12 +135,18 @@ impl Verb {
         ensures { result ≡ allowed_of self }
     {
         match self {
-            Verb::Check | Verb::Compile | Verb::Demo | Verb::Upgrade => NONE,
+            Verb::Check
+            | Verb::Compile
+            | Verb::Demo
+            | Verb::Upgrade
+            | Verb::Assemble
+            | Verb::Disassemble
+            | Verb::Schedule => NONE,
             Verb::Exec => Allowed {
                 steps: Some(RUN_STEPS),
                 ..NONE
             },
-            Verb::Run | Verb::Trial => Allowed {
+            Verb::Run | Verb::Trial | Verb::Recover => Allowed {
                 steps: Some(RUN_STEPS),
                 fault: true,
                 wild: true,

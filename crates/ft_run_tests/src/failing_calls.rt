@@ -10,6 +10,7 @@ fn files_that_are_missing(rt: HostRuntime) -> Result<(), Fail> {
         &[
             ("trial B", "", 3),
             ("upgrade B", "", 3),
+            ("schedule B", "", 3),
             ("trial --steps", "", 3),
             ("trial ", "", 3),
         ],
@@ -64,6 +65,12 @@ fn puts_that_fail(rt: HostRuntime) -> Result<(), Fail> {
         (0, ("check A", "", 4)),
         (0, ("check A2", "", 4)),
         (0, ("upgrade A", "", 4)),
+        (0, ("recover Q --fault 20:r34:7", "", 4)),
+        (1, ("recover Q --fault 20:r34:7", "out 5\n", 4)),
+        (
+            3,
+            ("recover Q --fault 20:r34:7", "out 5\nout 6\nout 6\n", 4),
+        ),
         (1, ("check A", "accepted\n", 0)),
         (0, ("trial missing", "", 3)),
     ] {

@@ -27,7 +27,7 @@ use Rattle.ft_command.specs.Commands.{Run, Request}
 use Rattle.ft_tool.specs.declared.load.ObjectFault.{ObjectFault}
 use Rattle.ft_tool.specs.declared.load.ObjectFault.TheVariants.{Refused, Failed, NoMemory as no_memory}
 use Rattle.ft_tool.specs.declared.ending.Ending.{Ending}
-use Rattle.ft_tool.specs.declared.ending.Ending.TheVariants.{Done, Detected, Usage, LoadFailed, WriteFailed, NoMemory, SourceRefused, ObjectRefused, NotAccepted, OutOfSteps, Corrupt, ListRefused}
+use Rattle.ft_tool.specs.declared.ending.Ending.TheVariants.{Done, Detected, Usage, LoadFailed, WriteFailed, NoMemory, SourceRefused, ObjectRefused, NotAccepted, OutOfSteps, Corrupt, ListRefused, TextRefused}
 use Rattle.ft_typing.specs.Accepted.{Refusal, refusal}
 use Rattle.ft_checker.specs.declared.error.CheckError.{CheckError}
 use Rattle.ft_checker.specs.declared.error.CheckError.TheVariants as checks
@@ -53,6 +53,7 @@ Ends-map NotAccepted P Q old new puts puts' before now L M f g h = record { answ
 Ends-map OutOfSteps P Q old new puts puts' before now L M f g h = record { answer = h.answer; is = f h.answer h.is; put = h.put; status_is = h.status_is }
 Ends-map Corrupt P Q old new puts puts' before now L M f g h = record { answer = h.answer; is = f h.answer h.is; put = h.put; status_is = h.status_is }
 Ends-map ListRefused P Q old new puts puts' before now L M f g h = record { answer = h.answer; is = f h.answer h.is; put = h.put; status_is = h.status_is }
+Ends-map TextRefused P Q old new puts puts' before now L M f g h = record { answer = h.answer; is = f h.answer h.is; put = h.put; status_is = h.status_is }
 
 -- a call that ends without an answer ends early
 pub unanswered : (e : Ending) (Is : Answer → Type 0) (old new : Option (List ℕ)) (puts puts' : Option (List (List ℕ))) (before now : ℕ) (L : Type 0) → ((a : Answer) → Is a → ⊥) → Ends e Is old new puts puts' before now L → IsTrue (ends_early e)
@@ -68,6 +69,7 @@ unanswered NotAccepted Is old new puts puts' before now L none h = absurd (none 
 unanswered OutOfSteps Is old new puts puts' before now L none h = absurd (none h.answer h.is)
 unanswered Corrupt Is old new puts puts' before now L none h = absurd (none h.answer h.is)
 unanswered ListRefused Is old new puts puts' before now L none h = absurd (none h.answer h.is)
+unanswered TextRefused Is old new puts puts' before now L none h = absurd (none h.answer h.is)
 
 -- bytes that are refused spell no object, and else the call ends early
 pub unspelled : (told : Option Files) (name : Word) (e : ObjectFault) (end : Ending) (old new : Option (List ℕ)) (puts puts' : Option (List (List ℕ))) (before now : ℕ) (L : Type 0) → LoadsObject told name (Err e)

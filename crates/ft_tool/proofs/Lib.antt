@@ -1,10 +1,13 @@
 mod Mapped
 mod Answered
+mod Recovered
 mod Compiled
 mod Upgraded
+mod Scheduled
 mod Meant
 mod Frugal
 mod Taken
 mod Tried
 mod Asked
 mod OneAnswer
+mod Assembled

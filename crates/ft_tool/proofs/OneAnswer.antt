@@ -6,6 +6,8 @@ use Rattle.ft_edge.specs.Loads.{Files}
 use Rattle.ft_isa.specs.declared.plan.Strike.{Strike}
 use Rattle.ft_isa.specs.declared.plan.Wild.{Wild}
 use Rattle.ft_types.specs.declared.object.Object.{Object}
+use Rattle.ft_types.specs.Spellable.{IsSpellable}
+use Rattle.ft_exchange.specs.Scheduled.{IsScheduled}
 use Rattle.ft_semantics.specs.declared.status.Status.{Status}
 use Rattle.ft_semantics.specs.declared.status.Status.TheVariants.{Running, Done, Detected}
 use Rattle.ft_typing.specs.Accepted.{Refusal, refusal}
@@ -29,14 +31,15 @@ use Rattle.ft_compile.specs.Laws.{object_lines, LinesBegin, DoneRunsWriteTheMean
 use Rattle.ft_sample.specs.Sample.{sample_object}
 use Rattle.ft_demo.specs.Demonstrations.{first_faults, demo_lines}
 use Rattle.ft_command.specs.Options.{Word}
-use Rattle.ft_command.specs.Commands.{Campaign, Debugging, Run, Request, Usage, Checks, Runs, Trials, Campaigns, Surveys, Compiles, Executes, Means, Debugs, Demonstrates, Upgrades, Asks}
+use Rattle.ft_command.specs.Commands.{Campaign, Debugging, Run, Request, Usage, Checks, Runs, Trials, Campaigns, Surveys, Compiles, Executes, Means, Debugs, Demonstrates, Upgrades, Assembles, Disassembles, Asks, Schedules, Recovers}
 use Rattle.ft_tool.specs.Texts.{source_line}
 use Rattle.ft_tool.specs.Replies.{Answer, one_piece, ran, status_of_run, IsSpelling}
 use Rattle.ft_tool.specs.Lists.{IsListAnswer, AnyVerdicts, NoneCorrupt, OverFaults, too_much, tried, OverList, refused_list, listed, status_of}
 use Rattle.ft_tool.specs.Sources.{OverText, CompilesProgram, ExecutesProgram, MeansProgram}
 use Rattle.ft_tool.specs.Scripts.{DebugsObject, too_long, debugged}
 use Rattle.ft_tool.specs.Demonstrations.{ShowsSample}
-use Rattle.ft_tool.specs.Answers.{refused as object_refused, ChecksObject, RunsUnless, TrialsObject, RunsObject, OverBytes, OverFile, OverListFile, SurveysObject, CampaignsUnless, CampaignsAccepted, CampaignsObject, UpgradesObject, OverSource, Answers, IsAnswer}
+use Rattle.ft_tool.specs.Answers.{refused as object_refused, ChecksObject, RunsUnless, TrialsObject, RunsObject, OverBytes, OverFile, OverListFile, SurveysObject, CampaignsUnless, CampaignsAccepted, CampaignsObject, UpgradesObject, OverSource, Answers, IsAnswer, DisassemblesObject, AssemblesAs, OverAssemblyFile, SchedulesUnless, SchedulesObject, RecoversUnless, RecoversObject}
+use Rattle.ft_asm.specs.Reads.{Answer as Said, Is, TooLong, Text, Order, Broken, Applies}
 use Rattle.ft_tool.specs.OneAnswer.{AreCompilations, AreExecutions, AreAnswers}
 use Rattle.ft_tool.specs.OneAnswer as one
 use Rattle.ft_tool.proofs.Mapped.{some_same, none_some}
@@ -81,10 +84,35 @@ over_file one_object unbroken Over same name files a b x y =
 upgraded_same : (o : Object) (a b : Answer) → UpgradesObject o a → UpgradesObject o b → a ≡ b
 upgraded_same o a b x y = x.answer ∙ ap (λ bytes. one_piece bytes 0) (x.spelled.spelled ∙ sym y.spelled.spelled) ∙ sym y.answer
 
+-- the answer of an assembly
+assembled_same : (x : Said) (a b : Answer) → AssemblesAs x a → AssemblesAs x b → a ≡ b
+assembled_same (Is o) a b h g = upgraded_same o a b h g
+assembled_same TooLong a b h g = h ∙ sym g
+assembled_same (Text line) a b h g = h ∙ sym g
+assembled_same (Order line) a b h g = h ∙ sym g
+assembled_same (Broken e) a b h g = h ∙ sym g
+
+over_assembly : ((text : List ℕ) (x y : Said) → Applies text x → Applies text y → x ≡ y) → (name : Word) (files : Files) (a b : Answer) → OverAssemblyFile name files a → OverAssemblyFile name files b → a ≡ b
+over_assembly one name files a b x y =
+    let texts : y.0 ≡ x.0 = some_same y.0 x.0 (sym y.1.0 ∙ x.1.0) in
+    let saids : y.1.1.0 ≡ x.1.1.0 = one x.0 y.1.1.0 x.1.1.0 (subst (λ text. Applies text y.1.1.0) texts y.1.1.1.0) x.1.1.1.0 in
+    assembled_same x.1.1.0 a b x.1.1.1.1 (subst (λ (s : Said). AssemblesAs s b) saids y.1.1.1.1)
+
+-- the answer of a schedule
+scheduled_same : ((o s t : Object) → IsSpellable o → IsScheduled o s → IsScheduled o t → s ≡ t) → (x : Option Refusal) (o : Object) (a b : Answer) → SchedulesUnless x o a → SchedulesUnless x o b → a ≡ b
+scheduled_same one None o a b x y =
+    let same = one o y.schedule x.schedule x.spellable y.scheduled x.scheduled in
+    upgraded_same x.schedule a b x.written (subst (λ s. UpgradesObject s b) same y.written)
+scheduled_same one (Some r) o a b x y = x ∙ sym y
+
 -- the answer of a run
 run_same : (x : Option Refusal) (r : Run) (o : Object) (a b : Answer) → RunsUnless x r o a → RunsUnless x r o b → a ≡ b
 run_same None r o a b h g = h.0 ∙ sym g.0
 run_same (Some x) r o a b h g = h ∙ sym g
+
+recovery_same : (x : Option Refusal) (r : Run) (o : Object) (a b : Answer) → RecoversUnless x r o a → RecoversUnless x r o b → a ≡ b
+recovery_same None r o a b h g = h.0 ∙ sym g.0
+recovery_same (Some x) r o a b h g = h ∙ sym g
 
 -- verdicts, and what stands over faults
 zipped_same : {A B : Type 0} (P : A → B → Type 0) → ((x : A) (u v : B) → P x u → P x v → u ≡ v) → (xs : List A) (us vs : List B) → AllZip P xs us → AllZip P xs vs → us ≡ vs
@@ -226,6 +254,7 @@ executed_same done running n p a b x y =
 pub record HasLaws : Type 0 where
   pub one_request : (words : List Word) (a b : Request) → Asks words a → Asks words b → a ≡ b
   pub one_object : (bytes : List ℕ) (o : Object) → IsSpelling bytes o → object_of bytes ≡ o
+  pub one_said : (text : List ℕ) (x y : Said) → Applies text x → Applies text y → x ≡ y
   pub unbroken : (bytes : List ℕ) (o : Object) → IsSpelling bytes o → broken bytes ≡ None
   pub one_outcome : (text : List ℕ) (r s : Result Program SourceError) → IsOutcome text r → IsOutcome text s → r ≡ s
   pub one_list : (text : List ℕ) (xs ys : List Strike) → IsFaultList text xs → IsFaultList text ys → xs ≡ ys
@@ -233,6 +262,7 @@ pub record HasLaws : Type 0 where
   pub either : (text : List ℕ) (xs : List Strike) (e : ListError) → e ≢ NoMemory → IsFaultList text xs → ¬ (IsListError text e)
   pub one_verdict : (o : Object) (x : Strike) (w : List Wild) (n : ℕ) (u v : Verdict) → IsVerdict o x w n u → IsVerdict o x w n v → u ≡ v
   pub one_script : (script : List ℕ) (commands others : List Command) → AreCommands script commands → AreCommands script others → commands ≡ others
+  pub one_schedule : (o s t : Object) → IsSpellable o → IsScheduled o s → IsScheduled o t → s ≡ t
   pub done : DoneRunsWriteTheMeaning
   pub running : RunningRunsBeginTheMeaning
 
@@ -242,6 +272,7 @@ same_answers l Usage files script a b h g = h ∙ sym g
 same_answers l (Checks name) files script a b h g = over_file l.one_object l.unbroken ChecksObject (λ o x y e f. e ∙ sym f) name files a b h g
 same_answers l (Runs r) files script a b h g = over_file l.one_object l.unbroken (RunsObject r) (λ o x y e f. run_same (refusal o) r o x y e f) r.object files a b h g
 same_answers l (Trials r) files script a b h g = over_file l.one_object l.unbroken (TrialsObject r) (λ o x y e f. e ∙ sym f) r.object files a b h g
+same_answers l (Recovers r) files script a b h g = over_file l.one_object l.unbroken (RecoversObject r) (λ o x y e f. recovery_same (refusal o) r o x y e f) r.object files a b h g
 same_answers l (Campaigns c) files script a b h g =
     over_file l.one_object l.unbroken (CampaignsObject c files)
     (λ o x y e f. strikes_same (refusal o) (CampaignsAccepted c files o) (λ v w i j. over_list_file l.one_verdict l.one_list l.one_refusal l.either NoneCorrupt c files o v w i.0 j.0) x y e f) c.object files a b h g
@@ -255,6 +286,9 @@ same_answers l (Means m) files script a b h g =
 same_answers l (Debugs d) files script a b h g = over_file l.one_object l.unbroken (DebugsObject d script) (λ o x y e f. session_same l.one_script d script o x y e f) d.object files a b h g
 same_answers l (Demonstrates turns) files script a b h g = shown_same l.one_verdict turns a b h g
 same_answers l (Upgrades name) files script a b h g = over_file l.one_object l.unbroken UpgradesObject upgraded_same name files a b h g
+same_answers l (Assembles name) files script a b h g = over_assembly l.one_said name files a b h g
+same_answers l (Disassembles name) files script a b h g = over_file l.one_object l.unbroken DisassemblesObject (λ o x y e f. e ∙ sym f) name files a b h g
+same_answers l (Schedules name) files script a b h g = over_file l.one_object l.unbroken SchedulesObject (λ o x y e f. scheduled_same l.one_schedule (refusal o) o x y e f) name files a b h g
 
 -- an answer over files and a script that are told
 answers_told : HasLaws → (words : List Word) (r : Request) (files : Files) (script : List ℕ) (a : Answer) → Asks words r → IsAnswer words (Some files) (Some script) a → Answers r files script a

@@ -1,5 +1,5 @@
 -- What each command writes, and the status that it ends with: a row for each command.
-use Rattle.std.specs.Prelude.{◌≡◌, ◌⊎◌, ℕ, List, [], ◌∷◌, Option, Some, None, Bool, ◌==◌, codes}
+use Rattle.std.specs.Prelude.{◌≡◌, ◌⊎◌, ℕ, List, [], ◌∷◌, ◌++◌, Option, Some, None, Bool, ◌==◌, codes}
 use Rattle.std.specs.List.{list_any}
 use Rattle.ft_edge.specs.Causes.{Rose}
 use Rattle.ft_edge.specs.Puts.{PutsLines, BreaksOff as LinesBreakOff}
@@ -7,6 +7,7 @@ use Rattle.ft_edge.specs.Loads.{Files}
 use Rattle.ft_isa.specs.declared.plan.Strike.{Strike}
 use Rattle.ft_isa.specs.declared.plan.Wild.{Wild}
 use Rattle.ft_types.specs.declared.object.Object.{Object}
+use Rattle.ft_types.specs.Spellable.{IsSpellable}
 use Rattle.ft_semantics.specs.Agrees.{Agrees}
 use Rattle.ft_semantics.specs.Run.{run, outputs_after, status_after}
 use Rattle.ft_typing.specs.Accepted.{Refusal, refusal}
@@ -15,11 +16,14 @@ use Rattle.ft_format.specs.declared.version.Version.TheVariants.{Second}
 use Rattle.ft_format.specs.Format.{Spells}
 use Rattle.ft_format.specs.Broken.{broken}
 use Rattle.ft_command.specs.Options.{Word}
-use Rattle.ft_command.specs.Commands.{Run, Campaign, Debugging, Request, Usage, Checks, Runs, Trials, Campaigns, Surveys, Compiles, Executes, Means, Debugs, Demonstrates, Upgrades, Asks}
+use Rattle.ft_command.specs.Commands.{Run, Campaign, Debugging, Request, Usage, Checks, Runs, Trials, Campaigns, Surveys, Compiles, Executes, Means, Debugs, Demonstrates, Upgrades, Assembles, Disassembles, Asks, Schedules, Recovers}
 use Rattle.ft_tolerance.specs.Soundness.{IsNeverDetected}
+use Rattle.ft_exchange.specs.Scheduled.{IsScheduled}
 use Rattle.ft_campaign.specs.declared.verdict.Verdict.{Verdict}
-use Rattle.ft_tool.specs.Texts.{object_line, accepted_line, check_line}
-use Rattle.ft_tool.specs.Replies.{Answer, one_piece, ran, AreFiles, IsFile, IsScript, IsSpelling}
+use Rattle.ft_asm.specs.Reads.{text_of, Answer as Said, Is, TooLong, Text, Order, Broken, Applies}
+use Rattle.ft_tool.specs.Texts.{object_line, accepted_line, check_line, asm_line, again_line}
+use Rattle.ft_tool.specs.Replies.{Answer, one_piece, ran, AreFiles, IsFile, IsScript, IsSpelling, status_of_run}
+use Rattle.ft_recover.specs.Recovery.{restart_output, whole_output}
 use Rattle.ft_scope.specs.Resolved.{Program}
 use Rattle.ft_tool.specs.Sources.{OverText, CompilesProgram, ExecutesProgram, MeansProgram}
 use Rattle.ft_tool.specs.Lists.{AnyVerdicts, NoneCorrupt, OverList}
@@ -58,6 +62,24 @@ abbrev pub RunsUnless : Option Refusal → Run → Object → Answer → Type 0
 RunsUnless None r o a = (a ≡ tried r o) × Withstands o r.strike r.wild
 RunsUnless (Some x) r o a = a ≡ judged (Some x)
 
+-- the line of a restart, where there was one
+abbrev pub again_lines : Option ℕ → List (List ℕ)
+again_lines None = []
+again_lines (Some n) = again_line n ∷ []
+
+-- the recovery of an object: the lines and the end of its run without a fault, and the restart
+abbrev pub recovered : Run → Object → Answer
+recovered r o = record {
+  pieces = whole_output o r.wild r.steps ++ again_lines (restart_output o r.strike r.wild r.steps);
+  status = status_of_run (status_after o None r.wild r.steps);
+}
+
+-- the recovery of an object that is accepted, whose run without a fault is detected after no number of steps; or why the
+-- object is refused
+abbrev pub RecoversUnless : Option Refusal → Run → Object → Answer → Type 0
+RecoversUnless None r o a = (a ≡ recovered r o) × IsNeverDetected o r.wild
+RecoversUnless (Some x) r o a = a ≡ judged (Some x)
+
 -- the answer over a file's bytes: over the object that they spell, or by the first rule that they break
 abbrev pub OverBytes : (Object → Answer → Type 0) → List ℕ → Answer → Type 0
 OverBytes Over bytes a =
@@ -68,7 +90,7 @@ OverBytes Over bytes a =
 abbrev pub OverFile : (Object → Answer → Type 0) → Word → Files → Answer → Type 0
 OverFile Over name files a = (bytes : List ℕ) × (IsFile files name bytes × OverBytes Over bytes a)
 
--- the answer of a check, of a run and of a trial over an object
+-- the answer of a check, of a run, of a trial and of a recovery over an object
 abbrev pub ChecksObject : Object → Answer → Type 0
 ChecksObject o a = a ≡ checked o
 
@@ -78,11 +100,51 @@ RunsObject r o a = RunsUnless (refusal o) r o a
 abbrev pub TrialsObject : Run → Object → Answer → Type 0
 TrialsObject r o a = a ≡ tried r o
 
+abbrev pub RecoversObject : Run → Object → Answer → Type 0
+RecoversObject r o a = RecoversUnless (refusal o) r o a
+
 -- the answer of an upgrade over an object: its bytes in version 2 of the format, in one piece
 pub record UpgradesObject (o : Object) (a : Answer) : Type 0 where
   pub bytes : List ℕ
   pub spelled : Spells bytes Second o
   pub answer : a ≡ one_piece bytes 0
+
+-- the answer of a disassembly over an object: its text, in one piece
+abbrev pub DisassemblesObject : Object → Answer → Type 0
+DisassemblesObject o a = a ≡ one_piece (text_of o) 0
+
+-- the answer of an assembly by what is said of the text: the bytes of its object in version 2 of the format, or the line of the
+-- refusal
+abbrev pub AssemblesAs : Said → Answer → Type 0
+AssemblesAs (Is o) a = UpgradesObject o a
+AssemblesAs TooLong a = a ≡ one_piece (asm_line 3 134217728) 12
+AssemblesAs (Text line) a = a ≡ one_piece (asm_line 1 line) 12
+AssemblesAs (Order line) a = a ≡ one_piece (asm_line 2 line) 12
+AssemblesAs (Broken e) a = a ≡ refused e
+
+-- the answer over an assembly text
+abbrev pub OverAssembly : List ℕ → Answer → Type 0
+OverAssembly text a = (said : Said) × (Applies text said × AssemblesAs said a)
+
+-- the answer over the assembly text in the file of a name
+abbrev pub OverAssemblyFile : Word → Files → Answer → Type 0
+OverAssemblyFile name files a = (text : List ℕ) × (IsFile files name text × OverAssembly text a)
+
+-- the answer of a schedule over an object that is accepted: the bytes of its schedule in version 2 of the format, in one
+-- piece. The object obeys the rules of its tables, so it has one schedule
+pub record SchedulesAccepted (o : Object) (a : Answer) : Type 0 where
+  pub spellable : IsSpellable o
+  pub schedule : Object
+  pub scheduled : IsScheduled o schedule
+  pub written : UpgradesObject schedule a
+
+-- the answer of a schedule, which is the refusal of an object that is not accepted
+abbrev pub SchedulesUnless : Option Refusal → Object → Answer → Type 0
+SchedulesUnless None o a = SchedulesAccepted o a
+SchedulesUnless (Some x) o a = a ≡ judged (Some x)
+
+abbrev pub SchedulesObject : Object → Answer → Type 0
+SchedulesObject o a = SchedulesUnless (refusal o) o a
 
 -- the answer over an object and the file of a fault list
 abbrev pub OverListFile : (List Verdict → Type 0) → Campaign → Files → Object → Answer → Type 0
@@ -116,6 +178,7 @@ Answers Usage files script a = a ≡ usage
 Answers (Checks name) files script a = OverFile ChecksObject name files a
 Answers (Runs r) files script a = OverFile (RunsObject r) r.object files a
 Answers (Trials r) files script a = OverFile (TrialsObject r) r.object files a
+Answers (Recovers r) files script a = OverFile (RecoversObject r) r.object files a
 Answers (Campaigns c) files script a = OverFile (CampaignsObject c files) c.object files a
 Answers (Surveys c) files script a = OverFile (SurveysObject c files) c.object files a
 Answers (Compiles name) files script a = OverSource CompilesProgram name files a
@@ -124,6 +187,9 @@ Answers (Means m) files script a = OverSource (MeansProgram m.turns) m.source fi
 Answers (Debugs d) files script a = OverFile (DebugsObject d script) d.object files a
 Answers (Demonstrates turns) files script a = ShowsSample turns a
 Answers (Upgrades name) files script a = OverFile UpgradesObject name files a
+Answers (Assembles name) files script a = OverAssemblyFile name files a
+Answers (Disassembles name) files script a = OverFile DisassemblesObject name files a
+Answers (Schedules name) files script a = OverFile SchedulesObject name files a
 
 -- the answer of the command that the words ask for, over the files and the script that are told; of what is not told, over
 -- some files of bytes, and some script of bytes. One map of files serves all loads, so a name has one content
@@ -163,6 +229,7 @@ ComesTo Usage files file = ⊥
 ComesTo (Checks object) files file = file ≡ object
 ComesTo (Runs r) files file = file ≡ r.object
 ComesTo (Trials r) files file = file ≡ r.object
+ComesTo (Recovers r) files file = file ≡ r.object
 ComesTo (Campaigns c) files file = (file ≡ c.object) ⊎ ((file ≡ c.faults) × SpellsAccepted files c.object)
 ComesTo (Surveys c) files file = (file ≡ c.object) ⊎ ((file ≡ c.faults) × SpellsFile files c.object)
 ComesTo (Compiles name) files file = file ≡ name
@@ -171,6 +238,9 @@ ComesTo (Means m) files file = file ≡ m.source
 ComesTo (Debugs d) files file = file ≡ d.object
 ComesTo (Demonstrates turns) files file = ⊥
 ComesTo (Upgrades object) files file = file ≡ object
+ComesTo (Assembles text) files file = file ≡ text
+ComesTo (Disassembles object) files file = file ≡ object
+ComesTo (Schedules object) files file = file ≡ object
 
 -- a request came to load a file; that load was the last that failed, and the count of failed loads rose
 pub record FailsIn (request : Request) (files : Files) (before now : ℕ) (failed : Option (List ℕ)) : Type 0 where
@@ -205,4 +275,4 @@ pub record FailedToTake (words : List Word) (told : Option Files) (before now : 
 
 -- the statuses that there are
 abbrev pub is_status : ℕ → Bool
-is_status n = list_any (λ s. s == n) (0 ∷ 1 ∷ 2 ∷ 3 ∷ 4 ∷ 5 ∷ 6 ∷ 7 ∷ 8 ∷ 9 ∷ 10 ∷ 11 ∷ [])
+is_status n = list_any (λ s. s == n) (0 ∷ 1 ∷ 2 ∷ 3 ∷ 4 ∷ 5 ∷ 6 ∷ 7 ∷ 8 ∷ 9 ∷ 10 ∷ 11 ∷ 12 ∷ [])

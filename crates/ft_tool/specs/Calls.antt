@@ -4,7 +4,7 @@ use Rattle.ft_edge.specs.Loads.{Files}
 use Rattle.ft_edge.specs.Told.{append_told}
 use Rattle.ft_edge.specs.Streams.{TakesAtMost}
 use Rattle.ft_command.specs.Options.{Word}
-use Rattle.ft_command.specs.Commands.{Campaign, Debugging, Request, Usage, Checks, Runs, Trials, Campaigns, Surveys, Compiles, Executes, Means, Debugs, Demonstrates, Upgrades, Asks}
+use Rattle.ft_command.specs.Commands.{Campaign, Debugging, Request, Usage, Checks, Runs, Trials, Campaigns, Surveys, Compiles, Executes, Means, Debugs, Demonstrates, Upgrades, Assembles, Disassembles, Asks, Schedules, Recovers}
 use Rattle.ft_tool.specs.Replies.{AreFiles}
 use Rattle.ft_tool.specs.Answers.{SpellsFile, SpellsAccepted}
 
@@ -30,6 +30,10 @@ list_load name = (name, 4194304)
 
 abbrev pub source_load : Word → Word × ℕ
 source_load name = (name, 1048576)
+
+-- the load of an assembly text
+abbrev pub text_load : Word → Word × ℕ
+text_load name = (name, 134217728)
 
 -- the statuses of calls that may end before their last load: a load or a take failed, or memory ran out
 abbrev pub is_early : ℕ → Bool
@@ -57,6 +61,7 @@ LoadsFor Usage files Early asked asked' = HasMade [] asked asked'
 LoadsFor (Checks object) files Early asked asked' = HasMade (object_load object ∷ []) asked asked'
 LoadsFor (Runs r) files Early asked asked' = HasMade (object_load r.object ∷ []) asked asked'
 LoadsFor (Trials r) files Early asked asked' = HasMade (object_load r.object ∷ []) asked asked'
+LoadsFor (Recovers r) files Early asked asked' = HasMade (object_load r.object ∷ []) asked asked'
 LoadsFor (Campaigns c) files Early asked asked' = LoadsCampaign c (SpellsAccepted files c.object) Early asked asked'
 LoadsFor (Surveys c) files Early asked asked' = LoadsCampaign c (SpellsFile files c.object) Early asked asked'
 LoadsFor (Compiles source) files Early asked asked' = HasMade (source_load source ∷ []) asked asked'
@@ -65,6 +70,9 @@ LoadsFor (Means m) files Early asked asked' = HasMade (source_load m.source ∷ 
 LoadsFor (Debugs d) files Early asked asked' = HasMade (object_load d.object ∷ []) asked asked'
 LoadsFor (Demonstrates turns) files Early asked asked' = HasMade [] asked asked'
 LoadsFor (Upgrades object) files Early asked asked' = HasMade (object_load object ∷ []) asked asked'
+LoadsFor (Assembles text) files Early asked asked' = HasMade (text_load text ∷ []) asked asked'
+LoadsFor (Disassembles object) files Early asked asked' = HasMade (object_load object ∷ []) asked asked'
+LoadsFor (Schedules object) files Early asked asked' = HasMade (object_load object ∷ []) asked asked'
 
 -- the loads of the request that words ask for, by the files that are told or by some files of bytes
 pub record Loads (words : List Word) (told : Option Files) (Early : Type 0) (asked asked' : Option LoadList) : Type 0 where

@@ -1,13 +1,15 @@
 -- How a command's parts end: private to the tool.
-use Rattle.std.specs.Prelude.{ℕ, Bool, true, false, List, Option}
+use Rattle.std.specs.Prelude.{ℕ, Bool, true, false, List, Option, None}
 use Rattle.ft_edge.specs.Causes.{Rose}
 use Rattle.ft_edge.specs.Puts.{PutsNothing}
 use Rattle.ft_machine.specs.declared.run.RunEnd.{RunEnd}
 use Rattle.ft_machine.specs.declared.run.RunEnd.TheVariants as runs
+use Rattle.ft_recover.specs.declared.recover_end.RecoverEnd.{RecoverEnd}
+use Rattle.ft_recover.specs.declared.recover_end.RecoverEnd.TheVariants as recoveries
 use Rattle.ft_tool.specs.Replies.{Answer}
 use Rattle.ft_tool.specs.Answers.{Concludes, BreaksOff}
 use Rattle.ft_tool.specs.declared.ending.Ending.{Ending}
-use Rattle.ft_tool.specs.declared.ending.Ending.TheVariants.{Done, Detected, Usage, LoadFailed, WriteFailed, NoMemory, SourceRefused, ObjectRefused, NotAccepted, OutOfSteps, Corrupt, ListRefused}
+use Rattle.ft_tool.specs.declared.ending.Ending.TheVariants.{Done, Detected, Usage, LoadFailed, WriteFailed, NoMemory, SourceRefused, ObjectRefused, NotAccepted, OutOfSteps, Corrupt, ListRefused, TextRefused}
 
 -- a load or a take failed, or memory ran out
 abbrev pub ends_early : Ending → Bool
@@ -23,6 +25,7 @@ ends_early NotAccepted = false
 ends_early OutOfSteps = false
 ends_early Corrupt = false
 ends_early ListRefused = false
+ends_early TextRefused = false
 
 -- what an ending says of the answer, what was written, the puts that were made, the sink's count of failures and a failed load
 abbrev pub Ends : Ending → (Answer → Type 0) → Option (List ℕ) → Option (List ℕ) → Option (List (List ℕ)) → Option (List (List ℕ)) → ℕ → ℕ → Type 0 → Type 0
@@ -38,6 +41,7 @@ Ends NotAccepted Is old new puts puts' before now Load = Concludes Is 8 old new 
 Ends OutOfSteps Is old new puts puts' before now Load = Concludes Is 9 old new puts puts'
 Ends Corrupt Is old new puts puts' before now Load = Concludes Is 10 old new puts puts'
 Ends ListRefused Is old new puts puts' before now Load = Concludes Is 11 old new puts puts'
+Ends TextRefused Is old new puts puts' before now Load = Concludes Is 12 old new puts puts'
 
 -- how a command ends whose run ended so
 abbrev pub ending_of_run : RunEnd → Ending
@@ -45,3 +49,17 @@ ending_of_run runs.Done = Done
 ending_of_run runs.Detected = Detected
 ending_of_run runs.OutOfSteps = OutOfSteps
 ending_of_run runs.WriteFault = WriteFailed
+
+-- the restart that a recovery tells
+abbrev pub again_of : RecoverEnd → Option ℕ
+again_of (recoveries.Done again) = again
+again_of (recoveries.OutOfSteps again) = again
+again_of recoveries.WriteFault = None
+again_of recoveries.NoMemory = None
+
+-- how a command ends whose recovery ended so
+abbrev pub ending_of_recovery : RecoverEnd → Ending
+ending_of_recovery (recoveries.Done again) = Done
+ending_of_recovery (recoveries.OutOfSteps again) = OutOfSteps
+ending_of_recovery recoveries.WriteFault = WriteFailed
+ending_of_recovery recoveries.NoMemory = NoMemory

@@ -15,7 +15,11 @@ use Rattle.ft_checker.specs.declared.error.CheckError.{CheckError}
 use Rattle.ft_checker.specs.declared.error.CheckError.TheVariants as checks
 use Rattle.ft_tool.specs.Replies.{Answer}
 use Rattle.ft_tool.specs.Told.{IsToldFile}
-use Rattle.ft_tool.specs.Answers.{refused, judged}
+use Rattle.ft_asm.specs.declared.asm_error.AsmError.{AsmError}
+use Rattle.ft_asm.specs.declared.asm_error.AsmError.TheVariants as texts
+use Rattle.ft_asm.specs.Reads.{Text, Order, Broken}
+use Rattle.ft_asm.specs.Reads as saids
+use Rattle.ft_tool.specs.Answers.{refused, judged, AssemblesAs}
 use Rattle.ft_isa.specs.declared.plan.Strike.{Strike}
 use Rattle.ft_campaign.specs.declared.fault_list.ListError.TheVariants as lists
 use Rattle.ft_campaign.specs.FaultList.{IsFaultList, IsListError}
@@ -130,3 +134,24 @@ abbrev pub IsTooLongBy : SourceFault → Answer → Type 0
 IsTooLongBy source_faults.TooLong a = IsSourceRefused sources.TooLong a
 IsTooLongBy source_faults.Failed a = ⊥
 IsTooLongBy source_faults.NoMemory a = ⊥
+
+-- the file's bytes, or a file that is longer than an assembly text may be
+abbrev pub LoadsText : {V : Type 0} → (V → List ℕ) → Option Files → Word → Result V SourceFault → Type 0
+LoadsText bytes_of files name (Ok v) = IsToldFile files name (bytes_of v)
+LoadsText bytes_of files name (Err source_faults.TooLong) = (text : List ℕ) × (IsToldFile files name text × (134217728 < length text))
+LoadsText bytes_of files name (Err source_faults.Failed) = Unit {0}
+LoadsText bytes_of files name (Err source_faults.NoMemory) = Unit {0}
+
+-- the answer of a command whose assembly text is refused
+abbrev pub IsTextRefused : AsmError → Answer → Type 0
+IsTextRefused (texts.Text line) a = AssemblesAs (Text line) a
+IsTextRefused (texts.Order line) a = AssemblesAs (Order line) a
+IsTextRefused texts.TooLong a = AssemblesAs saids.TooLong a
+IsTextRefused (texts.Object e) a = AssemblesAs (Broken e) a
+IsTextRefused texts.NoMemory a = ⊥
+
+-- the answer of a command whose assembly text is too long
+abbrev pub IsLongTextBy : SourceFault → Answer → Type 0
+IsLongTextBy source_faults.TooLong a = IsTextRefused texts.TooLong a
+IsLongTextBy source_faults.Failed a = ⊥
+IsLongTextBy source_faults.NoMemory a = ⊥

@@ -49,6 +49,10 @@ check_line (Refused b i p) = codes "check block " ++ decimal b ++ codes " index 
 abbrev pub list_line : ℕ → ℕ → List ℕ
 list_line n x = codes "list " ++ decimal n ++ codes " " ++ decimal x ++ codes "\n"
 
+-- `again` and the number of outputs that were committed before a recovery ran the object again
+abbrev pub again_line : ℕ → List ℕ
+again_line n = codes "again " ++ decimal n ++ codes "\n"
+
 -- the number of a refusal of a source; out of memory has none
 abbrev pub source_number : SourceError → ℕ
 source_number source.TooLong = 1
@@ -84,3 +88,7 @@ source_told source.NoMemory = 0
 -- `source`, the refusal's number, and what it tells
 abbrev pub source_line : SourceError → List ℕ
 source_line e = codes "source " ++ decimal (source_number e) ++ codes " " ++ decimal (source_told e) ++ codes "\n"
+
+-- `asm`, the number of the refusal, and what it tells: a line's number, or the most bytes of a text
+abbrev pub asm_line : ℕ → ℕ → List ℕ
+asm_line n x = codes "asm " ++ decimal n ++ codes " " ++ decimal x ++ codes "\n"

@@ -5,15 +5,18 @@ ghost use Rattle.ft_edge.specs.Puts.{PutsLines, BreaksOff};
 ghost use Rattle.ft_types.specs.Spellable.{IsSpellable};
 ghost use Rattle.ft_tool.specs.Answers.{usage, UpgradesObject};
 ghost use Rattle.ft_tool.specs.Replies.{one_piece};
-ghost use Rattle.ft_tool.specs.Files.{IsRefusedBy, IsNotAccepted, IsListRefusedBy, IsTooLongBy};
-ghost use Rattle.ft_tool.specs.Texts.{list_line};
+ghost use Rattle.ft_tool.specs.Files.{IsRefusedBy, IsNotAccepted, IsListRefusedBy, IsTooLongBy, IsTextRefused, IsLongTextBy};
+ghost use Rattle.ft_tool.specs.Texts.{list_line, asm_line};
 ghost use Rattle.ft_tool.specs.Sources.{IsSourceRefused};
 ghost use Rattle.ft_tool.specs.Scripts.{IsScriptRefusedBy};
 ghost use Rattle.ft_tool.specs.Endings.{Ends, ending_of_run};
 
 use crate::load::{ListFault, ObjectFault, SourceFault};
-use crate::refused::{cell_line, entry_line, list_line, object_line, place_line, source_line};
+use crate::refused::{
+    asm_line, cell_line, entry_line, list_line, object_line, place_line, source_line,
+};
 use crate::script::ScriptFault;
+use ft_asm::AsmError;
 use ft_checker::CheckError;
 use ft_edge::{Failed, Sink};
 use ft_machine::RunEnd;
@@ -49,6 +52,8 @@ pub(crate) enum Ending {
     Corrupt,
     /// The fault list, the campaign over it, or the script is refused.
     ListRefused,
+    /// The text is refused as an assembly text.
+    TextRefused,
 }
 
 /// How a command ends whose run ended so.
@@ -197,6 +202,44 @@ pub(crate) fn refuse_long_source<K: Sink>(fault: SourceFault, out: &mut K) -> En
 {
     match fault {
         SourceFault::TooLong => refuse_source(SourceError::TooLong, out),
+        SourceFault::Failed => Ending::LoadFailed,
+        SourceFault::NoMemory => Ending::NoMemory,
+    }
+}
+
+/// Puts the line of an assembly text that is refused.
+fn put_text_line<K: Sink>(number: u64, told: u64, out: &mut K) -> Ending
+    ensures ends { Ends result (λ a. a ≡ one_piece (asm_line number told) 12) (K.written out.old) (K.written out.new) (K.pieces out.old) (K.pieces out.new) (K.failures out.old) (K.failures out.new) ⊥ }
+    ensures failures { result ≢ Ending.WriteFailed → K.failures out.new ≡ K.failures out.old }
+{
+    match put_piece(asm_line(number, told).as_bytes(), out) {
+        Ok(()) => Ending::TextRefused,
+        Err(_) => Ending::WriteFailed,
+    }
+}
+
+/// Ends a command whose assembly text is refused, with the line of the refusal.
+pub(crate) fn refuse_text<K: Sink>(error: AsmError, out: &mut K) -> Ending
+    ensures ends { Ends result (IsTextRefused error) (K.written out.old) (K.written out.new) (K.pieces out.old) (K.pieces out.new) (K.failures out.old) (K.failures out.new) ⊥ }
+    ensures failures { result ≢ Ending.WriteFailed → K.failures out.new ≡ K.failures out.old }
+{
+    match error {
+        AsmError::Text { line } => put_text_line(1, line as u64, out),
+        AsmError::Order { line } => put_text_line(2, line as u64, out),
+        AsmError::TooLong => put_text_line(3, 134_217_728, out),
+        AsmError::Object(error) => refuse_object(ObjectFault::Refused(error), out),
+        AsmError::NoMemory => Ending::NoMemory,
+    }
+}
+
+/// Ends a command that has no assembly text, with the line of the refusal where it is too long.
+pub(crate) fn refuse_long_text<K: Sink>(fault: SourceFault, out: &mut K) -> Ending
+    ensures ends { Ends result (IsLongTextBy fault) (K.written out.old) (K.written out.new) (K.pieces out.old) (K.pieces out.new) (K.failures out.old) (K.failures out.new) (fault ≡ SourceFault.Failed) }
+    ensures failures { result ≢ Ending.WriteFailed → K.failures out.new ≡ K.failures out.old }
+    ensures failed { result ≢ Ending.LoadFailed → fault ≢ SourceFault.Failed }
+{
+    match fault {
+        SourceFault::TooLong => refuse_text(AsmError::TooLong, out),
         SourceFault::Failed => Ending::LoadFailed,
         SourceFault::NoMemory => Ending::NoMemory,
     }

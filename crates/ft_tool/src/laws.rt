@@ -12,9 +12,11 @@ ghost use Rattle.ft_tool.specs.Replies.{Answer};
 ghost use Rattle.ft_tool.specs.Answers.{IsAnswer};
 ghost use Rattle.ft_tool.specs.OneAnswer.{AreAnswers};
 
+use ft_asm::answers_are_one;
 use ft_campaign::{one_text_has_one_list, verdicts_are_one};
 use ft_command::words_ask_for_one_thing;
 use ft_compile::runs_and_meanings_write_the_same_lines;
+use ft_exchange::schedules_are_equal;
 use ft_format::rules_are_exact;
 use ft_scope::one_text_has_one_outcome;
 use ft_script::commands_are_one;
@@ -30,10 +32,12 @@ pub fn words_have_one_answer()
 {
     words_ask_for_one_thing();
     rules_are_exact();
+    answers_are_one();
     one_text_has_one_outcome();
     one_text_has_one_list();
     verdicts_are_one();
     commands_are_one();
+    schedules_are_equal();
     runs_and_meanings_write_the_same_lines();
 }
 

@@ -5,18 +5,22 @@
 //! `specs/Texts.antt`.
 #![tactic(auto)]
 
+mod assemble;
 mod campaign;
 mod check;
 mod compile;
 mod debug;
 mod demo;
+mod disassemble;
 mod ending;
 mod exec;
 mod laws;
 mod load;
 mod mean;
+mod recover;
 mod refused;
 mod run;
+mod schedule;
 mod script;
 mod survey;
 mod top;

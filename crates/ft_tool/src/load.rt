@@ -2,9 +2,9 @@
 ghost use Rattle.std.specs.Prelude.{◌≡◌, [], ◌∷◌};
 ghost use Rattle.ft_edge.specs.Loads.{LoadCause as EdgeCause};
 ghost use Rattle.ft_command.specs.Asked.{campaign_view};
-ghost use Rattle.ft_tool.specs.Calls.{HasMade, object_load, list_load, source_load};
+ghost use Rattle.ft_tool.specs.Calls.{HasMade, object_load, list_load, source_load, text_load};
 ghost use Rattle.ft_tool.specs.Told.{IsToldFile, IsListOf, LoadsOther};
-ghost use Rattle.ft_tool.specs.Files.{Gives, fault_of, LoadsBytes, LoadsObject, LoadCause, ReadsList, GetsList, ListCause, LoadsSource, SourceCause};
+ghost use Rattle.ft_tool.specs.Files.{Gives, fault_of, LoadsBytes, LoadsObject, LoadCause, ReadsList, GetsList, ListCause, LoadsSource, SourceCause, LoadsText};
 
 use ft_campaign::{ListError, read_faults};
 use ft_command::Campaign;
@@ -20,6 +20,9 @@ const OBJECT_LIMIT: usize = 67_108_864;
 
 /// The most bytes of a file that are read as a source.
 const SOURCE_LIMIT: usize = 1_048_576;
+
+/// The most bytes of a file that are read as an assembly text.
+const TEXT_LIMIT: usize = 134_217_728;
 
 /// The most bytes of a file that are read as a fault list.
 const LIST_LIMIT: usize = 4_194_304;
@@ -170,11 +173,11 @@ pub(crate) fn list_of<F: Shelf>(
     load_list(alloc, asked.faults, shelf)
 }
 
-/// Why there is no source.
+/// Why there is no source or no assembly text.
 #[derive(Clone, Copy, Debug, PartialEq, Eq, Error)]
 pub(crate) enum SourceFault {
-    /// The file has more than 1,048,576 bytes.
-    #[error("the source is too long")]
+    /// The file has more than 1,048,576 bytes, or for an assembly text more than 134,217,728.
+    #[error("the text is too long")]
     TooLong,
     /// The file could not be read.
     #[error("the file could not be read")]
@@ -196,6 +199,25 @@ pub(crate) fn load_source<F: Shelf>(
 {
     let mut bytes = Vec::new(alloc);
     match load_bytes(name, SOURCE_LIMIT, shelf, &mut bytes) {
+        Ok(Load::Whole) => Ok(bytes),
+        Ok(Load::TooLong) => Err(SourceFault::TooLong),
+        Err(LoadFault::Failed) => Err(SourceFault::Failed),
+        Err(LoadFault::NoMemory) => Err(SourceFault::NoMemory),
+    }
+}
+
+/// Loads the file of a name as an assembly text.
+pub(crate) fn load_text<F: Shelf>(
+    alloc: Global,
+    name: &str,
+    shelf: &mut F,
+) -> Result<Vec<u8>, SourceFault>
+    ensures loads { LoadsText (λ v. v.items) (F.files shelf.old) name.now result }
+    ensures cause { SourceCause (F.failures shelf.old) (F.failures shelf.new) (F.failed_name shelf.old) (F.failed_name shelf.new) name.now result }
+    ensures made { HasMade (text_load name.now ∷ []) (F.asked shelf.old) (F.asked shelf.new) }
+{
+    let mut bytes = Vec::new(alloc);
+    match load_bytes(name, TEXT_LIMIT, shelf, &mut bytes) {
         Ok(Load::Whole) => Ok(bytes),
         Ok(Load::TooLong) => Err(SourceFault::TooLong),
         Err(LoadFault::Failed) => Err(SourceFault::Failed),

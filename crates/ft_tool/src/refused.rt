@@ -2,7 +2,7 @@
 ghost use Rattle.std.specs.Prelude.{◌≡◌, ◌≤◌, ◌+◌, length};
 ghost use Rattle.ft_typing.specs.Accepted as accepted;
 ghost use Rattle.ft_typing.specs.Premise.{number_of};
-ghost use Rattle.ft_tool.specs.Texts.{error_number, error_place, object_line, check_line, list_line, source_number, source_told, source_line};
+ghost use Rattle.ft_tool.specs.Texts.{error_number, error_place, object_line, check_line, list_line, asm_line, source_number, source_told, source_line};
 
 use ft_object::ObjectError;
 use ft_rules::Why;
@@ -123,6 +123,19 @@ pub(crate) fn list_line(number: u64, told: u64) -> Line
 {
     let mut line = Line::new();
     line.piece(b"list ");
+    line.number(number);
+    line.piece(b" ");
+    line.number(told);
+    line.piece(b"\n");
+    line
+}
+
+/// The line of an assembly text that is refused.
+pub(crate) fn asm_line(number: u64, told: u64) -> Line
+    ensures { result ≡ asm_line number told }
+{
+    let mut line = Line::new();
+    line.piece(b"asm ");
     line.number(number);
     line.piece(b" ");
     line.number(told);

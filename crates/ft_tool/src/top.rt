@@ -7,15 +7,19 @@ ghost use Rattle.ft_command.specs.Commands.{Asks, Usage};
 ghost use Rattle.ft_tool.specs.Answers.{IsAnswer, Concludes, BreaksOff, FailedToLoad, FailedToTake, is_status};
 ghost use Rattle.ft_tool.specs.Endings.{Ends, ends_early};
 
+use crate::assemble::assemble_file;
 use crate::campaign::campaign_file;
 use crate::check::check_file;
 use crate::compile::compile_file;
 use crate::debug::debug_file;
 use crate::demo::demonstrate;
+use crate::disassemble::disassemble_file;
 use crate::ending::{Ending, put_usage};
 use crate::exec::exec_file;
 use crate::mean::mean_file;
+use crate::recover::recover_file;
 use crate::run::run_file;
+use crate::schedule::schedule_file;
 use crate::survey::survey_file;
 use crate::trial::trial_file;
 use crate::upgrade::upgrade_file;
@@ -48,6 +52,7 @@ fn carry_out<F: Shelf, I: Source, K: Sink>(
         Ok(Command::Check(name)) => check_file(alloc, name, shelf, out),
         Ok(Command::Run(run)) => run_file(alloc, &run, shelf, out),
         Ok(Command::Trial(run)) => trial_file(alloc, &run, shelf, out),
+        Ok(Command::Recover(run)) => recover_file(alloc, &run, shelf, out),
         Ok(Command::Campaign(asked)) => campaign_file(alloc, &asked, shelf, out),
         Ok(Command::Survey(asked)) => survey_file(alloc, &asked, shelf, out),
         Ok(Command::Compile(name)) => compile_file(alloc, name, shelf, out),
@@ -56,6 +61,9 @@ fn carry_out<F: Shelf, I: Source, K: Sink>(
         Ok(Command::Debug(asked)) => debug_file(alloc, &asked, shelf, script, out),
         Ok(Command::Demo(turns)) => demonstrate(alloc, turns, out),
         Ok(Command::Upgrade(name)) => upgrade_file(alloc, name, shelf, out),
+        Ok(Command::Assemble(name)) => assemble_file(alloc, name, shelf, out),
+        Ok(Command::Disassemble(name)) => disassemble_file(alloc, name, shelf, out),
+        Ok(Command::Schedule(name)) => schedule_file(alloc, name, shelf, out),
         Err(_) => Ending::NoMemory,
     }
 }
@@ -74,7 +82,8 @@ pub fn tool<F: Shelf, I: Source, K: Sink>(
     // Each piece of the answer of the command that the words ask for was put by one put, and the status is its status. So
     // a source is compiled exactly when its text has a program: to an object that is accepted and whose run commits what
     // the program means and ends when it ends. And the run of an accepted object has under its plan after each number of
-    // steps exactly what the run without the strike has, or it is detected and has a prefix of that.
+    // steps exactly what the run without the strike has, or it is detected and has a prefix of that. And a recovery puts the
+    // whole output of the run without the strike.
     ensures headline { result ≢ 3 → result ≢ 4 → result ≢ 5 →
         Concludes (IsAnswer (map string_bytes words.now) (F.files shelf.old) (I.left script.old)) result (K.written out.old) (K.written out.new) (K.pieces out.old) (K.pieces out.new) }
     ensures usage { result ≡ 2 → Asks (map string_bytes words.now) Usage }
@@ -119,5 +128,6 @@ pub fn tool<F: Shelf, I: Source, K: Sink>(
         Ending::OutOfSteps => 9,
         Ending::Corrupt => 10,
         Ending::ListRefused => 11,
+        Ending::TextRefused => 12,
     }
 }

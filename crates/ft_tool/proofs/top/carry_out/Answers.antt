@@ -1,11 +1,11 @@
 use Rattle.std.proofs.Common.{◌≡◌, map, string_bytes, inl, refl, subst}
 use Rattle.std.specs.Prelude.{◌⊎◌}
-use Rattle.ft_command.specs.Commands.{Asks, Usage, Checks, Runs, Trials, Campaigns, Surveys, Compiles, Executes, Means, Debugs, Demonstrates, Upgrades}
+use Rattle.ft_command.specs.Commands.{Asks, Usage, Checks, Runs, Trials, Campaigns, Surveys, Compiles, Executes, Means, Debugs, Demonstrates, Upgrades, Assembles, Disassembles, Schedules, Recovers}
 use Rattle.ft_command.specs.Asked.{run_view, campaign_view, execution_view, meaning_view, debugging_view, asked}
 use Rattle.ft_tool.specs.Sources.{CompilesProgram, ExecutesProgram, MeansProgram}
 use Rattle.ft_tool.specs.Scripts.{DebugsObject}
 use Rattle.ft_tool.specs.Demonstrations.{ShowsSample}
-use Rattle.ft_tool.specs.Answers.{usage, ChecksObject, RunsObject, TrialsObject, CampaignsObject, SurveysObject, UpgradesObject, OverFile, OverSource, IsAnswer, FailsIn, FailedToLoad, FailsAtScript, FailedToTake}
+use Rattle.ft_tool.specs.Answers.{usage, ChecksObject, RunsObject, TrialsObject, CampaignsObject, SurveysObject, UpgradesObject, DisassemblesObject, OverAssemblyFile, OverFile, OverSource, IsAnswer, FailsIn, FailedToLoad, FailsAtScript, FailedToTake, SchedulesObject, RecoversObject}
 use Rattle.ft_tool.specs.Told.{OfFiles, OfScript}
 use Rattle.ft_tool.proofs.Answered.{Ends-map}
 use Rattle.ft_tool.proofs.Asked.{answer_over, plain_answer, session_answer, failed_load, failed_session, loads_by, plain_loads, takes_from}
@@ -56,6 +56,18 @@ returns-in-Ok-Trial-clause-ends g c =
 
 pub returns-in-Ok-Trial-clause-loads : goal.returns-in-Ok-Trial-clause-loads
 returns-in-Ok-Trial-clause-loads g c = inl (plain_loads (map string_bytes c.args.words.now) (g.F.Shelf.files c.args.shelf.now) (Trials (run_view c.in-Ok-Trial.run')) _ (g.F.Shelf.asked c.args.shelf.now) (g.F.Shelf.asked c.trial_file.new.shelf) (subst (λ x. Asks (map string_bytes c.args.words.now) (asked x)) c.in-Ok-Trial.field-0-is c.in-Ok-Trial.ensures.ok) (λ files. c.trial_file.ensures.made))
+
+pub returns-in-Ok-Recover-clause-ends : goal.returns-in-Ok-Recover-clause-ends
+returns-in-Ok-Recover-clause-ends g c =
+    let asks = (subst (λ x. Asks (map string_bytes c.args.words.now) (asked x)) c.in-Ok-Recover.field-0-is c.in-Ok-Recover.ensures.ok) in
+    Ends-map c.recover_file.result (λ a. OfFiles (g.F.Shelf.files c.args.shelf.now) (λ files. OverFile (RecoversObject (run_view c.in-Ok-Recover.run')) c.in-Ok-Recover.run'.object.now files a)) (IsAnswer (map string_bytes c.args.words.now) (g.F.Shelf.files c.args.shelf.now) (g.I.Source.left c.args.script.now)) _ _ _ _ _ _
+    (OfFiles (g.F.Shelf.files c.args.shelf.now) (λ files. FailsIn (Recovers (run_view c.in-Ok-Recover.run')) files (g.F.Shelf.failures c.args.shelf.now) (g.F.Shelf.failures c.recover_file.new.shelf) (g.F.Shelf.failed_name c.recover_file.new.shelf)))
+    (FailedToLoad (map string_bytes c.args.words.now) (g.F.Shelf.files c.args.shelf.now) (g.F.Shelf.failures c.args.shelf.now) (g.F.Shelf.failures c.recover_file.new.shelf) (g.F.Shelf.failed_name c.recover_file.new.shelf) ⊎ FailedToTake (map string_bytes c.args.words.now) (g.F.Shelf.files c.args.shelf.now) (g.I.Source.failures c.args.script.now) (g.I.Source.failures c.args.script.now))
+    (λ a h. answer_over (map string_bytes c.args.words.now) (g.F.Shelf.files c.args.shelf.now) (g.I.Source.left c.args.script.now) (Recovers (run_view c.in-Ok-Recover.run')) (λ files x. OverFile (RecoversObject (run_view c.in-Ok-Recover.run')) c.in-Ok-Recover.run'.object.now files x) asks (λ files script x i. i) a h)
+    (λ h. failed_load (map string_bytes c.args.words.now) (g.F.Shelf.files c.args.shelf.now) (Recovers (run_view c.in-Ok-Recover.run')) _ _ _ _ asks h) c.recover_file.ensures.ends
+
+pub returns-in-Ok-Recover-clause-loads : goal.returns-in-Ok-Recover-clause-loads
+returns-in-Ok-Recover-clause-loads g c = inl (plain_loads (map string_bytes c.args.words.now) (g.F.Shelf.files c.args.shelf.now) (Recovers (run_view c.in-Ok-Recover.run')) _ (g.F.Shelf.asked c.args.shelf.now) (g.F.Shelf.asked c.recover_file.new.shelf) (subst (λ x. Asks (map string_bytes c.args.words.now) (asked x)) c.in-Ok-Recover.field-0-is c.in-Ok-Recover.ensures.ok) (λ files. c.recover_file.ensures.made))
 
 pub returns-in-Ok-Campaign-clause-ends : goal.returns-in-Ok-Campaign-clause-ends
 returns-in-Ok-Campaign-clause-ends g c =
@@ -154,3 +166,39 @@ returns-in-Ok-Upgrade-clause-ends g c =
 
 pub returns-in-Ok-Upgrade-clause-loads : goal.returns-in-Ok-Upgrade-clause-loads
 returns-in-Ok-Upgrade-clause-loads g c = inl (plain_loads (map string_bytes c.args.words.now) (g.F.Shelf.files c.args.shelf.now) (Upgrades c.in-Ok-Upgrade.name.now) _ (g.F.Shelf.asked c.args.shelf.now) (g.F.Shelf.asked c.upgrade_file.new.shelf) (subst (λ x. Asks (map string_bytes c.args.words.now) (asked x)) c.in-Ok-Upgrade.field-0-is c.in-Ok-Upgrade.ensures.ok) (λ files. c.upgrade_file.ensures.made))
+
+pub returns-in-Ok-Assemble-clause-ends : goal.returns-in-Ok-Assemble-clause-ends
+returns-in-Ok-Assemble-clause-ends g c =
+    let asks = (subst (λ x. Asks (map string_bytes c.args.words.now) (asked x)) c.in-Ok-Assemble.field-0-is c.in-Ok-Assemble.ensures.ok) in
+    Ends-map c.assemble_file.result (λ a. OfFiles (g.F.Shelf.files c.args.shelf.now) (λ files. OverAssemblyFile c.in-Ok-Assemble.name.now files a)) (IsAnswer (map string_bytes c.args.words.now) (g.F.Shelf.files c.args.shelf.now) (g.I.Source.left c.args.script.now)) _ _ _ _ _ _
+    (OfFiles (g.F.Shelf.files c.args.shelf.now) (λ files. FailsIn (Assembles c.in-Ok-Assemble.name.now) files (g.F.Shelf.failures c.args.shelf.now) (g.F.Shelf.failures c.assemble_file.new.shelf) (g.F.Shelf.failed_name c.assemble_file.new.shelf)))
+    (FailedToLoad (map string_bytes c.args.words.now) (g.F.Shelf.files c.args.shelf.now) (g.F.Shelf.failures c.args.shelf.now) (g.F.Shelf.failures c.assemble_file.new.shelf) (g.F.Shelf.failed_name c.assemble_file.new.shelf) ⊎ FailedToTake (map string_bytes c.args.words.now) (g.F.Shelf.files c.args.shelf.now) (g.I.Source.failures c.args.script.now) (g.I.Source.failures c.args.script.now))
+    (λ a h. answer_over (map string_bytes c.args.words.now) (g.F.Shelf.files c.args.shelf.now) (g.I.Source.left c.args.script.now) (Assembles c.in-Ok-Assemble.name.now) (λ files x. OverAssemblyFile c.in-Ok-Assemble.name.now files x) asks (λ files script x i. i) a h)
+    (λ h. failed_load (map string_bytes c.args.words.now) (g.F.Shelf.files c.args.shelf.now) (Assembles c.in-Ok-Assemble.name.now) _ _ _ _ asks h) c.assemble_file.ensures.ends
+
+pub returns-in-Ok-Assemble-clause-loads : goal.returns-in-Ok-Assemble-clause-loads
+returns-in-Ok-Assemble-clause-loads g c = inl (plain_loads (map string_bytes c.args.words.now) (g.F.Shelf.files c.args.shelf.now) (Assembles c.in-Ok-Assemble.name.now) _ (g.F.Shelf.asked c.args.shelf.now) (g.F.Shelf.asked c.assemble_file.new.shelf) (subst (λ x. Asks (map string_bytes c.args.words.now) (asked x)) c.in-Ok-Assemble.field-0-is c.in-Ok-Assemble.ensures.ok) (λ files. c.assemble_file.ensures.made))
+
+pub returns-in-Ok-Disassemble-clause-ends : goal.returns-in-Ok-Disassemble-clause-ends
+returns-in-Ok-Disassemble-clause-ends g c =
+    let asks = (subst (λ x. Asks (map string_bytes c.args.words.now) (asked x)) c.in-Ok-Disassemble.field-0-is c.in-Ok-Disassemble.ensures.ok) in
+    Ends-map c.disassemble_file.result (λ a. OfFiles (g.F.Shelf.files c.args.shelf.now) (λ files. OverFile DisassemblesObject c.in-Ok-Disassemble.name.now files a)) (IsAnswer (map string_bytes c.args.words.now) (g.F.Shelf.files c.args.shelf.now) (g.I.Source.left c.args.script.now)) _ _ _ _ _ _
+    (OfFiles (g.F.Shelf.files c.args.shelf.now) (λ files. FailsIn (Disassembles c.in-Ok-Disassemble.name.now) files (g.F.Shelf.failures c.args.shelf.now) (g.F.Shelf.failures c.disassemble_file.new.shelf) (g.F.Shelf.failed_name c.disassemble_file.new.shelf)))
+    (FailedToLoad (map string_bytes c.args.words.now) (g.F.Shelf.files c.args.shelf.now) (g.F.Shelf.failures c.args.shelf.now) (g.F.Shelf.failures c.disassemble_file.new.shelf) (g.F.Shelf.failed_name c.disassemble_file.new.shelf) ⊎ FailedToTake (map string_bytes c.args.words.now) (g.F.Shelf.files c.args.shelf.now) (g.I.Source.failures c.args.script.now) (g.I.Source.failures c.args.script.now))
+    (λ a h. answer_over (map string_bytes c.args.words.now) (g.F.Shelf.files c.args.shelf.now) (g.I.Source.left c.args.script.now) (Disassembles c.in-Ok-Disassemble.name.now) (λ files x. OverFile DisassemblesObject c.in-Ok-Disassemble.name.now files x) asks (λ files script x i. i) a h)
+    (λ h. failed_load (map string_bytes c.args.words.now) (g.F.Shelf.files c.args.shelf.now) (Disassembles c.in-Ok-Disassemble.name.now) _ _ _ _ asks h) c.disassemble_file.ensures.ends
+
+pub returns-in-Ok-Disassemble-clause-loads : goal.returns-in-Ok-Disassemble-clause-loads
+returns-in-Ok-Disassemble-clause-loads g c = inl (plain_loads (map string_bytes c.args.words.now) (g.F.Shelf.files c.args.shelf.now) (Disassembles c.in-Ok-Disassemble.name.now) _ (g.F.Shelf.asked c.args.shelf.now) (g.F.Shelf.asked c.disassemble_file.new.shelf) (subst (λ x. Asks (map string_bytes c.args.words.now) (asked x)) c.in-Ok-Disassemble.field-0-is c.in-Ok-Disassemble.ensures.ok) (λ files. c.disassemble_file.ensures.made))
+
+pub returns-in-Ok-Schedule-clause-ends : goal.returns-in-Ok-Schedule-clause-ends
+returns-in-Ok-Schedule-clause-ends g c =
+    let asks = (subst (λ x. Asks (map string_bytes c.args.words.now) (asked x)) c.in-Ok-Schedule.field-0-is c.in-Ok-Schedule.ensures.ok) in
+    Ends-map c.schedule_file.result (λ a. OfFiles (g.F.Shelf.files c.args.shelf.now) (λ files. OverFile SchedulesObject c.in-Ok-Schedule.name.now files a)) (IsAnswer (map string_bytes c.args.words.now) (g.F.Shelf.files c.args.shelf.now) (g.I.Source.left c.args.script.now)) _ _ _ _ _ _
+    (OfFiles (g.F.Shelf.files c.args.shelf.now) (λ files. FailsIn (Schedules c.in-Ok-Schedule.name.now) files (g.F.Shelf.failures c.args.shelf.now) (g.F.Shelf.failures c.schedule_file.new.shelf) (g.F.Shelf.failed_name c.schedule_file.new.shelf)))
+    (FailedToLoad (map string_bytes c.args.words.now) (g.F.Shelf.files c.args.shelf.now) (g.F.Shelf.failures c.args.shelf.now) (g.F.Shelf.failures c.schedule_file.new.shelf) (g.F.Shelf.failed_name c.schedule_file.new.shelf) ⊎ FailedToTake (map string_bytes c.args.words.now) (g.F.Shelf.files c.args.shelf.now) (g.I.Source.failures c.args.script.now) (g.I.Source.failures c.args.script.now))
+    (λ a h. answer_over (map string_bytes c.args.words.now) (g.F.Shelf.files c.args.shelf.now) (g.I.Source.left c.args.script.now) (Schedules c.in-Ok-Schedule.name.now) (λ files x. OverFile SchedulesObject c.in-Ok-Schedule.name.now files x) asks (λ files script x i. i) a h)
+    (λ h. failed_load (map string_bytes c.args.words.now) (g.F.Shelf.files c.args.shelf.now) (Schedules c.in-Ok-Schedule.name.now) _ _ _ _ asks h) c.schedule_file.ensures.ends
+
+pub returns-in-Ok-Schedule-clause-loads : goal.returns-in-Ok-Schedule-clause-loads
+returns-in-Ok-Schedule-clause-loads g c = inl (plain_loads (map string_bytes c.args.words.now) (g.F.Shelf.files c.args.shelf.now) (Schedules c.in-Ok-Schedule.name.now) _ (g.F.Shelf.asked c.args.shelf.now) (g.F.Shelf.asked c.schedule_file.new.shelf) (subst (λ x. Asks (map string_bytes c.args.words.now) (asked x)) c.in-Ok-Schedule.field-0-is c.in-Ok-Schedule.ensures.ok) (λ files. c.schedule_file.ensures.made))
