@@ -17,10 +17,11 @@ _talft() {
   case ${#words[@]}:$command in
     [01]:*) return ;;
     2:*)
-      COMPREPLY=($(compgen -W 'campaign check compile debug demo exec mean run survey trial upgrade' -- "$word"))
+      COMPREPLY=($(compgen -W 'asm campaign check compile debug demo dis exec mean recover run schedule survey trial upgrade' -- "$word"))
       return
       ;;
     3:compile | 3:exec | 3:mean) _talft_files src; return ;;
+    3:asm) _talft_files asm; return ;;
     3:*)
       [[ $command == demo ]] || _talft_files obj
       return
@@ -40,7 +41,7 @@ _talft() {
   fi
 
   case $command in
-    run | trial) options='--fault --steps --wild' ;;
+    recover | run | trial) options='--fault --steps --wild' ;;
     exec) options=--steps ;;
     campaign | survey) options='--faults --steps --wild' ;;
     mean) options=--turns ;;

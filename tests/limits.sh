@@ -54,7 +54,7 @@ megabytes() {
 # One row of the table.
 show() {
   local half answer factor
-  rm -f object source faults stdin
+  rm -f object source text faults stdin
   measure half
   half=("${row[1]%% *}" "$time" "$peak")
   measure full

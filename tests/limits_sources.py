@@ -21,7 +21,9 @@ for name, text, line in [
         ("cell", "cell ", "4 5"), ("var", "var ", "4 4"), ("while", "while ", "4 6"), ("if", "if ", "4 3"), ("else", "else ", "4 0"),
         ("equals", "= ", "4 0"), ("equal", "==", "4 0"), ("semicolon", ";", "4 0"), ("bracket", "(", "4 0"),
         ("bracket-end", ")", "4 0"), ("brace", "{", "4 0"), ("brace-end", "}", "4 0"), ("plus", "+", "4 0"), ("minus", "-", "4 0"),
-        ("star", "*", "4 0"), ("less", "<", "4 0"), ("zero", "\0", "2 0"), ("other", "%", "2 0")]:
+        ("star", "*", "4 0"), ("less", "<", "4 0"), ("index", "[", "4 0"), ("index-end", "]", "4 0"),
+        ("and", "&", "4 0"), ("or", "|", "4 0"), ("xor", "^", "4 0"), ("up", "<<", "4 0"), ("down", ">>", "4 0"),
+        ("indexed", "a[", "5 201"), ("zero", "\0", "2 0"), ("other", "%", "2 0")]:
     source_row(name, "`%s` repeated" % {"\0": "a zero byte"}.get(text, text.strip()), MIB, "bytes",
                lambda n, text=text: to_length(text, n), not_a_source(f"source {line}"))
 for name, what, text in [("spaces", "spaces", " "), ("lines", "line feeds", "\n"), ("comment", "one comment", "#"),
@@ -93,6 +95,30 @@ source_row("over-weight", "weight, more than may be, and half of that", 65537, "
            lambda n: "cell out=0;" + "out=1;" * ((n - 5) // 6),
            {c: (lambda n, c=c: (6, "source 10 65537") if n > 65536 else
                 {"compile": (0, None), "exec": (0, "out 1"), "mean": (0, "out 1")}[c]) for c in SOURCE_COMMANDS})
+
+# Arrays.
+for depth in (100, 101):
+    source_row(f"indices-{depth}", "indices in one another", depth, "levels", lambda n: "cell a[2]=0;var x;x=" + deep("a[", "1", "]", n) + ";",
+               {c: (lambda n, c=c: (6, f"source 5 {20 + 2 * 100 + 1}") if n > 100 else DONE[c](n)) for c in SOURCE_COMMANDS})
+for name, what, length, wants in [
+        ("arrays", "declarations of arrays of 1,024 cells", "1024", lambda w: not_a_source(lambda n: (6, f"source 8 {n // w * 1024}"))),
+        ("long-arrays", "declarations of arrays of 1,025 cells", "1025", lambda w: not_a_source("source 12 13")),
+        ("widest-arrays", "declarations of arrays of 2^64 - 1 cells", "18446744073709551615", lambda w: not_a_source("source 12 13"))]:
+    make, width = declared("cell ", f"[{length}]=0;")
+    source_row(name, what, MIB, "bytes", make, wants(width))
+source_row("length-digits", "digits of a length", MIB, "bytes", lambda n: to_length("cell a[" + "9" * n, n), not_a_source("source 3 7"))
+source_row("misused", "assignments, the last to an array without an index", MIB, "bytes",
+           lambda n: "cell a[2]=0;var x;" + "x=x;" * (n // 4 - 6) + "a=1;",
+           not_a_source(lambda n: (6, f"source 11 {18 + n // 4 * 4 - 24}")))
+source_row("bits", "weight of operations on bits", 65530, "weight",
+           lambda n: "var x;" + "x=x<<x>>x&x|x^x;" * ((n - 7) // 24), DONE)
+ARRAY = "cell a[1024]=0;var i;"
+source_row("stores-at", "weight of assignments of `1` to a cell of 1,024", 65535, "weight", lambda n: ARRAY + "a[1]=1;" * ((n - 7) // 8),
+           {"compile": same(0, None), "exec": same(0, "a[1] 1"), "mean": same(0, "a[1] 1")})
+source_row("loads-at", "weight of loads from a cell of 1,024", 65530, "weight", lambda n: ARRAY + "i=a[i];" * ((n - 7) // 8), DONE)
+source_row("nested-loads", "weight of loads 99 in one another", 65530, "weight",
+           lambda n: ARRAY + ("i=" + deep("a[", "i", "]", 99) + ";") * ((n - 7) // 400), DONE)
+
 VARIABLES = "".join(f"var v{k};" for k in range(29))
 source_row("wide-loops", "weight of loops over 29 variables", 65530, "weight",
            lambda n: VARIABLES + "while(v0){v1=v2;}" * ((n - 63) // 22), DONE)
@@ -109,9 +135,10 @@ source_row("doubled", "weight of assignments of sums in a loop", 65530, "weight"
 for name, what, text, line, turns in [
         ("turns", "turns of a loop", "var i;while(1){i=i+1;}", "", 5 * 10 ** 7),
         ("puts", "turns that put out a line", "cell out=0;while(1){out=1;}", "out 1", 2 * 10 ** 6),
+        ("loads", "turns that load a cell of 1,024", ARRAY + "while(1){i=a[i]+i+1;}", "", 10 ** 7),
         ("terms", "turns over an expression of 200 operators", "var x;while(1){x=" + "x+" * 200 + "x;}", "", 10 ** 6)]:
     source_row(name, what, turns, "turns", lambda n, text=text: text, {"mean": same(9, line)}, extra={"mean": ["--turns", "N"]})
-    steps = {"turns": 10 ** 9, "puts": 5 * 10 ** 7, "terms": 10 ** 9}[name]
+    steps = {"turns": 10 ** 9, "puts": 5 * 10 ** 7, "loads": 5 * 10 ** 8, "terms": 10 ** 9}[name]
     source_row(f"{name}-steps", what.replace("turns", "steps"), steps, "steps", lambda n, text=text: text, {"exec": same(9, line)},
                extra={"exec": ["--steps", "N"]})
 

@@ -58,7 +58,7 @@ LARGEST = {c: (lambda n, a=a: (a(n)[0], f"check block {n - n // 8} index 0 premi
 over_objects("largest", "every table as large as may be, by instructions", 65536, "instructions", largest,
              LARGEST)
 over_objects("largest-second", "every table of version 2 as large as may be, by instructions", 65536, "instructions",
-             lambda n: largest(n, 2, 40), {c: LARGEST[c] for c in ("check", "upgrade")})
+             lambda n: largest(n, 2, 40), {c: LARGEST[c] for c in ("check", "upgrade", "dis")})
 over_objects("halts", "blocks of one instruction", 65536, "blocks",
              lambda n: spell(memory(), HALT * n, None, b"".join(pair(k, 0) for k in range(n))), HALTS)
 over_objects("moves", "a `mov` per instruction", 65536, "instructions",
@@ -82,3 +82,11 @@ over_objects("names", "cells of which the names differ in their last bytes", 102
 over_objects("indexes", "an `idx` over 1,024 cells per instruction", 65536, "instructions",
              lambda n: spell(memory(), mov(0, GREEN, 4) + b"".join(idx(1 + k % 31, 0, 0, 1024) for k in range(n - 2)) + HALT,
                              cells=cells_of(1024, 40), names=names_of(1024, 40), version=2), HALTS)
+over_objects("crossing", "moves of one block, the first half blue and the second green", 65536, "instructions",
+             lambda n: spell(memory(), b"".join(mov(32 + k % 32, BLUE, k) for k in range(n // 2)) + b"".join(
+                 mov(k % 32, GREEN, k) for k in range(n // 2 - 1)) + HALT),
+             {c: HALTS[c] for c in ("check", "schedule", "run", "recover")})
+over_objects("late", "blue stores that each wait for a green one, over 1,024 cells", 65536, "instructions", lambda n: spell(
+    memory(), b"".join(mov(32, BLUE, OUT + k % 1024, REF_INT) + mov(0, GREEN, OUT + k % 1024, REF_INT) + store(GREEN, 0, 0)
+                       + store(BLUE, 32, 32) for k in range((n - 1) // 4)) + HALT, cells=cells_of(1024), names=names_of(1024)),
+    {"check": HALTS["check"], "schedule": HALTS["schedule"]})

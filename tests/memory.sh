@@ -36,6 +36,7 @@ each 'usage' /dev/null
 each 'check' /dev/null check "$top/tests/objects/jump.obj"
 each 'check of a refused object' /dev/null check mixed.obj
 each 'run' /dev/null run five.obj
+each 'recover' /dev/null recover five.obj --fault 4:r1:6
 each 'trial' /dev/null trial five.obj --fault 4:r1:6
 each 'trial with an answer' /dev/null trial reload.obj --fault 2:r0:7 --wild 5
 each 'campaign' /dev/null campaign five.obj --faults five.faults --steps 14

@@ -27,6 +27,7 @@ small() {
 cd "$top/examples" || exit 2
 small trial five.obj
 small run five.obj
+small recover five.obj --fault 4:r1:6
 small check five.obj
 small campaign five.obj --faults five.faults --steps 14
 small survey mixed.obj --faults mixed.faults --steps 14
@@ -37,4 +38,6 @@ small compile unknown.src
 small debug five.obj
 small demo 3
 small upgrade five.obj
+small asm five.asm
+small dis five.obj
 cd "$work" || exit 2
