@@ -14,6 +14,22 @@ expect() {
   report "$name" "$(printf '%b/%d' "$text" "$status")" "$got"
 }
 
+# The same of a script of tools/. What it said is kept in the file `said`.
+tool() {
+  local name=$1 status=$2 text=$3 script=$4 got
+  shift 4
+  got=$("$top/tools/$script" "$@" 2>said </dev/null; printf '/%d' $?)
+  report "$name" "$(printf '%b/%d' "$text" "$status")" "$got"
+}
+
+# `refuses NAME SAID SCRIPT WORDS..`: it writes nothing, says this in its last line, and ends with status 1.
+refuses() {
+  local name=$1 said=$2
+  shift 2
+  tool "$name" 1 '' "$@"
+  report "what is said of $name" "$said" "$(tail -n 1 said)"
+}
+
 # What the program writes and its status, under a limit on its memory in KB.
 within() {
   local limit=$1
@@ -41,5 +57,4 @@ for part in "$top"/tests/cli/*.sh; do
   . "$part"
 done
 
-echo "$passed passed, $failed failed"
-[ "$failed" -eq 0 ]
+close

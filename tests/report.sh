@@ -1,7 +1,7 @@
-# Counts what passed and what failed, in a folder that goes at the end. Scripts of this folder begin with it.
+# Counts what passed, what failed and what was skipped, in a folder that goes at the end. Scripts of this folder begin with it.
 work=$(mktemp -d)
 trap 'rm -rf "$work"' EXIT
-passed=0 failed=0
+passed=0 failed=0 skipped=0
 
 # `report NAME WANTED GOT`
 report() {
@@ -11,4 +11,24 @@ report() {
     failed=$((failed + 1))
     printf 'FAILED %s: wanted <%s>, got <%s>\n' "$1" "$2" "$3"
   fi
+}
+
+# `skip NAME WHY`
+skip() {
+  skipped=$((skipped + 1))
+  printf 'SKIPPED %s: %s\n' "$1" "$2"
+}
+
+# `has COMMAND NAME` says whether the command is there. If not, what needs it is skipped.
+has() {
+  command -v "$1" >/dev/null && return
+  skip "$2" "$1 is not installed"
+  return 1
+}
+
+# The last line, and the status.
+close() {
+  [ "$skipped" -eq 0 ] || printf '%d skipped, ' "$skipped"
+  echo "$passed passed, $failed failed"
+  [ "$failed" -eq 0 ]
 }

@@ -11,9 +11,6 @@ from=$(cd "$(dirname "$0")/.." && pwd)
 . "$from/tests/report.sh"
 way=${1-}
 
-has() {
-  command -v "$1" >/dev/null || { echo "not tested, since $1 is missing: $2"; return 1; }
-}
 seconds_since() { echo $(($(date +%s) - $1)); }
 
 git clone -q "$from" "$work/talft" || exit 2
@@ -121,6 +118,8 @@ fi
 if command -v bat >/dev/null || has batcat 'the syntax file of bat'; then
   report 'the syntax file of bat' '0 wrong' "$(python3 tests/editors.py bat $sources 2>&1 | sed 's/.* bytes, //')"
 fi
+report 'the installed tools' '' "$(diff -r tools "$usr/share/talft/tools")"
+report 'a tool that is installed' 'usage: faults' "$("$usr/share/talft/tools/faults" --help | head -n 1 | cut -c1-13)"
 report 'the installed examples' '' "$(diff -r examples "$usr/share/talft/examples")"
 make -s uninstall DESTDIR="$here" PREFIX=/usr >"$work/said" 2>&1
 report 'make uninstall' '' "$(find "$here" -type f)"
@@ -128,5 +127,4 @@ make -s clean
 report 'make clean' '' "$(find . -name out)"
 report 'the clone in the end' '' "$(git status --short --ignored)"
 
-echo "$passed passed, $failed failed"
-[ "$failed" -eq 0 ]
+close

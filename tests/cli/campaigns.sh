@@ -1,0 +1,163 @@
+# Campaigns in parts, by tools/campaign: what is merged is what the program writes of each part. Nothing is lost and
+# nothing is counted twice when a run is killed, a part fails, a disk fills or a machine goes away.
+
+"$top/talft" compile "$top/examples/fibonacci.src" >fibonacci.obj
+"$top/tools/faults" fibonacci.obj --flip all --sample 2500 >list 2>said
+# So many steps that a call of the program takes 1,000 faults.
+most=1000000
+split -l 1000 list piece.
+for piece in piece.*; do "$top/talft" campaign fibonacci.obj --faults "$piece" --steps "$most"; done >answers
+grep -v '^faults' answers >wanted
+awk '/^faults/ { for (i = 2; i <= 10; i += 2) sum[i] += $i } END {
+  print "faults", sum[2], "masked", sum[4], "detected", sum[6], "idle", sum[8], "corrupt", sum[10] }' answers >>wanted
+report 'three parts' 3 "$(grep -c '^faults' answers)"
+
+# `campaign STATUS NAME WORDS..` runs the list, and compares what was written when the status is 0.
+campaign() {
+  local wanted_status=$1 name=$2
+  shift 2
+  "$top/tools/campaign" fibonacci.obj --faults list --steps "$most" "$@" >written 2>said
+  report "$name" "$wanted_status" $?
+  if [ "$wanted_status" -eq 0 ]; then
+    report "the lines of $name" '' "$(cmp written wanted 2>&1)"
+  else
+    report "no lines of $name" '' "$(head -n 1 written)"
+  fi
+}
+
+# A program that writes down which parts it is given, and waits, fails, lies or dies at one of them.
+cat >watched <<END
+#!/usr/bin/env bash
+if [ "\$1" != debug ]; then
+  echo "\$4" >>"$work/given"
+  case \$4 in
+    000001.*)
+      for ((n = 0; n < 1200; n++)); do [ ! -e "$work/waits" ] || sleep 0.1; done
+      [ ! -e "$work/fails" ] || exit 5
+      [ ! -e "$work/lies" ] || { echo 'faults 0 masked 0 detected 0 idle 0 corrupt 0'; exit 0; }
+      [ ! -e "$work/dies" ] || kill -9 \$\$ ;;
+  esac
+fi
+exec "$top/talft" "\$@"
+END
+chmod +x watched
+given() { sort given | uniq -c | awk '{ print $2, $1 }' | paste -sd ' '; }
+
+campaign 0 'a campaign on one machine' --dir here
+report 'how far it is in the end' 'campaign: 2500 of 2500 faults' "$(tail -n 1 said)"
+TALFT=$work/watched campaign 0 'a campaign that is done' --dir here
+report 'nothing is done again' none "$(cat given 2>errors || echo none)"
+
+for way in fails lies dies; do
+  rm -f given
+  touch "$way"
+  TALFT=$work/watched campaign 1 "a part that $way" --dir "$way.kept"
+  case $way in
+    fails) reason='status 5, memory ran out' ;;
+    lies) reason='status 0, but faults are missing' ;;
+    dies) reason='killed by signal 9' ;;
+  esac
+  report "what is said when a part $way" "  $way.kept/000001.faults: $reason" "$(tail -n 1 said)"
+  rm "$way"
+  TALFT=$work/watched campaign 0 "the campaign after a part that $way" --dir "$way.kept"
+  report "only the part that $way is done again" '000000.faults 1 000001.faults 2 000002.faults 1' "$(given)"
+done
+
+# `ended SIGNAL ENGINE`: a run ends by a signal in its second part, and goes on.
+ended() {
+  local signal=$1 engine=$2 words run n
+  words=(fibonacci.obj --faults list --steps "$most" --engine "$engine" --dir "$signal.$engine")
+  rm -f given
+  touch waits
+  TALFT=$work/watched "$top/tools/campaign" "${words[@]}" --jobs 1 >written 2>under &
+  run=$!
+  for ((n = 0; n < 300; n++)); do grep -qs 000001 given || sleep 0.1; done
+  refuses 'a second run beside the first' "campaign: $signal.$engine: another run of this campaign is under way there" \
+    campaign "${words[@]}"
+  kill -"$signal" "$run"
+  wait "$run" 2>errors
+  report "no lines of a run that $signal ends" '' "$(head -n 1 written)"
+  [ "$signal" = KILL ] || report 'nothing goes on' '' "$(pgrep -f "^bash $work/watched")"
+  rm waits
+  TALFT=$work/watched campaign 0 "the campaign after $signal" --engine "$engine" --dir "$signal.$engine"
+  report "the first part is not done again after $signal" '000000.faults 1 000002.faults 1' \
+    "$(given | sed 's/000001.faults [12] //')"
+}
+ended TERM local
+ended KILL local
+
+# A disk that fills: in a file system of its own, where the system lets a user have one.
+"$top/tools/campaign" fibonacci.obj --faults list --steps "$most" --dir here >/dev/full 2>said
+report 'a full disk for the lines' '1 campaign: standard output: No space left on device' "$? $(tail -n 1 said)"
+mkdir full
+fills() {
+  mount -t tmpfs -o size=128k none full || exit
+  campaign 1 'a disk that fills' --dir full/kept
+  cp said full.said
+  mount -o remount,size=1m full
+  campaign 0 'the campaign when there is room again' --dir full/kept
+}
+if unshare -rm mount -t tmpfs none full 2>errors; then
+  export -f fills campaign report
+  export top work most
+  report 'a disk that fills, and room again' '4 passed, 0 failed' \
+    "$(passed=0 failed=0 unshare -rm bash -c 'fills; echo "$passed passed, $failed failed"' 2>&1)"
+  grep -q 'No space left on device\|output could not be written' full.said
+  report 'it is said that the disk is full' 0 $?
+else
+  skip 'a disk that fills' 'the system lets no user mount'
+fi
+
+refuses 'another campaign in the same folder' \
+  'campaign: here: another campaign is kept there: give another --dir, or remove that one' \
+  campaign fibonacci.obj --faults piece.aa --steps "$most" --dir here
+for line in 4:r64:6 04:r1:6 4:r1:18446744073709551616 '4:r1:6 '; do
+  printf '4:r1:6\n%s\n' "$line" >bad.list
+  refuses "a list with the line $line" "campaign: bad.list:2: '$line' is no fault STEP:SITE:WORD" \
+    campaign fibonacci.obj --faults bad.list
+done
+refuses 'a missing list' 'campaign: missing: No such file or directory' campaign fibonacci.obj --faults missing
+refuses 'an object that is not accepted' \
+  'campaign: mixed.obj.campaign/000000.faults: status 8: check block 0 index 3 premise 2' \
+  campaign "$top/examples/mixed.obj" --faults "$top/examples/mixed.faults" --steps 14
+tool 'a survey with a corrupt fault' 10 '4:r1:6 corrupt\nfaults 1 masked 0 detected 0 idle 0 corrupt 1\n' \
+  campaign "$top/examples/mixed.obj" --survey --faults "$top/examples/mixed.faults" --steps 14
+: >empty.list
+tool 'an empty list' 0 'faults 0 masked 0 detected 0 idle 0 corrupt 0\n' \
+  campaign fibonacci.obj --faults empty.list --dir empty.kept
+echo 2:r0:7 >wild.list
+tool 'a wild load that is answered' 0 '2:r0:7 masked\nfaults 1 masked 1 detected 0 idle 0 corrupt 0\n' \
+  campaign "$top/examples/reload.obj" --faults wild.list --steps 14 --wild 5
+report 'the help' 'usage: campaign' "$("$top/tools/campaign" --help | head -n 1 | cut -c1-15)"
+
+# GNU parallel on this machine, and on others: `near` is an ssh without a network, and sets HOME and SHELL as a machine's
+# server does. The machine `away` does not answer.
+cat >near <<END
+#!/usr/bin/env bash
+while [[ \$1 == -* ]]; do case \$1 in -[lpo]) shift 2 ;; *) shift ;; esac; done
+host=\$1
+shift
+[ "\$1" != -- ] || shift
+[ "\$host" != away ] || exit 255
+mkdir -p "$work/\$host" && cd "$work/\$host" && HOME=\$PWD SHELL=/bin/bash exec bash -c "\$*"
+END
+chmod +x near
+if has parallel 'a campaign by GNU parallel'; then
+  campaign 0 'a campaign by GNU parallel' --engine parallel --jobs 2 --dir parallel
+  ended TERM parallel
+  rm -f given
+  touch fails
+  TALFT=$work/watched campaign 1 'a part that fails under GNU parallel' --engine parallel --dir parallel.kept
+  report 'what is said of it' '  parallel.kept/000001.faults: status 5, memory ran out' "$(tail -n 1 said)"
+  rm fails given
+  TALFT=$work/watched campaign 0 'GNU parallel goes on' --engine parallel --dir parallel.kept
+  report 'only the part that failed is done again' '000001.faults 1' "$(given)"
+  if has rsync 'a campaign on other machines'; then
+    campaign 0 'a machine that is away' --engine parallel --hosts "$work/near one,$work/near away" --jobs 1 --dir hosts
+    report 'nothing is left on a machine' '' "$(find one -type f)"
+    campaign 1 'no machine that is there' --engine parallel --hosts "$work/near away" --dir away.kept
+    report 'what is said of that' '  away.kept/000000.faults and 2 more: no answer came: a machine may have gone away' \
+      "$(tail -n 1 said | sed 's/ (.*//')"
+    campaign 0 'the machine is there again' --engine parallel --hosts "$work/near one" --dir away.kept
+  fi
+fi

@@ -1,0 +1,64 @@
+# Fault lists that tools/faults makes.
+
+five=$top/examples/five.obj
+tool 'faults that put a word' 0 '4:r1:6\n10:r1:6\n' faults "$five" --steps 4:12:6 --sites r1 --values 6
+tool 'faults that put words' 0 '0:pcb:0\n0:pcb:18446744073709551615\n' \
+  faults "$five" --steps :1 --sites pcb --values 0,18446744073709551615
+tool 'faults that turn the lowest bit' 0 '10:r0:1048577\n10:r1:4\n10:qa0:1048577\n10:qv0:4\n' \
+  faults "$five" --steps 10:11 --sites r0-r1,qa0-qa7,qv0
+tool 'faults that turn given bits' 0 '4:r1:4\n4:r1:7\n4:r1:9223372036854775813\n' \
+  faults "$five" --steps 4:5 --sites r1 --flip 0-1,63
+tool 'faults of d and of the counters' 0 '2:d:1\n2:pcg:3\n2:pcb:3\n' faults "$five" --steps 2:3 --sites d,pcg,pcb
+# 14 steps with 67 sites each, and a pending pair before two of them.
+tool 'the number of faults' 0 '942\n' faults "$five" --count
+tool 'the number of faults that turn each bit' 0 '60288\n' faults "$five" --count --flip all
+
+"$top/tools/faults" "$five" --flip all >five.all 2>said
+report 'what is said before the list' 'faults: 60288 of 60288, before steps 0 to 13 of 14' "$(cat said)"
+report 'as many faults as were counted' '60288 60288' "$(sort -u five.all | wc -l) $(wc -l <five.all)"
+"$top/tools/faults" "$five" >five.list 2>said
+report 'each of them strikes' 'faults 942 idle 0 corrupt 0' \
+  "$("$top/talft" campaign "$five" --faults five.list --steps 14 | sed -n 's/^\(faults [0-9]*\) .* \(idle.*\)/\1 \2/p')"
+
+"$top/tools/faults" "$five" --flip all --sample 1000 --seed 7 >sample 2>said
+report 'what is said of a sample' 'faults: 1000 of 60288, before steps 0 to 13 of 14' "$(cat said)"
+report 'a sample has no fault twice' 1000 "$(sort -u sample | wc -l)"
+grep -Fxf sample five.all | cmp -s - sample
+report 'a sample is of the list, in its order' 0 $?
+"$top/tools/faults" "$five" --flip all --sample 1000 --seed 7 2>said | cmp -s - sample
+report 'the same words write the same sample' 0 $?
+"$top/tools/faults" "$five" --flip all --sample 1000 --seed 8 2>said | cmp -s - sample
+report 'another seed draws another sample' 1 $?
+
+# The run's length is found: the run has ended after so many steps, and not a step sooner.
+for program in fibonacci sieve; do
+  "$top/talft" compile "$top/examples/$program.src" >"$program.obj"
+  "$top/tools/faults" "$program.obj" --sample 0 2>said
+  length=$(sed -n 's/.* of \([0-9]*\)$/\1/p' said)
+  "$top/talft" run "$program.obj" --steps "$length" >written
+  report "the length of the run of $program" 0 $?
+  "$top/talft" run "$program.obj" --steps $((length - 1)) >written
+  report "one step less of the run of $program" 9 $?
+done
+tool 'a run that is cut' 0 '5:r0:1\n' faults "$five" --most 6 --steps 5: --sites r0 --values 1
+report 'what is said of a run that is cut' 'faults: the run is cut: it goes on after 6 steps' "$(head -n 1 said)"
+
+refuses 'a site that is none' "faults: --sites: 'r64': there is no site r64" faults "$five" --sites r0,r64
+refuses 'a range of sites across kinds' "faults: --sites: 'd-r3' is no site and no range of them" \
+  faults "$five" --sites d-r3
+refuses 'a range of sites that goes down' "faults: --sites: 'r9-r2' goes down" faults "$five" --sites r9-r2
+refuses 'a bit that is none' "faults: --flip: '64': the bits of a word are 0 to 63" faults "$five" --flip 64
+refuses 'a word that is none' "faults: --values: '18446744073709551616' is no number below 2^64" \
+  faults "$five" --values 18446744073709551616
+refuses 'words and bits' 'faults: give --values or --flip, not both' faults "$five" --values 1 --flip 1
+refuses 'steps that are no range' "faults: --steps: '3' is neither FIRST:LAST nor FIRST:LAST:EVERY" \
+  faults "$five" --steps 3
+refuses 'steps after the end' "faults: --steps: '14:': the run of 14 steps has none of these" \
+  faults "$five" --steps 14:
+refuses 'a missing object' 'faults: missing.obj: status 3, a file could not be read' faults missing.obj
+head -c 1 "$five" >cut.obj
+refuses 'an object that is cut off' 'faults: cut.obj: status 7: object 2 1' faults cut.obj
+TALFT=$work/none refuses 'a missing program' "faults: $work/none: No such file or directory" faults "$five"
+report 'the help' 'usage: faults' "$("$top/tools/faults" --help | head -n 1 | cut -c1-13)"
+"$top/tools/faults" "$five" >/dev/full 2>said
+report 'a full disk' '1 faults: standard output: No space left on device' "$? $(tail -n 1 said)"

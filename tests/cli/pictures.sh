@@ -1,0 +1,158 @@
+# Pictures and pages of campaigns, by tools/plot and tools/report. Of the pictures the dots of each colour are counted.
+
+unset DISPLAY
+dots() { python3 "$top/tests/picture.py" "$1" 2>&1; }
+
+# Ten steps at two sites. A cell is one dot wide in the picture within the SVG, and 23 high.
+{
+  for ((step = 0; step < 10; step++)); do echo "$step:r0:1 masked"; done
+  for ((step = 0; step < 5; step++)); do echo "$step:r1:1 detected $((step + 3))"; done
+  for ((step = 5; step < 9; step++)); do echo "$step:r1:1 idle"; done
+  echo 9:r1:1 corrupt
+  echo faults 20 masked 10 detected 5 idle 4 corrupt 1
+} >few.lines
+# A hundred faults in one cell, of which one is corrupt.
+{
+  echo 7:pcg:0 corrupt
+  for ((word = 1; word < 100; word++)); do echo "7:pcg:$word masked"; done
+  echo faults 100 masked 99 detected 0 idle 0 corrupt 1
+} >cell.lines
+
+draws() {
+  tool "a picture of $1.lines" 0 '' plot $1.lines --out "$1"
+  report "the dots of each colour in $1.svg" "$2" "$(dots "$1.svg")"
+  report "the letters in $1.svg" 1 "$(grep -c "$3" "$1.svg")"
+}
+if has gnuplot 'the pictures'; then
+  draws few 'masked 230 detected 115 idle 92 corrupt 23 of 10 48' \
+    '5 detected: half of them within 3 steps, the last one after 3 steps'
+  draws cell 'masked 40 detected 0 idle 0 corrupt 6 of 2 24' 'No fault was detected\.'
+  python3 -c 'import sys, xml.etree.ElementTree as tree; tree.parse(sys.argv[1])' few.svg
+  report 'an SVG is in the grammar of XML' 0 $?
+  # The cells are 100 dots wide in the PNG; the frame and the legend take and add some.
+  report 'the cells of few.png' '10 4 1' \
+    "$(dots few.png | awk '{ printf "%.0f %.0f %.0f", $2 / 2300, $6 / 2300, $8 / 2300 }')"
+  tool 'only a PNG' 0 '' plot few.lines cell.lines --title 'one & <two>' --out pair.png
+  report 'no SVG' 'pair.png' "$(echo pair.*)"
+  tool 'a title with signs' 0 '' plot few.lines --title "it's one & <two>" --out pair.svg
+  report 'the title' "it's one & <two>" "$(python3 -c 'import html, sys; print(html.unescape(sys.stdin.read()))' \
+    < <(sed -n 's/.*<text>\(.*two.*\)<.text>/\1/p' pair.svg))"
+
+  # The same faults on code that is accepted, and on code whose blue stores read the green registers.
+  "$top/talft" compile "$top/examples/fibonacci.src" >fibonacci.obj
+  python3 "$top/tests/unpaired.py" fibonacci.obj >unpaired.obj
+  "$top/tools/faults" fibonacci.obj --sites r0-r7,r32-r39,d,pcg,pcb,qa0,qv0 >list 2>said
+  "$top/tools/campaign" fibonacci.obj --faults list --steps 1000 --dir paired >paired.lines 2>said
+  "$top/tools/campaign" unpaired.obj --survey --faults list --steps 1000 --dir unpaired >unpaired.lines 2>said
+  report 'a fault of the unpaired code is corrupt' 10 $?
+  tool 'both pictures' 0 '' plot paired.lines --out paired.svg
+  tool 'the other one' 0 '' plot unpaired.lines --out unpaired.svg
+  report 'nothing corrupt is seen of the code that is accepted' 'corrupt 0' "$(dots paired.svg | grep -o 'corrupt 0')"
+  report 'what is corrupt is seen of the other' 'some' "$(dots unpaired.svg | sed 's/.*corrupt [1-9].*/some/')"
+fi
+
+head -n 5 few.lines >cut.lines
+refuses 'lines that are cut off' \
+  'plot: cut.lines:6: the line `faults ..` with the totals is missing: the file is cut off' plot cut.lines
+sed 's/idle 4/idle 5/' few.lines >wrong.lines
+refuses 'totals that are not those of the lines' \
+  'plot: wrong.lines:21: the totals are not those of the lines: masked 10 detected 5 idle 4 corrupt 1' plot wrong.lines
+sed '3s/masked/broken/' few.lines >broken.lines
+refuses 'a line that is none' "plot: broken.lines:3: '2:r0:1 broken' is no line of a campaign" plot broken.lines
+echo 'faults 0 masked 0 detected 0 idle 0 corrupt 0' >none.lines
+refuses 'a campaign without a fault' 'plot: none.lines: there are no faults to draw' plot none.lines
+refuses 'a missing file' 'plot: missing: No such file or directory' plot missing
+refuses 'a page without an object' 'report: give the object: --dir or --object' report few.lines
+refuses 'a page of lines that are cut off' \
+  'report: cut.lines:6: the line `faults ..` with the totals is missing: the file is cut off' \
+  report cut.lines --object "$top/examples/five.obj"
+for script in plot report; do
+  report "the help of $script" "usage: $script" "$("$top/tools/$script" --help | head -n 1 | grep -o "usage: $script")"
+done
+
+# The instructions that a page names: a fault before each fetch.
+names() {
+  awk -v sites="$2" 'BEGIN { for (step = 0; step < 2 * sites; step += 2) printf "%d:r9:1 masked\n", step
+    printf "faults %d masked %d detected 0 idle 0 corrupt 0\n", sites, sites }' >each.lines
+  tool "a page of $1" 0 '' report each.lines --object "$top/examples/$1" --out each.html
+  report "the instructions of $1" "$3" \
+    "$(grep -o '"places":\[[^]]*' each.html | grep -o '[^"]* (before' | sed 's/ (before//' | paste -sd /)"
+}
+if command -v gnuplot >/dev/null; then
+  names five.obj 7 \
+    'mov r0 G 1048576 ref:int/mov r1 G 5 int/mov r32 B 1048576 ref:int/mov r33 B 5 int/st_G r0 r1/st_B r32 r33/halt'
+  names indexed.obj 9 \
+    'mov r0 G 4 int/idx r1 r0 0 3/mov r2 G 9 int'\
+'/mov r32 B 4 int/idx r33 r32 0 3/mov r34 B 9 int/st_G r1 r2/st_B r33 r34/halt'
+fi
+
+# The commands of docs/TOOLS.md, as a reader has them. They say nothing but how far they are.
+if command -v gnuplot >/dev/null; then
+  mkdir reader
+  ln -s "$top/talft" "$top/tools" "$top/tests" "$top/examples" reader
+  awk '/^```/ { inside = !inside; next } inside' "$top/docs/TOOLS.md" >reader/commands
+  report 'what a reader is told' '' "$(cd reader && bash commands 2>&1 | grep -v '^faults: [0-9]\|^campaign: [0-9]')"
+  count=$(grep -o 'has [0-9,]* faults' "$top/docs/TOOLS.md" | tr -dc 0-9)
+  report 'the number of faults that docs/TOOLS.md tells' "$count" "$(grep -c : reader/lines)"
+  report 'the pictures of a reader' 'both.png both.svg fibonacci.html fibonacci.png fibonacci.svg' \
+    "$(cd reader && find . -size +4k \( -name '*.??g' -o -name '*.html' \) | sed 's/..//' | sort | paste -sd ' ')"
+fi
+
+# `choose SITE VERDICT` chooses as a reader does, and gives the number of rows and what is told of them.
+choose() {
+  printf '(() => { for (const [id, value] of [["site", "%s"], ["verdict", "%s"]]) {' "$1" "$2"
+  printf 'const select = document.getElementById(id); select.value = value; '
+  printf 'select.dispatchEvent(new Event("change")); } '
+  printf 'return document.querySelectorAll("#faults tbody tr").length + " " + '
+  printf 'document.getElementById("told").textContent; })()\n'
+}
+# The same by the lines of the campaign. Up to a hundred of each site and verdict are listed.
+chosen() {
+  awk -F '[: ]' -v site="$1" -v verdict="$2" '/:/ && (site == "" || $2 == site) && (verdict == "" || $4 == verdict) {
+      all++; if (kept[$2, $4]++ < 100) listed++
+    }
+    END {
+      printf "%d %d faults", listed < 100 ? listed : 100, all
+      if (listed < all) printf "; %d are listed at most 100 of each site and verdict", listed
+      printf "\n"
+    }' unpaired.lines
+}
+for browser in chromium chromium-browser google-chrome; do command -v $browser >/dev/null && break; done
+if command -v gnuplot >/dev/null && has $browser 'a page in a browser'; then
+  tool 'a page' 0 '' report unpaired.lines --dir unpaired --out page.html
+  report 'the page loads nothing' '' "$(grep -o '\(src\|href\)="[^"]\{0,20\}' page.html | grep -v '="data:')"
+  {
+    echo document.title
+    echo 'document.getElementById("command").textContent'
+    echo 'document.querySelector(".totals").innerText.replace(/\s+/g, " ")'
+    echo 'document.querySelector("img").naturalWidth > 1000'
+    choose r1 corrupt
+    choose r33 corrupt
+    choose r0 detected
+    choose '' ''
+    echo 'document.getElementById("more").click(), document.querySelectorAll("#faults tbody tr").length'
+    choose r1 corrupt
+    echo 'document.querySelector("#faults tbody tr").innerText.replace(/\s+/g, " ")'
+    echo location.hash
+  } | timeout 100 python3 "$top/tests/browser.py" page.html page.png 2>errors | tr -d , >browsed
+  IFS=': ' read -r step site word verdict < <(grep ':r1:.* corrupt' unpaired.lines)
+  where=$(printf 'step %d\nwhere\n' "$step" | "$top/talft" debug unpaired.obj | sed -n '$s/.* block/block/p')
+  {
+    echo 'unpaired: faults'
+    echo 'campaign unpaired.obj --survey --faults list --steps 1000 --dir unpaired'
+    tail -n 1 unpaired.lines
+    echo True
+    chosen r1 corrupt
+    chosen r33 corrupt
+    chosen r0 detected
+    chosen '' ''
+    echo 200
+    chosen r1 corrupt
+    echo "$step $site $word $verdict (before its $([ $((step % 2)) -eq 0 ] && echo fetch || echo execution) $where)"
+    echo '#site=r1&verdict=corrupt'
+    echo '0 errors'
+  } >page.wanted
+  sed -i 's/corrupt [^(]*(before/corrupt (before/' browsed
+  report 'the page in a browser' '' "$(diff browsed page.wanted; cat errors)"
+  report 'a screenshot' yes "$([ "$(head -c 4 page.png | tail -c 3)" = PNG ] && echo yes)"
+fi

@@ -1,0 +1,236 @@
+#!/usr/bin/env bash
+# The tools as a user has them at large: 1,000,000 faults of two programs, with their pictures and pages; machines over
+# ssh, of which one goes away; and Slurm. It starts servers of its own, for this test alone. It is no part of the gate.
+#
+#     bash tests/tools.sh [large | ssh | slurm ..]
+#
+# What is not installed is named, and what needs it is skipped. With KEEP=FOLDER the pictures and pages are kept there.
+set -u
+top=$(cd "$(dirname "$0")/.." && pwd)
+. "$top/tests/report.sh"
+. "$top/build/sources.sh"
+cd "$work" || exit 2
+# Ends the servers of the test.
+stop() {
+  local server
+  for server in one two slurm/run/slurmd slurm/run/slurmctld slurm/run/munged; do
+    [ ! -e "$work/$server.pid" ] || kill "$(cat "$work/$server.pid")" 2>/dev/null
+  done
+}
+trap 'stop; sleep 1; rm -rf "$work"' EXIT
+is_built || { echo 'tests/tools.sh: the program is not proved yet: run `make`'; exit 1; }
+unset DISPLAY
+
+# `measured NAME WORDS..` runs the words, and prints how long they took.
+measured() {
+  local name=$1 start status
+  start=$(date +%s%N)
+  shift
+  "$@"
+  status=$?
+  printf '%s: %d ms\n' "$name" $((($(date +%s%N) - start) / 1000000)) >&3
+  return $status
+}
+exec 3>&1
+
+# A million faults of two programs.
+large() {
+  local program steps count
+  unset TALFT
+  for program in fibonacci sieve; do
+    "$top/talft" compile "$top/examples/$program.src" >"$program.obj"
+    steps=$("$top/tools/faults" "$program.obj" --sample 0 2>&1 | sed 's/.* of //')
+    measured "$program: the list" \
+      "$top/tools/faults" "$program.obj" --flip all --sample 1000000 --seed 1 >"$program.list" 2>said
+    count=$(wc -l <"$program.list")
+    report "faults of $program" 1000000 "$count"
+    measured "$program: the campaign" "$top/tools/campaign" "$program.obj" --faults "$program.list" \
+      --steps "$steps" --dir "$program" >"$program.lines" 2>said
+    report "the campaign of $program" 0 $?
+    report "the totals of $program" "faults $count corrupt 0" \
+      "$(tail -n 1 "$program.lines" | sed 's/\(faults [0-9]*\) .* \(corrupt\)/\1 \2/')"
+    report "the faults of $program, in order" '' "$(sed '$d; s/ .*//' "$program.lines" | cmp - "$program.list" 2>&1)"
+    report "the sums of $program" "$(sed '$d' "$program.lines" | awk '{ n[$2]++ } END {
+      printf "masked %d detected %d idle %d corrupt %d", n["masked"], n["detected"], n["idle"], n["corrupt"] }')" \
+      "$(tail -n 1 "$program.lines" | sed 's/faults [0-9]* //')"
+    if has gnuplot "the picture of $program"; then
+      measured "$program: the pictures" "$top/tools/plot" "$program.lines" --out "$program"
+      report "the picture of $program" 'PNG' "$(head -c 4 "$program.png" | tail -c 3)"
+      measured "$program: the page" "$top/tools/report" "$program.lines" --dir "$program" --out "$program.html"
+      report "the page of $program, below 2 MB" yes "$([ "$(wc -c <"$program.html")" -lt 2000000 ] && echo yes)"
+    fi
+    [ -z "${KEEP-}" ] || cp "$program".{lines,svg,png,html} "$KEEP"
+  done
+}
+
+# Ten parts, and a program that takes its time for each.
+ten_parts() {
+  unset TALFT
+  rm -rf here
+  "$top/talft" compile "$top/examples/fibonacci.src" >fibonacci.obj
+  "$top/tools/faults" fibonacci.obj --flip all --sample 10000 >list 2>said
+  "$top/tools/campaign" fibonacci.obj --faults list --steps 1000000 --dir here >wanted 2>said
+  report 'ten parts' 10 "$(ls here/*.answer | wc -l)"
+  cat >slow <<END
+#!/usr/bin/env bash
+[ "\$1" = debug ] || { echo "\$4" >>"$work/given"; sleep 0.5; }
+exec "$top/talft" "\$@"
+END
+  chmod +x slow
+  rm -f given
+  export TALFT=$work/slow
+}
+# `begins NAME WORDS..` starts a campaign of the list, and waits until it has two answers.
+begins() {
+  name=$1
+  shift
+  words=(fibonacci.obj --faults list --steps 1000000 --dir "${name// /-}" "$@")
+  "$top/tools/campaign" "${words[@]}" >written 2>said &
+  run=$!
+  for ((n = 0; n < 600; n++)); do
+    [ "$(ls "${name// /-}"/*.answer 2>/dev/null | wc -l)" -lt 2 ] || break
+    sleep 0.1
+  done
+}
+ends() {
+  wait "$run"
+  report "$name" 0 $?
+  report "the lines of $name" '' "$(cmp written wanted 2>&1)"
+}
+goes_on() {
+  "$top/tools/campaign" "${words[@]}" >written 2>said
+  report "$1" 0 $?
+  report "the lines of $1" '' "$(cmp written wanted 2>&1)"
+}
+
+# Two machines over ssh: two servers on this one, for this user's key alone.
+machine() {
+  cat >"$1.conf" <<END
+Port $2
+ListenAddress 127.0.0.1
+HostKey $work/key
+AuthorizedKeysFile $work/key.pub
+PidFile $work/$1.pid
+StrictModes no
+UsePAM no
+PasswordAuthentication no
+END
+  cat >>hosts.conf <<END
+Host $1
+  HostName 127.0.0.1
+  Port $2
+  IdentityFile $work/key
+  StrictHostKeyChecking no
+  UserKnownHostsFile /dev/null
+  LogLevel ERROR
+END
+  [ "$(id -u)" -ne 0 ] || mkdir -p /run/sshd
+  "$(command -v sshd)" -f "$work/$1.conf" -E "$work/$1.log"
+}
+PATH=$PATH:/usr/sbin
+over_ssh() {
+  has parallel 'machines over ssh' && has sshd 'machines over ssh' && has rsync 'machines over ssh' || return
+  ten_parts
+  ssh-keygen -q -t ed25519 -N '' -f key
+  machine one 22461
+  machine two 22462
+  hosts="ssh -F $work/hosts.conf one,ssh -F $work/hosts.conf two"
+  begins 'two machines' --engine parallel --hosts "$hosts" --jobs 1
+  ends
+  report 'each part is done once' 10 "$(sort -u given | wc -l)"
+  begins 'a machine that goes away' --engine parallel --hosts "$hosts" --jobs 1
+  server=$(cat two.pid)
+  pkill -KILL -P "$server"
+  kill -KILL "$server"
+  ends
+  begins 'the last machine goes away' --engine parallel --hosts "ssh -F $work/hosts.conf one" --jobs 1
+  server=$(cat one.pid)
+  pkill -KILL -P "$server"
+  kill -KILL "$server"
+  wait "$run"
+  report "$name" 1 $?
+  report "no lines when $name" '' "$(head -n 1 written)"
+  done_before=$(ls the-last-machine-goes-away/*.answer | wc -l)
+  report 'answers are kept' yes "$([ "$done_before" -ge 2 ] && [ "$done_before" -lt 10 ] && echo yes)"
+  machine one 22463
+  sed -i 's/22461/22463/' hosts.conf
+  rm given
+  goes_on 'the campaign when the machine is there again'
+  report 'only what was left is done' $((10 - done_before)) "$(wc -l <given)"
+}
+
+# Slurm, with a controller and one node on this machine.
+servers_of_slurm() {
+  local at=$work/slurm
+  mkdir -p "$at/state" "$at/spool" "$at/run"
+  chmod 755 "$work"
+  head -c 1024 /dev/urandom >"$at/key"
+  chmod 400 "$at/key"
+  munged --force --key-file="$at/key" --socket="$at/run/munge" --pid-file="$at/run/munged.pid" \
+    --log-file="$at/munged.log" --seed-file="$at/seed" 2>errors || return
+  cat >"$at/slurm.conf" <<END
+ClusterName=test
+SlurmctldHost=$(hostname)(127.0.0.1)
+SlurmctldPort=16471
+SlurmdPort=16472
+SlurmUser=$(id -un)
+SlurmdUser=$(id -un)
+AuthType=auth/munge
+AuthInfo=socket=$at/run/munge
+StateSaveLocation=$at/state
+SlurmdSpoolDir=$at/spool
+SlurmctldPidFile=$at/run/slurmctld.pid
+SlurmdPidFile=$at/run/slurmd.pid
+SlurmctldLogFile=$at/slurmctld.log
+SlurmdLogFile=$at/slurmd.log
+ProctrackType=proctrack/pgid
+TaskPlugin=task/none
+MpiDefault=none
+ReturnToService=2
+SelectType=select/cons_tres
+SelectTypeParameters=CR_Core
+NodeName=$(hostname) NodeAddr=127.0.0.1 CPUs=$(nproc) State=UNKNOWN
+PartitionName=all Nodes=ALL Default=YES MaxTime=INFINITE State=UP
+END
+  export SLURM_CONF=$at/slurm.conf
+  slurmctld && slurmd || return
+  for ((n = 0; n < 100; n++)); do sinfo -h -o %T 2>errors | grep -q idle && return; sleep 0.1; done
+  return 1
+}
+over_slurm() {
+  has sbatch 'Slurm' && has slurmctld 'Slurm' && has slurmd 'Slurm' && has munged 'Slurm' || return
+  ten_parts
+  if servers_of_slurm; then
+    begins 'an array of jobs' --engine slurm --jobs 2
+    ends
+    report 'each part is done by one job' 10 "$(wc -l <given)"
+    begins 'a killed run of jobs' --engine slurm --jobs 1
+    kill -KILL "$run"
+    wait "$run" 2>errors
+    goes_on 'the campaign after it'
+    begins 'a stopped run of jobs' --engine slurm --jobs 1
+    kill -TERM "$run"
+    wait "$run"
+    report 'a run that is stopped' 1 $?
+    for ((n = 0; n < 100; n++)); do [ -z "$(squeue -h)" ] || sleep 0.1; done
+    report 'its jobs are cancelled' '' "$(squeue -h)"
+    goes_on 'the campaign after the stop'
+    begins 'a node that goes away' --engine slurm --jobs 1
+    scontrol update nodename="$(hostname)" state=down reason=test
+    sleep 1
+    scontrol update nodename="$(hostname)" state=resume
+    ends
+  else
+    skip 'Slurm' "its servers do not start: $(tail -n 1 errors)"
+  fi
+}
+
+for part in "${@:-all}"; do
+  case $part in
+    large) large ;;
+    ssh) over_ssh ;;
+    slurm) over_slurm ;;
+    *) large; over_ssh; over_slurm ;;
+  esac
+done
+close
