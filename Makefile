@@ -5,6 +5,7 @@ bin = $(DESTDIR)$(PREFIX)/bin
 share = $(DESTDIR)$(PREFIX)/share
 to_bash = $(share)/bash-completion/completions
 to_vim = $(share)/vim/vimfiles
+scripts = tools/faults tools/campaign tools/plot tools/report
 
 .PHONY: all check install uninstall clean
 
@@ -18,7 +19,7 @@ check:
 
 install: all
 	install -d $(bin) $(share)/man/man1 $(share)/man/man5 $(to_bash) $(to_vim)/syntax $(to_vim)/ftdetect \
-	  $(share)/talft/editors/vscode $(share)/talft/examples
+	  $(share)/talft/editors/vscode $(share)/talft/examples $(share)/talft/tools
 	install -m 755 crates/talft/out/talft $(bin)/talft
 	install -m 644 man/*.1 $(share)/man/man1
 	install -m 644 man/*.5 $(share)/man/man5
@@ -28,6 +29,8 @@ install: all
 	install -m 644 editors/talft.sublime-syntax $(share)/talft/editors
 	install -m 644 editors/vscode/*.json $(share)/talft/editors/vscode
 	install -m 644 examples/* $(share)/talft/examples
+	install -m 755 $(scripts) $(share)/talft/tools
+	install -m 644 $(filter-out $(scripts),$(wildcard tools/*)) $(share)/talft/tools
 
 uninstall:
 	rm -f $(bin)/talft $(to_bash)/talft $(to_vim)/syntax/talft.vim $(to_vim)/ftdetect/talft.vim

@@ -10,6 +10,7 @@ pages() {
 talft 1 COMMANDS compiles, checks and runs fault-tolerant typed assembly, and tries faults on it
 talft-source 5 SOURCE_LANGUAGE the source language of talft
 talft-object 5 OBJECT_FORMAT the object format of talft
+talft-assembly 5 ASSEMBLY the assembly texts of talft
 PAGES
 }
 

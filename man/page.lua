@@ -5,6 +5,7 @@ local pages = {
   ["COMMANDS.md"] = "talft(1)",
   ["SOURCE_LANGUAGE.md"] = "talft-source(5)",
   ["OBJECT_FORMAT.md"] = "talft-object(5)",
+  ["ASSEMBLY.md"] = "talft-assembly(5)",
 }
 
 function Code(code)
