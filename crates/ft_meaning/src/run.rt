@@ -1,5 +1,6 @@
 //! A run of a program, which puts its outputs as they come.
-ghost use Rattle.std.specs.Prelude.{◌≡◌, ◌<◌, ◌≤◌, length, map};
+ghost use Rattle.std.specs.Prelude.{◌≡◌, ◌<◌, ◌≤◌, length, map, slice_index};
+ghost use Rattle.ft_isa.specs.Words.{apply};
 ghost use Rattle.ft_syntax.specs.Plain.{none, plain_expression, plain_statement, plain_list};
 ghost use Rattle.ft_scope.specs.Size.{same_slot, SlotFits, RunFits, ExpressionFits, StatementsFit};
 ghost use Rattle.ft_scope.specs.declared.slot.Slot.TheVariants.{Cell};
@@ -8,7 +9,7 @@ ghost use Rattle.ft_meaning.specs.Runs.{sink_of, Keeps, Ready, RunsTo, Excused};
 
 use crate::output_line::put_line;
 use ft_edge::Sink;
-use ft_isa::apply;
+use ft_isa::{Op, apply};
 use ft_scope::Slot;
 use ft_syntax::{Expr, Stmt};
 
@@ -42,7 +43,34 @@ fn cell_at(array: Slot, word: u64, cells: usize) -> usize
     }
 }
 
+/// The word of the cell of an array that an index names. It is done apart, so that the words of names and literals save no
+/// registers.
+#[inline(never)]
+#[cycle(word)]
+fn indexed_word(array: Slot, index: &Expr<Slot>, vars: &[u64], cells: &[u64]) -> u64
+    requires array { RunFits (length cells.now) array }
+    requires index { ExpressionFits (length cells.now) (length vars.now) (plain_expression same_slot index.now) }
+    ensures { result ≡ slice_index cells.now (indexed_cell array (value (plain_expression same_slot index.now) vars.now cells.now)) }
+{
+    let word = word_of(index, vars, cells);
+    cells[cell_at(array, word, cells.len())]
+}
+
+/// The word of an operation on two expressions. It is done apart, as an index is.
+#[inline(never)]
+#[cycle(word)]
+fn operation_word(op: Op, a: &Expr<Slot>, b: &Expr<Slot>, vars: &[u64], cells: &[u64]) -> u64
+    requires a { ExpressionFits (length cells.now) (length vars.now) (plain_expression same_slot a.now) }
+    requires b { ExpressionFits (length cells.now) (length vars.now) (plain_expression same_slot b.now) }
+    ensures { result ≡ apply op (value (plain_expression same_slot a.now) vars.now cells.now) (value (plain_expression same_slot b.now) vars.now cells.now) }
+{
+    let x = word_of(a, vars, cells);
+    let y = word_of(b, vars, cells);
+    apply(op, x, y)
+}
+
 /// An expression's word, by the words of the variables and the cells.
+#[cycle(word)]
 fn word_of(e: &Expr<Slot>, vars: &[u64], cells: &[u64]) -> u64
     requires { ExpressionFits (length cells.now) (length vars.now) (plain_expression same_slot e.now) }
     ensures { result ≡ value (plain_expression same_slot e.now) vars.now cells.now }
@@ -52,15 +80,8 @@ fn word_of(e: &Expr<Slot>, vars: &[u64], cells: &[u64]) -> u64
         Expr::Name(Slot::Var(x)) => vars[usize::from(*x)],
         Expr::Name(Slot::Cell(k)) => cells[*k as usize],
         Expr::Name(Slot::Run { .. }) => 0,
-        Expr::At { name, index } => {
-            let word = word_of(index, vars, cells);
-            cells[cell_at(*name, word, cells.len())]
-        }
-        Expr::Op { op, a, b } => {
-            let x = word_of(a, vars, cells);
-            let y = word_of(b, vars, cells);
-            apply(*op, x, y)
-        }
+        Expr::At { name, index } => indexed_word(*name, index, vars, cells),
+        Expr::Op { op, a, b } => operation_word(*op, a, b, vars, cells),
     }
 }
 
