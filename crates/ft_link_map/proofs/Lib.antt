@@ -1,0 +1,6 @@
+mod Spaces
+mod OneLine
+mod FoundLines
+mod NamedSets
+mod Soundness
+mod Walked

@@ -1,0 +1,42 @@
+//! Blocks that were named.
+ghost use Rattle.std.specs.Prelude.{◌≡◌, ◌||◌, ◌&&◌, ◌==◌, not, false, ℕ, IfOk, OnOk};
+ghost use Rattle.ft_link_map.specs.Held.{knows_block};
+
+use std::alloc::{AllocError, Global};
+use std::collections::BTreeSet;
+
+/// A set of blocks, each by its module and its number in it, kept in order.
+#[derive(Drop)]
+pub(crate) struct Blocks {
+    places: BTreeSet<(u32, u32)>,
+}
+
+impl Blocks {
+    /// No block.
+    #[tactic(auto, unfolding(crate::specs::Held::knows_block))]
+    pub(crate) fn new(alloc: Global) -> Blocks
+        ensures { (m b : ℕ) → knows_block result m b ≡ false }
+    {
+        Blocks {
+            places: BTreeSet::new(alloc),
+        }
+    }
+
+    /// Whether a block is there.
+    #[tactic(auto, unfolding(crate::specs::Held::knows_block))]
+    pub(crate) fn has(&self, module: u32, block: u32) -> bool
+        ensures { result ≡ knows_block self.now «module» block }
+    {
+        self.places.contains(&(module, block))
+    }
+
+    /// Notes a block; tells whether it was there before.
+    #[tactic(auto, unfolding(crate::specs::Held::knows_block))]
+    pub(crate) fn note(&mut self, module: u32, block: u32) -> Result<bool, AllocError>
+        ensures told { IfOk result (λ known. known ≡ knows_block self.old «module» block) }
+        ensures noted { OnOk result ((m b : ℕ) → knows_block self.new m b ≡ (((«module» == m) && (block == b)) || knows_block self.old m b)) }
+    {
+        let added = self.places.insert((module, block))?;
+        Ok(!added)
+    }
+}

@@ -1,0 +1,24 @@
+//! Link maps: the modules that are linked, and what they export and import.
+//!
+//! The crate promises that a text is read as the map that its lines write, or refused for the first line
+//! that may not stand where it is, else for the first that repeats; and that a map that was read is sound.
+//! Its definitions: `specs/MapLines.antt` says what a line says, `MapAnswers.antt` what is answered for
+//! lines, and `Sound.antt` what a sound map is.
+#![tactic(auto)]
+
+mod blocks;
+mod draft;
+mod entry;
+mod laws;
+mod link_map;
+mod map_error;
+mod names;
+mod reading;
+#[cfg(test)]
+mod tests;
+mod words;
+
+pub use laws::lines_are_one;
+pub use link_map::{Ask, LinkMap};
+pub use map_error::MapError;
+pub use reading::read_map;

@@ -1,0 +1,113 @@
+//! The words of a line.
+ghost use Rattle.std.specs.Prelude.{◌≡◌, ◌≢◌, ℕ, ◌<◌, ◌^◌, List, ◌++◌, All, codes, decimal, position, ◌==◌, IfSome, IfNone, MatchOption};
+ghost use Rattle.std.specs.List.{list_all};
+ghost use Rattle.ft_types.specs.Spellable.{is_letter};
+ghost use Rattle.ft_link_map.specs.MapLines.{is_file_byte, is_file, is_word_byte, begins_name, is_block_name};
+
+use ft_isa::read_number;
+
+/// The most bytes of a file's name.
+const FILE_LIMIT: usize = 255;
+
+/// The most bytes of a block's name.
+const NAME_LIMIT: usize = 32;
+
+/// What follows a piece at the start of a text; `None` where the text does not begin with it.
+pub(crate) fn after<'t>(text: &'t [u8], piece: &[u8]) -> Option<&'t [u8]>
+    ensures { MatchOption result ((rest : List ℕ) → text.now ≢ piece.now ++ rest) (λ rest. text.now ≡ piece.now ++ rest.now) }
+{
+    text.strip_prefix(piece)
+}
+
+/// The place of the first space.
+fn first_space(text: &[u8]) -> Option<usize>
+    ensures { result ≡ position (λ byte. byte == 32) text.now }
+{
+    text.iter().position(|byte| *byte == b' ')
+}
+
+/// The parts of a text before and after its first space; `None` where it has no space.
+pub(crate) fn split_word(text: &[u8]) -> Option<(&[u8], &[u8])>
+    ensures some { IfSome result (λ p. text.now ≡ p.0.now ++ codes " " ++ p.1.now) }
+    ensures only { (a b : List ℕ) → All (λ byte. byte ≢ 32) a → text.now ≡ a ++ codes " " ++ b → MatchOption result ⊥ (λ p. (p.0.now ≡ a) × (p.1.now ≡ b)) }
+{
+    match first_space(text) {
+        Some(at) => Some((&text[..at], &text[at + 1..])),
+        None => None,
+    }
+}
+
+/// Whether a byte may stand in a file's name.
+fn is_file_byte(byte: u8) -> bool
+    ensures { result ≡ is_file_byte byte }
+{
+    byte >= 33 && byte <= 126
+}
+
+/// Whether all bytes may stand in a file's name.
+fn are_file_bytes(text: &[u8]) -> bool
+    ensures { result ≡ list_all is_file_byte text.now }
+{
+    text.iter().all(|byte| is_file_byte(*byte))
+}
+
+/// Whether a text is a file's name: 1 to 255 bytes that are printed and no spaces.
+pub(crate) fn is_file(text: &[u8]) -> bool
+    ensures { result ≡ is_file text.now }
+{
+    !text.is_empty() && text.len() <= FILE_LIMIT && are_file_bytes(text)
+}
+
+/// Whether a byte is a letter of ASCII or a low line.
+fn is_letter(byte: u8) -> bool
+    ensures { result ≡ is_letter byte }
+{
+    matches!(byte, b'A'..=b'Z' | b'a'..=b'z' | b'_')
+}
+
+/// Whether a byte is a letter of ASCII, a low line or a digit.
+fn is_word_byte(byte: u8) -> bool
+    ensures { result ≡ is_word_byte byte }
+{
+    is_letter(byte) || matches!(byte, b'0'..=b'9')
+}
+
+/// Whether all bytes are letters of ASCII, low lines or digits.
+fn are_word_bytes(text: &[u8]) -> bool
+    ensures { result ≡ list_all is_word_byte text.now }
+{
+    text.iter().all(|byte| is_word_byte(*byte))
+}
+
+/// Whether a text is a letter or a low line, and then letters, digits and low lines.
+fn begins_name(text: &[u8]) -> bool
+    ensures { result ≡ begins_name text.now }
+{
+    let [first, rest @ ..] = text else {
+        return false;
+    };
+    is_letter(*first) && are_word_bytes(rest)
+}
+
+/// Whether a text is a block's name: 1 to 32 bytes, a letter or a low line and then letters, digits and
+/// low lines.
+pub(crate) fn is_block_name(text: &[u8]) -> bool
+    ensures { result ≡ is_block_name text.now }
+{
+    begins_name(text) && text.len() <= NAME_LIMIT
+}
+
+/// The number of a number text below 2^32; `None` exactly when the text is none.
+pub(crate) fn read_block(text: &[u8]) -> Option<u32>
+    ensures some { IfSome result (λ n. text.now ≡ decimal n) }
+    ensures none { IfNone result ((n : ℕ) → n < 2 ^ 32 → text.now ≢ decimal n) }
+{
+    let Some(number) = read_number(text) else {
+        return None;
+    };
+    if number < 4_294_967_296 {
+        Some(number as u32)
+    } else {
+        None
+    }
+}
