@@ -1,0 +1,17 @@
+pub mod Both
+pub mod Beside
+pub mod BesideRows
+pub mod BesideBlocks
+pub mod World
+pub mod Together
+pub mod Runs
+pub mod Laying
+pub mod Sits
+pub mod Trees
+pub mod Addresses
+pub mod Placing
+pub mod SpelledLinked
+pub mod LaidNodes
+pub mod SpelledWhole
+pub mod AcceptedLinked
+pub mod Linking

@@ -1,0 +1,352 @@
+-- The tests of refusals decide what they are named for.
+use Rattle.std.proofs.Common.{◌≡◌, ℕ, zero, suc, ◌+◌, ◌<◌, Bool, true, ◌==◌, if◌then◌else◌, List, [], ◌∷◌, length, slice_get, Option, Some, None, refl, sym, ap, ◌∙◌, subst, arith, eqb-true, eq-eqb}
+use Rattle.std.specs.Prelude.{All}
+use Rattle.std.specs.List.{AllZip, list_all}
+use Rattle.std.specs.Option.{option_or, option_map}
+use Rattle.std.specs.FinMap as finite
+use Rattle.std.proofs.lemmas.Bool.{and_parts, and_from, leb-true, le-leb}
+use Rattle.ft_isa.specs.declared.op.Op.{Op}
+use Rattle.ft_isa.specs.declared.op.Op.TheVariants.{Add, Sub, Mul, Ltu, Eq, And, Or, Xor, Shl, Shr}
+use Rattle.ft_isa.specs.declared.basic.Base.{Base}
+use Rattle.ft_isa.specs.declared.basic.Base.TheVariants.{Int, Code}
+use Rattle.ft_isa.specs.declared.colour.Colour.{Colour}
+use Rattle.ft_isa.specs.declared.colour.Colour.TheVariants.{Green, Blue}
+use Rattle.ft_isa.specs.declared.instr.Instr.{Instr}
+use Rattle.ft_isa.specs.declared.instr.Instr.TheVariants.{OpReg, OpWord, Mov, Ld, St, JmpG, JmpB, BzG, BzB, Halt, Idx}
+use Rattle.ft_static.specs.Expression.{Integer, Memory, word, variable, operation, sel, rem, memory_variable, upd}
+use Rattle.ft_types.specs.declared.object.Object.{Object}
+use Rattle.ft_types.specs.declared.object.Cell.{Cell}
+use Rattle.ft_types.specs.declared.object.Block.{Block}
+use Rattle.ft_types.specs.declared.object.CodeType.{CodeType}
+use Rattle.ft_types.specs.declared.object.RegType.{RegType}
+use Rattle.ft_types.specs.NodeRows.{op_code}
+use Rattle.ft_types.specs.Objects.{block_instrs}
+use Rattle.ft_typing.specs.TypingRow.{same_colour}
+use Rattle.ft_typing.proofs.TypedWords.{same_basic_is, is_same_basic}
+use Rattle.ft_tolerance.proofs.Claims.{same_colour_is}
+use Rattle.ft_tolerance.proofs.Lists.{of_all}
+use Rattle.ft_modules.specs.CodeWalk.{code_walk}
+use Rattle.ft_modules.specs.LikeTypes.{SameRow, SamePair, LikeTypes}
+use Rattle.ft_modules.specs.Linkable.{HasPlainCell, HasPlainRow, HasPlainRows, AreFew}
+use Rattle.ft_modules.specs.Links.{same_name}
+use Rattle.ft_modules.specs.LinkRefusals.{is_int, same_cell, same_cells, is_plain_cell, is_plain_row, has_plain_rows, first_walk_fault, are_few, is_halt, is_stub}
+use Rattle.ft_modules.specs.SameTrees.{same_integer, same_memory, same_row, same_rows, same_pairs, like_types}
+use Rattle.ft_modules.proofs.Elements.{all_of}
+
+-- TREES
+
+-- the operation of a code
+op_of : ℕ → Op
+op_of n =
+    if n == 0 then Add else if n == 1 then Sub else if n == 2 then Mul else if n == 3 then Ltu else if n == 4 then Eq
+    else if n == 5 then And else if n == 6 then Or else if n == 7 then Xor else if n == 8 then Shl else Shr
+
+-- an operation is that of its code
+op_again : (o : Op) → op_of (op_code o) ≡ o
+unfolding op_of
+op_again Add = refl
+op_again Sub = refl
+op_again Mul = refl
+op_again Ltu = refl
+op_again Eq = refl
+op_again And = refl
+op_again Or = refl
+op_again Xor = refl
+op_again Shl = refl
+op_again Shr = refl
+
+-- operations with the same code are the same
+op_same : (o p : Op) → (op_code o == op_code p) ≡ true → o ≡ p
+op_same o p e = sym (op_again o) ∙ ap op_of (eqb-true _ _ e) ∙ op_again p
+
+mutual
+  -- integers that the test finds the same are equal
+  same_integer_is : (e f : Integer) → same_integer e f ≡ true → e ≡ f
+  same_integer_is (word v) (word w) e = ap word (eqb-true v w e)
+  same_integer_is (word v) (variable j) e = cc
+  same_integer_is (word v) (operation p c d) e = cc
+  same_integer_is (word v) (sel n c) e = cc
+  same_integer_is (word v) (rem c k) e = cc
+  same_integer_is (variable i) (word w) e = cc
+  same_integer_is (variable i) (variable j) e = ap variable (eqb-true i j e)
+  same_integer_is (variable i) (operation p c d) e = cc
+  same_integer_is (variable i) (sel n c) e = cc
+  same_integer_is (variable i) (rem c k) e = cc
+  same_integer_is (operation o a b) (word w) e = cc
+  same_integer_is (operation o a b) (variable j) e = cc
+  same_integer_is (operation o a b) (operation p c d) e =
+      let q = and_parts _ _ e in
+      let r = and_parts _ _ q.0 in
+      λ i. operation (op_same o p r.0 i) (same_integer_is a c r.1 i) (same_integer_is b d q.1 i)
+  same_integer_is (operation o a b) (sel n c) e = cc
+  same_integer_is (operation o a b) (rem c k) e = cc
+  same_integer_is (sel m a) (word w) e = cc
+  same_integer_is (sel m a) (variable j) e = cc
+  same_integer_is (sel m a) (operation p c d) e = cc
+  same_integer_is (sel m a) (sel n c) e = let q = and_parts _ _ e in λ i. sel (same_memory_is m n q.0 i) (same_integer_is a c q.1 i)
+  same_integer_is (sel m a) (rem c k) e = cc
+  same_integer_is (rem a l) (word w) e = cc
+  same_integer_is (rem a l) (variable j) e = cc
+  same_integer_is (rem a l) (operation p c d) e = cc
+  same_integer_is (rem a l) (sel n c) e = cc
+  same_integer_is (rem a l) (rem c k) e = let q = and_parts _ _ e in λ i. rem (same_integer_is a c q.1 i) (eqb-true l k q.0 i)
+
+  -- so are memories
+  same_memory_is : (m n : Memory) → same_memory m n ≡ true → m ≡ n
+  same_memory_is memory_variable memory_variable e = refl
+  same_memory_is memory_variable (upd n c d) e = cc
+  same_memory_is (upd m a b) memory_variable e = cc
+  same_memory_is (upd m a b) (upd n c d) e =
+      let q = and_parts _ _ e in
+      let r = and_parts _ _ q.0 in
+      λ i. upd (same_memory_is m n r.0 i) (same_integer_is a c r.1 i) (same_integer_is b d q.1 i)
+
+mutual
+  -- the test finds an integer the same as itself
+  integer_itself : (e : Integer) → same_integer e e ≡ true
+  integer_itself (word v) = eq-eqb v v refl
+  integer_itself (variable i) = eq-eqb i i refl
+  integer_itself (operation o a b) = and_from _ _ (and_from _ _ (eq-eqb (op_code o) (op_code o) refl) (integer_itself a)) (integer_itself b)
+  integer_itself (sel m a) = and_from _ _ (memory_itself m) (integer_itself a)
+  integer_itself (rem a l) = and_from _ _ (eq-eqb l l refl) (integer_itself a)
+
+  -- so with a memory
+  memory_itself : (m : Memory) → same_memory m m ≡ true
+  memory_itself memory_variable = refl
+  memory_itself (upd m a b) = and_from _ _ (and_from _ _ (memory_itself m) (integer_itself a)) (integer_itself b)
+
+-- the test finds equal integers the same
+integer_same : (e f : Integer) → e ≡ f → same_integer e f ≡ true
+integer_same e f h = subst (λ (z : Integer). same_integer e z ≡ true) h (integer_itself e)
+
+-- so with equal memories
+memory_same : (m n : Memory) → m ≡ n → same_memory m n ≡ true
+memory_same m n h = subst (λ (z : Memory). same_memory m z ≡ true) h (memory_itself m)
+
+-- CODE TYPES
+
+-- a colour is found the same as itself
+colour_itself : (c : Colour) → same_colour c c ≡ true
+unfolding same_colour
+colour_itself Green = refl
+colour_itself Blue = refl
+
+-- equal colours are found the same
+colour_same : (c d : Colour) → c ≡ d → same_colour c d ≡ true
+colour_same c d h = subst (λ (z : Colour). same_colour c z ≡ true) h (colour_itself c)
+
+-- register rows that the test finds the same say the same
+row_is : (o x : Object) (r q : RegType) → same_row o x r q ≡ true → SameRow o x r q
+row_is o x r q e =
+    let a = and_parts _ _ e in
+    let b = and_parts _ _ a.0 in
+    let c = and_parts _ _ b.0 in
+    record { reg = eqb-true _ _ c.0; colour = same_colour_is r.colour q.colour c.1; basic = same_basic_is r.basic q.basic b.1; tree = same_integer_is _ _ a.1 }
+
+-- and the other way round
+is_row : (o x : Object) (r q : RegType) → SameRow o x r q → same_row o x r q ≡ true
+is_row o x r q h = and_from _ _ (and_from _ _ (and_from _ _ (eq-eqb _ _ h.reg) (colour_same r.colour q.colour h.colour)) (is_same_basic r.basic q.basic h.basic)) (integer_same _ _ h.tree)
+
+-- lists of register rows that the test finds the same
+rows_are : (o x : Object) (rs qs : List RegType) → same_rows o x rs qs ≡ true → AllZip (SameRow o x) rs qs
+rows_are o x [] [] e = tt
+rows_are o x [] (q ∷ qs) e = cc
+rows_are o x (r ∷ rs) [] e = cc
+rows_are o x (r ∷ rs) (q ∷ qs) e = let a = and_parts _ _ e in (row_is o x r q a.0, rows_are o x rs qs a.1)
+
+-- and the other way round
+are_rows : (o x : Object) (rs qs : List RegType) → AllZip (SameRow o x) rs qs → same_rows o x rs qs ≡ true
+are_rows o x [] [] h = refl
+are_rows o x [] (q ∷ qs) h = absurd h
+are_rows o x (r ∷ rs) [] h = absurd h
+are_rows o x (r ∷ rs) (q ∷ qs) h = and_from _ _ (is_row o x r q h.0) (are_rows o x rs qs h.1)
+
+-- queue rows that the test finds the same
+pairs_are : (o x : Object) (rs qs : List (ℕ × ℕ)) → same_pairs o x rs qs ≡ true → AllZip (SamePair o x) rs qs
+pairs_are o x [] [] e = tt
+pairs_are o x [] (q ∷ qs) e = cc
+pairs_are o x (r ∷ rs) [] e = cc
+pairs_are o x (r ∷ rs) (q ∷ qs) e = let a = and_parts _ _ e in let b = and_parts _ _ a.0 in (record { address = same_integer_is _ _ b.0; value = same_integer_is _ _ b.1 }, pairs_are o x rs qs a.1)
+
+-- and the other way round
+are_pairs : (o x : Object) (rs qs : List (ℕ × ℕ)) → AllZip (SamePair o x) rs qs → same_pairs o x rs qs ≡ true
+are_pairs o x [] [] h = refl
+are_pairs o x [] (q ∷ qs) h = absurd h
+are_pairs o x (r ∷ rs) [] h = absurd h
+are_pairs o x (r ∷ rs) (q ∷ qs) h = let a = h.0 in and_from _ _ (and_from _ _ (integer_same _ _ a.address) (integer_same _ _ a.value)) (are_pairs o x rs qs h.1)
+
+-- code types that the test finds alike say the same
+pub like_is : (o : Object) (t : ℕ) (x : Object) (u : ℕ) → like_types o t x u ≡ true → LikeTypes o t x u
+unfolding like_types
+like_is o t x u e =
+    let a = and_parts _ _ e in
+    let b = and_parts _ _ a.0 in
+    let c = and_parts _ _ b.0 in
+    record { ints = eqb-true _ _ c.0; regs = rows_are o x _ _ c.1; queue = pairs_are o x _ _ b.1; memory = same_memory_is _ _ a.1 }
+
+-- and the other way round
+pub is_like : (o : Object) (t : ℕ) (x : Object) (u : ℕ) → LikeTypes o t x u → like_types o t x u ≡ true
+unfolding like_types
+is_like o t x u h = and_from _ _ (and_from _ _ (and_from _ _ (eq-eqb _ _ h.ints) (are_rows o x _ _ h.regs)) (are_pairs o x _ _ h.queue)) (memory_same _ _ h.memory)
+
+-- CELLS AND ROWS
+
+-- names that the test finds the same are equal
+name_is : (a b : List ℕ) → same_name a b ≡ true → a ≡ b
+name_is [] [] e = refl
+name_is [] (y ∷ ys) e = cc
+name_is (x ∷ xs) [] e = cc
+name_is (x ∷ xs) (y ∷ ys) e = let p = and_parts _ _ e in λ i. eqb-true x y p.0 i ∷ name_is xs ys p.1 i
+
+-- a name is found the same as itself
+name_itself : (a : List ℕ) → same_name a a ≡ true
+name_itself [] = refl
+name_itself (x ∷ xs) = and_from _ _ (eq-eqb x x refl) (name_itself xs)
+
+-- cells that the test finds the same are equal
+cell_is : (a b : Cell) → same_cell a b ≡ true → a ≡ b
+cell_is a b e =
+    let p = and_parts _ _ e in
+    let q = and_parts _ _ p.0 in
+    λ i. record { name = name_is a.name b.name q.0 i; basic = same_basic_is a.basic b.basic q.1 i; init = eqb-true a.init b.init p.1 i }
+
+-- so are lists of cells
+pub cells_are : (xs ys : List Cell) → same_cells xs ys ≡ true → xs ≡ ys
+cells_are [] [] e = refl
+cells_are [] (y ∷ ys) e = cc
+cells_are (x ∷ xs) [] e = cc
+cells_are (x ∷ xs) (y ∷ ys) e = let p = and_parts _ _ e in λ i. cell_is x y p.0 i ∷ cells_are xs ys p.1 i
+
+-- cells are found the same as themselves
+cells_itself : (xs : List Cell) → same_cells xs xs ≡ true
+cells_itself [] = refl
+cells_itself (x ∷ xs) = and_from _ _ (and_from _ _ (and_from _ _ (name_itself x.name) (is_same_basic x.basic x.basic refl)) (eq-eqb x.init x.init refl)) (cells_itself xs)
+
+-- equal cells are found the same
+pub are_cells : (xs ys : List Cell) → xs ≡ ys → same_cells xs ys ≡ true
+are_cells xs ys h = subst (λ (z : List Cell). same_cells xs z ≡ true) h (cells_itself xs)
+
+-- a test of all elements
+pub all_pass : {X : Type 0} (p : X → Bool) (xs : List X) → list_all p xs ≡ true → (n : ℕ) (x : X) → slice_get xs n ≡ Some x → p x ≡ true
+all_pass p [] e n x f = cc
+all_pass p (y ∷ ys) e zero x f = let q = and_parts _ _ e in let same : y ≡ x = cc in subst (λ z. p z ≡ true) same q.0
+all_pass p (y ∷ ys) e (suc n) x f = let q = and_parts _ _ e in all_pass p ys q.1 n x f
+
+-- a test that passes each element passes all
+pub pass_all : {X : Type 0} (p : X → Bool) (xs : List X) → ((n : ℕ) (x : X) → slice_get xs n ≡ Some x → p x ≡ true) → list_all p xs ≡ true
+pass_all p [] h = refl
+pass_all p (y ∷ ys) h = and_from _ _ (h 0 y refl) (pass_all p ys (λ n x e. h (suc n) x e))
+
+-- a base that the test finds to be `int` is it
+int_is : (b : Base) → is_int b ≡ true → b ≡ Int
+int_is Int e = refl
+int_is (Code t) e = cc
+
+-- and the other way round
+is_int_of : (b : Base) → b ≡ Int → is_int b ≡ true
+is_int_of b e = ap is_int e
+
+-- cells that the test finds plain are so
+pub plain_cells_are : (cs : List Cell) → list_all is_plain_cell cs ≡ true → All HasPlainCell cs
+plain_cells_are cs e = all_of HasPlainCell cs (λ n c f. int_is c.basic.base (all_pass is_plain_cell cs e n c f))
+
+-- and the other way round
+pub are_plain_cells : (cs : List Cell) → All HasPlainCell cs → list_all is_plain_cell cs ≡ true
+are_plain_cells cs h = pass_all is_plain_cell cs (λ n c f. is_int_of c.basic.base (of_all HasPlainCell cs n c h f))
+
+-- code types of which the test finds the rows plain have such rows
+pub plain_rows_are : (ts : List CodeType) → list_all has_plain_rows ts ≡ true → All HasPlainRows ts
+plain_rows_are ts e = all_of HasPlainRows ts (λ n t f. all_of HasPlainRow t.regs (λ m r g. int_is r.basic.base (all_pass is_plain_row t.regs (all_pass has_plain_rows ts e n t f) m r g)))
+
+-- and the other way round
+pub are_plain_rows : (ts : List CodeType) → All HasPlainRows ts → list_all has_plain_rows ts ≡ true
+are_plain_rows ts h = pass_all has_plain_rows ts (λ n t f. pass_all is_plain_row t.regs (λ m r g. is_int_of r.basic.base (of_all HasPlainRow t.regs m r (of_all HasPlainRows ts n t h f) g)))
+
+-- OPTIONS
+
+-- where neither of two is there
+pub or_parts : {X : Type 0} (a b : Option X) → option_or a b ≡ None → (a ≡ None) × (b ≡ None)
+or_parts None b e = (refl, e)
+or_parts (Some x) b e = cc
+
+-- and the other way round
+pub or_none : {X : Type 0} (a b : Option X) → a ≡ None → b ≡ None → option_or a b ≡ None
+or_none None b e f = f
+or_none (Some x) b e f = cc
+
+-- what is nothing after a map was nothing before it
+pub map_parts : {X Y : Type 0} (f : X → Y) (a : Option X) → option_map f a ≡ None → a ≡ None
+map_parts f None e = refl
+map_parts f (Some x) e = cc
+
+-- WALKS
+
+-- where no walk is found to fail, none fails
+pub no_walk_fault : (o : Object) (b : ℕ) (ys : List Block) → first_walk_fault o b ys ≡ None → (n : ℕ) → n < length ys → code_walk o finite.empty 0 (block_instrs o (b + n)) ≡ None
+no_walk_fault o b [] e n lt = absurd (omega (arith, lt))
+no_walk_fault o b (y ∷ ys) e zero lt =
+    let p = or_parts _ _ e in
+    let here : b ≡ b + 0 = omega arith in
+    subst (λ k. code_walk o finite.empty 0 (block_instrs o k) ≡ None) here (map_parts (λ i. (b, i)) _ p.0)
+no_walk_fault o b (y ∷ ys) e (suc n) lt =
+    let p = or_parts _ _ e in
+    let here : suc b + n ≡ b + suc n = omega arith in
+    subst (λ k. code_walk o finite.empty 0 (block_instrs o k) ≡ None) here (no_walk_fault o (suc b) ys p.1 n (omega (arith, lt)))
+
+-- and the other way round
+pub walk_without_fault : (o : Object) (b : ℕ) (ys : List Block) → ((n : ℕ) → n < length ys → code_walk o finite.empty 0 (block_instrs o (b + n)) ≡ None) → first_walk_fault o b ys ≡ None
+walk_without_fault o b [] h = refl
+walk_without_fault o b (y ∷ ys) h =
+    let here : b + 0 ≡ b = omega arith in
+    or_none _ _ (ap (option_map (λ i. (b, i))) (subst (λ k. code_walk o finite.empty 0 (block_instrs o k) ≡ None) here (h 0 (omega arith))))
+    (walk_without_fault o (suc b) ys (λ n lt. let there : b + suc n ≡ suc b + n = omega arith in subst (λ k. code_walk o finite.empty 0 (block_instrs o k) ≡ None) there (h (suc n) (omega (arith, lt)))))
+
+-- TOTALS
+
+-- totals that the test finds within their limits are so
+pub few_are : (ms : List Object) → are_few ms ≡ true → AreFew ms
+unfolding are_few
+few_are ms e =
+    let a = and_parts _ _ e in
+    let b = and_parts _ _ a.0 in
+    let c = and_parts _ _ b.0 in
+    let d = and_parts _ _ c.0 in
+    let f = and_parts _ _ d.0 in
+    let g = and_parts _ _ f.0 in
+    record {
+      nodes = leb-true _ _ g.0;
+      types = leb-true _ _ g.1;
+      reg_rows = leb-true _ _ f.1;
+      queue_rows = leb-true _ _ d.1;
+      blocks = leb-true _ _ c.1;
+      instrs = leb-true _ _ b.1;
+      substs = leb-true _ _ a.1;
+    }
+
+-- and the other way round
+pub are_few_of : (ms : List Object) → AreFew ms → are_few ms ≡ true
+unfolding are_few
+are_few_of ms h =
+    and_from _ _ (and_from _ _ (and_from _ _ (and_from _ _ (and_from _ _ (and_from _ _ (le-leb _ _ h.nodes) (le-leb _ _ h.types)) (le-leb _ _ h.reg_rows)) (le-leb _ _ h.queue_rows)) (le-leb _ _ h.blocks)) (le-leb _ _ h.instrs)) (le-leb _ _ h.substs)
+
+-- STUBS
+
+-- an instruction that the test finds to be `halt` is it
+halt_is : (i : Instr) → is_halt i ≡ true → i ≡ Halt
+halt_is (OpReg op rd rs rt) e = cc
+halt_is (OpWord op rd rs v) e = cc
+halt_is (Mov rd v b) e = cc
+halt_is (Ld c rd rs) e = cc
+halt_is (St c rd rs) e = cc
+halt_is (JmpG rd) e = cc
+halt_is (JmpB rd u) e = cc
+halt_is (BzG rz rd) e = cc
+halt_is (BzB rz rd u) e = cc
+halt_is Halt e = refl
+halt_is (Idx rd rs first m) e = cc
+
+-- a block that the test finds to be a stub is one `halt`
+pub stub_is : (is : List Instr) → is_stub is ≡ true → is ≡ Halt ∷ []
+stub_is [] e = cc
+stub_is (i ∷ []) e = ap (λ (z : Instr). z ∷ []) (halt_is i e)
+stub_is (i ∷ j ∷ js) e = cc

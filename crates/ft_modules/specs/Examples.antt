@@ -1,0 +1,91 @@
+-- Short words for the modules and maps of examples.
+use Rattle.std.specs.Prelude.{ℕ, List, [], ◌∷◌, Option, codes}
+use Rattle.ft_isa.specs.declared.colour.Colour.TheVariants.{Green, Blue}
+use Rattle.ft_isa.specs.declared.instr.Instr.{Instr}
+use Rattle.ft_isa.specs.declared.instr.Instr.TheVariants.{JmpG, JmpB, Mov, St, Halt, Idx}
+use Rattle.ft_isa.specs.declared.instr.Subst.{Subst}
+use Rattle.ft_static.specs.declared.node.Shape.TheVariants as shape
+use Rattle.ft_types.specs.declared.object.Object.{Object}
+use Rattle.ft_typing.specs.Examples.{blue, five, green, int_cell, nothing_known, one_block, out, r0, r1, r2, r32, r33, stores_five, stores_variable, takes_address, variable_held}
+use Rattle.ft_isa.specs.BasicTypes.{code, int, ref}
+use Rattle.ft_link_map.specs.declared.link_map.Ask.{Ask}
+use Rattle.ft_link_map.specs.declared.link_map.LinkMap.{LinkMap}
+use Rattle.ft_semantics.specs.State.{start}
+use Rattle.ft_modules.specs.Links.{links}
+use Rattle.ft_modules.specs.ModulesRun.{InModule, sent}
+
+-- the substitution without rows, before any other
+abbrev pub no_rows : Subst
+no_rows = record { first = 0; past = 0; memory = 0 }
+
+-- a module that jumps to its stub
+abbrev pub jumps_to_stub : List Instr
+jumps_to_stub = Mov r1 (green 5) (code 0) ∷ Mov r33 (blue 5) (code 0) ∷ JmpG r1 ∷ JmpB r33 no_rows ∷ Halt ∷ []
+
+-- its object: block 0 jumps, and block 1 is the stub
+abbrev pub caller : Object
+caller = record (one_block 0 jumps_to_stub) { blocks = record { start = 0; code_type = 0 } ∷ record { start = 4; code_type = 0 } ∷ [] }
+
+-- a module that stores five
+abbrev pub storer : Object
+storer = one_block 0 stores_five
+
+-- a module of which the entry block is its stub
+abbrev pub only_stub : Object
+only_stub = one_block 0 (Halt ∷ [])
+
+-- an import and an export of the name `go`
+abbrev pub go : ℕ → ℕ → ℕ → Ask
+go m b l = record { «module» = m; block = b; name = codes "go"; line = l }
+
+-- a map of two modules with an import of this block of the first and an export of block 0 of the second
+abbrev pub importing : ℕ → LinkMap
+importing b = record { files = codes "m" ∷ codes "a" ∷ []; exports = go 1 0 4 ∷ []; imports = go 0 b 2 ∷ [] }
+
+-- a module that hands its own code address over as a number: its word is put for the target's variable
+abbrev pub hands_address_over : Object
+hands_address_over = record {
+  cells = int_cell (codes "out") 0 ∷ [];
+  nodes = record { scope = 0; shape = shape.Memory } ∷ record { scope = 1; shape = shape.Var 0 } ∷ record { scope = 0; shape = shape.Word 1 } ∷ [];
+  types = nothing_known ∷ variable_held ∷ [];
+  blocks = record { start = 0; code_type = 0 } ∷ record { start = 6; code_type = 1 } ∷ [];
+  instrs = Mov r0 (green 1) (code 0) ∷ Mov r32 (blue 1) (code 0) ∷ Mov r1 (green 7) (code 1) ∷ Mov r33 (blue 7) (code 1) ∷ JmpG r1 ∷ JmpB r33 five ∷ stores_variable;
+  substs = 2 ∷ [];
+  entry = 0;
+}
+
+-- a module that stores its own code address
+abbrev pub stores_address : List Instr
+stores_address =
+    Mov r0 (green out) (ref int) ∷ Mov r1 (green 1) (code 0) ∷ Mov r32 (blue out) (ref int) ∷ Mov r33 (blue 1) (code 0)
+    ∷ St Green r0 r1 ∷ St Blue r32 r33 ∷ Halt ∷ []
+
+-- no names
+abbrev pub no_links : LinkMap
+no_links = record { files = codes "m" ∷ codes "a" ∷ []; exports = []; imports = [] }
+
+-- a module with the remainder of a variable among its nodes, that takes the address of a cell of a run
+abbrev pub names_cell : Object
+names_cell = record (one_block 0 (takes_address 0 1)) {
+  nodes = record { scope = 0; shape = shape.Memory } ∷ record { scope = 1; shape = shape.Var 0 } ∷ record { scope = 1; shape = shape.Rem 1 1 } ∷ [];
+}
+
+-- a code address is read as the number of a cell
+abbrev pub indexes_by_address : List Instr
+indexes_by_address = Mov r1 (green 1) (code 0) ∷ Idx r2 r1 0 1 ∷ Halt ∷ []
+
+-- a module of which a code type says that a register holds a code address, and one of which a cell holds one
+abbrev pub knows_address : Object
+knows_address = record storer { types = record nothing_known { regs = record { reg = r0; colour = Green; basic = code 0; expr = 0 } ∷ [] } ∷ [] }
+
+-- a module of which a cell holds one
+abbrev pub holds_address : Object
+holds_address = record storer { cells = record { name = codes "out"; basic = code 0; init = 1 } ∷ [] }
+
+-- the machine of a module, with the counters at these addresses and this fetched
+abbrev pub machine_at : ℕ → ℕ → ℕ → Option Instr → InModule
+machine_at m g b f = record { number = m; state = record (start caller) { pc_green = g; pc_blue = b; fetched = f } }
+
+-- where it is sent, before a step of the modules' run of the caller and the storer
+abbrev pub sent_from : InModule → InModule
+sent_from x = sent (caller ∷ storer ∷ []) (links (importing 1)) x

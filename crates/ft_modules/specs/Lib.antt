@@ -1,0 +1,10 @@
+pub mod Links
+pub mod CodeWalk
+pub mod LikeTypes
+pub mod Linkable
+pub mod SameTrees
+pub mod LinkRefusals
+pub mod Linked
+pub mod ModulesRun
+pub mod TreeKeys
+pub mod Examples
