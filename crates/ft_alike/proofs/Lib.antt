@@ -1,0 +1,4 @@
+pub mod OneKey
+pub mod Numbering
+pub mod Zips
+pub mod Compared

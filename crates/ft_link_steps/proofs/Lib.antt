@@ -1,0 +1,5 @@
+pub mod Comparing
+pub mod Adding
+pub mod Joining
+pub mod Blocks
+pub mod Assembled

@@ -1,0 +1,4 @@
+pub mod LinkErrors
+pub mod Linking
+pub mod Totals
+pub mod Joins

@@ -1,0 +1,3 @@
+pub mod Raises
+pub mod Tables
+pub mod Changes
