@@ -94,7 +94,7 @@ fn put_types<P: Program>(out: &mut Vec<u8>, program: &P) -> Result<(), NoMemory>
 }
 
 /// Puts the lines of the instructions from `start` up to `end` at the end.
-fn put_codes<P: Program>(
+pub fn put_codes<P: Program>(
     out: &mut Vec<u8>,
     program: &P,
     start: u32,

@@ -22,6 +22,6 @@ mod writing;
 
 pub use asm_error::AsmError;
 pub use assembly::assemble;
-pub use disassembly::disassemble;
+pub use disassembly::{disassemble, put_codes};
 pub use laws::{answers_are_one, readings_are_one, texts_are_read};
 pub use line::{Code, Line};

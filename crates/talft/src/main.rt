@@ -3,10 +3,13 @@
 //! The program's words are its arguments, and `ft_tool::tool` does what they ask for: its contract says
 //! what it writes and answers. Arguments that are no text are no command, so they are handed over as no
 //! words at all. Lines are gathered and written in large pieces. What is gathered at the end is written
-//! before the program ends; the status is that of `tool`, or 4 when this last write fails.
+//! before the program ends; the status is that of `tool`, or 4 when this last write fails. Where a person
+//! reads standard error, a call that is refused is explained there.
 #![tactic(auto)]
 
-use ft_edge::{FolderShelf, GatheringSink, StdinSource};
+mod explained;
+
+use ft_edge::{FolderShelf, GatheringSink, Sink, StdinSource};
 use std::io::Write;
 use std::process::ExitCode;
 use std::rt::{Env, Files};
@@ -27,24 +30,32 @@ fn words<R: Env + AllocGlobal>(rt: &R) -> io::Result<Vec<String>> {
     Ok(words)
 }
 
-fn run<R: Env + Files + Print + Input + AllocGlobal + Clone + Drop>(rt: &R) -> io::Result<u8> {
+/// Does what the words ask for, over the files of the system and standard input.
+fn answer<R: Files + Input + AllocGlobal + Clone + Drop, K: Sink>(
+    rt: &R,
+    words: &[String],
+    out: &mut K,
+) -> io::Result<u8> {
+    let mut shelf = FolderShelf::new(rt.clone()?, rt.alloc());
+    let mut script = StdinSource::new(rt.clone()?);
+    Ok(ft_tool::tool(rt.alloc(), words, &mut shelf, &mut script, out))
+}
+
+fn run<R: Env + Files + Print + Eprint + Input + AllocGlobal + Clone + Drop>(
+    rt: &R,
+) -> io::Result<u8> {
     let words = match words(rt) {
         Ok(words) => words,
         Err(error) if error.kind() == io::ErrorKind::InvalidData => Vec::new(rt.alloc()),
         Err(error) => return Err(error),
     };
-    let mut shelf = FolderShelf::new(rt.clone()?, rt.alloc());
-    let mut script = StdinSource::new(rt.clone()?);
     let Ok(mut out) = GatheringSink::new(rt.alloc(), io::writer(rt)) else {
         return Ok(NO_MEMORY);
     };
-    let status = ft_tool::tool(
-        rt.alloc(),
-        words.as_slice(),
-        &mut shelf,
-        &mut script,
-        &mut out,
-    );
+    if explained::is_wanted(rt) {
+        return explained::run(rt, words.as_slice(), out);
+    }
+    let status = answer(rt, words.as_slice(), &mut out)?;
     Ok(ended(out, status))
 }
 

@@ -1,0 +1,58 @@
+//! A sink that remembers the line that was put last.
+ghost use Rattle.std.specs.Prelude.{◌≡◌, ◌≤◌, [], ◌∷◌, OnOk, OnErr};
+ghost use Rattle.std.specs.Io.KnownBytes.{append_known};
+ghost use Rattle.ft_edge.specs.Causes.{Rose, AddsPrefix};
+ghost use Rattle.ft_edge.specs.Told.{append_told};
+
+use ft_edge::{Failed, Sink};
+use ft_text::{Line, ROOM};
+
+/// A sink that hands each piece on to another, and remembers the last one if it has at most `ROOM` bytes, as
+/// the line of a refusal has. A put takes no memory.
+#[derive(Drop)]
+pub struct LastLine<K: Sink> {
+    sink: K,
+    line: Line,
+}
+
+impl<K: Sink + Drop> LastLine<K> {
+    /// A sink over this one, before any put.
+    pub fn new(sink: K) -> LastLine<K>
+        ensures { result.sink ≡ sink }
+    {
+        LastLine {
+            sink,
+            line: Line::new(),
+        }
+    }
+
+    /// The sink, and what was put last; no bytes where that was longer than `ROOM`.
+    pub fn into_parts(self) -> (K, Line)
+        ensures { result.0 ≡ self.sink }
+    {
+        let LastLine { sink, line } = self;
+        (sink, line)
+    }
+}
+
+impl<K: Sink> Sink for LastLine<K> {
+    ghost written = { λ s. K.written s.sink };
+
+    ghost failures = { λ s. K.failures s.sink };
+
+    ghost pieces = { λ s. K.pieces s.sink };
+
+    fn put(&mut self, bytes: &[u8]) -> Result<(), Failed> {
+        self.line = line_of(bytes);
+        self.sink.put(bytes)
+    }
+}
+
+/// A line of these bytes; an empty one where they are more than a line takes.
+fn line_of(bytes: &[u8]) -> Line {
+    let mut line = Line::new();
+    if bytes.len() <= ROOM {
+        line.piece(bytes);
+    }
+    line
+}

@@ -1,0 +1,186 @@
+//! Links that are refused.
+ghost use Rattle.ft_types.specs.Spellable.{IsSpellable};
+
+use crate::checks::{find, say_instr};
+use crate::excerpt::Place;
+use crate::page::Page;
+use ft_isa::{Instr, NoMemory};
+use ft_types::Program;
+
+/// The most modules of a link map.
+const MODULE_LIMIT: u64 = 64;
+
+/// The file of the module with this number, counted from 0, as a map names it.
+pub(crate) fn file_of(map: Option<&[u8]>, module: u64) -> Option<&str> {
+    let text = str::from_utf8(map?).ok()?;
+    let mut number: u64 = 0;
+    for line in text.lines() {
+        if let Some(file) = line.strip_prefix("module ") {
+            if number == module {
+                return Some(file);
+            }
+            number = number.saturating_add(1);
+        }
+    }
+    None
+}
+
+/// How many lines before the one with this number, counted from 1, name a module.
+fn modules_before(map: &[u8], wanted: u64) -> u64 {
+    let mut modules: u64 = 0;
+    let mut number: u64 = 1;
+    for line in str::from_utf8(map).unwrap_or("").lines() {
+        if number < wanted && line.starts_with("module ") {
+            modules = modules.saturating_add(1);
+        }
+        number = number.saturating_add(1);
+    }
+    modules
+}
+
+/// What is wrong with a line that may not stand where it stands, after so many modules.
+fn misplaced(line: &[u8], modules: u64) -> &'static str {
+    if line.starts_with(b"module ") && modules >= MODULE_LIMIT {
+        return "a link map has at most 64 modules";
+    }
+    let asks = line.starts_with(b"export ") || line.starts_with(b"import ");
+    if asks && modules == 0 {
+        return "no `module` stands before this line";
+    }
+    "this is no line of a link map: `module FILE`, `export NAME B` or `import NAME B`"
+}
+
+/// What is wrong with a line, after so many modules.
+fn line_words(number: u64, line: &[u8], modules: u64) -> &'static str {
+    match number {
+        1 => misplaced(line, modules),
+        2 if line.starts_with(b"import ") => "this block is exported or imported already",
+        2 => "this name is exported already, or this block is imported already",
+        7 => "the module has no such block",
+        8 => "the imported block is no stub: a stub is the one instruction `halt`",
+        9 => "no line exports this name",
+        _ => "the imported block and the exported one do not have the same code type",
+    }
+}
+
+/// What is wrong with a module.
+fn module_words(number: u64, module: u64) -> &'static str {
+    match number {
+        3 if module == 0 => "a cell's type has the base `code`, which no cell of a module may have",
+        3 => "its cells are not those of the first module",
+        4 =>
+            "a register row's type has the base `code`, which no register row of a module may have",
+        _ => "with this module the link has more parts of one kind than an object can have",
+    }
+}
+
+/// What is wrong with an instruction that the linker cannot move.
+fn code_words(instr: Instr) -> &'static str {
+    match instr {
+        Instr::JmpG { .. } =>
+            "no `mov` of this block gives its target register the address of a block",
+        Instr::BzG { .. } =>
+            "no `mov` of this block gives its target register the address of a block, or it tests such an address",
+        Instr::JmpB { .. } | Instr::BzB { .. } =>
+            "no `mov` of this block gives its target register the address of a block, or it hands such an address on",
+        _ => "it reads the address of a block, and is no jump or branch to it",
+    }
+}
+
+/// Explains why a line of a link map is refused. The map is there where it can be read again.
+pub(crate) fn explain_line(
+    page: &mut Page,
+    name: &str,
+    number: u64,
+    told: u64,
+    map: Option<&[u8]>,
+) -> Result<(), NoMemory> {
+    let Some(map) = map else {
+        page.head(name)?;
+        page.say(format_args!("line {told}: "))?;
+        page.say(line_words(number, &[], 1))?;
+        return page.say("\n");
+    };
+    let Some(place) = Place::of_line(map, told as usize) else {
+        page.head(name)?;
+        return page.say("a link map has at least one module\n");
+    };
+    page.head_at(name, &place)?;
+    page.say(line_words(number, place.line(), modules_before(map, told)))?;
+    page.say("\n")?;
+    place.show(page, place.line().len())
+}
+
+/// Begins what is said of a module: its file is named, or the map where it cannot be read again.
+fn module_head(
+    page: &mut Page,
+    name: &str,
+    module: u64,
+    file: Option<&str>,
+) -> Result<(), NoMemory> {
+    match file {
+        Some(file) => page.head(file),
+        None => {
+            page.head(name)?;
+            page.say(format_args!("module {module}: "))
+        }
+    }
+}
+
+/// Explains why a module is refused. Its file is known where the map can be read again.
+pub(crate) fn explain_module(
+    page: &mut Page,
+    name: &str,
+    number: u64,
+    module: u64,
+    file: Option<&str>,
+) -> Result<(), NoMemory> {
+    module_head(page, name, module, file)?;
+    page.say(module_words(number, module))?;
+    page.say("\n")
+}
+
+/// Explains why the linker cannot move an instruction, where the object is not there.
+pub(crate) fn explain_unmoved(
+    page: &mut Page,
+    name: &str,
+    module: u64,
+    file: Option<&str>,
+    block: u64,
+    index: u64,
+) -> Result<(), NoMemory> {
+    module_head(page, name, module, file)?;
+    page.say(format_args!(
+        "block {block}, instruction {index}: it uses the address of a block in a way that the linker cannot follow\n"
+    ))
+}
+
+/// Explains why the linker cannot move an instruction of an object.
+#[tactic(auto, using(ft_types::proofs::Counted::spellable_counted))]
+pub(crate) fn explain_code<P: Program>(
+    page: &mut Page,
+    program: &P,
+    name: &str,
+    block: u64,
+    index: u64,
+) -> Result<(), NoMemory>
+    requires { IsSpellable (P.object program.now) }
+{
+    let Some((_, i)) = find(program, block, index) else {
+        return Ok(());
+    };
+    if i >= program.counts().instrs {
+        return Ok(());
+    }
+    page.head(name)?;
+    page.say(format_args!("block {block}, instruction {index}: "))?;
+    page.say(code_words(program.instr(i)))?;
+    page.say("\n")?;
+    say_instr(page, program, i)
+}
+
+/// Explains why a link map is refused for its length.
+pub(crate) fn explain_long_map(page: &mut Page, name: &str, most: u64) -> Result<(), NoMemory> {
+    page.head(name)?;
+    page.say(format_args!("a link map has at most {most} bytes\n"))
+}

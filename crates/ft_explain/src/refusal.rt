@@ -1,0 +1,101 @@
+//! Refusals, read from their lines.
+use ft_isa::read_number;
+
+/// A refusal, as its line tells it.
+#[derive(Clone, Copy, Debug, PartialEq, Eq)]
+pub(crate) enum Refusal {
+    /// The words are no command.
+    Usage,
+    /// A source is refused, with a number and what it tells.
+    Source(u64, u64),
+    /// An object's bytes, or the tables that an assembly text means, break this rule at this place.
+    Object(u64, u64),
+    /// The entry block's code type does not fit.
+    Entry,
+    /// The initial word of this cell has not its type.
+    Cell(u64),
+    /// The rule of an instruction does not apply: its block, its index in the block and the premise.
+    Instr(u64, u64, u64),
+    /// A fault list, a campaign or a script is refused, with a number and what it tells.
+    List(u64, u64),
+    /// An assembly text is refused, with a number and what it tells.
+    Text(u64, u64),
+    /// A link map or a module is refused, with a number and a line of the map, a module or a limit.
+    Link(u64, u64),
+    /// The linker cannot move an instruction: its module, its block and its index in the block.
+    Code(u64, u64, u64),
+}
+
+/// A number.
+fn number(text: &str) -> Option<u64> {
+    read_number(text.as_bytes())
+}
+
+/// Two numbers.
+fn two(text: &str) -> Option<(u64, u64)> {
+    let (first, second) = text.split_once(' ')?;
+    Some((number(first)?, number(second)?))
+}
+
+/// A refusal of the checker, after `check`.
+fn check_of(text: &str) -> Option<Refusal> {
+    if text == "entry" {
+        return Some(Refusal::Entry);
+    }
+    if let Some(cell) = text.strip_prefix("cell ") {
+        return Some(Refusal::Cell(number(cell)?));
+    }
+    let (block, rest) = text.strip_prefix("block ")?.split_once(' ')?;
+    let (index, rest) = rest.strip_prefix("index ")?.split_once(' ')?;
+    let premise = rest.strip_prefix("premise ")?;
+    Some(Refusal::Instr(number(block)?, number(index)?, number(premise)?))
+}
+
+/// A refusal of the linker, after `link`.
+fn link_of(text: &str) -> Option<Refusal> {
+    if let Some(place) = text.strip_prefix("5 ") {
+        let (module, rest) = place.split_once(' ')?;
+        let (block, index) = two(rest)?;
+        return Some(Refusal::Code(number(module)?, block, index));
+    }
+    let (first, second) = two(text)?;
+    Some(Refusal::Link(first, second))
+}
+
+impl Refusal {
+    /// The refusal of a line with its line feed; `None` where the line is none of a refusal.
+    pub fn read(line: &[u8]) -> Option<Refusal> {
+        let text = str::from_utf8(line).ok()?.strip_suffix("\n")?;
+        if text == "usage" {
+            return Some(Refusal::Usage);
+        }
+        let (word, rest) = text.split_once(' ')?;
+        if word == "check" {
+            return check_of(rest);
+        }
+        if word == "link" {
+            return link_of(rest);
+        }
+        let (first, second) = two(rest)?;
+        match word.as_bytes() {
+            b"source" => Some(Refusal::Source(first, second)),
+            b"object" => Some(Refusal::Object(first, second)),
+            b"list" => Some(Refusal::List(first, second)),
+            b"asm" => Some(Refusal::Text(first, second)),
+            _ => None,
+        }
+    }
+
+    /// The status of a call that is refused so.
+    pub fn status(self) -> u8 {
+        match self {
+            Refusal::Usage => 2,
+            Refusal::Source(..) => 6,
+            Refusal::Object(..) => 7,
+            Refusal::Entry | Refusal::Cell(_) | Refusal::Instr(..) => 8,
+            Refusal::List(..) => 11,
+            Refusal::Text(..) => 12,
+            Refusal::Link(..) | Refusal::Code(..) => 13,
+        }
+    }
+}

@@ -1,0 +1,342 @@
+//! Explanations of calls.
+ghost use Rattle.ft_types.specs.Spellable.{IsSpellable};
+
+use crate::assembly::explain_text;
+use crate::checks::{explain_cell, explain_entry, explain_instr, explain_some_check};
+use crate::links::{
+    explain_code, explain_line, explain_long_map, explain_module, explain_unmoved, file_of,
+};
+use crate::lists::explain_list;
+use crate::objects::{explain_long, explain_object, explain_some_object, explain_tables};
+use crate::page::Page;
+use crate::refusal::Refusal;
+use crate::sources::{explain_source, has_place};
+use crate::unread::{explain_unread, explain_unread_module};
+use crate::usage::explain_usage;
+use ft_command::{Command, command_of};
+use ft_edge::{Load, LoadFault, Shelf};
+use ft_isa::NoMemory;
+use ft_types::Program;
+use ft_view::View;
+use std::alloc::Global;
+
+/// The most bytes of an object.
+const OBJECT_LIMIT: usize = 67_108_864;
+
+/// The most bytes of a source.
+const SOURCE_LIMIT: usize = 1_048_576;
+
+/// The most bytes of an assembly text.
+const TEXT_LIMIT: usize = 134_217_728;
+
+/// The most bytes of a fault list.
+const LIST_LIMIT: usize = 4_194_304;
+
+/// The most bytes of a link map.
+const MAP_LIMIT: usize = 65_536;
+
+/// What the file of a command holds.
+#[derive(Clone, Copy, Debug, PartialEq, Eq)]
+enum Holds {
+    /// An object.
+    Object,
+    /// A source.
+    Source,
+    /// An assembly text.
+    Text,
+    /// A link map.
+    Map,
+}
+
+/// What words name: a file, a fault list, and whether a script is taken.
+#[derive(Clone, Copy)]
+struct Named<'w> {
+    file: &'w str,
+    holds: Holds,
+    list: Option<&'w str>,
+    takes_script: bool,
+}
+
+/// A file that holds this, beside which nothing is read.
+fn alone<'w>(file: &'w str, holds: Holds) -> Named<'w> {
+    Named {
+        file,
+        holds,
+        list: None,
+        takes_script: false,
+    }
+}
+
+/// What a command names.
+fn files_of<'w>(command: &Command<'w>) -> Option<Named<'w>> {
+    let named = match command {
+        Command::Usage | Command::Demo(_) => return None,
+        Command::Check(name)
+        | Command::Upgrade(name)
+        | Command::Disassemble(name)
+        | Command::Schedule(name) => alone(name, Holds::Object),
+        Command::Compile(name) => alone(name, Holds::Source),
+        Command::Assemble(name) => alone(name, Holds::Text),
+        Command::Link(name) => alone(name, Holds::Map),
+        Command::Run(run) | Command::Trial(run) | Command::Recover(run) => {
+            alone(run.object, Holds::Object)
+        }
+        Command::Campaign(asked) | Command::Survey(asked) => Named {
+            list: Some(asked.faults),
+            ..alone(asked.object, Holds::Object)
+        },
+        Command::Exec(asked) => alone(asked.source, Holds::Source),
+        Command::Mean(asked) => alone(asked.source, Holds::Source),
+        Command::Debug(asked) => Named {
+            takes_script: true,
+            ..alone(asked.object, Holds::Object)
+        },
+    };
+    Some(named)
+}
+
+/// The bytes of a file of at most so many; `None` where it cannot be read or has more.
+fn load<S: Shelf>(
+    alloc: Global,
+    name: &str,
+    limit: usize,
+    shelf: &mut S,
+) -> Result<Option<Vec<u8>>, NoMemory> {
+    let mut bytes = Vec::new(alloc);
+    match shelf.load(name, limit, &mut bytes) {
+        Ok(Load::Whole) => Ok(Some(bytes)),
+        Ok(Load::TooLong) | Err(LoadFault::Failed) => Ok(None),
+        Err(LoadFault::NoMemory) => Err(NoMemory),
+    }
+}
+
+/// The bytes of a file that was loaded.
+fn slice(bytes: &Option<Vec<u8>>) -> Option<&[u8]> {
+    match bytes {
+        Some(bytes) => Some(bytes.as_slice()),
+        None => None,
+    }
+}
+
+/// Explains why an object, the tables of an assembly text, or a module are refused.
+fn refused_object<S: Shelf>(
+    page: &mut Page,
+    named: Named<'_>,
+    number: u64,
+    at: u64,
+    shelf: &mut S,
+) -> Result<(), NoMemory> {
+    if number == 2 && at == OBJECT_LIMIT as u64 {
+        return explain_long(page, named.file, at);
+    }
+    match named.holds {
+        Holds::Text => explain_tables(page, named.file, number, at),
+        Holds::Map => explain_some_object(page, named.file, number, at),
+        Holds::Object | Holds::Source => {
+            let bytes = load(page.alloc(), named.file, OBJECT_LIMIT, shelf)?;
+            explain_object(page, named.file, number, at, slice(&bytes))
+        }
+    }
+}
+
+/// Explains why an object is not accepted.
+fn unaccepted<P: Program>(
+    page: &mut Page,
+    program: &P,
+    name: &str,
+    refusal: Refusal,
+) -> Result<(), NoMemory>
+    requires { IsSpellable (P.object program.now) }
+{
+    match refusal {
+        Refusal::Entry => explain_entry(page, program, name),
+        Refusal::Cell(cell) => explain_cell(page, program, name, cell),
+        Refusal::Instr(block, index, number) => {
+            explain_instr(page, program, name, block, index, number)
+        }
+        _ => Ok(()),
+    }
+}
+
+/// Says that an object is not accepted, where its bytes are not there.
+fn say_refused(page: &mut Page, name: &str) -> Result<(), NoMemory> {
+    page.head(name)?;
+    page.say("the object is not accepted\n")
+}
+
+/// Explains why the object of a file is not accepted.
+fn refused_check<S: Shelf>(
+    page: &mut Page,
+    named: Named<'_>,
+    refusal: Refusal,
+    shelf: &mut S,
+) -> Result<(), NoMemory> {
+    if named.holds == Holds::Map {
+        return explain_some_check(page, named.file, refusal);
+    }
+    let Some(bytes) = load(page.alloc(), named.file, OBJECT_LIMIT, shelf)? else {
+        return say_refused(page, named.file);
+    };
+    match View::over(bytes.as_slice()) {
+        Ok(view) => unaccepted(page, &view, named.file, refusal),
+        Err(_) => say_refused(page, named.file),
+    }
+}
+
+/// Explains why a source is refused.
+fn refused_source<S: Shelf>(
+    page: &mut Page,
+    named: Named<'_>,
+    number: u64,
+    told: u64,
+    shelf: &mut S,
+) -> Result<(), NoMemory> {
+    if !has_place(number) {
+        return explain_source(page, named.file, number, told, None);
+    }
+    let bytes = load(page.alloc(), named.file, SOURCE_LIMIT, shelf)?;
+    explain_source(page, named.file, number, told, slice(&bytes))
+}
+
+/// Explains why a fault list, a campaign or a script is refused.
+fn refused_list<S: Shelf>(
+    page: &mut Page,
+    named: Named<'_>,
+    number: u64,
+    told: u64,
+    shelf: &mut S,
+) -> Result<(), NoMemory> {
+    let name = named.list.unwrap_or("standard input");
+    if number != 1 {
+        return explain_list(page, name, number, told, None);
+    }
+    let bytes = load(page.alloc(), name, LIST_LIMIT, shelf)?;
+    explain_list(page, name, number, told, slice(&bytes))
+}
+
+/// Explains why an assembly text is refused.
+fn refused_text<S: Shelf>(
+    page: &mut Page,
+    named: Named<'_>,
+    number: u64,
+    told: u64,
+    shelf: &mut S,
+) -> Result<(), NoMemory> {
+    if number == 3 {
+        return explain_text(page, named.file, number, told, None);
+    }
+    let bytes = load(page.alloc(), named.file, TEXT_LIMIT, shelf)?;
+    explain_text(page, named.file, number, told, slice(&bytes))
+}
+
+/// Explains why a link map or one of its modules is refused.
+fn refused_link<S: Shelf>(
+    page: &mut Page,
+    named: Named<'_>,
+    number: u64,
+    told: u64,
+    shelf: &mut S,
+) -> Result<(), NoMemory> {
+    if number == 11 {
+        return explain_long_map(page, named.file, told);
+    }
+    let map = load(page.alloc(), named.file, MAP_LIMIT, shelf)?;
+    match number {
+        3 | 4 | 6 => { explain_module(page, named.file, number, told, file_of(slice(&map), told)) }
+        _ => explain_line(page, named.file, number, told, slice(&map)),
+    }
+}
+
+/// Explains why the linker cannot move an instruction of a module.
+fn refused_code<S: Shelf>(
+    page: &mut Page,
+    named: Named<'_>,
+    place: (u64, u64, u64),
+    shelf: &mut S,
+) -> Result<(), NoMemory> {
+    let (module, block, index) = place;
+    let map = load(page.alloc(), named.file, MAP_LIMIT, shelf)?;
+    let file = file_of(slice(&map), module);
+    if let Some(name) = file
+        && let Some(bytes) = load(page.alloc(), name, OBJECT_LIMIT, shelf)?
+        && let Ok(view) = View::over(bytes.as_slice())
+    {
+        return explain_code(page, &view, name, block, index);
+    }
+    explain_unmoved(page, named.file, module, file, block, index)
+}
+
+/// Explains a refusal of a call that names these files.
+fn refused<S: Shelf>(
+    page: &mut Page,
+    named: Named<'_>,
+    refusal: Refusal,
+    shelf: &mut S,
+) -> Result<(), NoMemory> {
+    match refusal {
+        Refusal::Usage => Ok(()),
+        Refusal::Source(number, told) => refused_source(page, named, number, told, shelf),
+        Refusal::Object(number, at) => refused_object(page, named, number, at, shelf),
+        Refusal::Entry | Refusal::Cell(_) | Refusal::Instr(..) => {
+            refused_check(page, named, refusal, shelf)
+        }
+        Refusal::List(number, told) => refused_list(page, named, number, told, shelf),
+        Refusal::Text(number, told) => refused_text(page, named, number, told, shelf),
+        Refusal::Link(number, told) => refused_link(page, named, number, told, shelf),
+        Refusal::Code(module, block, index) => {
+            refused_code(page, named, (module, block, index), shelf)
+        }
+    }
+}
+
+/// Explains that a file of a call could not be read.
+fn unread<S: Shelf>(page: &mut Page, named: Named<'_>, shelf: &mut S) -> Result<(), NoMemory> {
+    if named.holds != Holds::Map {
+        return explain_unread(page, named.file, named.list, named.takes_script, shelf);
+    }
+    let map = load(page.alloc(), named.file, MAP_LIMIT, shelf)?;
+    explain_unread_module(page, named.file, slice(&map), shelf)
+}
+
+/// Explains a call by its command, its status and the line that it put last.
+fn by_command<S: Shelf>(
+    page: &mut Page,
+    words: &[String],
+    status: u8,
+    line: &[u8],
+    shelf: &mut S,
+) -> Result<(), NoMemory> {
+    let command = command_of(page.alloc(), words)?;
+    let Some(named) = files_of(&command) else {
+        return Ok(());
+    };
+    if status == 3 {
+        return unread(page, named, shelf);
+    }
+    match Refusal::read(line) {
+        Some(refusal) if refusal.status() == status => refused(page, named, refusal, shelf),
+        _ => Ok(()),
+    }
+}
+
+/// What a person is told of a call with these words that ended with this status, where `line` was put last.
+/// It is empty for a call that was not refused, and that read and wrote all that it was to. The shelf gives
+/// the files again: what is said of a file speaks of the bytes that it has now. Each line of the text has its
+/// line feed.
+pub fn explain<S: Shelf>(
+    alloc: Global,
+    words: &[String],
+    status: u8,
+    line: &[u8],
+    shelf: &mut S,
+) -> Result<String, NoMemory> {
+    let mut page = Page::new(alloc);
+    match status {
+        2 => explain_usage(&mut page, words)?,
+        3 | 6 | 7 | 8 | 11 | 12 | 13 => by_command(&mut page, words, status, line, shelf)?,
+        4 => page.say("talft: error: the output could not be written\n")?,
+        5 => page.say("talft: error: memory ran out\n")?,
+        _ => {}
+    }
+    Ok(page.finish())
+}

@@ -1,0 +1,100 @@
+//! Calls of the tool over files in memory, with what is said of them.
+use ft_edge::{MemShelf, MemSink, SureSource};
+use ft_explain::{LastLine, explain};
+use std::test::Fail;
+
+/// A file: its name and its bytes.
+pub(crate) type File<'a> = (&'a str, &'a [u8]);
+
+/// The words of a text.
+fn split_words(rt: &impl AllocGlobal, text: &str) -> Result<Vec<String>, Fail> {
+    let mut words = Vec::new(rt.alloc());
+    for word in text.split(' ') {
+        words.push(String::from_str(rt.alloc(), word)?)?;
+    }
+    Ok(words)
+}
+
+/// A shelf with these files.
+fn shelf_of(rt: &impl AllocGlobal, files: &[File]) -> Result<MemShelf, Fail> {
+    let mut shelf = MemShelf::new(rt.alloc());
+    for (name, bytes) in files {
+        shelf.add(name, bytes)?;
+    }
+    Ok(shelf)
+}
+
+/// Fails unless what was found is the text.
+fn compare(words: &str, text: &str, found: &str) -> Result<(), Fail> {
+    if found == text {
+        return Ok(());
+    }
+    Err(Fail::new(format_args!("of `{words}` is said\n{found}and not\n{text}")))
+}
+
+/// Fails unless the text is said of a call with these words over these files.
+pub(crate) fn check_said(
+    rt: &impl AllocGlobal,
+    words: &str,
+    files: &[File],
+    text: &str,
+) -> Result<(), Fail> {
+    let mut shelf = shelf_of(rt, files)?;
+    let spelled = split_words(rt, words)?;
+    let mut sink = LastLine::new(MemSink::new(rt.alloc(), 3000)?);
+    let mut script = SureSource::new(&[]);
+    let status = ft_tool::tool(
+        rt.alloc(),
+        spelled.as_slice(),
+        &mut shelf,
+        &mut script,
+        &mut sink,
+    );
+    let (_, line) = sink.into_parts();
+    let found = explain(
+        rt.alloc(),
+        spelled.as_slice(),
+        status,
+        line.as_bytes(),
+        &mut shelf,
+    )?;
+    compare(words, text, found.as_str())
+}
+
+/// Fails unless the text is said of a call with these words that ended with this status after this line.
+pub(crate) fn check_told(
+    rt: &impl AllocGlobal,
+    words: &str,
+    status: u8,
+    line: &str,
+    files: &[File],
+    text: &str,
+) -> Result<(), Fail> {
+    let mut shelf = shelf_of(rt, files)?;
+    let spelled = split_words(rt, words)?;
+    let found = explain(
+        rt.alloc(),
+        spelled.as_slice(),
+        status,
+        line.as_bytes(),
+        &mut shelf,
+    )?;
+    compare(words, text, found.as_str())
+}
+
+/// Fails unless the text is said of `check` over an object, some of whose bytes are changed.
+pub(crate) fn check_altered(
+    rt: &impl AllocGlobal,
+    object: &[u8],
+    changes: &[(usize, u8)],
+    text: &str,
+) -> Result<(), Fail> {
+    let mut bytes = object.to_vec(rt.alloc())?;
+    for (place, byte) in changes {
+        match bytes.get_mut(*place) {
+            Some(changed) => *changed = *byte,
+            None => return Err(Fail::new(format_args!("no byte {place}"))),
+        }
+    }
+    check_said(rt, "check file", &[("file", bytes.as_slice())], text)
+}

@@ -1,0 +1,23 @@
+//! What is said of refused calls: one row for each number of each refusal, over files in memory.
+//!
+//! The crate holds tests alone. A row has words, the bytes of their files and the whole text. The refusal
+//! comes from the tool itself, through a sink that remembers its line. The texts were written by hand from the
+//! rules of each refusal.
+#![tactic(auto)]
+
+#[cfg(test)]
+mod assemblies;
+#[cfg(test)]
+mod calls;
+#[cfg(test)]
+mod checks;
+#[cfg(test)]
+mod links;
+#[cfg(test)]
+mod lists;
+#[cfg(test)]
+mod objects;
+#[cfg(test)]
+mod sources;
+#[cfg(test)]
+mod usage;
