@@ -63,6 +63,7 @@ few_of verb.Upgrade operand given h = tt
 few_of verb.Assemble operand given h = tt
 few_of verb.Disassemble operand given h = tt
 few_of verb.Schedule operand given h = tt
+few_of verb.Link operand given h = tt
 
 none_up_to : (v : Verb) → IsUpTo (allowed_of v).steps none_given.steps
 none_up_to v = tt
@@ -101,6 +102,7 @@ turns_of verb.Upgrade operand given = tt
 turns_of verb.Assemble operand given = tt
 turns_of verb.Disassemble operand given = tt
 turns_of verb.Schedule operand given = tt
+turns_of verb.Link operand given = tt
 
 -- a demonstration that words ask for has from 1 to 10,921 turns
 pub few_turns : (words : List Word) (request : Request) → AreCommand words request → HasTurns request

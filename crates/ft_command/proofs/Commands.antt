@@ -4,12 +4,13 @@ use Rattle.std.specs.Option.{option_map, unwrap_or}
 use Rattle.ft_command.specs.declared.verb.Verb.{Verb}
 use Rattle.ft_command.specs.declared.verb.Verb.TheVariants as verb
 use Rattle.ft_command.specs.Options.{Word, Given, none_given, GivesAll}
-use Rattle.ft_command.specs.Commands.{name_of, allowed_of, turns_up_to, request_of, Request, Usage, Checks, Runs, Trials, Campaigns, Surveys, Compiles, Executes, Means, Debugs, Demonstrates, Upgrades, Assembles, Disassembles, AreCommand, Asks, Schedules, Recovers}
+use Rattle.ft_command.specs.Commands.{name_of, allowed_of, turns_up_to, request_of, Request, Usage, Checks, Runs, Trials, Campaigns, Surveys, Compiles, Executes, Means, Debugs, Demonstrates, Upgrades, Assembles, Disassembles, AreCommand, Asks, Schedules, Recovers, Links}
 
 -- the command that a name is of, by its letters
 verb_by : Word → Verb
 verb_by w =
-    if slice_index w 2 == 99 then verb.Recover
+    if slice_index w 0 == 108 then verb.Link
+    else if slice_index w 2 == 99 then verb.Recover
     else if slice_index w 1 == 104 then verb.Check
     else if slice_index w 0 == 114 then verb.Run
     else if slice_index w 0 == 116 then verb.Trial
@@ -42,6 +43,7 @@ verb_by-name_of verb.Upgrade = refl
 verb_by-name_of verb.Assemble = refl
 verb_by-name_of verb.Disassemble = refl
 verb_by-name_of verb.Schedule = refl
+verb_by-name_of verb.Link = refl
 
 -- commands with one name are one
 same_verb : (u v : Verb) → name_of u ≡ name_of v → u ≡ v
@@ -93,6 +95,7 @@ no_usage verb.Upgrade operand given e = absurd (cc)
 no_usage verb.Assemble operand given e = absurd (cc)
 no_usage verb.Disassemble operand given e = absurd (cc)
 no_usage verb.Schedule operand given e = absurd (cc)
+no_usage verb.Link operand given e = absurd (cc)
 
 -- what a command asks for, the words ask for
 pub asks : (words : List Word) (request : Request) → AreCommand words request → Asks words request
@@ -112,6 +115,7 @@ asks words (Upgrades object) h = h
 asks words (Assembles text) h = h
 asks words (Disassembles object) h = h
 asks words (Schedules object) h = h
+asks words (Links map) h = h
 
 -- what words ask for but usage, they are a command for
 pub by_command : (words : List Word) (request other : Request) → AreCommand words request → Asks words other → AreCommand words other
@@ -131,6 +135,7 @@ by_command words request (Upgrades object) asked h = h
 by_command words request (Assembles text) asked h = h
 by_command words request (Disassembles object) asked h = h
 by_command words request (Schedules object) asked h = h
+by_command words request (Links map) asked h = h
 
 -- words that are a command ask for nothing else
 pub asks_only : (words options : List Word) (v : Verb) (operand : Word) (given : Given) (request : Request) → words ≡ name_of v ∷ operand ∷ options
@@ -173,3 +178,4 @@ usage_only words none (Upgrades object) h = absurd (none (Upgrades object) h)
 usage_only words none (Assembles text) h = absurd (none (Assembles text) h)
 usage_only words none (Disassembles object) h = absurd (none (Disassembles object) h)
 usage_only words none (Schedules object) h = absurd (none (Schedules object) h)
+usage_only words none (Links map) h = absurd (none (Links map) h)

@@ -10,7 +10,7 @@ use Rattle.ft_command.specs.declared.allowed.Allowed.{Allowed}
 use Rattle.ft_command.specs.declared.verb.Verb.{Verb}
 use Rattle.ft_command.specs.declared.verb.Verb.TheVariants as verb
 use Rattle.ft_command.specs.Options.{Word, Given, none_given, IsNumberUpTo, GivesSteps, GivesTurns, GivesStrike, GivesWild, GivesFaults, Gives, by_steps, by_turns, by_strike, by_wild, by_faults, GivesAll}
-use Rattle.ft_command.specs.Commands.{allowed_of, Request, Usage, Checks, Runs, Trials, Campaigns, Surveys, Compiles, Executes, Means, Debugs, Demonstrates, Upgrades, Assembles, Disassembles, AreCommand, Asks, Schedules, Recovers}
+use Rattle.ft_command.specs.Commands.{allowed_of, Request, Usage, Checks, Runs, Trials, Campaigns, Surveys, Compiles, Executes, Means, Debugs, Demonstrates, Upgrades, Assembles, Disassembles, AreCommand, Asks, Schedules, Recovers, Links}
 use Rattle.ft_command.proofs.Given.{steps_only, turns_only, strike_only, wild_only, faults_only}
 use Rattle.ft_command.proofs.Commands.{asks_only, usage_only}
 
@@ -77,6 +77,7 @@ steps_are_words verb.Upgrade = tt
 steps_are_words verb.Assemble = tt
 steps_are_words verb.Disassemble = tt
 steps_are_words verb.Schedule = tt
+steps_are_words verb.Link = tt
 
 turns_are_words : (v : Verb) → IsAWordIfSome (allowed_of v).turns
 turns_are_words verb.Check = tt
@@ -94,6 +95,7 @@ turns_are_words verb.Upgrade = tt
 turns_are_words verb.Assemble = tt
 turns_are_words verb.Disassemble = tt
 turns_are_words verb.Schedule = tt
+turns_are_words verb.Link = tt
 
 one_command : (words : List Word) (request other : Request) → AreCommand words request → Asks words other → request ≡ other
 one_command words request other h i =
@@ -119,3 +121,4 @@ one_request words (Upgrades object) b h i = one_command words (Upgrades object) 
 one_request words (Assembles text) b h i = one_command words (Assembles text) b h i
 one_request words (Disassembles object) b h i = one_command words (Disassembles object) b h i
 one_request words (Schedules object) b h i = one_command words (Schedules object) b h i
+one_request words (Links map) b h i = one_command words (Links map) b h i

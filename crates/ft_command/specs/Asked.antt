@@ -10,7 +10,7 @@ use Rattle.ft_command.specs.declared.command.Debugging as declared_debugging
 use Rattle.ft_command.specs.declared.command.Command as declared_command
 use Rattle.ft_command.specs.declared.command.Command.TheVariants as commands
 use Rattle.ft_command.specs.Options.{Given}
-use Rattle.ft_command.specs.Commands.{Run, Campaign, Meaning, Execution, Debugging, Request, Usage, Checks, Runs, Trials, Campaigns, Surveys, Compiles, Executes, Means, Debugs, Demonstrates, Upgrades, Assembles, Disassembles, Schedules, Recovers}
+use Rattle.ft_command.specs.Commands.{Run, Campaign, Meaning, Execution, Debugging, Request, Usage, Checks, Runs, Trials, Campaigns, Surveys, Compiles, Executes, Means, Debugs, Demonstrates, Upgrades, Assembles, Disassembles, Schedules, Recovers, Links}
 
 -- the options that the code has taken so far
 abbrev pub given_of : Options → Given
@@ -50,6 +50,7 @@ asked (commands.Upgrade object) = Upgrades object.now
 asked (commands.Assemble text) = Assembles text.now
 asked (commands.Disassemble object) = Disassembles object.now
 asked (commands.Schedule object) = Schedules object.now
+asked (commands.Link map) = Links map.now
 
 -- the request that the code has read, or the wish for usage where there is none
 abbrev pub asked_or_usage : Option declared_command.Command → Option Request

@@ -26,6 +26,7 @@ name_of verb.Upgrade = codes "upgrade"
 name_of verb.Assemble = codes "asm"
 name_of verb.Disassemble = codes "dis"
 name_of verb.Schedule = codes "schedule"
+name_of verb.Link = codes "link"
 
 -- whether a command takes an object
 abbrev pub takes_object : Verb → Bool
@@ -44,6 +45,7 @@ takes_object verb.Upgrade = true
 takes_object verb.Assemble = false
 takes_object verb.Disassemble = true
 takes_object verb.Schedule = true
+takes_object verb.Link = false
 
 -- no options
 abbrev pub no_options : Allowed
@@ -86,6 +88,7 @@ allowed_of verb.Upgrade = no_options
 allowed_of verb.Assemble = no_options
 allowed_of verb.Disassemble = no_options
 allowed_of verb.Schedule = no_options
+allowed_of verb.Link = no_options
 
 -- the run of an object, for at most so many steps, under a plan
 pub record Run : Type 0 where
@@ -185,6 +188,8 @@ pub data Request : Type 0 where
   Disassembles : Word → Request
   -- the schedule of an object
   Schedules : Word → Request
+  -- the object that a link map links of its modules
+  Links : Word → Request
 
 -- what a command asks for, with its operand and its options; campaigns need their list, and a demonstration a number of turns
 abbrev pub request_of : Verb → Word → Given → Option Request
@@ -203,6 +208,7 @@ request_of verb.Upgrade operand given = Some (Upgrades operand)
 request_of verb.Assemble operand given = Some (Assembles operand)
 request_of verb.Disassemble operand given = Some (Disassembles operand)
 request_of verb.Schedule operand given = Some (Schedules operand)
+request_of verb.Link operand given = Some (Links operand)
 
 -- the words are a command, its operand, and options that it takes, and ask for this
 pub record AreCommand (words : List Word) (request : Request) : Type 0 where
@@ -232,6 +238,7 @@ Asks words (Upgrades object) = AreCommand words (Upgrades object)
 Asks words (Assembles text) = AreCommand words (Assembles text)
 Asks words (Disassembles object) = AreCommand words (Disassembles object)
 Asks words (Schedules object) = AreCommand words (Schedules object)
+Asks words (Links map) = AreCommand words (Links map)
 
 -- each run of a campaign takes at most 1,000,000 steps
 abbrev pub HasFewSteps : Request → Type 0
@@ -251,6 +258,7 @@ HasFewSteps (Upgrades object) = Unit {0}
 HasFewSteps (Assembles text) = Unit {0}
 HasFewSteps (Disassembles object) = Unit {0}
 HasFewSteps (Schedules object) = Unit {0}
+HasFewSteps (Links map) = Unit {0}
 
 -- a demonstration has from 1 to 10,921 turns
 abbrev pub HasTurns : Request → Type 0
@@ -270,3 +278,4 @@ HasTurns (Upgrades object) = Unit {0}
 HasTurns (Assembles text) = Unit {0}
 HasTurns (Disassembles object) = Unit {0}
 HasTurns (Schedules object) = Unit {0}
+HasTurns (Links map) = Unit {0}

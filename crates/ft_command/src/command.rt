@@ -52,6 +52,8 @@ pub enum Command<'w> {
     Disassemble(&'w str),
     /// Checks the object of this file and writes its schedule.
     Schedule(&'w str),
+    /// Reads the link map of this file, and writes what it links of its modules.
+    Link(&'w str),
 }
 
 /// The run of an object: the file's name, how many steps at the most, and the plan.
@@ -207,6 +209,7 @@ fn command_from<'w>(
         Verb::Assemble => Command::Assemble(operand),
         Verb::Disassemble => Command::Disassemble(operand),
         Verb::Schedule => Command::Schedule(operand),
+        Verb::Link => Command::Link(operand),
     };
     Some(command)
 }

@@ -55,6 +55,8 @@ pub enum Verb {
     Disassemble,
     /// `schedule`: checks an object and writes its schedule.
     Schedule,
+    /// `link`: reads a link map, and writes what it links of its modules.
+    Link,
 }
 
 impl Verb {
@@ -96,7 +98,7 @@ impl Verb {
         None
     }
 
-    /// The command of this name that takes a source, an assembly text or a number.
+    /// The command of this name that takes a source, an assembly text, a link map or a number.
     fn over_other(word: &str) -> Option<Verb>
         ensures some { IfSome result (λ verb. word.now ≡ name_of verb) }
         ensures exact { (verb : _) → takes_object verb ≡ false → word.now ≡ name_of verb → result ≡ Some verb }
@@ -115,6 +117,9 @@ impl Verb {
         }
         if word == "asm" {
             return Some(Verb::Assemble);
+        }
+        if word == "link" {
+            return Some(Verb::Link);
         }
         None
     }
@@ -141,7 +146,8 @@ impl Verb {
             | Verb::Upgrade
             | Verb::Assemble
             | Verb::Disassemble
-            | Verb::Schedule => NONE,
+            | Verb::Schedule
+            | Verb::Link => NONE,
             Verb::Exec => Allowed {
                 steps: Some(RUN_STEPS),
                 ..NONE

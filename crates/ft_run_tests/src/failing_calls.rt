@@ -11,6 +11,7 @@ fn files_that_are_missing(rt: HostRuntime) -> Result<(), Fail> {
             ("trial B", "", 3),
             ("upgrade B", "", 3),
             ("schedule B", "", 3),
+            ("link B", "", 3),
             ("trial --steps", "", 3),
             ("trial ", "", 3),
         ],

@@ -1,5 +1,5 @@
-//! Worked rows of the commands `check`, `run`, `trial`, `recover`, `debug`, `upgrade`, `asm`, `dis` and `schedule`, over files
-//! in memory, and of words that are no command.
+//! Worked rows of the commands `check`, `run`, `trial`, `recover`, `debug`, `upgrade`, `asm`, `dis`, `schedule` and `link`,
+//! over files in memory, and of words that are no command.
 //!
 //! The crate holds tests alone: for each row the words, the text that is written and the status. The
 //! values come from the definitions and from another implementation, not from this one's output.
@@ -15,6 +15,8 @@ mod checks;
 mod failing_calls;
 #[cfg(test)]
 mod indexed;
+#[cfg(test)]
+mod links;
 #[cfg(test)]
 mod recoveries;
 #[cfg(test)]

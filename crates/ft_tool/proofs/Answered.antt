@@ -27,14 +27,15 @@ use Rattle.ft_command.specs.Commands.{Run, Request}
 use Rattle.ft_tool.specs.declared.load.ObjectFault.{ObjectFault}
 use Rattle.ft_tool.specs.declared.load.ObjectFault.TheVariants.{Refused, Failed, NoMemory as no_memory}
 use Rattle.ft_tool.specs.declared.ending.Ending.{Ending}
-use Rattle.ft_tool.specs.declared.ending.Ending.TheVariants.{Done, Detected, Usage, LoadFailed, WriteFailed, NoMemory, SourceRefused, ObjectRefused, NotAccepted, OutOfSteps, Corrupt, ListRefused, TextRefused}
+use Rattle.ft_tool.specs.declared.ending.Ending.TheVariants.{Done, Detected, Usage, LoadFailed, WriteFailed, NoMemory, SourceRefused, ObjectRefused, NotAccepted, OutOfSteps, Corrupt, ListRefused, TextRefused, LinkRefused}
 use Rattle.ft_typing.specs.Accepted.{Refusal, refusal}
 use Rattle.ft_checker.specs.declared.error.CheckError.{CheckError}
 use Rattle.ft_checker.specs.declared.error.CheckError.TheVariants as checks
 use Rattle.ft_checker.specs.Judges.{IsRefusalOf}
-use Rattle.ft_tool.specs.Replies.{Answer, one_piece, ran, status_of_run}
-use Rattle.ft_tool.specs.Answers.{tried, Withstands, RunsUnless, RunsObject, TrialsObject, OverBytes, OverFile, SpellsFile, ComesTo, FailsIn, Concludes, BreaksOff}
-use Rattle.ft_tool.specs.Told.{IsToldFile, OfFiles}
+use Rattle.ft_tool.specs.Replies.{Answer, one_piece, ran, status_of_run, IsToldFile}
+use Rattle.ft_tool.specs.Objects.{OverBytes}
+use Rattle.ft_tool.specs.Answers.{tried, Withstands, RunsUnless, RunsObject, TrialsObject, OverFile, SpellsFile, ComesTo, FailsIn, Concludes, BreaksOff}
+use Rattle.ft_tool.specs.Told.{OfFiles}
 use Rattle.ft_tool.specs.Files.{LoadsObject, FaultCause, IsRefusedBy, IsNotAccepted}
 use Rattle.ft_tool.specs.Endings.{Ends, ends_early, ending_of_run}
 use Rattle.ft_tool.proofs.Mapped.{some_same, none_some, some_files, files_with}
@@ -54,6 +55,7 @@ Ends-map OutOfSteps P Q old new puts puts' before now L M f g h = record { answe
 Ends-map Corrupt P Q old new puts puts' before now L M f g h = record { answer = h.answer; is = f h.answer h.is; put = h.put; status_is = h.status_is }
 Ends-map ListRefused P Q old new puts puts' before now L M f g h = record { answer = h.answer; is = f h.answer h.is; put = h.put; status_is = h.status_is }
 Ends-map TextRefused P Q old new puts puts' before now L M f g h = record { answer = h.answer; is = f h.answer h.is; put = h.put; status_is = h.status_is }
+Ends-map LinkRefused P Q old new puts puts' before now L M f g h = record { answer = h.answer; is = f h.answer h.is; put = h.put; status_is = h.status_is }
 
 -- a call that ends without an answer ends early
 pub unanswered : (e : Ending) (Is : Answer → Type 0) (old new : Option (List ℕ)) (puts puts' : Option (List (List ℕ))) (before now : ℕ) (L : Type 0) → ((a : Answer) → Is a → ⊥) → Ends e Is old new puts puts' before now L → IsTrue (ends_early e)
@@ -70,6 +72,7 @@ unanswered OutOfSteps Is old new puts puts' before now L none h = absurd (none h
 unanswered Corrupt Is old new puts puts' before now L none h = absurd (none h.answer h.is)
 unanswered ListRefused Is old new puts puts' before now L none h = absurd (none h.answer h.is)
 unanswered TextRefused Is old new puts puts' before now L none h = absurd (none h.answer h.is)
+unanswered LinkRefused Is old new puts puts' before now L none h = absurd (none h.answer h.is)
 
 -- bytes that are refused spell no object, and else the call ends early
 pub unspelled : (told : Option Files) (name : Word) (e : ObjectFault) (end : Ending) (old new : Option (List ℕ)) (puts puts' : Option (List (List ℕ))) (before now : ℕ) (L : Type 0) → LoadsObject told name (Err e)
@@ -177,6 +180,6 @@ pub object_failed : (before now : ℕ) (failed failed' : Option (List ℕ)) (nam
 object_failed before now failed failed' name e h is = subst (FaultCause before now failed failed' name) is h
 
 -- a request that came to load a file, where files play no part in that
-pub failed_in : (request : Request) (told : Option Files) (before now : ℕ) (failed' : Option (List ℕ)) (name : Word) → ((files : Files) → ComesTo request files name) → Rose before now × (failed' ≡ Some name)
-    → OfFiles told (λ files. FailsIn request files before now failed')
+pub failed_in : (request : Request) (told : Option Files) (before now : ℕ) (failed' : Option (List ℕ)) (name : Word) → ((files : Files) → ComesTo request told files name) → Rose before now × (failed' ≡ Some name)
+    → OfFiles told (λ files. FailsIn request told files before now failed')
 failed_in request told before now failed' name comes h = let m = some_files told in (m.0, (m.1.0, record { rose = h.0; file = name; comes = comes m.0; name = h.1 }))

@@ -1,5 +1,5 @@
 -- What is answered of an assembly text.
-use Rattle.std.proofs.Common.{◌≡◌, ℕ, List, Option, Ok, Err}
+use Rattle.std.proofs.Common.{ℕ, List, Option, Ok, Err}
 use Rattle.ft_edge.specs.Loads.{Files}
 use Rattle.ft_types.specs.declared.object.Object as objects
 use Rattle.ft_asm.specs.declared.asm_error.AsmError.{AsmError}
@@ -8,7 +8,8 @@ use Rattle.ft_asm.specs.Reads.{Is, TooLong, Text, Order, Broken, Applies}
 use Rattle.ft_asm.specs.Refusals.{IsRefusal}
 use Rattle.ft_command.specs.Options.{Word}
 use Rattle.ft_tool.specs.Replies.{Answer}
-use Rattle.ft_tool.specs.Answers.{UpgradesObject, OverAssembly, OverAssemblyFile}
+use Rattle.ft_tool.specs.Objects.{UpgradesObject}
+use Rattle.ft_tool.specs.Answers.{OverAssembly, OverAssemblyFile}
 use Rattle.ft_tool.specs.declared.load.SourceFault.{SourceFault}
 use Rattle.ft_tool.specs.declared.load.SourceFault.TheVariants as source_faults
 use Rattle.ft_tool.specs.Files.{LoadsText, IsTextRefused, IsLongTextBy}

@@ -8,7 +8,7 @@ use Rattle.ft_scope.specs.Outcome.{IsProgramOf, IsRefusalOf}
 use Rattle.ft_compile.specs.StandsFor.{StandsFor}
 use Rattle.ft_tool.specs.Replies.{Answer}
 use Rattle.ft_tool.specs.Sources.{OverText, CompilesProgram, IsSourceRefused}
-use Rattle.ft_tool.specs.Answers.{UpgradesObject}
+use Rattle.ft_tool.specs.Objects.{UpgradesObject}
 
 -- the answer to a source that is refused is one over its text
 pub source_refused : (Over : Program → Answer → Type 0) (text : List ℕ) (e : SourceError) → (e ≢ NoMemory → IsRefusalOf text e) → (a : Answer) → IsSourceRefused e a → OverText Over text a

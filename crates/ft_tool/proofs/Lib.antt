@@ -11,3 +11,5 @@ mod Tried
 mod Asked
 mod OneAnswer
 mod Assembled
+mod MapNames
+mod Linking

@@ -12,8 +12,8 @@ use Rattle.ft_edge.specs.declared.shelf.Load.TheVariants.{Whole, TooLong}
 use Rattle.ft_edge.specs.declared.shelf.LoadFault.{LoadFault}
 use Rattle.ft_edge.specs.Loads.{Files, Loads, IsLonger}
 use Rattle.ft_format.specs.Format.{AreBytes}
-use Rattle.ft_tool.specs.Replies.{IsFile}
-use Rattle.ft_tool.specs.Told.{IsToldFile, OfFiles, OfScript}
+use Rattle.ft_tool.specs.Replies.{IsFile, IsToldFile}
+use Rattle.ft_tool.specs.Told.{OfFiles, OfScript}
 use Rattle.ft_tool.specs.Files.{Gives}
 
 -- what an option holds is one, and none holds nothing

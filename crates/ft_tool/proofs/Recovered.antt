@@ -1,7 +1,7 @@
 -- What a recovery concludes.
 use Rattle.std.proofs.Common.{◌≡◌, ◌≢◌, ℕ, List, [], ◌∷◌, ◌++◌, Option, None, refl, sym, ap, ◌∙◌, subst}
 use Rattle.ft_edge.specs.Causes.{Rose}
-use Rattle.ft_edge.specs.Puts.{PutsLines, BreaksOff as LinesBreakOff, PutsNothing}
+use Rattle.ft_edge.specs.Puts.{PutsLines, BreaksOff as LinesBreakOff}
 use Rattle.ft_edge.proofs.PutLines.{known_none, told_none, puts_then, breaks_then, breaks_before}
 use Rattle.ft_isa.specs.declared.plan.Wild.{Wild}
 use Rattle.ft_types.specs.declared.object.Object.{Object}

@@ -1,6 +1,5 @@
 -- What is answered of an object that is scheduled.
-use Rattle.std.proofs.Common.{◌≡◌, List, ℕ, Option, Some, None, Ok, Err, sym, ap, subst}
-use Rattle.std.specs.Prelude.{Result}
+use Rattle.std.proofs.Common.{◌≡◌, Option, Some, None, sym, subst}
 use Rattle.ft_types.specs.declared.object.Object.{Object}
 use Rattle.ft_typing.specs.Accepted.{Refusal, refusal}
 use Rattle.ft_checker.specs.Judges.{IsRefusalOf}
@@ -8,7 +7,8 @@ use Rattle.ft_checker.specs.declared.error.CheckError.{CheckError}
 use Rattle.ft_checker.specs.declared.error.CheckError.TheVariants as checks
 use Rattle.ft_typing.specs.Accepted as refusals
 use Rattle.ft_tool.specs.Replies.{Answer}
-use Rattle.ft_tool.specs.Answers.{judged, SchedulesAccepted, SchedulesUnless}
+use Rattle.ft_tool.specs.Objects.{judged}
+use Rattle.ft_tool.specs.Answers.{SchedulesAccepted, SchedulesUnless}
 use Rattle.ft_tool.specs.Files.{IsNotAccepted}
 
 -- where the object is accepted

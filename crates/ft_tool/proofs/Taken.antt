@@ -94,14 +94,14 @@ over_undebugged d told left NoMemory h a is = absurd is
 
 -- a session came to its script, and a take of it failed
 pub script_failed : (d : Debugging) (told : Option Files) (bytes : List ℕ) (before now x y : ℕ) (failed' : Option (List ℕ)) → LoadsObject told d.object (Ok bytes) → Rose before now
-    → OfFiles told (λ files. FailsIn (Debugs d) files x y failed' ⊎ FailsAtScript d files before now)
+    → OfFiles told (λ files. FailsIn (Debugs d) told files x y failed' ⊎ FailsAtScript d files before now)
 script_failed d told bytes before now x y failed' h rose =
     let m = spells_file told d.object bytes h in
     (m.0, (m.1.0, inr (record { rose = rose; comes = m.1.1 })))
 
 -- a session's load of its object failed
 pub session_failed : (d : Debugging) (told : Option Files) (before now x y : ℕ) (failed' : Option (List ℕ)) → Rose x y × (failed' ≡ Some d.object)
-    → OfFiles told (λ files. FailsIn (Debugs d) files x y failed' ⊎ FailsAtScript d files before now)
+    → OfFiles told (λ files. FailsIn (Debugs d) told files x y failed' ⊎ FailsAtScript d files before now)
 session_failed d told before now x y failed' h =
     let m = some_files told in
     (m.0, (m.1.0, inl (record { rose = h.0; file = d.object; comes = refl; name = h.1 })))

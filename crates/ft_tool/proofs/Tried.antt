@@ -26,11 +26,11 @@ use Rattle.ft_tool.specs.declared.load.ListFault.{ListFault}
 use Rattle.ft_tool.specs.declared.load.ListFault.TheVariants as list_faults
 use Rattle.ft_tool.specs.declared.load.ObjectFault.{ObjectFault}
 use Rattle.ft_tool.specs.declared.load.ObjectFault.TheVariants.{Refused, Failed, NoMemory as no_memory}
-use Rattle.ft_tool.specs.Replies.{Answer, IsFile}
+use Rattle.ft_tool.specs.Replies.{Answer, IsFile, IsToldFile}
 use Rattle.ft_tool.specs.Answers.{Concludes, BreaksOff, OverFile, OverListFile, SurveysObject, CampaignsAccepted, CampaignsUnless, CampaignsObject, SpellsFile, SpellsAccepted, FailsIn}
 use Rattle.ft_tool.specs.Calls.{LoadList, asked_after, HasMade, object_load, list_load, LoadsCampaign, LoadsFor}
 use Rattle.ft_tool.specs.Lists.{status_of, AnyVerdicts, NoneCorrupt, OverFaults, tried, refused_list, listed}
-use Rattle.ft_tool.specs.Told.{IsToldFile, OfFiles, IsListOf, OverListOf, CampaignsListOf, LoadsOther}
+use Rattle.ft_tool.specs.Told.{OfFiles, IsListOf, OverListOf, CampaignsListOf, LoadsOther}
 use Rattle.ft_tool.specs.Files.{LoadsObject, GetsList, ListCause, IsRefusedBy, IsListRefusedBy}
 use Rattle.ft_tool.proofs.Mapped.{some_same, files_with, files_with_both}
 
@@ -161,13 +161,13 @@ alone Comes Own Early (inr early) = inr early
 
 -- a load of the fault list failed
 pub survey_failed : (c : Campaign) (told : Option Files) (bytes : List ℕ) (before now : ℕ) (failed' : Option (List ℕ)) → LoadsObject told c.object (Ok bytes) → Rose before now × (failed' ≡ Some c.faults)
-    → OfFiles told (λ files. FailsIn (Surveys c) files before now failed')
+    → OfFiles told (λ files. FailsIn (Surveys c) told files before now failed')
 survey_failed c told bytes before now failed' h f =
     let m = spells_file told c.object bytes h in
     (m.0, (m.1.0, record { rose = f.0; file = c.faults; comes = inr (refl, m.1.1); name = f.1 }))
 
 pub campaign_failed : (c : Campaign) (told : Option Files) (bytes : List ℕ) (before now : ℕ) (failed' : Option (List ℕ)) → LoadsObject told c.object (Ok bytes)
-    → Rose before now × (failed' ≡ Some c.faults) × (refusal (object_of bytes) ≡ None) → OfFiles told (λ files. FailsIn (Campaigns c) files before now failed')
+    → Rose before now × (failed' ≡ Some c.faults) × (refusal (object_of bytes) ≡ None) → OfFiles told (λ files. FailsIn (Campaigns c) told files before now failed')
 campaign_failed c told bytes before now failed' h f =
     let m = spells_accepted told c.object bytes h f.2 in
     (m.0, (m.1.0, record { rose = f.0; file = c.faults; comes = inr (refl, m.1.1); name = f.1 }))
@@ -185,22 +185,22 @@ list_loaded c told Comes Early asked between asked' m h (inr more) = (m.0, (m.1.
 
 -- the loads of a survey
 pub surveys_loaded : (c : Campaign) (told : Option Files) (bytes : List ℕ) (Early : Type 0) (asked between asked' : Option LoadList) → LoadsObject told c.object (Ok bytes) → HasMade (object_load c.object ∷ []) asked between
-    → LoadsOther c between asked' → OfFiles told (λ files. LoadsFor (Surveys c) files Early asked asked')
+    → LoadsOther c between asked' → OfFiles told (λ files. LoadsFor (Surveys c) told files Early asked asked')
 surveys_loaded c told bytes Early asked between asked' h first more = list_loaded c told (λ files. SpellsFile files c.object) Early asked between asked' (spells_file told c.object bytes h) first more
 
 -- the loads of a campaign
 pub campaigns_loaded : (c : Campaign) (told : Option Files) (bytes : List ℕ) (Early : Type 0) (asked between asked' : Option LoadList) → LoadsObject told c.object (Ok bytes) → HasMade (object_load c.object ∷ []) asked between
-    → (((refusal (object_of bytes) ≢ None) ⊎ Early) × HasMade [] between asked') ⊎ ((refusal (object_of bytes) ≡ None) × LoadsOther c between asked') → OfFiles told (λ files. LoadsFor (Campaigns c) files Early asked asked')
+    → (((refusal (object_of bytes) ≢ None) ⊎ Early) × HasMade [] between asked') ⊎ ((refusal (object_of bytes) ≡ None) × LoadsOther c between asked') → OfFiles told (λ files. LoadsFor (Campaigns c) told files Early asked asked')
 campaigns_loaded c told bytes Early asked between asked' h first (inl none) = object_alone c told (λ files. SpellsAccepted files c.object) Early asked asked' (refused_file told c.object bytes Early h none.0) (none.1 ∙ first)
 campaigns_loaded c told bytes Early asked between asked' h first (inr more) = list_loaded c told (λ files. SpellsAccepted files c.object) Early asked between asked' (spells_accepted told c.object bytes h more.0) first more.1
 
 -- the loads of a campaign or a survey whose object was not loaded, or is none
 pub survey_unloaded : (c : Campaign) (told : Option Files) (Early : Type 0) (asked asked' : Option LoadList) → OfFiles told (λ files. (SpellsFile files c.object → ⊥) ⊎ Early) → HasMade (object_load c.object ∷ []) asked asked'
-    → OfFiles told (λ files. LoadsFor (Surveys c) files Early asked asked')
+    → OfFiles told (λ files. LoadsFor (Surveys c) told files Early asked asked')
 survey_unloaded c told Early asked asked' m h = object_alone c told (λ files. SpellsFile files c.object) Early asked asked' m h
 
 pub campaign_unloaded : (c : Campaign) (told : Option Files) (Early : Type 0) (asked asked' : Option LoadList) → OfFiles told (λ files. (SpellsFile files c.object → ⊥) ⊎ Early) → HasMade (object_load c.object ∷ []) asked asked'
-    → OfFiles told (λ files. LoadsFor (Campaigns c) files Early asked asked')
+    → OfFiles told (λ files. LoadsFor (Campaigns c) told files Early asked asked')
 campaign_unloaded c told Early asked asked' m h =
     object_alone c told (λ files. SpellsAccepted files c.object) Early asked asked' (m.0, (m.1.0, unaccepted_file (SpellsFile m.0 c.object) (SpellsAccepted m.0 c.object) Early (λ s. (s.0, (s.1.0, (s.1.1.0, s.1.1.1.0)))) m.1.1)) h
 

@@ -7,7 +7,7 @@ use Rattle.ft_object.specs.Judged.{IsError}
 use Rattle.ft_tool.specs.declared.load.ObjectFault.{ObjectFault}
 use Rattle.ft_tool.specs.declared.load.ObjectFault.TheVariants.{Refused, Failed, NoMemory}
 use Rattle.ft_tool.specs.Replies.{Answer}
-use Rattle.ft_tool.specs.Answers.{UpgradesObject, OverBytes}
+use Rattle.ft_tool.specs.Objects.{UpgradesObject, OverBytes}
 use Rattle.ft_tool.specs.Files.{IsRefusedBy, fault_of}
 
 -- the answer to bytes that are refused is one over them

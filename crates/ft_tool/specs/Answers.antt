@@ -11,41 +11,30 @@ use Rattle.ft_types.specs.Spellable.{IsSpellable}
 use Rattle.ft_semantics.specs.Agrees.{Agrees}
 use Rattle.ft_semantics.specs.Run.{run, outputs_after, status_after}
 use Rattle.ft_typing.specs.Accepted.{Refusal, refusal}
-use Rattle.ft_format.specs.declared.object_error.ObjectError.{ObjectError}
-use Rattle.ft_format.specs.declared.version.Version.TheVariants.{Second}
-use Rattle.ft_format.specs.Format.{Spells}
-use Rattle.ft_format.specs.Broken.{broken}
 use Rattle.ft_command.specs.Options.{Word}
-use Rattle.ft_command.specs.Commands.{Run, Campaign, Debugging, Request, Usage, Checks, Runs, Trials, Campaigns, Surveys, Compiles, Executes, Means, Debugs, Demonstrates, Upgrades, Assembles, Disassembles, Asks, Schedules, Recovers}
+use Rattle.ft_command.specs.Commands.{Run, Campaign, Debugging, Request, Usage, Checks, Runs, Trials, Campaigns, Surveys, Compiles, Executes, Means, Debugs, Demonstrates, Upgrades, Assembles, Disassembles, Asks, Schedules, Recovers, Links}
 use Rattle.ft_tolerance.specs.Soundness.{IsNeverDetected}
 use Rattle.ft_exchange.specs.Scheduled.{IsScheduled}
 use Rattle.ft_campaign.specs.declared.verdict.Verdict.{Verdict}
 use Rattle.ft_asm.specs.Reads.{text_of, Answer as Said, Is, TooLong, Text, Order, Broken, Applies}
-use Rattle.ft_tool.specs.Texts.{object_line, accepted_line, check_line, asm_line, again_line}
+use Rattle.ft_tool.specs.Texts.{asm_line, again_line}
 use Rattle.ft_tool.specs.Replies.{Answer, one_piece, ran, AreFiles, IsFile, IsScript, IsSpelling, status_of_run}
 use Rattle.ft_recover.specs.Recovery.{restart_output, whole_output}
 use Rattle.ft_scope.specs.Resolved.{Program}
 use Rattle.ft_tool.specs.Sources.{OverText, CompilesProgram, ExecutesProgram, MeansProgram}
 use Rattle.ft_tool.specs.Lists.{AnyVerdicts, NoneCorrupt, OverList}
 use Rattle.ft_tool.specs.Scripts.{DebugsObject}
+use Rattle.ft_tool.specs.Objects.{refused, judged, OverBytes, UpgradesObject}
+use Rattle.ft_tool.specs.Links.{LinksFile, ComesToModule}
 use Rattle.ft_tool.specs.Demonstrations.{ShowsSample}
 
 -- words that are no command
 abbrev pub usage : Answer
 usage = one_piece (codes "usage\n") 2
 
--- bytes that spell no object, by the first rule that they break
-abbrev pub refused : ObjectError → Answer
-refused e = one_piece (object_line e) 7
-
 -- the run of an object for so many steps under a plan
 abbrev pub tried : Run → Object → Answer
 tried r o = ran o (run o r.strike r.wild r.steps)
-
--- the check of an object, by why it is refused, if it is
-abbrev pub judged : Option Refusal → Answer
-judged None = one_piece accepted_line 0
-judged (Some r) = one_piece (check_line r) 8
 
 abbrev pub checked : Object → Answer
 checked o = judged (refusal o)
@@ -80,12 +69,6 @@ abbrev pub RecoversUnless : Option Refusal → Run → Object → Answer → Typ
 RecoversUnless None r o a = (a ≡ recovered r o) × IsNeverDetected o r.wild
 RecoversUnless (Some x) r o a = a ≡ judged (Some x)
 
--- the answer over a file's bytes: over the object that they spell, or by the first rule that they break
-abbrev pub OverBytes : (Object → Answer → Type 0) → List ℕ → Answer → Type 0
-OverBytes Over bytes a =
-    ((o : Object) × (IsSpelling bytes o × Over o a))
-    ⊎ ((e : ObjectError) × ((broken bytes ≡ Some e) × (a ≡ refused e)))
-
 -- the answer over the file of a name
 abbrev pub OverFile : (Object → Answer → Type 0) → Word → Files → Answer → Type 0
 OverFile Over name files a = (bytes : List ℕ) × (IsFile files name bytes × OverBytes Over bytes a)
@@ -102,12 +85,6 @@ TrialsObject r o a = a ≡ tried r o
 
 abbrev pub RecoversObject : Run → Object → Answer → Type 0
 RecoversObject r o a = RecoversUnless (refusal o) r o a
-
--- the answer of an upgrade over an object: its bytes in version 2 of the format, in one piece
-pub record UpgradesObject (o : Object) (a : Answer) : Type 0 where
-  pub bytes : List ℕ
-  pub spelled : Spells bytes Second o
-  pub answer : a ≡ one_piece bytes 0
 
 -- the answer of a disassembly over an object: its text, in one piece
 abbrev pub DisassemblesObject : Object → Answer → Type 0
@@ -172,24 +149,26 @@ CampaignsObject c files o a = CampaignsUnless (refusal o) (CampaignsAccepted c f
 abbrev pub OverSource : (Program → Answer → Type 0) → Word → Files → Answer → Type 0
 OverSource Over name files a = (text : List ℕ) × (IsFile files name text × OverText Over text a)
 
--- the answer of a command over files and a script
-abbrev pub Answers : Request → Files → List ℕ → Answer → Type 0
-Answers Usage files script a = a ≡ usage
-Answers (Checks name) files script a = OverFile ChecksObject name files a
-Answers (Runs r) files script a = OverFile (RunsObject r) r.object files a
-Answers (Trials r) files script a = OverFile (TrialsObject r) r.object files a
-Answers (Recovers r) files script a = OverFile (RecoversObject r) r.object files a
-Answers (Campaigns c) files script a = OverFile (CampaignsObject c files) c.object files a
-Answers (Surveys c) files script a = OverFile (SurveysObject c files) c.object files a
-Answers (Compiles name) files script a = OverSource CompilesProgram name files a
-Answers (Executes e) files script a = OverSource (ExecutesProgram e.steps) e.source files a
-Answers (Means m) files script a = OverSource (MeansProgram m.turns) m.source files a
-Answers (Debugs d) files script a = OverFile (DebugsObject d script) d.object files a
-Answers (Demonstrates turns) files script a = ShowsSample turns a
-Answers (Upgrades name) files script a = OverFile UpgradesObject name files a
-Answers (Assembles name) files script a = OverAssemblyFile name files a
-Answers (Disassembles name) files script a = OverFile DisassemblesObject name files a
-Answers (Schedules name) files script a = OverFile SchedulesObject name files a
+-- the answer of a command over files and a script. Over a shelf that tells no files, a link may load a name more than once
+-- with other bytes each time, so its answer is over what is told
+abbrev pub Answers : Request → Option Files → Files → List ℕ → Answer → Type 0
+Answers Usage told files script a = a ≡ usage
+Answers (Checks name) told files script a = OverFile ChecksObject name files a
+Answers (Runs r) told files script a = OverFile (RunsObject r) r.object files a
+Answers (Trials r) told files script a = OverFile (TrialsObject r) r.object files a
+Answers (Recovers r) told files script a = OverFile (RecoversObject r) r.object files a
+Answers (Campaigns c) told files script a = OverFile (CampaignsObject c files) c.object files a
+Answers (Surveys c) told files script a = OverFile (SurveysObject c files) c.object files a
+Answers (Compiles name) told files script a = OverSource CompilesProgram name files a
+Answers (Executes e) told files script a = OverSource (ExecutesProgram e.steps) e.source files a
+Answers (Means m) told files script a = OverSource (MeansProgram m.turns) m.source files a
+Answers (Debugs d) told files script a = OverFile (DebugsObject d script) d.object files a
+Answers (Demonstrates turns) told files script a = ShowsSample turns a
+Answers (Upgrades name) told files script a = OverFile UpgradesObject name files a
+Answers (Assembles name) told files script a = OverAssemblyFile name files a
+Answers (Disassembles name) told files script a = OverFile DisassemblesObject name files a
+Answers (Schedules name) told files script a = OverFile SchedulesObject name files a
+Answers (Links name) told files script a = LinksFile told name a
 
 -- the answer of the command that the words ask for, over the files and the script that are told; of what is not told, over
 -- some files of bytes, and some script of bytes. One map of files serves all loads, so a name has one content
@@ -200,7 +179,7 @@ pub record IsAnswer (words : List Word) (told : Option Files) (left : Option (Li
   pub are_files : AreFiles told files
   pub script : List ℕ
   pub is_script : IsScript left script
-  pub answers : Answers request files script a
+  pub answers : Answers request told files script a
 
 -- all pieces of an answer were put, by one put each, and this is its status
 pub record Concludes (Is : Answer → Type 0) (status : ℕ) (old new : Option (List ℕ)) (before now : Option (List (List ℕ))) : Type 0 where
@@ -224,29 +203,30 @@ abbrev pub SpellsAccepted : Files → Word → Type 0
 SpellsAccepted files name = (bytes : List ℕ) × (IsFile files name bytes × ((o : Object) × (IsSpelling bytes o × (refusal o ≡ None))))
 
 -- a request comes to load this file: no earlier step of it refuses
-abbrev pub ComesTo : Request → Files → Word → Type 0
-ComesTo Usage files file = ⊥
-ComesTo (Checks object) files file = file ≡ object
-ComesTo (Runs r) files file = file ≡ r.object
-ComesTo (Trials r) files file = file ≡ r.object
-ComesTo (Recovers r) files file = file ≡ r.object
-ComesTo (Campaigns c) files file = (file ≡ c.object) ⊎ ((file ≡ c.faults) × SpellsAccepted files c.object)
-ComesTo (Surveys c) files file = (file ≡ c.object) ⊎ ((file ≡ c.faults) × SpellsFile files c.object)
-ComesTo (Compiles name) files file = file ≡ name
-ComesTo (Executes e) files file = file ≡ e.source
-ComesTo (Means m) files file = file ≡ m.source
-ComesTo (Debugs d) files file = file ≡ d.object
-ComesTo (Demonstrates turns) files file = ⊥
-ComesTo (Upgrades object) files file = file ≡ object
-ComesTo (Assembles text) files file = file ≡ text
-ComesTo (Disassembles object) files file = file ≡ object
-ComesTo (Schedules object) files file = file ≡ object
+abbrev pub ComesTo : Request → Option Files → Files → Word → Type 0
+ComesTo Usage told files file = ⊥
+ComesTo (Checks object) told files file = file ≡ object
+ComesTo (Runs r) told files file = file ≡ r.object
+ComesTo (Trials r) told files file = file ≡ r.object
+ComesTo (Recovers r) told files file = file ≡ r.object
+ComesTo (Campaigns c) told files file = (file ≡ c.object) ⊎ ((file ≡ c.faults) × SpellsAccepted files c.object)
+ComesTo (Surveys c) told files file = (file ≡ c.object) ⊎ ((file ≡ c.faults) × SpellsFile files c.object)
+ComesTo (Compiles name) told files file = file ≡ name
+ComesTo (Executes e) told files file = file ≡ e.source
+ComesTo (Means m) told files file = file ≡ m.source
+ComesTo (Debugs d) told files file = file ≡ d.object
+ComesTo (Demonstrates turns) told files file = ⊥
+ComesTo (Upgrades object) told files file = file ≡ object
+ComesTo (Assembles text) told files file = file ≡ text
+ComesTo (Disassembles object) told files file = file ≡ object
+ComesTo (Schedules object) told files file = file ≡ object
+ComesTo (Links name) told files file = (file ≡ name) ⊎ ComesToModule told name file
 
 -- a request came to load a file; that load was the last that failed, and the count of failed loads rose
-pub record FailsIn (request : Request) (files : Files) (before now : ℕ) (failed : Option (List ℕ)) : Type 0 where
+pub record FailsIn (request : Request) (told : Option Files) (files : Files) (before now : ℕ) (failed : Option (List ℕ)) : Type 0 where
   pub rose : Rose before now
   pub file : Word
-  pub comes : ComesTo request files file
+  pub comes : ComesTo request told files file
   pub name : failed ≡ Some file
 
 -- the words ask for a command that came to load a file, by the files that are told or by some files of bytes, and that load
@@ -256,7 +236,7 @@ pub record FailedToLoad (words : List Word) (told : Option Files) (before now : 
   pub asks : Asks words request
   pub files : Files
   pub are_files : AreFiles told files
-  pub fails : FailsIn request files before now failed
+  pub fails : FailsIn request told files before now failed
 
 -- a request came to its script: no earlier step of it refuses; a take of the script failed, and the count of failed
 -- takes rose
@@ -275,4 +255,4 @@ pub record FailedToTake (words : List Word) (told : Option Files) (before now : 
 
 -- the statuses that there are
 abbrev pub is_status : ℕ → Bool
-is_status n = list_any (λ s. s == n) (0 ∷ 1 ∷ 2 ∷ 3 ∷ 4 ∷ 5 ∷ 6 ∷ 7 ∷ 8 ∷ 9 ∷ 10 ∷ 11 ∷ 12 ∷ [])
+is_status n = list_any (λ s. s == n) (0 ∷ 1 ∷ 2 ∷ 3 ∷ 4 ∷ 5 ∷ 6 ∷ 7 ∷ 8 ∷ 9 ∷ 10 ∷ 11 ∷ 12 ∷ 13 ∷ [])

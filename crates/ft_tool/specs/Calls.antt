@@ -1,11 +1,14 @@
 -- Which loads a command makes, and what it takes of its script.
-use Rattle.std.specs.Prelude.{◌≡◌, ◌≢◌, ◌⊎◌, ℕ, ◌==◌, Bool, ◌||◌, List, [], ◌∷◌, Option}
+use Rattle.std.specs.Prelude.{◌≡◌, ◌≢◌, ◌⊎◌, ℕ, ◌==◌, Bool, ◌||◌, List, [], ◌∷◌, ◌++◌, Option}
 use Rattle.ft_edge.specs.Loads.{Files}
 use Rattle.ft_edge.specs.Told.{append_told}
 use Rattle.ft_edge.specs.Streams.{TakesAtMost}
 use Rattle.ft_command.specs.Options.{Word}
-use Rattle.ft_command.specs.Commands.{Campaign, Debugging, Request, Usage, Checks, Runs, Trials, Campaigns, Surveys, Compiles, Executes, Means, Debugs, Demonstrates, Upgrades, Assembles, Disassembles, Asks, Schedules, Recovers}
-use Rattle.ft_tool.specs.Replies.{AreFiles}
+use Rattle.ft_command.specs.Commands.{Campaign, Debugging, Request, Usage, Checks, Runs, Trials, Campaigns, Surveys, Compiles, Executes, Means, Debugs, Demonstrates, Upgrades, Assembles, Disassembles, Asks, Schedules, Recovers, Links}
+use Rattle.ft_types.specs.declared.object.Object.{Object}
+use Rattle.ft_link_map.specs.declared.link_map.LinkMap.{LinkMap}
+use Rattle.ft_tool.specs.Replies.{Answer, AreFiles, IsToldFile}
+use Rattle.ft_tool.specs.Links.{IsMap, EndsAtMap, EndsAtBytes, IsAdded}
 use Rattle.ft_tool.specs.Answers.{SpellsFile, SpellsAccepted}
 
 -- loads, each by its name and its limit
@@ -35,6 +38,10 @@ source_load name = (name, 1048576)
 abbrev pub text_load : Word → Word × ℕ
 text_load name = (name, 134217728)
 
+-- the load of a link map
+abbrev pub map_load : Word → Word × ℕ
+map_load name = (name, 65536)
+
 -- the statuses of calls that may end before their last load: a load or a take failed, or memory ran out
 abbrev pub is_early : ℕ → Bool
 is_early status = status == 3 || status == 5
@@ -54,25 +61,60 @@ pub record LoadsNoList (c : Campaign) (Comes Early : Type 0) (asked asked' : Opt
 abbrev pub LoadsCampaign : Campaign → Type 0 → Type 0 → Option LoadList → Option LoadList → Type 0
 LoadsCampaign c Comes Early asked asked' = LoadsNoList c Comes Early asked asked' ⊎ LoadsList c Comes asked asked'
 
+-- the file of a module ends the link
+abbrev pub EndsAtFile : Option Files → List Object → Word → Type 0
+EndsAtFile told modules name = (bytes : List ℕ) × (IsToldFile told name bytes × ((a : Answer) × EndsAtBytes modules bytes a))
+
+-- the loads of further modules, in turn: the file of the first, and where it is added, those of the modules after it. A call
+-- that ends early may make fewer
+abbrev pub LoadsInTurn : Option Files → Type 0 → List Object → List Word → LoadList → Type 0
+LoadsInTurn told Early modules [] loads = loads ≡ []
+LoadsInTurn told Early modules (name ∷ names) loads =
+    ((loads ≡ []) × Early)
+    ⊎ ((more : LoadList) × ((loads ≡ object_load name ∷ more)
+    × (((more ≡ []) × (EndsAtFile told modules name ⊎ Early))
+    ⊎ ((bytes : List ℕ) × (IsToldFile told name bytes × ((o : Object) × (IsAdded modules bytes o × LoadsInTurn told Early (modules ++ o ∷ []) names more)))))))
+
+-- the file of a map was loaded and no other: its text is that of no map, or the call ended early
+pub record LoadsNoModule (told : Option Files) (name : Word) (Early : Type 0) (asked asked' : Option LoadList) : Type 0 where
+  pub none : ((text : List ℕ) × (IsToldFile told name text × ((a : Answer) × EndsAtMap text a))) ⊎ Early
+  pub made : HasMade (map_load name ∷ []) asked asked'
+
+-- the file of a map was loaded, and then those of its modules
+pub record LoadsModules (told : Option Files) (name : Word) (Early : Type 0) (asked asked' : Option LoadList) : Type 0 where
+  pub text : List ℕ
+  pub is_file : IsToldFile told name text
+  pub linkage : LinkMap
+  pub is_map : IsMap text linkage
+  pub loads : LoadList
+  pub in_turn : LoadsInTurn told Early [] linkage.files loads
+  pub made : HasMade (map_load name ∷ loads) asked asked'
+
+-- the loads of a link: the map, and then its modules, or no other file
+abbrev pub LoadsLink : Option Files → Word → Type 0 → Option LoadList → Option LoadList → Type 0
+LoadsLink told name Early asked asked' = LoadsNoModule told name Early asked asked' ⊎ LoadsModules told name Early asked asked'
+
 -- the loads of a request: one of each file that it names, in their order. The fault list of a campaign is loaded exactly
--- when its object is accepted, that of a survey exactly when its object's bytes spell one, unless the call ended early
-abbrev pub LoadsFor : Request → Files → Type 0 → Option LoadList → Option LoadList → Type 0
-LoadsFor Usage files Early asked asked' = HasMade [] asked asked'
-LoadsFor (Checks object) files Early asked asked' = HasMade (object_load object ∷ []) asked asked'
-LoadsFor (Runs r) files Early asked asked' = HasMade (object_load r.object ∷ []) asked asked'
-LoadsFor (Trials r) files Early asked asked' = HasMade (object_load r.object ∷ []) asked asked'
-LoadsFor (Recovers r) files Early asked asked' = HasMade (object_load r.object ∷ []) asked asked'
-LoadsFor (Campaigns c) files Early asked asked' = LoadsCampaign c (SpellsAccepted files c.object) Early asked asked'
-LoadsFor (Surveys c) files Early asked asked' = LoadsCampaign c (SpellsFile files c.object) Early asked asked'
-LoadsFor (Compiles source) files Early asked asked' = HasMade (source_load source ∷ []) asked asked'
-LoadsFor (Executes e) files Early asked asked' = HasMade (source_load e.source ∷ []) asked asked'
-LoadsFor (Means m) files Early asked asked' = HasMade (source_load m.source ∷ []) asked asked'
-LoadsFor (Debugs d) files Early asked asked' = HasMade (object_load d.object ∷ []) asked asked'
-LoadsFor (Demonstrates turns) files Early asked asked' = HasMade [] asked asked'
-LoadsFor (Upgrades object) files Early asked asked' = HasMade (object_load object ∷ []) asked asked'
-LoadsFor (Assembles text) files Early asked asked' = HasMade (text_load text ∷ []) asked asked'
-LoadsFor (Disassembles object) files Early asked asked' = HasMade (object_load object ∷ []) asked asked'
-LoadsFor (Schedules object) files Early asked asked' = HasMade (object_load object ∷ []) asked asked'
+-- when its object is accepted, that of a survey exactly when its object's bytes spell one, and a module of a map exactly
+-- when the modules before it were added, unless the call ended early
+abbrev pub LoadsFor : Request → Option Files → Files → Type 0 → Option LoadList → Option LoadList → Type 0
+LoadsFor Usage told files Early asked asked' = HasMade [] asked asked'
+LoadsFor (Checks object) told files Early asked asked' = HasMade (object_load object ∷ []) asked asked'
+LoadsFor (Runs r) told files Early asked asked' = HasMade (object_load r.object ∷ []) asked asked'
+LoadsFor (Trials r) told files Early asked asked' = HasMade (object_load r.object ∷ []) asked asked'
+LoadsFor (Recovers r) told files Early asked asked' = HasMade (object_load r.object ∷ []) asked asked'
+LoadsFor (Campaigns c) told files Early asked asked' = LoadsCampaign c (SpellsAccepted files c.object) Early asked asked'
+LoadsFor (Surveys c) told files Early asked asked' = LoadsCampaign c (SpellsFile files c.object) Early asked asked'
+LoadsFor (Compiles source) told files Early asked asked' = HasMade (source_load source ∷ []) asked asked'
+LoadsFor (Executes e) told files Early asked asked' = HasMade (source_load e.source ∷ []) asked asked'
+LoadsFor (Means m) told files Early asked asked' = HasMade (source_load m.source ∷ []) asked asked'
+LoadsFor (Debugs d) told files Early asked asked' = HasMade (object_load d.object ∷ []) asked asked'
+LoadsFor (Demonstrates turns) told files Early asked asked' = HasMade [] asked asked'
+LoadsFor (Upgrades object) told files Early asked asked' = HasMade (object_load object ∷ []) asked asked'
+LoadsFor (Assembles text) told files Early asked asked' = HasMade (text_load text ∷ []) asked asked'
+LoadsFor (Disassembles object) told files Early asked asked' = HasMade (object_load object ∷ []) asked asked'
+LoadsFor (Schedules object) told files Early asked asked' = HasMade (object_load object ∷ []) asked asked'
+LoadsFor (Links name) told files Early asked asked' = LoadsLink told name Early asked asked'
 
 -- the loads of the request that words ask for, by the files that are told or by some files of bytes
 pub record Loads (words : List Word) (told : Option Files) (Early : Type 0) (asked asked' : Option LoadList) : Type 0 where
@@ -80,7 +122,7 @@ pub record Loads (words : List Word) (told : Option Files) (Early : Type 0) (ask
   pub asks : Asks words request
   pub files : Files
   pub are_files : AreFiles told files
-  pub made : LoadsFor request files Early asked asked'
+  pub made : LoadsFor request told files Early asked asked'
 
 -- the words ask for a session, and the file of its object spells one, by the files that are told or by some files of bytes;
 -- at most 1,048,577 bytes of the script were taken, and each take but the last gave some, so none was made after the end or

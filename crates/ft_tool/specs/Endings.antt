@@ -9,7 +9,7 @@ use Rattle.ft_recover.specs.declared.recover_end.RecoverEnd.TheVariants as recov
 use Rattle.ft_tool.specs.Replies.{Answer}
 use Rattle.ft_tool.specs.Answers.{Concludes, BreaksOff}
 use Rattle.ft_tool.specs.declared.ending.Ending.{Ending}
-use Rattle.ft_tool.specs.declared.ending.Ending.TheVariants.{Done, Detected, Usage, LoadFailed, WriteFailed, NoMemory, SourceRefused, ObjectRefused, NotAccepted, OutOfSteps, Corrupt, ListRefused, TextRefused}
+use Rattle.ft_tool.specs.declared.ending.Ending.TheVariants.{Done, Detected, Usage, LoadFailed, WriteFailed, NoMemory, SourceRefused, ObjectRefused, NotAccepted, OutOfSteps, Corrupt, ListRefused, TextRefused, LinkRefused}
 
 -- a load or a take failed, or memory ran out
 abbrev pub ends_early : Ending → Bool
@@ -26,6 +26,7 @@ ends_early OutOfSteps = false
 ends_early Corrupt = false
 ends_early ListRefused = false
 ends_early TextRefused = false
+ends_early LinkRefused = false
 
 -- what an ending says of the answer, what was written, the puts that were made, the sink's count of failures and a failed load
 abbrev pub Ends : Ending → (Answer → Type 0) → Option (List ℕ) → Option (List ℕ) → Option (List (List ℕ)) → Option (List (List ℕ)) → ℕ → ℕ → Type 0 → Type 0
@@ -42,6 +43,7 @@ Ends OutOfSteps Is old new puts puts' before now Load = Concludes Is 9 old new p
 Ends Corrupt Is old new puts puts' before now Load = Concludes Is 10 old new puts puts'
 Ends ListRefused Is old new puts puts' before now Load = Concludes Is 11 old new puts puts'
 Ends TextRefused Is old new puts puts' before now Load = Concludes Is 12 old new puts puts'
+Ends LinkRefused Is old new puts puts' before now Load = Concludes Is 13 old new puts puts'
 
 -- how a command ends whose run ended so
 abbrev pub ending_of_run : RunEnd → Ending

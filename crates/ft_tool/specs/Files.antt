@@ -13,13 +13,20 @@ use Rattle.ft_command.specs.Options.{Word}
 use Rattle.ft_typing.specs.Accepted as accepted
 use Rattle.ft_checker.specs.declared.error.CheckError.{CheckError}
 use Rattle.ft_checker.specs.declared.error.CheckError.TheVariants as checks
-use Rattle.ft_tool.specs.Replies.{Answer}
-use Rattle.ft_tool.specs.Told.{IsToldFile}
+use Rattle.ft_tool.specs.Replies.{Answer, one_piece, IsToldFile}
 use Rattle.ft_asm.specs.declared.asm_error.AsmError.{AsmError}
 use Rattle.ft_asm.specs.declared.asm_error.AsmError.TheVariants as texts
 use Rattle.ft_asm.specs.Reads.{Text, Order, Broken}
 use Rattle.ft_asm.specs.Reads as saids
-use Rattle.ft_tool.specs.Answers.{refused, judged, AssemblesAs}
+use Rattle.ft_tool.specs.Objects.{refused, judged}
+use Rattle.ft_tool.specs.Answers.{AssemblesAs}
+use Rattle.ft_link_map.specs.declared.map_error.MapError.{MapError}
+use Rattle.ft_link_map.specs.declared.map_error.MapError.TheVariants as maps
+use Rattle.ft_link_steps.specs.declared.link_error.LinkError.{LinkError}
+use Rattle.ft_link_steps.specs.declared.link_error.LinkError.TheVariants as links
+use Rattle.ft_modules.specs.LinkRefusals as link_refusals
+use Rattle.ft_tool.specs.Links.{unlinked}
+use Rattle.ft_tool.specs.Texts.{link_line}
 use Rattle.ft_isa.specs.declared.plan.Strike.{Strike}
 use Rattle.ft_campaign.specs.declared.fault_list.ListError.TheVariants as lists
 use Rattle.ft_campaign.specs.FaultList.{IsFaultList, IsListError}
@@ -155,3 +162,34 @@ abbrev pub IsLongTextBy : SourceFault → Answer → Type 0
 IsLongTextBy source_faults.TooLong a = IsTextRefused texts.TooLong a
 IsLongTextBy source_faults.Failed a = ⊥
 IsLongTextBy source_faults.NoMemory a = ⊥
+
+-- the file's bytes, or a file that is longer than a link map may be
+abbrev pub LoadsMap : {V : Type 0} → (V → List ℕ) → Option Files → Word → Result V SourceFault → Type 0
+LoadsMap bytes_of files name (Ok v) = (length (bytes_of v) ≤ 65536) × IsToldFile files name (bytes_of v)
+LoadsMap bytes_of files name (Err source_faults.TooLong) = (text : List ℕ) × (IsToldFile files name text × (65536 < length text))
+LoadsMap bytes_of files name (Err source_faults.Failed) = Unit {0}
+LoadsMap bytes_of files name (Err source_faults.NoMemory) = Unit {0}
+
+-- the answer of a command whose link map is too long
+abbrev pub IsLongMapBy : SourceFault → Answer → Type 0
+IsLongMapBy source_faults.TooLong a = a ≡ one_piece (link_line 11 65536) 13
+IsLongMapBy source_faults.Failed a = ⊥
+IsLongMapBy source_faults.NoMemory a = ⊥
+
+-- the answer of a command whose link map is refused
+abbrev pub IsMapRefused : MapError → Answer → Type 0
+IsMapRefused (maps.Line line) a = a ≡ one_piece (link_line 1 line) 13
+IsMapRefused (maps.Twice line) a = a ≡ one_piece (link_line 2 line) 13
+IsMapRefused maps.NoMemory a = ⊥
+
+-- the answer of a command whose modules are not linked
+abbrev pub IsUnlinkedBy : LinkError → Answer → Type 0
+IsUnlinkedBy (links.Cells m) a = a ≡ unlinked (link_refusals.Cells m)
+IsUnlinkedBy (links.Rows m) a = a ≡ unlinked (link_refusals.Rows m)
+IsUnlinkedBy (links.Code m b i) a = a ≡ unlinked (link_refusals.CodeOf m b i)
+IsUnlinkedBy (links.TooBig m) a = a ≡ unlinked (link_refusals.TooBig m)
+IsUnlinkedBy (links.Block line) a = a ≡ unlinked (link_refusals.NoBlock line)
+IsUnlinkedBy (links.Stub line) a = a ≡ unlinked (link_refusals.Stub line)
+IsUnlinkedBy (links.Missing line) a = a ≡ unlinked (link_refusals.Missing line)
+IsUnlinkedBy (links.Types line) a = a ≡ unlinked (link_refusals.Types line)
+IsUnlinkedBy links.NoMemory a = ⊥

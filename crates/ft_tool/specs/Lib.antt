@@ -4,9 +4,12 @@ pub mod Lists
 pub mod Sources
 pub mod Scripts
 pub mod Demonstrations
+pub mod Objects
+pub mod Links
 pub mod Answers
 pub mod Calls
 pub mod OneAnswer
 pub mod Told
+pub mod LinkTurns
 pub mod Files
 pub mod Endings

@@ -44,6 +44,11 @@ IsScript None script = AreBytes script
 abbrev pub IsFile : Files → Word → List ℕ → Type 0
 IsFile files name bytes = get files name ≡ Some bytes
 
+-- the content of the file of a name, where the shelf tells its files; else it may be any bytes
+abbrev pub IsToldFile : Option Files → Word → List ℕ → Type 0
+IsToldFile (Some told) name bytes = get told name ≡ Some bytes
+IsToldFile None name bytes = AreBytes bytes
+
 -- bytes that spell an object, in whichever version of the format
 abbrev pub IsSpelling : List ℕ → Object → Type 0
 IsSpelling bytes o = (v : Version) × Spells bytes v o

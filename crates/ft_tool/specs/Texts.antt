@@ -4,6 +4,7 @@ use Rattle.ft_typing.specs.Premise.{number_of}
 use Rattle.ft_typing.specs.Accepted.{Refusal, EntryType, CellType, Refused}
 use Rattle.ft_syntax.specs.declared.source_error.SourceError.{SourceError}
 use Rattle.ft_syntax.specs.declared.source_error.SourceError.TheVariants as source
+use Rattle.ft_modules.specs.LinkRefusals.{LinkRefusal, Cells, Rows, CodeOf, TooBig, NoBlock, Stub, Missing, Types}
 use Rattle.ft_format.specs.declared.object_error.ObjectError.{ObjectError}
 use Rattle.ft_format.specs.declared.object_error.ObjectError.TheVariants.{Magic, Length, Count, Pad, Kind, Index, Order, Name, Entry}
 
@@ -92,3 +93,22 @@ source_line e = codes "source " ++ decimal (source_number e) ++ codes " " ++ dec
 -- `asm`, the number of the refusal, and what it tells: a line's number, or the most bytes of a text
 abbrev pub asm_line : ℕ → ℕ → List ℕ
 asm_line n x = codes "asm " ++ decimal n ++ codes " " ++ decimal x ++ codes "\n"
+
+-- `link`, the number of the refusal, and what it tells: a line's number, a module's, or the most bytes of a map
+abbrev pub link_line : ℕ → ℕ → List ℕ
+link_line n x = codes "link " ++ decimal n ++ codes " " ++ decimal x ++ codes "\n"
+
+-- the line of a module's code address that is not only jumped to: the module, the block and the index in it
+abbrev pub link_code_line : ℕ → ℕ → ℕ → List ℕ
+link_code_line m b i = codes "link 5 " ++ decimal m ++ codes " " ++ decimal b ++ codes " " ++ decimal i ++ codes "\n"
+
+-- the line of modules that are not linked
+abbrev pub unlinked_line : LinkRefusal → List ℕ
+unlinked_line (Cells m) = link_line 3 m
+unlinked_line (Rows m) = link_line 4 m
+unlinked_line (CodeOf m b i) = link_code_line m b i
+unlinked_line (TooBig m) = link_line 6 m
+unlinked_line (NoBlock line) = link_line 7 line
+unlinked_line (Stub line) = link_line 8 line
+unlinked_line (Missing line) = link_line 9 line
+unlinked_line (Types line) = link_line 10 line

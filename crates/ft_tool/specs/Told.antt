@@ -1,21 +1,13 @@
 -- What is known of the files and the script of a call part by part: private to the tool.
-use Rattle.std.specs.Prelude.{◌≡◌, ◌≢◌, ◌⊎◌, ℕ, List, [], ◌∷◌, Option, Some, None}
-use Rattle.std.specs.FinMap.{get}
+use Rattle.std.specs.Prelude.{◌≡◌, ◌≢◌, ◌⊎◌, ℕ, List, [], ◌∷◌, Option}
 use Rattle.ft_edge.specs.Loads.{Files}
 use Rattle.ft_types.specs.declared.object.Object.{Object}
-use Rattle.ft_format.specs.Format.{AreBytes}
 use Rattle.ft_campaign.specs.declared.verdict.Verdict.{Verdict}
 use Rattle.ft_tolerance.specs.Soundness.{IsNeverDetected}
-use Rattle.ft_command.specs.Options.{Word}
 use Rattle.ft_command.specs.Commands.{Campaign}
 use Rattle.ft_tool.specs.Lists.{NoneCorrupt, OverList}
-use Rattle.ft_tool.specs.Replies.{Answer, AreFiles, IsScript}
+use Rattle.ft_tool.specs.Replies.{Answer, AreFiles, IsScript, IsToldFile}
 use Rattle.ft_tool.specs.Calls.{LoadList, HasMade, list_load}
-
--- the content of the file of a name, where the shelf tells its files; else it may be any bytes
-abbrev pub IsToldFile : Option Files → Word → List ℕ → Type 0
-IsToldFile (Some told) name bytes = get told name ≡ Some bytes
-IsToldFile None name bytes = AreBytes bytes
 
 -- this holds of the files that are told, or of some files of bytes
 abbrev pub OfFiles : Option Files → (Files → Type 0) → Type 0

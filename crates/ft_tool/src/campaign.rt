@@ -7,7 +7,8 @@ ghost use Rattle.ft_types.specs.Spellable.{IsSpellable};
 ghost use Rattle.ft_campaign.specs.Campaigns.{EndsAs as CampaignEnds, IsExcused, IsUncorrupted};
 ghost use Rattle.ft_tool.specs.Answers.{CampaignsUnless, CampaignsObject, OverFile, FailsIn};
 ghost use Rattle.ft_tool.specs.Calls.{HasMade, LoadsFor};
-ghost use Rattle.ft_tool.specs.Told.{IsToldFile, CampaignsListOf, LoadsOther, OfFiles};
+ghost use Rattle.ft_tool.specs.Replies.{IsToldFile};
+ghost use Rattle.ft_tool.specs.Told.{CampaignsListOf, LoadsOther, OfFiles};
 ghost use Rattle.ft_tool.specs.Lists.{NoneCorrupt, OverFaults};
 ghost use Rattle.ft_tool.specs.Endings.{Ends, ends_early};
 ghost use Rattle.ft_command.specs.Commands.{Campaigns};
@@ -143,10 +144,10 @@ pub(crate) fn campaign_file<F: Shelf, K: Sink>(
     requires { asked.now.steps ≤ 1000000 }
     ensures ends { Ends result (λ a. OfFiles (F.files shelf.old) (λ files. OverFile (CampaignsObject (campaign_view asked.now) files) asked.now.object.now files a))
         (K.written out.old) (K.written out.new) (K.pieces out.old) (K.pieces out.new) (K.failures out.old) (K.failures out.new)
-        (OfFiles (F.files shelf.old) (λ files. FailsIn (Campaigns (campaign_view asked.now)) files (F.failures shelf.old) (F.failures shelf.new) (F.failed_name shelf.new))) }
+        (OfFiles (F.files shelf.old) (λ files. FailsIn (Campaigns (campaign_view asked.now)) (F.files shelf.old) files (F.failures shelf.old) (F.failures shelf.new) (F.failed_name shelf.new))) }
     ensures failures { result ≢ Ending.WriteFailed → K.failures out.new ≡ K.failures out.old }
     ensures load_failures { result ≢ Ending.LoadFailed → (F.failures shelf.new ≡ F.failures shelf.old) × (F.failed_name shelf.new ≡ F.failed_name shelf.old) }
-    ensures made { OfFiles (F.files shelf.old) (λ files. LoadsFor (Campaigns (campaign_view asked.now)) files (IsTrue (ends_early result)) (F.asked shelf.old) (F.asked shelf.new)) }
+    ensures made { OfFiles (F.files shelf.old) (λ files. LoadsFor (Campaigns (campaign_view asked.now)) (F.files shelf.old) files (IsTrue (ends_early result)) (F.asked shelf.old) (F.asked shelf.new)) }
 {
     let mut bytes = Vec::new(alloc);
     match load_object(asked.object, shelf, &mut bytes) {

@@ -73,7 +73,7 @@ pub(crate) fn check_file<F: Shelf, K: Sink>(
 ) -> Ending
     ensures ends { Ends result (λ a. OfFiles (F.files shelf.old) (λ files. OverFile ChecksObject name.now files a))
         (K.written out.old) (K.written out.new) (K.pieces out.old) (K.pieces out.new) (K.failures out.old) (K.failures out.new)
-        (OfFiles (F.files shelf.old) (λ files. FailsIn (Checks name.now) files (F.failures shelf.old) (F.failures shelf.new) (F.failed_name shelf.new))) }
+        (OfFiles (F.files shelf.old) (λ files. FailsIn (Checks name.now) (F.files shelf.old) files (F.failures shelf.old) (F.failures shelf.new) (F.failed_name shelf.new))) }
     ensures failures { result ≢ Ending.WriteFailed → K.failures out.new ≡ K.failures out.old }
     ensures load_failures { result ≢ Ending.LoadFailed → (F.failures shelf.new ≡ F.failures shelf.old) × (F.failed_name shelf.new ≡ F.failed_name shelf.old) }
     ensures made { HasMade (object_load name.now ∷ []) (F.asked shelf.old) (F.asked shelf.new) }

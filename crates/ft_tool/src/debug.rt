@@ -75,7 +75,7 @@ pub(crate) fn debug_file<F: Shelf, I: Source, K: Sink>(
 ) -> Ending
     ensures ends { Ends result (λ a. OfFiles (F.files shelf.old) (λ files. OfScript (I.left script.old) (λ text. OverFile (DebugsObject (debugging_view asked.now) text) asked.now.object.now files a)))
         (K.written out.old) (K.written out.new) (K.pieces out.old) (K.pieces out.new) (K.failures out.old) (K.failures out.new)
-        (OfFiles (F.files shelf.old) (λ files. FailsIn (Debugs (debugging_view asked.now)) files (F.failures shelf.old) (F.failures shelf.new) (F.failed_name shelf.new)
+        (OfFiles (F.files shelf.old) (λ files. FailsIn (Debugs (debugging_view asked.now)) (F.files shelf.old) files (F.failures shelf.old) (F.failures shelf.new) (F.failed_name shelf.new)
         ⊎ FailsAtScript (debugging_view asked.now) files (I.failures script.old) (I.failures script.new))) }
     ensures failures { result ≢ Ending.WriteFailed → K.failures out.new ≡ K.failures out.old }
     ensures load_failures { result ≢ Ending.LoadFailed → (F.failures shelf.new ≡ F.failures shelf.old) × (F.failed_name shelf.new ≡ F.failed_name shelf.old) }

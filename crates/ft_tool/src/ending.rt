@@ -3,7 +3,8 @@ ghost use Rattle.std.specs.Prelude.{◌≡◌, ◌≢◌, [], ◌∷◌, OnOk, O
 ghost use Rattle.ft_edge.specs.Causes.{Rose};
 ghost use Rattle.ft_edge.specs.Puts.{PutsLines, BreaksOff};
 ghost use Rattle.ft_types.specs.Spellable.{IsSpellable};
-ghost use Rattle.ft_tool.specs.Answers.{usage, UpgradesObject};
+ghost use Rattle.ft_tool.specs.Objects.{UpgradesObject};
+ghost use Rattle.ft_tool.specs.Answers.{usage};
 ghost use Rattle.ft_tool.specs.Replies.{one_piece};
 ghost use Rattle.ft_tool.specs.Files.{IsRefusedBy, IsNotAccepted, IsListRefusedBy, IsTooLongBy, IsTextRefused, IsLongTextBy};
 ghost use Rattle.ft_tool.specs.Texts.{list_line, asm_line};
@@ -54,6 +55,8 @@ pub(crate) enum Ending {
     ListRefused,
     /// The text is refused as an assembly text.
     TextRefused,
+    /// The link map is refused, or what it links.
+    LinkRefused,
 }
 
 /// How a command ends whose run ended so.

@@ -18,6 +18,7 @@ use ft_command::words_ask_for_one_thing;
 use ft_compile::runs_and_meanings_write_the_same_lines;
 use ft_exchange::schedules_are_equal;
 use ft_format::rules_are_exact;
+use ft_link_map::lines_are_one;
 use ft_scope::one_text_has_one_outcome;
 use ft_script::commands_are_one;
 
@@ -37,6 +38,7 @@ pub fn words_have_one_answer()
     one_text_has_one_list();
     verdicts_are_one();
     commands_are_one();
+    lines_are_one();
     schedules_are_equal();
     runs_and_meanings_write_the_same_lines();
 }

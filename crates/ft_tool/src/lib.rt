@@ -15,6 +15,7 @@ mod disassemble;
 mod ending;
 mod exec;
 mod laws;
+mod link;
 mod load;
 mod mean;
 mod recover;
@@ -25,6 +26,7 @@ mod script;
 mod survey;
 mod top;
 mod trial;
+mod unlinked;
 mod upgrade;
 
 pub use ft_sample::sample;

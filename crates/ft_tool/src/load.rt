@@ -2,9 +2,10 @@
 ghost use Rattle.std.specs.Prelude.{◌≡◌, [], ◌∷◌};
 ghost use Rattle.ft_edge.specs.Loads.{LoadCause as EdgeCause};
 ghost use Rattle.ft_command.specs.Asked.{campaign_view};
-ghost use Rattle.ft_tool.specs.Calls.{HasMade, object_load, list_load, source_load, text_load};
-ghost use Rattle.ft_tool.specs.Told.{IsToldFile, IsListOf, LoadsOther};
-ghost use Rattle.ft_tool.specs.Files.{Gives, fault_of, LoadsBytes, LoadsObject, LoadCause, ReadsList, GetsList, ListCause, LoadsSource, SourceCause, LoadsText};
+ghost use Rattle.ft_tool.specs.Calls.{HasMade, object_load, list_load, source_load, text_load, map_load};
+ghost use Rattle.ft_tool.specs.Replies.{IsToldFile};
+ghost use Rattle.ft_tool.specs.Told.{IsListOf, LoadsOther};
+ghost use Rattle.ft_tool.specs.Files.{Gives, fault_of, LoadsBytes, LoadsObject, LoadCause, ReadsList, GetsList, ListCause, LoadsSource, SourceCause, LoadsText, LoadsMap};
 
 use ft_campaign::{ListError, read_faults};
 use ft_command::Campaign;
@@ -23,6 +24,9 @@ const SOURCE_LIMIT: usize = 1_048_576;
 
 /// The most bytes of a file that are read as an assembly text.
 const TEXT_LIMIT: usize = 134_217_728;
+
+/// The most bytes of a file that are read as a link map.
+const MAP_LIMIT: usize = 65_536;
 
 /// The most bytes of a file that are read as a fault list.
 const LIST_LIMIT: usize = 4_194_304;
@@ -173,10 +177,11 @@ pub(crate) fn list_of<F: Shelf>(
     load_list(alloc, asked.faults, shelf)
 }
 
-/// Why there is no source or no assembly text.
+/// Why there is no source, no assembly text or no link map.
 #[derive(Clone, Copy, Debug, PartialEq, Eq, Error)]
 pub(crate) enum SourceFault {
-    /// The file has more than 1,048,576 bytes, or for an assembly text more than 134,217,728.
+    /// The file has more than 1,048,576 bytes; for an assembly text more than 134,217,728, and for a link
+    /// map more than 65,536.
     #[error("the text is too long")]
     TooLong,
     /// The file could not be read.
@@ -218,6 +223,26 @@ pub(crate) fn load_text<F: Shelf>(
 {
     let mut bytes = Vec::new(alloc);
     match load_bytes(name, TEXT_LIMIT, shelf, &mut bytes) {
+        Ok(Load::Whole) => Ok(bytes),
+        Ok(Load::TooLong) => Err(SourceFault::TooLong),
+        Err(LoadFault::Failed) => Err(SourceFault::Failed),
+        Err(LoadFault::NoMemory) => Err(SourceFault::NoMemory),
+    }
+}
+
+/// Loads the file of a name as a link map.
+pub(crate) fn load_map<F: Shelf>(
+    alloc: Global,
+    name: &str,
+    shelf: &mut F,
+) -> Result<Vec<u8>, SourceFault>
+    ensures loads { LoadsMap (λ v. v.items) (F.files shelf.old) name.now result }
+    ensures files { F.files shelf.new ≡ F.files shelf.old }
+    ensures cause { SourceCause (F.failures shelf.old) (F.failures shelf.new) (F.failed_name shelf.old) (F.failed_name shelf.new) name.now result }
+    ensures made { HasMade (map_load name.now ∷ []) (F.asked shelf.old) (F.asked shelf.new) }
+{
+    let mut bytes = Vec::new(alloc);
+    match load_bytes(name, MAP_LIMIT, shelf, &mut bytes) {
         Ok(Load::Whole) => Ok(bytes),
         Ok(Load::TooLong) => Err(SourceFault::TooLong),
         Err(LoadFault::Failed) => Err(SourceFault::Failed),

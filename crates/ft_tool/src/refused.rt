@@ -2,7 +2,7 @@
 ghost use Rattle.std.specs.Prelude.{◌≡◌, ◌≤◌, ◌+◌, length};
 ghost use Rattle.ft_typing.specs.Accepted as accepted;
 ghost use Rattle.ft_typing.specs.Premise.{number_of};
-ghost use Rattle.ft_tool.specs.Texts.{error_number, error_place, object_line, check_line, list_line, asm_line, source_number, source_told, source_line};
+ghost use Rattle.ft_tool.specs.Texts.{error_number, error_place, object_line, check_line, list_line, asm_line, link_line, link_code_line, source_number, source_told, source_line};
 
 use ft_object::ObjectError;
 use ft_rules::Why;
@@ -139,6 +139,34 @@ pub(crate) fn asm_line(number: u64, told: u64) -> Line
     line.number(number);
     line.piece(b" ");
     line.number(told);
+    line.piece(b"\n");
+    line
+}
+
+/// The line of a link that is refused: by its map, a module or a line of the map.
+pub(crate) fn link_line(number: u64, told: u64) -> Line
+    ensures { result ≡ link_line number told }
+{
+    let mut line = Line::new();
+    line.piece(b"link ");
+    line.number(number);
+    line.piece(b" ");
+    line.number(told);
+    line.piece(b"\n");
+    line
+}
+
+/// The line of a code address that is not only jumped to, by the number of its module.
+pub(crate) fn link_code_line(number: u32, block: u32, index: u32) -> Line
+    ensures { result ≡ link_code_line number block index }
+{
+    let mut line = Line::new();
+    line.piece(b"link 5 ");
+    line.number(number as u64);
+    line.piece(b" ");
+    line.number(block as u64);
+    line.piece(b" ");
+    line.number(index as u64);
     line.piece(b"\n");
     line
 }

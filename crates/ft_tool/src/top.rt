@@ -16,6 +16,7 @@ use crate::demo::demonstrate;
 use crate::disassemble::disassemble_file;
 use crate::ending::{Ending, put_usage};
 use crate::exec::exec_file;
+use crate::link::link_file;
 use crate::mean::mean_file;
 use crate::recover::recover_file;
 use crate::run::run_file;
@@ -64,6 +65,7 @@ fn carry_out<F: Shelf, I: Source, K: Sink>(
         Ok(Command::Assemble(name)) => assemble_file(alloc, name, shelf, out),
         Ok(Command::Disassemble(name)) => disassemble_file(alloc, name, shelf, out),
         Ok(Command::Schedule(name)) => schedule_file(alloc, name, shelf, out),
+        Ok(Command::Link(name)) => link_file(alloc, name, shelf, out),
         Err(_) => Ending::NoMemory,
     }
 }
@@ -82,8 +84,8 @@ pub fn tool<F: Shelf, I: Source, K: Sink>(
     // Each piece of the answer of the command that the words ask for was put by one put, and the status is its status. So
     // a source is compiled exactly when its text has a program: to an object that is accepted and whose run commits what
     // the program means and ends when it ends. And the run of an accepted object has under its plan after each number of
-    // steps exactly what the run without the strike has, or it is detected and has a prefix of that. And a recovery puts the
-    // whole output of the run without the strike.
+    // steps exactly what the run without the strike has, or it is detected and has a prefix of that. A recovery puts the
+    // whole output of the run without the strike. And what is linked of accepted modules is accepted and runs as they do.
     ensures headline { result ≢ 3 → result ≢ 4 → result ≢ 5 →
         Concludes (IsAnswer (map string_bytes words.now) (F.files shelf.old) (I.left script.old)) result (K.written out.old) (K.written out.new) (K.pieces out.old) (K.pieces out.new) }
     ensures usage { result ≡ 2 → Asks (map string_bytes words.now) Usage }
@@ -107,8 +109,8 @@ pub fn tool<F: Shelf, I: Source, K: Sink>(
 
     // The counts of failed loads and takes stay where the answer is another. The script is taken only in a session over
     // an object, at most 1,048,577 bytes of it, and never again after its end or a failure. Each file is loaded once, in the
-    // order of the request and up to its limit, and a fault list exactly when the command comes to it; with statuses 3 and 5
-    // it may be that it is not, and with status 5 that nothing is.
+    // order of the request and up to its limit, and a fault list or a module exactly when the command comes to it; with
+    // statuses 3 and 5 it may be that it is not, and with status 5 that nothing is.
     ensures load_failures { result ≢ 3 → (F.failures shelf.new ≡ F.failures shelf.old) × (F.failed_name shelf.new ≡ F.failed_name shelf.old) }
     ensures script { TakesFrom (map string_bytes words.now) (F.files shelf.old) (I.takes script.old) (I.takes script.new) (I.left script.old) (I.left script.new) ⊎ (script.new ≡ script.old) }
     ensures loads { Loads (map string_bytes words.now) (F.files shelf.old) (IsTrue (is_early result)) (F.asked shelf.old) (F.asked shelf.new)
@@ -129,5 +131,6 @@ pub fn tool<F: Shelf, I: Source, K: Sink>(
         Ending::Corrupt => 10,
         Ending::ListRefused => 11,
         Ending::TextRefused => 12,
+        Ending::LinkRefused => 13,
     }
 }

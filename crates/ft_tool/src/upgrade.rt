@@ -1,7 +1,8 @@
 //! The command `upgrade`.
 ghost use Rattle.std.specs.Prelude.{◌≡◌, ◌≢◌, [], ◌∷◌};
 ghost use Rattle.ft_command.specs.Commands.{Upgrades};
-ghost use Rattle.ft_tool.specs.Answers.{UpgradesObject, OverBytes, OverFile, FailsIn};
+ghost use Rattle.ft_tool.specs.Objects.{UpgradesObject, OverBytes};
+ghost use Rattle.ft_tool.specs.Answers.{OverFile, FailsIn};
 ghost use Rattle.ft_tool.specs.Calls.{HasMade, object_load};
 ghost use Rattle.ft_tool.specs.Endings.{Ends};
 ghost use Rattle.ft_tool.specs.Told.{OfFiles};
@@ -33,7 +34,7 @@ pub(crate) fn upgrade_file<F: Shelf, K: Sink>(
 ) -> Ending
     ensures ends { Ends result (λ a. OfFiles (F.files shelf.old) (λ files. OverFile UpgradesObject name.now files a))
         (K.written out.old) (K.written out.new) (K.pieces out.old) (K.pieces out.new) (K.failures out.old) (K.failures out.new)
-        (OfFiles (F.files shelf.old) (λ files. FailsIn (Upgrades name.now) files (F.failures shelf.old) (F.failures shelf.new) (F.failed_name shelf.new))) }
+        (OfFiles (F.files shelf.old) (λ files. FailsIn (Upgrades name.now) (F.files shelf.old) files (F.failures shelf.old) (F.failures shelf.new) (F.failed_name shelf.new))) }
     ensures failures { result ≢ Ending.WriteFailed → K.failures out.new ≡ K.failures out.old }
     ensures load_failures { result ≢ Ending.LoadFailed → (F.failures shelf.new ≡ F.failures shelf.old) × (F.failed_name shelf.new ≡ F.failed_name shelf.old) }
     ensures made { HasMade (object_load name.now ∷ []) (F.asked shelf.old) (F.asked shelf.new) }

@@ -13,7 +13,7 @@ pub returns-in-Ok-clause-ends : goal.returns-in-Ok-clause-ends
 returns-in-Ok-clause-ends g c =
     let told = g.F.Shelf.files c.args.shelf.now in
     Ends-map c.assemble_text.result (OverAssembly c.as_slice.result.now) (λ a. OfFiles told (λ files. OverAssemblyFile c.args.name.now files a)) _ _ _ _ _ _ ⊥
-    (OfFiles told (λ files. FailsIn (Assembles c.args.name.now) files (g.F.Shelf.failures c.args.shelf.now) (g.F.Shelf.failures c.load_text.new.shelf) (g.F.Shelf.failed_name c.load_text.new.shelf)))
+    (OfFiles told (λ files. FailsIn (Assembles c.args.name.now) told files (g.F.Shelf.failures c.args.shelf.now) (g.F.Shelf.failures c.load_text.new.shelf) (g.F.Shelf.failed_name c.load_text.new.shelf)))
     (λ a is. over_text {V = Vec ℕ Global} (λ v. v.items) told c.args.name.now c.in-Ok.text c.in-Ok.ensures.loads a (subst (λ text. OverAssembly text a) c.as_slice.ensures.value is))
     (λ x. absurd x) c.assemble_text.ensures.ends
 
@@ -21,6 +21,6 @@ pub returns-in-Err-clause-ends : goal.returns-in-Err-clause-ends
 returns-in-Err-clause-ends g c =
     let told = g.F.Shelf.files c.args.shelf.now in
     Ends-map c.refuse_long_text.result (IsLongTextBy c.in-Err.fault) (λ a. OfFiles told (λ files. OverAssemblyFile c.args.name.now files a)) _ _ _ _ _ _ (c.in-Err.fault ≡ Failed)
-    (OfFiles told (λ files. FailsIn (Assembles c.args.name.now) files (g.F.Shelf.failures c.args.shelf.now) (g.F.Shelf.failures c.load_text.new.shelf) (g.F.Shelf.failed_name c.load_text.new.shelf)))
+    (OfFiles told (λ files. FailsIn (Assembles c.args.name.now) told files (g.F.Shelf.failures c.args.shelf.now) (g.F.Shelf.failures c.load_text.new.shelf) (g.F.Shelf.failed_name c.load_text.new.shelf)))
     (λ a is. over_long_text {V = Vec ℕ Global} (λ v. v.items) told c.args.name.now c.in-Err.fault c.in-Err.ensures.loads a is)
     (λ e. failed_in (Assembles c.args.name.now) told _ _ _ c.args.name.now (λ files. refl) (source_failed (Vec ℕ Global) _ _ _ _ c.args.name.now c.in-Err.fault c.in-Err.ensures.cause e)) c.refuse_long_text.ensures.ends

@@ -1,4 +1,5 @@
-use Rattle.ft_tool.specs.Answers.{UpgradesObject, OverAssembly}
+use Rattle.ft_tool.specs.Objects.{UpgradesObject}
+use Rattle.ft_tool.specs.Answers.{OverAssembly}
 use Rattle.ft_tool.specs.Files.{IsTextRefused}
 use Rattle.ft_tool.proofs.Answered.{Ends-map}
 use Rattle.ft_tool.proofs.Assembled.{object_assembled, text_refused}

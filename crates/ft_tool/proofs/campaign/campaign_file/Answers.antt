@@ -25,7 +25,7 @@ returns-in-Ok-clause-ends g c =
     let between = g.F.Shelf.files c.load_object.new.shelf in
     Ends-map c.campaign_object.result (CampaignsUnless (refusal (object_of c.in-Ok.view)) (CampaignsListOf asked between c.bytes.result.now (object_of c.in-Ok.view))) (λ a. OfFiles told (λ files. OverFile (CampaignsObject asked files) asked.object files a)) _ _ _ _ _ _
     (Rose (g.F.Shelf.failures c.load_object.new.shelf) (g.F.Shelf.failures c.campaign_object.new.shelf) × (g.F.Shelf.failed_name c.campaign_object.new.shelf ≡ Some asked.faults) × (refusal (object_of c.in-Ok.view) ≡ None))
-    (OfFiles told (λ files. FailsIn (Campaigns asked) files (g.F.Shelf.failures c.args.shelf.now) (g.F.Shelf.failures c.campaign_object.new.shelf) (g.F.Shelf.failed_name c.campaign_object.new.shelf)))
+    (OfFiles told (λ files. FailsIn (Campaigns asked) told files (g.F.Shelf.failures c.args.shelf.now) (g.F.Shelf.failures c.campaign_object.new.shelf) (g.F.Shelf.failed_name c.campaign_object.new.shelf)))
     (λ a is. over_struck_between asked told between c.in-Ok.view c.bytes.result.now c.load_object.ensures.files c.bytes.ensures c.in-Ok.ensures.loads a is)
     (λ x. campaign_failed asked told c.in-Ok.view (g.F.Shelf.failures c.args.shelf.now) (g.F.Shelf.failures c.campaign_object.new.shelf) (g.F.Shelf.failed_name c.campaign_object.new.shelf) c.in-Ok.ensures.loads (subst (λ n. Rose n (g.F.Shelf.failures c.campaign_object.new.shelf)) c.in-Ok.ensures.cause.0 x.0, x.1, x.2)) c.campaign_object.ensures.ends
 
@@ -34,7 +34,7 @@ returns-clause-ends g c =
     let asked = campaign_view c.args.asked.now in
     let told = g.F.Shelf.files c.args.shelf.now in
     Ends-map c.refuse_object.result (IsRefusedBy c.in-Err.fault) (λ a. OfFiles told (λ files. OverFile (CampaignsObject asked files) asked.object files a)) _ _ _ _ _ _ (c.in-Err.fault ≡ Failed)
-    (OfFiles told (λ files. FailsIn (Campaigns asked) files (g.F.Shelf.failures c.args.shelf.now) (g.F.Shelf.failures c.load_object.new.shelf) (g.F.Shelf.failed_name c.load_object.new.shelf)))
+    (OfFiles told (λ files. FailsIn (Campaigns asked) told files (g.F.Shelf.failures c.args.shelf.now) (g.F.Shelf.failures c.load_object.new.shelf) (g.F.Shelf.failed_name c.load_object.new.shelf)))
     (λ a is. over_unstruck (CampaignsObject asked) told asked.object c.in-Err.fault c.in-Err.ensures.loads a is)
     (λ e. failed_in (Campaigns asked) told _ _ _ asked.object (λ files. inl refl) (object_failed _ _ _ _ asked.object c.in-Err.fault c.in-Err.ensures.cause e)) c.refuse_object.ensures.ends
 

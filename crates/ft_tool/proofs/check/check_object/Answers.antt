@@ -1,6 +1,7 @@
 use Rattle.std.proofs.Common.{refl, sym, ap}
 use Rattle.ft_tool.specs.Texts.{accepted_line}
-use Rattle.ft_tool.specs.Answers.{judged, ChecksObject}
+use Rattle.ft_tool.specs.Objects.{judged}
+use Rattle.ft_tool.specs.Answers.{ChecksObject}
 use Rattle.ft_tool.proofs.Answered.{piece_concludes}
 use Rattle.ft_tool.proofs.check.check_object.Goals as goal
 

@@ -1,5 +1,5 @@
 use Rattle.ft_tool.specs.Sources.{OverText, CompilesProgram, IsSourceRefused}
-use Rattle.ft_tool.specs.Answers.{UpgradesObject}
+use Rattle.ft_tool.specs.Objects.{UpgradesObject}
 use Rattle.ft_tool.proofs.Answered.{Ends-map}
 use Rattle.ft_tool.proofs.Compiled.{source_refused, object_compiled}
 use Rattle.ft_tool.proofs.compile.compile_text.Goals as goal

@@ -1,7 +1,6 @@
 use Rattle.std.proofs.Common.{refl, ◌∙◌}
 use Rattle.ft_asm.specs.Reads.{text_of}
 use Rattle.ft_tool.specs.Answers.{DisassemblesObject}
-use Rattle.ft_tool.specs.Replies.{one_piece}
 use Rattle.ft_tool.proofs.Answered.{piece_concludes, piece_breaks_off}
 use Rattle.ft_tool.proofs.disassemble.put_text.Goals as goal
 

@@ -1,5 +1,5 @@
 use Rattle.std.proofs.Common.{refl}
-use Rattle.ft_tool.specs.Answers.{UpgradesObject}
+use Rattle.ft_tool.specs.Objects.{UpgradesObject}
 use Rattle.ft_tool.proofs.Answered.{piece_concludes, piece_breaks_off}
 use Rattle.ft_tool.proofs.ending.put_object.Goals as goal
 

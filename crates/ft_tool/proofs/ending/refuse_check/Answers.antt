@@ -1,7 +1,7 @@
 use Rattle.std.proofs.Common.{refl, sym, ◌∙◌, subst}
 use Rattle.ft_typing.specs.Accepted.{EntryType, CellType, Refused}
 use Rattle.ft_tool.specs.Files.{IsNotAccepted}
-use Rattle.ft_tool.specs.Answers.{judged}
+use Rattle.ft_tool.specs.Objects.{judged}
 use Rattle.std.proofs.Common.{Some}
 use Rattle.ft_tool.specs.Texts.{check_line}
 use Rattle.ft_tool.proofs.Answered.{piece_concludes, piece_breaks_off}

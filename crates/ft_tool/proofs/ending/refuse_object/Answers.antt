@@ -1,5 +1,5 @@
 use Rattle.std.proofs.Common.{refl, sym, ◌∙◌, subst}
-use Rattle.ft_tool.specs.Answers.{refused}
+use Rattle.ft_tool.specs.Objects.{refused}
 use Rattle.ft_tool.specs.Files.{IsRefusedBy}
 use Rattle.ft_tool.specs.Texts.{object_line}
 use Rattle.ft_tool.proofs.Answered.{piece_concludes, piece_breaks_off}

@@ -3,7 +3,7 @@ use Rattle.ft_semantics.specs.Run.{run, status_after, outputs_after}
 use Rattle.ft_machine.specs.Drives.{EndsAs, Puts, output_lines}
 use Rattle.ft_command.specs.Commands.{Run}
 use Rattle.ft_tool.specs.Replies.{ran}
-use Rattle.ft_tool.specs.Endings.{Ends, ending_of_run}
+use Rattle.ft_tool.specs.Endings.{Ends}
 use Rattle.ft_tool.proofs.Answered.{trial_ends, run_excused}
 use Rattle.ft_tool.proofs.exec.run_accepted.Goals as goal
 

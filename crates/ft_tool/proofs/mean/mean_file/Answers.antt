@@ -14,7 +14,7 @@ pub returns-in-Ok-clause-ends : goal.returns-in-Ok-clause-ends
 returns-in-Ok-clause-ends g c =
     let told = g.F.Shelf.files c.args.shelf.now in
     Ends-map c.mean_text.result (OverText (MeansProgram c.args.asked.now.turns) c.as_slice.result.now) (λ a. OfFiles told (λ files. OverSource (MeansProgram c.args.asked.now.turns) c.args.asked.now.source.now files a)) _ _ _ _ _ _ ⊥
-    (OfFiles told (λ files. FailsIn (Means (meaning_view c.args.asked.now)) files (g.F.Shelf.failures c.args.shelf.now) (g.F.Shelf.failures c.load_source.new.shelf) (g.F.Shelf.failed_name c.load_source.new.shelf)))
+    (OfFiles told (λ files. FailsIn (Means (meaning_view c.args.asked.now)) told files (g.F.Shelf.failures c.args.shelf.now) (g.F.Shelf.failures c.load_source.new.shelf) (g.F.Shelf.failed_name c.load_source.new.shelf)))
     (λ a is. over_source {V = Vec ℕ Global} (λ v. v.items) (MeansProgram c.args.asked.now.turns) told c.args.asked.now.source.now c.in-Ok.text c.in-Ok.ensures.loads a (subst (λ text. OverText (MeansProgram c.args.asked.now.turns) text a) c.as_slice.ensures.value is))
     (λ x. absurd x) c.mean_text.ensures.ends
 
@@ -22,6 +22,6 @@ pub returns-in-Err-clause-ends : goal.returns-in-Err-clause-ends
 returns-in-Err-clause-ends g c =
     let told = g.F.Shelf.files c.args.shelf.now in
     Ends-map c.refuse_long_source.result (IsTooLongBy c.in-Err.fault) (λ a. OfFiles told (λ files. OverSource (MeansProgram c.args.asked.now.turns) c.args.asked.now.source.now files a)) _ _ _ _ _ _ (c.in-Err.fault ≡ Failed)
-    (OfFiles told (λ files. FailsIn (Means (meaning_view c.args.asked.now)) files (g.F.Shelf.failures c.args.shelf.now) (g.F.Shelf.failures c.load_source.new.shelf) (g.F.Shelf.failed_name c.load_source.new.shelf)))
+    (OfFiles told (λ files. FailsIn (Means (meaning_view c.args.asked.now)) told files (g.F.Shelf.failures c.args.shelf.now) (g.F.Shelf.failures c.load_source.new.shelf) (g.F.Shelf.failed_name c.load_source.new.shelf)))
     (λ a is. over_long_source {V = Vec ℕ Global} (λ v. v.items) (MeansProgram c.args.asked.now.turns) told c.args.asked.now.source.now c.in-Err.fault c.in-Err.ensures.loads a is)
     (λ e. failed_in (Means (meaning_view c.args.asked.now)) told _ _ _ c.args.asked.now.source.now (λ files. refl) (source_failed (Vec ℕ Global) _ _ _ _ c.args.asked.now.source.now c.in-Err.fault c.in-Err.ensures.cause e)) c.refuse_long_source.ensures.ends

@@ -1,4 +1,5 @@
-use Rattle.ft_tool.specs.Answers.{UpgradesObject, SchedulesAccepted}
+use Rattle.ft_tool.specs.Objects.{UpgradesObject}
+use Rattle.ft_tool.specs.Answers.{SchedulesAccepted}
 use Rattle.ft_tool.proofs.Answered.{Ends-map}
 use Rattle.ft_tool.proofs.schedule.put_schedule.Goals as goal
 

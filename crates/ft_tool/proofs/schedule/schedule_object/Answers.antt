@@ -1,4 +1,4 @@
-use Rattle.std.proofs.Common.{sym, ap, ◌∙◌, subst}
+use Rattle.std.proofs.Common.{subst}
 use Rattle.ft_typing.specs.Accepted.{refusal}
 use Rattle.ft_tool.specs.Answers.{SchedulesAccepted, SchedulesObject}
 use Rattle.ft_tool.specs.Files.{IsNotAccepted}

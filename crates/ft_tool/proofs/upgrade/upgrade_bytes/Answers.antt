@@ -1,7 +1,7 @@
 use Rattle.std.proofs.Common.{◌≡◌, inl}
 use Rattle.ft_format.specs.Broken.{version_at}
 use Rattle.ft_tool.specs.declared.load.ObjectFault.TheVariants.{Failed}
-use Rattle.ft_tool.specs.Answers.{UpgradesObject, OverBytes}
+use Rattle.ft_tool.specs.Objects.{UpgradesObject, OverBytes}
 use Rattle.ft_tool.specs.Files.{IsRefusedBy}
 use Rattle.ft_tool.proofs.Answered.{Ends-map}
 use Rattle.ft_tool.proofs.Upgraded.{decode_refused, decode_has_loaded}

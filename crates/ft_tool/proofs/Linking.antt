@@ -1,0 +1,410 @@
+-- What is answered of a link: the modules that are added in turn, and what ends it.
+use Rattle.std.proofs.Common.{◌≡◌, ℕ, ◌+◌, ◌<◌, ◌≤◌, Bool, drop, get_or, true, List, [], ◌∷◌, ◌++◌, length, Option, Some, None, Ok, Err, inl, inr, refl, sym, ap, ◌∙◌, subst, arith}
+use Rattle.std.specs.Prelude.{◌⊎◌, IsTrue, IfErr, Result}
+use Rattle.std.proofs.lemmas.List.{append-nil, append_assoc, drop_more, length_push}
+use Rattle.ft_edge.specs.Causes.{Rose}
+use Rattle.ft_edge.specs.Loads.{Files}
+use Rattle.ft_edge.specs.Told.{append_told}
+use Rattle.ft_types.specs.declared.object.Object.{Object}
+use Rattle.ft_typing.specs.Accepted.{IsAccepted, refusal}
+use Rattle.ft_typing.specs.Accepted as refusals
+use Rattle.ft_semantics.specs.Agrees.{Agrees}
+use Rattle.ft_semantics.specs.Run.{outputs_after, status_after}
+use Rattle.ft_checker.specs.declared.error.CheckError.{CheckError}
+use Rattle.ft_checker.specs.declared.error.CheckError.TheVariants as checks
+use Rattle.ft_checker.specs.Judges as judges
+use Rattle.ft_format.specs.Broken.{object_of, version_at}
+use Rattle.ft_link_map.specs.declared.link_map.LinkMap.{LinkMap}
+use Rattle.ft_link_map.specs.declared.map_error.MapError.{MapError}
+use Rattle.ft_link_map.specs.declared.map_error.MapError.TheVariants as maps
+use Rattle.ft_link_map.specs.MapLines.{MapLine, AreSaid}
+use Rattle.ft_link_map.specs.MapAnswers.{answer_of, Is, IsRefusal}
+use Rattle.ft_modules.specs.Linked.{linked}
+use Rattle.ft_modules.specs.LinkRefusals.{LinkRefusal, link_refusal, Cells, Rows, CodeOf, TooBig, NoBlock, Stub, Missing, Types}
+use Rattle.ft_modules.specs.ModulesRun.{modules_outputs, modules_status}
+use Rattle.ft_link_steps.specs.declared.link_error.LinkError.{LinkError}
+use Rattle.ft_link_steps.specs.declared.link_error.LinkError.TheVariants as links
+use Rattle.ft_link_steps.specs.LinkErrors.{IsRefusalOf}
+use Rattle.ft_link_steps.specs.Linking.{added_refusal, refusal_of, IsLinked}
+use Rattle.ft_command.specs.Options.{Word}
+use Rattle.ft_command.specs.Commands.{Links}
+use Rattle.ft_tool.specs.declared.load.ObjectFault.{ObjectFault}
+use Rattle.ft_tool.specs.declared.load.ObjectFault.TheVariants.{Refused, Failed, NoMemory as no_memory}
+use Rattle.ft_tool.specs.declared.load.SourceFault.{SourceFault}
+use Rattle.ft_tool.specs.declared.load.SourceFault.TheVariants as source_faults
+use Rattle.ft_tool.specs.declared.ending.Ending.{Ending}
+use Rattle.ft_tool.specs.declared.ending.Ending.TheVariants as endings
+use Rattle.ft_tool.specs.Replies.{Answer, one_piece, IsToldFile}
+use Rattle.ft_tool.specs.Texts.{object_line, check_line, unlinked_line}
+use Rattle.ft_tool.specs.Objects.{UpgradesObject}
+use Rattle.ft_tool.specs.Links.{IsMap, EndsAtMap, long_map, bad_line, line_twice, unlinked, EndsAtObject, not_accepted, not_added, EndsAtBytes, no_object, no_module, IsAdded, LinksObject, LinksUnless, LinksAdded, LinksFiles, LinksText, LinksFile}
+use Rattle.ft_tool.specs.LinkTurns.{EndsWithFile, AddsFile, AddsObject, HasAdded, FailsInTurn, MakesInTurn, MakesOfText}
+use Rattle.ft_tool.specs.Calls.{LoadList, asked_after, HasMade, object_load, map_load, EndsAtFile, LoadsInTurn, LoadsLink}
+use Rattle.ft_tool.specs.Answers.{Concludes, FailsIn}
+use Rattle.ft_tool.specs.Told.{OfFiles}
+use Rattle.ft_tool.specs.Files.{LoadsObject, LoadsMap, IsRefusedBy, IsNotAccepted, IsLongMapBy, IsMapRefused, IsUnlinkedBy}
+use Rattle.ft_tool.specs.Endings.{Ends, ends_early}
+use Rattle.ft_tool.proofs.Answered.{Ends-map}
+use Rattle.ft_tool.proofs.Mapped.{none_some, some_files}
+
+-- ENDINGS
+
+-- a call that ends has an answer, or ends early
+pub answered_or_early : (e : Ending) (P : Answer → Type 0) (old new : Option (List ℕ)) (puts puts' : Option (List (List ℕ))) (before now : ℕ) (L : Type 0) → Ends e P old new puts puts' before now L → ((a : Answer) × P a) ⊎ IsTrue (ends_early e)
+answered_or_early endings.Done P old new puts puts' before now L h = inl (h.answer, h.is)
+answered_or_early endings.Detected P old new puts puts' before now L h = inl (h.answer, h.is)
+answered_or_early endings.Usage P old new puts puts' before now L h = inl (h.answer, h.is)
+answered_or_early endings.LoadFailed P old new puts puts' before now L h = inr refl
+answered_or_early endings.WriteFailed P old new puts puts' before now L h = inl (h.1.answer, h.1.is)
+answered_or_early endings.NoMemory P old new puts puts' before now L h = inr refl
+answered_or_early endings.SourceRefused P old new puts puts' before now L h = inl (h.answer, h.is)
+answered_or_early endings.ObjectRefused P old new puts puts' before now L h = inl (h.answer, h.is)
+answered_or_early endings.NotAccepted P old new puts puts' before now L h = inl (h.answer, h.is)
+answered_or_early endings.OutOfSteps P old new puts puts' before now L h = inl (h.answer, h.is)
+answered_or_early endings.Corrupt P old new puts puts' before now L h = inl (h.answer, h.is)
+answered_or_early endings.ListRefused P old new puts puts' before now L h = inl (h.answer, h.is)
+answered_or_early endings.TextRefused P old new puts puts' before now L h = inl (h.answer, h.is)
+answered_or_early endings.LinkRefused P old new puts puts' before now L h = inl (h.answer, h.is)
+
+-- an error whose ending says the same of an answer that is known less well
+pub err_ends : {T : Type 0} (r : Result T Ending) (P Q : Answer → Type 0) (old new : Option (List ℕ)) (puts puts' : Option (List (List ℕ))) (before now : ℕ) (L M : Type 0) → ((a : Answer) → P a → Q a) → (L → M)
+    → IfErr r (λ e. Ends e P old new puts puts' before now L) → IfErr r (λ e. Ends e Q old new puts puts' before now M)
+err_ends (Ok v) P Q old new puts puts' before now L M f g h = tt
+err_ends (Err e) P Q old new puts puts' before now L M f g h = Ends-map e P Q old new puts puts' before now L M f g h
+
+-- of such an answer less is known
+pub known_less : (P Q Early : Type 0) → (P → Q) → P ⊎ Early → Q ⊎ Early
+known_less P Q Early f (inl p) = inl (f p)
+known_less P Q Early f (inr early) = inr early
+
+-- OBJECTS
+
+-- a refusal of modules, by the error that tells it
+told_refusal : (x : Option LinkRefusal) (e : LinkError) → IsRefusalOf x e → (a : Answer) → IsUnlinkedBy e a → (r : LinkRefusal) × ((x ≡ Some r) × (a ≡ unlinked r))
+told_refusal x (links.Cells m) h a is = (Cells m, (h, is))
+told_refusal x (links.Rows m) h a is = (Rows m, (h, is))
+told_refusal x (links.Code m b i) h a is = (CodeOf m b i, (h, is))
+told_refusal x (links.TooBig m) h a is = (TooBig m, (h, is))
+told_refusal x (links.Block line) h a is = (NoBlock line, (h, is))
+told_refusal x (links.Stub line) h a is = (Stub line, (h, is))
+told_refusal x (links.Missing line) h a is = (Missing line, (h, is))
+told_refusal x (links.Types line) h a is = (Types line, (h, is))
+told_refusal x links.NoMemory h a is = absurd is
+
+-- an object that is added
+pub adds_object : (modules modules' : List Object) (o : Object) → refusal o ≡ None → added_refusal modules o ≡ None → modules' ≡ modules ++ o ∷ [] → AddsObject modules o modules'
+adds_object modules modules' o accepted unrefused added = record { accepted = accepted; unrefused = unrefused; added = added }
+
+-- an object that is not added
+pub ends_unadded : (modules : List Object) (o : Object) (e : LinkError) → refusal o ≡ None → IsRefusalOf (added_refusal modules o) e → (a : Answer) → IsUnlinkedBy e a → EndsAtObject modules o a
+ends_unadded modules o e accepted h a is =
+    let r = told_refusal (added_refusal modules o) e h a is in
+    not_added accepted r.0 r.1.0 r.1.1
+
+-- an object that is not accepted
+pub ends_unaccepted : (modules : List Object) (o : Object) (e : CheckError) → judges.IsRefusalOf (refusal o) e → (a : Answer) → IsNotAccepted e a → EndsAtObject modules o a
+ends_unaccepted modules o checks.EntryType h a is = not_accepted refusals.EntryType h is
+ends_unaccepted modules o (checks.CellType k) h a is = not_accepted (refusals.CellType k) h is
+ends_unaccepted modules o (checks.Refused b i why) h a is = not_accepted (refusals.Refused b i why) h is
+ends_unaccepted modules o checks.NoMemory h a is = absurd is
+
+-- FILES
+
+-- the file of a module that ends the link, by the object that its bytes spell
+pub ends_with_object : (told : Option Files) (modules : List Object) (name : Word) (bytes : List ℕ) → LoadsObject told name (Ok bytes) → (a : Answer) → EndsAtObject modules (object_of bytes) a → EndsWithFile told modules name a
+ends_with_object told modules name bytes h a is = (bytes, (h.0, no_module (object_of bytes) (version_at bytes, h.1) is))
+
+-- by the rule that its bytes break
+pub ends_with_fault : (told : Option Files) (modules : List Object) (name : Word) (e : ObjectFault) → LoadsObject told name (Err e) → (a : Answer) → IsRefusedBy e a → EndsWithFile told modules name a
+ends_with_fault told modules name (Refused e) h a is = (h.0, (h.1.0, no_object e h.1.1 is))
+ends_with_fault told modules name Failed h a is = absurd is
+ends_with_fault told modules name no_memory h a is = absurd is
+
+-- the file of a module that is added
+pub adds_file : (told : Option Files) (modules modules' : List Object) (name : Word) (bytes : List ℕ) → LoadsObject told name (Ok bytes) → AddsObject modules (object_of bytes) modules' → AddsFile told name modules modules'
+adds_file told modules modules' name bytes h g =
+    (bytes, (h.0, (object_of bytes, (record { spelled = (version_at bytes, h.1); accepted = g.accepted; unrefused = g.unrefused }, g.added))))
+
+-- LOADS
+
+asked_after-append : (loads more : LoadList) (asked : Option LoadList) → asked_after (loads ++ more) asked ≡ asked_after more (asked_after loads asked)
+asked_after-append [] more asked = refl
+asked_after-append (load ∷ loads) more asked = asked_after-append loads more (append_told asked (load ∷ []))
+
+-- loads after loads
+made_more : (loads more : LoadList) (asked between asked' : Option LoadList) → HasMade loads asked between → HasMade more between asked' → HasMade (loads ++ more) asked asked'
+made_more loads more asked between asked' h g = g ∙ ap (asked_after more) h ∙ sym (asked_after-append loads more asked)
+
+-- a call that ends early may make no load
+no_loads : (told : Option Files) (modules : List Object) (names : List Word) → LoadsInTurn told (IsTrue true) modules names []
+no_loads told modules [] = refl
+no_loads told modules (name ∷ names) = inl (refl, refl)
+
+pub makes_none : (told : Option Files) (linkage : LinkMap) (asked : Option LoadList) → MakesInTurn told linkage true asked asked
+makes_none told linkage asked = ([], (no_loads told [] linkage.files, refl))
+
+-- MODULES IN TURN
+
+-- nothing was added yet
+pub added_none : (told : Option Files) (linkage : LinkMap) (asked : Option LoadList) → HasAdded told linkage [] linkage.files asked asked
+added_none told linkage asked = record {
+  loads = [];
+  made = refl;
+  count = omega arith;
+  answers = λ a h. h;
+  comes = λ file h. h;
+  in_turn = λ early more h. h;
+}
+
+-- one more was added
+added_object : (told : Option Files) (linkage : LinkMap) (modules : List Object) (name : Word) (names : List Word) (asked between asked' : Option LoadList) → HasAdded told linkage modules (name ∷ names) asked between
+    → (modules' : List Object) → (g : AddsFile told name modules modules') → HasMade (object_load name ∷ []) between asked' → HasAdded told linkage (modules ++ g.1.1.0 ∷ []) names asked asked'
+added_object told linkage modules name names asked between asked' h modules' g made = record {
+  loads = h.loads ++ object_load name ∷ [];
+  made = made_more h.loads (object_load name ∷ []) asked between asked' h.made made;
+  count = omega (arith, length_push modules g.1.1.0, h.count);
+  answers = λ a x. h.answers a (g.0, (g.1.0, inr (g.1.1.0, (g.1.1.1.0, x))));
+  comes = λ file x. h.comes file (inr (g.0, (g.1.0, (g.1.1.0, (g.1.1.1.0, x)))));
+  in_turn = λ early more x.
+      subst (λ ls. LoadsInTurn told (IsTrue early) [] linkage.files ls) (sym (append_assoc h.loads (object_load name ∷ []) more))
+      (h.in_turn early (object_load name ∷ more) (inr (more, (refl, inr (g.0, (g.1.0, (g.1.1.0, (g.1.1.1.0, x))))))));
+}
+
+pub added_more : (told : Option Files) (linkage : LinkMap) (modules modules' : List Object) (name : Word) (names : List Word) (asked between asked' : Option LoadList) → HasAdded told linkage modules (name ∷ names) asked between
+    → AddsFile told name modules modules' → HasMade (object_load name ∷ []) between asked' → HasAdded told linkage modules' names asked asked'
+added_more told linkage modules modules' name names asked between asked' h g made =
+    subst (λ ms. HasAdded told linkage ms names asked asked') (sym g.1.1.1.1) (added_object told linkage modules name names asked between asked' h modules' g made)
+
+-- the file of the next module ends the link
+pub ends_in_turn : (told : Option Files) (linkage : LinkMap) (modules : List Object) (name : Word) (names : List Word) (asked between : Option LoadList) → HasAdded told linkage modules (name ∷ names) asked between
+    → (a : Answer) → EndsWithFile told modules name a → LinksFiles told linkage [] linkage.files a
+ends_in_turn told linkage modules name names asked between h a g = h.answers a (g.0, (g.1.0, inl g.1.1))
+
+-- its load failed
+pub fails_in_turn : (told : Option Files) (linkage : LinkMap) (modules : List Object) (name : Word) (names : List Word) (asked between : Option LoadList) (before now : ℕ) (failed : Option (List ℕ))
+    → HasAdded told linkage modules (name ∷ names) asked between → Rose before now × (failed ≡ Some name) → FailsInTurn told linkage before now failed
+fails_in_turn told linkage modules name names asked between before now failed h g = (name, (h.comes name (inl refl), g))
+
+-- the loads of a link that ended there
+pub makes_to_end : (told : Option Files) (linkage : LinkMap) (modules : List Object) (name : Word) (names : List Word) (asked between asked' : Option LoadList) (early : Bool) → HasAdded told linkage modules (name ∷ names) asked between
+    → ((a : Answer) × EndsWithFile told modules name a) ⊎ IsTrue early → HasMade (object_load name ∷ []) between asked' → MakesInTurn told linkage early asked asked'
+makes_to_end told linkage modules name names asked between asked' early h g made = (
+  h.loads ++ object_load name ∷ [],
+  (
+    h.in_turn early (object_load name ∷ []) (inr ([], (refl, inl (refl, known_less ((a : Answer) × EndsWithFile told modules name a) (EndsAtFile told modules name) (IsTrue early) (λ x. (x.1.0, (x.1.1.0, (x.0, x.1.1.1)))) g)))),
+    made_more h.loads (object_load name ∷ []) asked between asked' h.made made,
+  ),
+)
+
+-- THE NEXT FILE OF A LOOP, by its name, over a shelf that tells what it told
+
+-- the rest of the files begins with the next one
+at_file : (told : Option Files) (linkage : LinkMap) (modules : List Object) (files : List Word) (i : ℕ) (file : Word) (asked between : Option LoadList) → i < length files → file ≡ get_or files i file
+    → HasAdded told linkage modules (drop i files) asked between → HasAdded told linkage modules (file ∷ drop (i + 1) files) asked between
+at_file told linkage modules files i file asked between within is h =
+    subst (λ rest. HasAdded told linkage modules rest asked between) (drop_more files i file within ∙ ap (λ f. f ∷ drop (i + 1) files) (sym is)) h
+
+-- it was added
+pub added_next : (told again : Option Files) (linkage : LinkMap) (modules modules' : List Object) (files : List Word) (i : ℕ) (file name : Word) (asked between asked' : Option LoadList) → again ≡ told → name ≡ file
+    → i < length files → file ≡ get_or files i file → HasAdded told linkage modules (drop i files) asked between → AddsFile again name modules modules' → HasMade (object_load name ∷ []) between asked'
+    → HasAdded told linkage modules' (drop (i + 1) files) asked asked'
+added_next told again linkage modules modules' files i file name asked between asked' e f within is h adds made =
+    added_more told linkage modules modules' file (drop (i + 1) files) asked between asked' (at_file told linkage modules files i file asked between within is h)
+    (subst (λ t. AddsFile t file modules modules') e (subst (λ n. AddsFile again n modules modules') f adds))
+    (subst (λ n. HasMade (object_load n ∷ []) between asked') f made)
+
+-- it ends the link
+same_end : (told again : Option Files) (modules : List Object) (file name : Word) → again ≡ told → name ≡ file → (a : Answer) → EndsWithFile again modules name a → EndsWithFile told modules file a
+same_end told again modules file name e f a h = subst (λ t. EndsWithFile t modules file a) e (subst (λ n. EndsWithFile again modules n a) f h)
+
+pub ends_next : (told again : Option Files) (linkage : LinkMap) (modules : List Object) (files : List Word) (i : ℕ) (file name : Word) (asked between : Option LoadList) → again ≡ told → name ≡ file
+    → i < length files → file ≡ get_or files i file → HasAdded told linkage modules (drop i files) asked between → (a : Answer) → EndsWithFile again modules name a → LinksFiles told linkage [] linkage.files a
+ends_next told again linkage modules files i file name asked between e f within is h a g =
+    ends_in_turn told linkage modules file (drop (i + 1) files) asked between (at_file told linkage modules files i file asked between within is h) a (same_end told again modules file name e f a g)
+
+-- its load failed
+pub fails_next : (told : Option Files) (linkage : LinkMap) (modules : List Object) (files : List Word) (i : ℕ) (file name : Word) (asked between : Option LoadList) (before before' now : ℕ) (failed : Option (List ℕ)) → name ≡ file
+    → i < length files → file ≡ get_or files i file → HasAdded told linkage modules (drop i files) asked between → before' ≡ before → Rose before' now × (failed ≡ Some name) → FailsInTurn told linkage before now failed
+fails_next told linkage modules files i file name asked between before before' now failed f within is h e g =
+    fails_in_turn told linkage modules file (drop (i + 1) files) asked between before now failed (at_file told linkage modules files i file asked between within is h)
+    (subst (λ b. Rose b now) e g.0, g.1 ∙ ap Some f)
+
+-- the loads up to there
+pub makes_next : (told again : Option Files) (linkage : LinkMap) (modules : List Object) (files : List Word) (i : ℕ) (file name : Word) (asked between asked' : Option LoadList) (early : Bool) → again ≡ told → name ≡ file
+    → i < length files → file ≡ get_or files i file → HasAdded told linkage modules (drop i files) asked between → ((a : Answer) × EndsWithFile again modules name a) ⊎ IsTrue early
+    → HasMade (object_load name ∷ []) between asked' → MakesInTurn told linkage early asked asked'
+makes_next told again linkage modules files i file name asked between asked' early e f within is h g made =
+    makes_to_end told linkage modules file (drop (i + 1) files) asked between asked' early (at_file told linkage modules files i file asked between within is h)
+    (known_less ((a : Answer) × EndsWithFile again modules name a) ((a : Answer) × EndsWithFile told modules file a) (IsTrue early) (λ x. (x.0, same_end told again modules file name e f x.0 x.1)) g)
+    (subst (λ n. HasMade (object_load n ∷ []) between asked') f made)
+
+-- no call that went well failed to load
+pub ok_no_err : {A B : Type 0} (x : A) (y : B) (r s : Result A B) → r ≡ Ok x → s ≡ Err y → r ≡ s → ⊥
+ok_no_err x y r s a b e = cc
+
+-- all were added
+pub links_all : (told : Option Files) (linkage : LinkMap) (modules : List Object) (asked asked' : Option LoadList) → HasAdded told linkage modules [] asked asked' → (a : Answer) → LinksAdded linkage modules a → LinksFiles told linkage [] linkage.files a
+links_all told linkage modules asked asked' h a is = h.answers a is
+
+pub makes_all : (told : Option Files) (linkage : LinkMap) (modules : List Object) (asked asked' : Option LoadList) (early : Bool) → HasAdded told linkage modules [] asked asked' → MakesInTurn told linkage early asked asked'
+makes_all told linkage modules asked asked' early h =
+    (h.loads, (subst (λ ls. LoadsInTurn told (IsTrue early) [] linkage.files ls) (append-nil h.loads) (h.in_turn early [] refl), h.made))
+
+pub as_many : (told : Option Files) (linkage : LinkMap) (modules : List Object) (asked asked' : Option LoadList) → HasAdded told linkage modules [] asked asked' → length modules ≡ length linkage.files
+as_many told linkage modules asked asked' h = omega (arith, h.count)
+
+-- THE LINKED OBJECT
+
+object_linked : (linkage : LinkMap) (first : Object) (others : List Object) (o : Object) → o ≡ linked linkage first others → IsAccepted o
+    → ((n : ℕ) → outputs_after o None [] n ≡ modules_outputs linkage first others n) → ((n : ℕ) → status_after o None [] n ≡ modules_status linkage first others n)
+    → ((strike : _) (w : _) (n : ℕ) → Agrees (outputs_after o strike w n) (status_after o strike w n) (modules_outputs linkage first others n) (modules_status linkage first others n))
+    → (a : Answer) → UpgradesObject o a → LinksObject linkage first others a
+object_linked linkage first others o e accepted outputs status tolerates a written = record {
+  accepted = subst IsAccepted e accepted;
+  outputs = λ n. subst (λ (x : Object). outputs_after x None [] n ≡ modules_outputs linkage first others n) e (outputs n);
+  status = λ n. subst (λ (x : Object). status_after x None [] n ≡ modules_status linkage first others n) e (status n);
+  tolerates = λ strike w n. subst (λ (x : Object). Agrees (outputs_after x strike w n) (status_after x strike w n) (modules_outputs linkage first others n) (modules_status linkage first others n)) e (tolerates strike w n);
+  written = subst (λ x. UpgradesObject x a) e written;
+}
+
+-- what the linker gives
+pub links_object : (linkage : LinkMap) (modules : List Object) (o : Object) → IsLinked linkage modules o → refusal_of linkage modules ≡ None → (a : Answer) → UpgradesObject o a → LinksAdded linkage modules a
+links_object linkage modules o h unrefused a written =
+    let none : link_refusal linkage h.first h.others ≡ None = subst (λ ms. refusal_of linkage ms ≡ None) h.modules_are unrefused in
+    subst (λ ms. LinksAdded linkage ms a) (sym h.modules_are)
+    (subst (λ x. LinksUnless x linkage h.first h.others a) (sym none) (object_linked linkage h.first h.others o h.linked_is h.accepted h.outputs h.status h.tolerates a written))
+
+-- what it refuses
+refused_so : (linkage : LinkMap) (modules : List Object) (r : LinkRefusal) → refusal_of linkage modules ≡ Some r → (a : Answer) → a ≡ unlinked r → LinksAdded linkage modules a
+refused_so linkage [] r e a is = absurd (none_some r e)
+refused_so linkage (first ∷ others) r e a is = subst (λ x. LinksUnless x linkage first others a) (sym e) is
+
+pub links_refused : (linkage : LinkMap) (modules : List Object) (e : LinkError) → IsRefusalOf (refusal_of linkage modules) e → (a : Answer) → IsUnlinkedBy e a → LinksAdded linkage modules a
+links_refused linkage modules e h a is =
+    let r = told_refusal (refusal_of linkage modules) e h a is in
+    refused_so linkage modules r.0 r.1.0 a r.1.1
+
+-- THE MAP
+
+-- a text that is a map
+pub is_map : (text : List ℕ) (linkage : LinkMap) → length text ≤ 65536 → (said : List MapLine) → AreSaid text said → answer_of said ≡ Is linkage → IsMap text linkage
+is_map text linkage short said lines is = record { short = short; lines = said; are_said = lines; is = is }
+
+-- a text that is refused
+pub map_refused : (text : List ℕ) → length text ≤ 65536 → (said : List MapLine) → AreSaid text said → (e : MapError) → IsRefusal e (answer_of said) → (a : Answer) → IsMapRefused e a → EndsAtMap text a
+map_refused text short said lines (maps.Line line) h a is = bad_line line (record { short = short; lines = said; are_said = lines; is = h }) is
+map_refused text short said lines (maps.Twice line) h a is = line_twice line (record { short = short; lines = said; are_said = lines; is = h }) is
+map_refused text short said lines maps.NoMemory h a is = absurd is
+
+-- a file that is too long
+pub long_map_ends : {V : Type 0} (bytes_of : V → List ℕ) (told : Option Files) (name : Word) (e : SourceFault) → LoadsMap bytes_of told name (Err e) → (a : Answer) → IsLongMapBy e a → (text : List ℕ) × (IsToldFile told name text × EndsAtMap text a)
+long_map_ends bytes_of told name source_faults.TooLong h a is = (h.0, (h.1.0, long_map h.1.1 is))
+long_map_ends bytes_of told name source_faults.Failed h a is = absurd is
+long_map_ends bytes_of told name source_faults.NoMemory h a is = absurd is
+
+-- the loads after a text that was read
+pub makes_no_module : (told : Option Files) (text : List ℕ) (early : Bool) (asked : Option LoadList) → ((a : Answer) × EndsAtMap text a) ⊎ IsTrue early → MakesOfText told text early asked asked
+makes_no_module told text early asked h = inl (h, refl)
+
+-- the loads of a link
+pub loads_of_text : (told : Option Files) (name : Word) (text : List ℕ) (early : Bool) (asked between asked' : Option LoadList) → IsToldFile told name text → HasMade (map_load name ∷ []) asked between
+    → MakesOfText told text early between asked' → LoadsLink told name (IsTrue early) asked asked'
+loads_of_text told name text early asked between asked' file made (inl x) = inl (record {
+  none = known_less ((a : Answer) × EndsAtMap text a) ((t : List ℕ) × (IsToldFile told name t × ((a : Answer) × EndsAtMap t a))) (IsTrue early) (λ y. (text, (file, y))) x.0;
+  made = x.1 ∙ made;
+})
+loads_of_text told name text early asked between asked' file made (inr x) = inr (record {
+  text = text;
+  is_file = file;
+  linkage = x.0;
+  is_map = x.1.0;
+  loads = x.1.1.0;
+  in_turn = x.1.1.1.0;
+  made = x.1.1.1.1 ∙ ap (asked_after x.1.1.0) made;
+})
+
+pub loads_of_long : {V : Type 0} (bytes_of : V → List ℕ) (told : Option Files) (name : Word) (e : SourceFault) (early : Bool) (asked asked' : Option LoadList) → LoadsMap bytes_of told name (Err e)
+    → ((a : Answer) × IsLongMapBy e a) ⊎ IsTrue early → HasMade (map_load name ∷ []) asked asked' → LoadsLink told name (IsTrue early) asked asked'
+loads_of_long bytes_of told name e early asked asked' h g made = inl (record {
+  none = known_less ((a : Answer) × IsLongMapBy e a) ((t : List ℕ) × (IsToldFile told name t × ((a : Answer) × EndsAtMap t a))) (IsTrue early)
+      (λ y. let l = long_map_ends bytes_of told name e h y.0 y.1 in (l.0, (l.1.0, (y.0, l.1.1)))) g;
+  made = made;
+})
+
+-- a load of a module failed
+failed_module : (told : Option Files) (name : Word) (text : List ℕ) (before now : ℕ) (failed : Option (List ℕ)) → IsToldFile told name text
+    → (linkage : LinkMap) × (IsMap text linkage × FailsInTurn told linkage before now failed) → OfFiles told (λ files. FailsIn (Links name) told files before now failed)
+failed_module told name text before now failed file x =
+    let m = some_files told in (
+      m.0,
+      (
+        m.1.0,
+        record {
+          rose = x.1.1.1.1.0;
+          file = x.1.1.0;
+          comes = inr (record { text = text; is_file = file; linkage = x.0; is_map = x.1.0; in_turn = x.1.1.1.0 });
+          name = x.1.1.1.1.1;
+        },
+      ),
+    )
+
+-- the same where the files are told, and the text lent, after the load of the map
+pub failed_between : (told again : Option Files) (name : Word) (text lent : List ℕ) (before before' now : ℕ) (failed : Option (List ℕ)) → again ≡ told → lent ≡ text → before' ≡ before → IsToldFile told name text
+    → (linkage : LinkMap) × (IsMap lent linkage × FailsInTurn again linkage before' now failed) → OfFiles told (λ files. FailsIn (Links name) told files before now failed)
+failed_between told again name text lent before before' now failed e f b file x =
+    failed_module told name text before now failed file
+    (x.0, (subst (λ t. IsMap t x.0) f x.1.0, subst (λ t. FailsInTurn t x.0 before now failed) e (subst (λ n. FailsInTurn again x.0 n now failed) b x.1.1)))
+
+pub links_between : (told again : Option Files) (name : Word) (text lent : List ℕ) → again ≡ told → lent ≡ text → IsToldFile told name text → (a : Answer) → LinksText again lent a → LinksFile told name a
+links_between told again name text lent e f file a h = (text, (file, subst (λ t. LinksText t text a) e (subst (λ b. LinksText again b a) f h)))
+
+pub long_map_answer : {V : Type 0} (bytes_of : V → List ℕ) (told : Option Files) (name : Word) (e : SourceFault) → LoadsMap bytes_of told name (Err e) → (a : Answer) → IsLongMapBy e a → LinksFile told name a
+long_map_answer bytes_of told name e h a is = let l = long_map_ends bytes_of told name e h a is in (l.0, (l.1.0, inl l.1.1))
+
+-- USAGE, which no link answers
+
+same_status : (n : ℕ) (piece : List ℕ) (a : Answer) → a ≡ one_piece piece n → 2 ≡ a.status → 2 ≡ n
+same_status n piece a is e = e ∙ ap (λ (r : Answer). r.status) is
+
+thirteen : (piece : List ℕ) (a : Answer) → a ≡ one_piece piece 13 → 2 ≡ a.status → ⊥
+thirteen piece a is e = let s : 2 ≡ 13 = same_status 13 piece a is e in omega (arith, s)
+
+map_no_usage : (text : List ℕ) (a : Answer) → EndsAtMap text a → 2 ≡ a.status → ⊥
+map_no_usage text a (long_map l is) e = thirteen _ a is e
+map_no_usage text a (bad_line n h is) e = thirteen _ a is e
+map_no_usage text a (line_twice n h is) e = thirteen _ a is e
+
+object_no_usage : (modules : List Object) (o : Object) (a : Answer) → EndsAtObject modules o a → 2 ≡ a.status → ⊥
+object_no_usage modules o a (not_accepted r h is) e = let s : 2 ≡ 8 = same_status 8 (check_line r) a is e in omega (arith, s)
+object_no_usage modules o a (not_added accepted r h is) e = thirteen (unlinked_line r) a is e
+
+bytes_no_usage : (modules : List Object) (bytes : List ℕ) (a : Answer) → EndsAtBytes modules bytes a → 2 ≡ a.status → ⊥
+bytes_no_usage modules bytes a (no_object x h is) e = let s : 2 ≡ 7 = same_status 7 (object_line x) a is e in omega (arith, s)
+bytes_no_usage modules bytes a (no_module o h x) e = object_no_usage modules o a x e
+
+unless_no_usage : (x : Option LinkRefusal) (linkage : LinkMap) (first : Object) (others : List Object) (a : Answer) → LinksUnless x linkage first others a → 2 ≡ a.status → ⊥
+unless_no_usage None linkage first others a h e = let s : 2 ≡ 0 = same_status 0 h.written.bytes a h.written.answer e in omega (arith, s)
+unless_no_usage (Some r) linkage first others a h e = thirteen (unlinked_line r) a h e
+
+added_no_usage : (linkage : LinkMap) (modules : List Object) (a : Answer) → LinksAdded linkage modules a → 2 ≡ a.status → ⊥
+added_no_usage linkage [] a h e = h
+added_no_usage linkage (first ∷ others) a h e = unless_no_usage (link_refusal linkage first others) linkage first others a h e
+
+next_no_usage : (told : Option Files) (linkage : LinkMap) (modules : List Object) (names : List Word) (bytes : List ℕ) (a : Answer) → ((o : Object) → LinksFiles told linkage (modules ++ o ∷ []) names a → 2 ≡ a.status → ⊥)
+    → EndsAtBytes modules bytes a ⊎ ((o : Object) × (IsAdded modules bytes o × LinksFiles told linkage (modules ++ o ∷ []) names a)) → 2 ≡ a.status → ⊥
+next_no_usage told linkage modules names bytes a on (inl x) e = bytes_no_usage modules bytes a x e
+next_no_usage told linkage modules names bytes a on (inr x) e = on x.0 x.1.1 e
+
+files_no_usage : (told : Option Files) (linkage : LinkMap) (modules : List Object) (names : List Word) (a : Answer) → LinksFiles told linkage modules names a → 2 ≡ a.status → ⊥
+files_no_usage told linkage modules [] a h e = added_no_usage linkage modules a h e
+files_no_usage told linkage modules (name ∷ names) a h e = next_no_usage told linkage modules names h.0 a (λ o x f. files_no_usage told linkage (modules ++ o ∷ []) names a x f) h.1.1 e
+
+text_no_usage : (told : Option Files) (text : List ℕ) (a : Answer) → LinksText told text a → 2 ≡ a.status → ⊥
+text_no_usage told text a (inl x) e = map_no_usage text a x e
+text_no_usage told text a (inr x) e = files_no_usage told x.0 [] x.0.files a x.1.1 e
+
+-- a link does not end as words that are no command do
+pub link_is_no_usage : (end : Ending) (told : Option Files) (name : Word) (old new : Option (List ℕ)) (puts puts' : Option (List (List ℕ))) (before now : ℕ) (L : Type 0) → Ends end (LinksFile told name) old new puts puts' before now L → end ≡ endings.Usage → ⊥
+link_is_no_usage end told name old new puts puts' before now L h is =
+    let x : Concludes (LinksFile told name) 2 old new puts puts' = subst (λ r. Ends r (LinksFile told name) old new puts puts' before now L) is h in
+    text_no_usage told x.is.0 x.answer x.is.1.1 x.status_is

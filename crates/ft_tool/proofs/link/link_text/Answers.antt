@@ -1,0 +1,35 @@
+use Rattle.std.proofs.Common.{inl}
+use Rattle.std.specs.Prelude.{IsTrue}
+use Rattle.ft_link_map.specs.declared.link_map.LinkMap.{LinkMap}
+use Rattle.ft_tool.specs.Replies.{Answer}
+use Rattle.ft_tool.specs.Endings.{ends_early}
+use Rattle.ft_tool.specs.Files.{IsMapRefused}
+use Rattle.ft_tool.specs.Links.{IsMap, EndsAtMap, LinksText}
+use Rattle.ft_tool.specs.LinkTurns.{FailsInTurn}
+use Rattle.ft_tool.proofs.Answered.{Ends-map}
+use Rattle.ft_tool.proofs.MapNames.{ascii_names}
+use Rattle.ft_tool.proofs.Linking.{known_less, answered_or_early, is_map, map_refused, makes_no_module}
+use Rattle.ft_tool.proofs.link.link_text.Goals as goal
+
+pub link_files-requires-clause-names : goal.link_files-requires-clause-names
+link_files-requires-clause-names g c =
+    ascii_names c.args.text.now c.in-Ok.linkage (is_map c.args.text.now c.in-Ok.linkage c.requires c.in-Ok.ensures.said.0 c.in-Ok.ensures.said.1 c.in-Ok.ensures.said.2)
+
+pub returns-in-Err-clause-ends : goal.returns-in-Err-clause-ends
+returns-in-Err-clause-ends g c =
+    let told = g.F.Shelf.files c.args.shelf.now in
+    let text = c.args.text.now in
+    let said = c.in-Err.ensures.said in
+    Ends-map c.refuse_map.result (IsMapRefused c.in-Err.error) (LinksText told text) _ _ _ _ _ _ ⊥
+    ((linkage : LinkMap) × (IsMap text linkage × FailsInTurn told linkage (g.F.Shelf.failures c.args.shelf.now) (g.F.Shelf.failures c.args.shelf.now) (g.F.Shelf.failed_name c.args.shelf.now)))
+    (λ a is. inl (map_refused text c.requires said.0 said.1 c.in-Err.error said.2 a is)) (λ x. absurd x) c.refuse_map.ensures.ends
+
+pub returns-in-Err-clause-made : goal.returns-in-Err-clause-made
+returns-in-Err-clause-made g c =
+    let text = c.args.text.now in
+    let said = c.in-Err.ensures.said in
+    makes_no_module (g.F.Shelf.files c.args.shelf.now) text (ends_early c.refuse_map.result) (g.F.Shelf.asked c.args.shelf.now)
+    (known_less ((a : Answer) × IsMapRefused c.in-Err.error a) ((a : Answer) × EndsAtMap text a) (IsTrue (ends_early c.refuse_map.result)) (λ x. (x.0, map_refused text c.requires said.0 said.1 c.in-Err.error said.2 x.0 x.1))
+    (answered_or_early c.refuse_map.result (IsMapRefused c.in-Err.error)
+    (g.K.Sink.written c.args.out.now) (g.K.Sink.written c.refuse_map.new.out) (g.K.Sink.pieces c.args.out.now) (g.K.Sink.pieces c.refuse_map.new.out) (g.K.Sink.failures c.args.out.now) (g.K.Sink.failures c.refuse_map.new.out) ⊥
+    c.refuse_map.ensures.ends))

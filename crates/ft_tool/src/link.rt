@@ -1,0 +1,185 @@
+//! The command `link`.
+ghost use Rattle.std.specs.Prelude.{◌≡◌, ◌≢◌, ◌≤◌, [], ◌∷◌, All, IsAscii, IsTrue, length, OnOk, IfErr};
+ghost use Rattle.ft_edge.specs.Causes.{Rose};
+ghost use Rattle.ft_command.specs.Commands.{Links};
+ghost use Rattle.ft_types.specs.Spellable.{IsSpellable};
+ghost use Rattle.ft_link_map.specs.Sound.{IsSound};
+ghost use Rattle.ft_tool.specs.Answers.{FailsIn};
+ghost use Rattle.ft_tool.specs.Calls.{HasMade, LoadsLink, object_load};
+ghost use Rattle.ft_tool.specs.Endings.{Ends, ends_early};
+ghost use Rattle.ft_tool.specs.Links.{EndsAtObject, IsMap, LinksAdded, LinksFiles, LinksFile, LinksText};
+ghost use Rattle.ft_tool.specs.LinkTurns.{AddsObject, AddsFile, EndsWithFile, FailsInTurn, HasAdded, MakesInTurn, MakesOfText};
+ghost use Rattle.ft_tool.specs.Told.{OfFiles};
+
+use crate::check::check;
+use crate::ending::{Ending, put_object, refuse_check, refuse_object};
+use crate::load::{load_map, load_object};
+use crate::unlinked::{refuse_long_map, refuse_map, refuse_modules};
+use ft_edge::{Shelf, Sink};
+use ft_link::Linker;
+use ft_link_map::{LinkMap, read_map};
+use ft_types::{Program, Table};
+use std::alloc::Global;
+
+/// The name of a module's file as a text.
+fn name_of(file: &Table<u8>) -> &str
+    requires { IsAscii file.now }
+    ensures { result.now ≡ file.now }
+{
+    let Ok(name) = str::from_utf8(file.as_slice()) else {
+        unreachable!()
+    };
+    name
+}
+
+/// Checks an object and adds it to the linker; or ends the link.
+fn add_object<P: Program, K: Sink>(
+    alloc: Global,
+    program: &P,
+    linker: &mut Linker,
+    out: &mut K,
+) -> Result<(), Ending>
+    requires { IsSpellable (P.object program.now) }
+    ensures ok { OnOk result (AddsObject linker.old (P.object program.now) linker.new) }
+    ensures untouched { OnOk result (out.new ≡ out.old) }
+    ensures ends { IfErr result (λ e. Ends e (EndsAtObject linker.old (P.object program.now))
+        (K.written out.old) (K.written out.new) (K.pieces out.old) (K.pieces out.new) (K.failures out.old) (K.failures out.new) ⊥) }
+    ensures failures { IfErr result (λ e. e ≢ Ending.WriteFailed → K.failures out.new ≡ K.failures out.old) }
+{
+    match check(alloc, program) {
+        Ok(checked) => match linker.add(&checked) {
+            Ok(()) => Ok(()),
+            Err(error) => Err(refuse_modules(error, out)),
+        },
+        Err(error) => Err(refuse_check(error, out)),
+    }
+}
+
+/// Loads an object, checks it and adds it to the linker; or ends the link.
+fn add_file<F: Shelf, K: Sink>(
+    alloc: Global,
+    name: &str,
+    linker: &mut Linker,
+    shelf: &mut F,
+    out: &mut K,
+) -> Result<(), Ending>
+    ensures ok { OnOk result (AddsFile (F.files shelf.old) name.now linker.old linker.new) }
+    ensures untouched { OnOk result (out.new ≡ out.old) }
+    ensures ends { IfErr result (λ e. Ends e (EndsWithFile (F.files shelf.old) linker.old name.now)
+        (K.written out.old) (K.written out.new) (K.pieces out.old) (K.pieces out.new) (K.failures out.old) (K.failures out.new)
+        (Rose (F.failures shelf.old) (F.failures shelf.new) × (F.failed_name shelf.new ≡ Some name.now))) }
+    ensures failures { IfErr result (λ e. e ≢ Ending.WriteFailed → K.failures out.new ≡ K.failures out.old) }
+    ensures files { F.files shelf.new ≡ F.files shelf.old }
+    ensures load_failures { result ≢ Err Ending.LoadFailed → (F.failures shelf.new ≡ F.failures shelf.old) × (F.failed_name shelf.new ≡ F.failed_name shelf.old) }
+    ensures made { HasMade (object_load name.now ∷ []) (F.asked shelf.old) (F.asked shelf.new) }
+{
+    let mut bytes = Vec::new(alloc);
+    match load_object(name, shelf, &mut bytes) {
+        Ok(view) => add_object(alloc, &view, linker, out),
+        Err(fault) => Err(refuse_object(fault, out)),
+    }
+}
+
+/// Adds the modules of a map to the linker, in their order; or ends the link.
+fn add_files<F: Shelf, K: Sink>(
+    alloc: Global,
+    linkage: &LinkMap,
+    linker: &mut Linker,
+    shelf: &mut F,
+    out: &mut K,
+) -> Result<(), Ending>
+    requires none { linker.old ≡ [] }
+    requires names { All IsAscii linkage.now.files }
+    ensures ok { OnOk result (HasAdded (F.files shelf.old) linkage.now linker.new [] (F.asked shelf.old) (F.asked shelf.new)) }
+    ensures untouched { OnOk result (out.new ≡ out.old) }
+    ensures ends { IfErr result (λ e. Ends e (LinksFiles (F.files shelf.old) linkage.now [] linkage.now.files)
+        (K.written out.old) (K.written out.new) (K.pieces out.old) (K.pieces out.new) (K.failures out.old) (K.failures out.new)
+        (FailsInTurn (F.files shelf.old) linkage.now (F.failures shelf.old) (F.failures shelf.new) (F.failed_name shelf.new))) }
+    ensures failures { IfErr result (λ e. e ≢ Ending.WriteFailed → K.failures out.new ≡ K.failures out.old) }
+    ensures load_failures { result ≢ Err Ending.LoadFailed → (F.failures shelf.new ≡ F.failures shelf.old) × (F.failed_name shelf.new ≡ F.failed_name shelf.old) }
+    ensures made { IfErr result (λ e. MakesInTurn (F.files shelf.old) linkage.now (ends_early e) (F.asked shelf.old) (F.asked shelf.new)) }
+{
+    let files = linkage.files.as_slice();
+    for file in files {
+        match add_file(alloc, name_of(file), linker, shelf, out) {
+            Ok(()) => {}
+            Err(ending) => return Err(ending),
+        }
+    }
+    Ok(())
+}
+
+/// Links the modules that were added, and puts the object.
+fn put_linked<K: Sink>(alloc: Global, linker: Linker, linkage: &LinkMap, out: &mut K) -> Ending
+    requires sound { IsSound linkage.now }
+    requires modules { length linker ≡ length linkage.now.files }
+    ensures ends { Ends result (LinksAdded linkage.now linker)
+        (K.written out.old) (K.written out.new) (K.pieces out.old) (K.pieces out.new) (K.failures out.old) (K.failures out.new) ⊥ }
+    ensures failures { result ≢ Ending.WriteFailed → K.failures out.new ≡ K.failures out.old }
+{
+    match linker.finish(linkage) {
+        Ok(object) => put_object(alloc, &object, out),
+        Err(error) => refuse_modules(error, out),
+    }
+}
+
+/// Links the modules of a map, and puts the object.
+fn link_files<F: Shelf, K: Sink>(
+    alloc: Global,
+    linkage: &LinkMap,
+    shelf: &mut F,
+    out: &mut K,
+) -> Ending
+    requires sound { IsSound linkage.now }
+    requires names { All IsAscii linkage.now.files }
+    ensures ends { Ends result (LinksFiles (F.files shelf.old) linkage.now [] linkage.now.files)
+        (K.written out.old) (K.written out.new) (K.pieces out.old) (K.pieces out.new) (K.failures out.old) (K.failures out.new)
+        (FailsInTurn (F.files shelf.old) linkage.now (F.failures shelf.old) (F.failures shelf.new) (F.failed_name shelf.new)) }
+    ensures failures { result ≢ Ending.WriteFailed → K.failures out.new ≡ K.failures out.old }
+    ensures load_failures { result ≢ Ending.LoadFailed → (F.failures shelf.new ≡ F.failures shelf.old) × (F.failed_name shelf.new ≡ F.failed_name shelf.old) }
+    ensures made { MakesInTurn (F.files shelf.old) linkage.now (ends_early result) (F.asked shelf.old) (F.asked shelf.new) }
+{
+    let Ok(mut linker) = Linker::new(alloc) else {
+        return Ending::NoMemory;
+    };
+    match add_files(alloc, linkage, &mut linker, shelf, out) {
+        Ok(()) => put_linked(alloc, linker, linkage, out),
+        Err(ending) => ending,
+    }
+}
+
+/// Reads a link map, links its modules and puts the object.
+fn link_text<F: Shelf, K: Sink>(alloc: Global, text: &[u8], shelf: &mut F, out: &mut K) -> Ending
+    requires { length text.now ≤ 65536 }
+    ensures ends { Ends result (LinksText (F.files shelf.old) text.now)
+        (K.written out.old) (K.written out.new) (K.pieces out.old) (K.pieces out.new) (K.failures out.old) (K.failures out.new)
+        ((linkage : LinkMap) × (IsMap text.now linkage × FailsInTurn (F.files shelf.old) linkage (F.failures shelf.old) (F.failures shelf.new) (F.failed_name shelf.new))) }
+    ensures failures { result ≢ Ending.WriteFailed → K.failures out.new ≡ K.failures out.old }
+    ensures load_failures { result ≢ Ending.LoadFailed → (F.failures shelf.new ≡ F.failures shelf.old) × (F.failed_name shelf.new ≡ F.failed_name shelf.old) }
+    ensures made { MakesOfText (F.files shelf.old) text.now (ends_early result) (F.asked shelf.old) (F.asked shelf.new) }
+{
+    match read_map(alloc, text) {
+        Ok(linkage) => link_files(alloc, &linkage, shelf, out),
+        Err(error) => refuse_map(error, out),
+    }
+}
+
+/// Loads a link map, links its modules and puts the object.
+pub(crate) fn link_file<F: Shelf, K: Sink>(
+    alloc: Global,
+    name: &str,
+    shelf: &mut F,
+    out: &mut K,
+) -> Ending
+    ensures ends { Ends result (LinksFile (F.files shelf.old) name.now)
+        (K.written out.old) (K.written out.new) (K.pieces out.old) (K.pieces out.new) (K.failures out.old) (K.failures out.new)
+        (OfFiles (F.files shelf.old) (λ files. FailsIn (Links name.now) (F.files shelf.old) files (F.failures shelf.old) (F.failures shelf.new) (F.failed_name shelf.new))) }
+    ensures failures { result ≢ Ending.WriteFailed → K.failures out.new ≡ K.failures out.old }
+    ensures load_failures { result ≢ Ending.LoadFailed → (F.failures shelf.new ≡ F.failures shelf.old) × (F.failed_name shelf.new ≡ F.failed_name shelf.old) }
+    ensures made { LoadsLink (F.files shelf.old) name.now (IsTrue (ends_early result)) (F.asked shelf.old) (F.asked shelf.new) }
+{
+    match load_map(alloc, name, shelf) {
+        Ok(text) => link_text(alloc, text.as_slice(), shelf, out),
+        Err(fault) => refuse_long_map(fault, out),
+    }
+}
