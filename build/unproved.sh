@@ -42,6 +42,9 @@ hand_over() {
   fi
 }
 
+if [ "${#words[@]}" -gt 1 ] && [ "${words[0]}" = link ]; then
+  cannot 'a link reads the files that its map names'
+fi
 if [ "${#words[@]}" -gt 1 ] && [ "${words[0]}" != demo ]; then
   operand=${words[1]}
   hand_over 1 operand

@@ -17,11 +17,12 @@ _talft() {
   case ${#words[@]}:$command in
     [01]:*) return ;;
     2:*)
-      COMPREPLY=($(compgen -W 'asm campaign check compile debug demo dis exec mean recover run schedule survey trial upgrade' -- "$word"))
+      COMPREPLY=($(compgen -W 'asm campaign check compile debug demo dis exec link mean recover run schedule survey trial upgrade' -- "$word"))
       return
       ;;
     3:compile | 3:exec | 3:mean) _talft_files src; return ;;
     3:asm) _talft_files asm; return ;;
+    3:link) _talft_files map; return ;;
     3:*)
       [[ $command == demo ]] || _talft_files obj
       return

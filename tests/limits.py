@@ -4,7 +4,7 @@ status and the last line that are wanted, and then the words, one a line."""
 import sys
 
 sys.dont_write_bytecode = True
-import limits_tables, limits_chains, limits_runs, limits_sources, limits_texts  # noqa: E401, E402, F401
+import limits_tables, limits_chains, limits_runs, limits_sources, limits_texts, limits_links  # noqa: E401, E402, F401
 from limits_rows import COMMANDS, ROWS, put  # noqa: E402
 
 # Words that depend on the size.
@@ -23,7 +23,7 @@ def main():
     row.make(n)
     status, line = row.want(n)
     words = [word for part in row.words for word in SPECIAL.get(part, lambda n: [part])(n)]
-    shown = " ".join({"ANSWERS": "LIST", "DIGITS": "N", "WORDS": "..", "object": "OBJECT", "source": "SOURCE", "text": "TEXT",
+    shown = " ".join({"ANSWERS": "LIST", "DIGITS": "N", "WORDS": "..", "object": "OBJECT", "source": "SOURCE", "text": "TEXT", "map": "MAP",
                       "faults": "LIST"}.get(part, part) for part in row.words)
     print(row.what, f"{n:,} {row.unit}", row.power, status, "*" if line is None else line, shown, sep="\n")
     print("\n".join(words))

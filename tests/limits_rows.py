@@ -1,8 +1,8 @@
 """The rows of limits.py, and what each command says of an object."""
 ROWS = {}
-OBJECT_COMMANDS = ["check", "run", "trial", "campaign", "survey", "debug", "upgrade", "dis", "schedule", "recover"]
+OBJECT_COMMANDS = ["check", "run", "trial", "campaign", "survey", "debug", "upgrade", "dis", "schedule", "recover", "link"]
 SOURCE_COMMANDS = ["compile", "exec", "mean"]
-COMMANDS = ["check", "run", "trial", "campaign", "survey", "debug", "demo", "compile", "exec", "mean", "upgrade", "dis", "asm", "schedule", "recover"]
+COMMANDS = ["check", "run", "trial", "campaign", "survey", "debug", "demo", "compile", "exec", "mean", "upgrade", "dis", "asm", "schedule", "recover", "link"]
 MIB = 1048576
 
 
@@ -31,12 +31,15 @@ def object_words(command):
     """Words of a command over the object; faults and script are one line."""
     if command in ("campaign", "survey"):
         return [command, "object", "--faults", "faults", "--steps", "100"]
+    if command == "link":
+        return [command, "map"]
     return [command, "object"]
 
 
 def put_object(data):
     put("object", data)
     put("faults", "0:r60:6\n")
+    put("map", "module object\n")
     put("stdin", "where\n")
 
 
@@ -60,11 +63,11 @@ IDLE = "faults 1 masked 0 detected 0 idle 1 corrupt 0"
 # What each command says of an object that is accepted, puts out nothing and halts.
 HALTS = {"check": same(0, "accepted"), "run": same(0), "trial": same(0), "campaign": same(0, MASKED),
          "survey": same(0, MASKED), "debug": same(0, RUNNING), "upgrade": same(0, None), "dis": same(0, "entry 0"),
-         "schedule": same(0, None), "recover": same(0)}
+         "schedule": same(0, None), "recover": same(0), "link": same(0, None)}
 
 
 def unaccepted(line, trial=0):
     """What each command says of an object that is refused by the checker."""
     return {"check": same(8, line), "run": same(8, line), "trial": same(trial), "campaign": same(8, line),
             "survey": same(0, MASKED), "debug": same(0, RUNNING), "upgrade": same(0, None), "dis": same(0, "entry 0"),
-            "schedule": same(8, line), "recover": same(8, line)}
+            "schedule": same(8, line), "recover": same(8, line), "link": same(8, line)}

@@ -49,6 +49,11 @@ each 'debug' five.script debug five.obj
 each 'demo' /dev/null demo 3
 each 'upgrade' /dev/null upgrade five.obj
 each 'upgrade of bytes that are no object' /dev/null upgrade five.faults
+(cd "$work" && for name in caller doubler; do "$program" asm "$top/examples/$name.asm" >$name.obj; done)
+cp "$top/examples/caller.map" "$work"
+cd "$work" || exit
+each 'link' /dev/null link caller.map
+cd "$top/examples" || exit
 each 'a missing file' /dev/null trial missing
 
 # The least memory in KB under which the program says `usage`.

@@ -15,9 +15,10 @@ completes() {
 
 cd "$top/examples" || exit 2
 completes 'a command' 'campaign check compile' 'talft c'
-completes 'each command' 'asm campaign check compile debug demo dis exec mean recover run schedule survey trial upgrade' 'talft '
+completes 'each command' 'asm campaign check compile debug demo dis exec link mean recover run schedule survey trial upgrade' 'talft '
 completes 'an object' 'five.obj' 'talft run fi'
 completes 'an assembly text' 'five.asm' 'talft asm fiv'
+completes 'a link map' 'caller.map' 'talft link cal'
 completes 'a source' 'fibonacci.src' 'talft mean fib'
 completes 'a file of another kind' 'README.md' 'talft run REA'
 completes 'no file for a number of turns' '' 'talft demo '

@@ -40,4 +40,8 @@ small demo 3
 small upgrade five.obj
 small asm five.asm
 small dis five.obj
+small schedule five.obj
 cd "$work" || exit 2
+for name in caller doubler; do "$top/talft" asm "$top/examples/$name.asm" >$name.obj; done
+cp "$top/examples/caller.map" .
+small link caller.map
