@@ -89,7 +89,6 @@ pub fn copy_instrs<P: Program>(alloc: Global, program: &P) -> Result<Vec<Instr>,
 }
 
 /// The substitution rows.
-#[tactic(auto, using(crate::proofs::Copies::grown))]
 pub fn copy_substs<P: Program>(alloc: Global, program: &P) -> Result<Vec<u32>, AllocError>
     requires { IsSpellable (P.object program.now) }
     ensures { IfOk result (λ v. v.items ≡ (P.object program.now).substs) }

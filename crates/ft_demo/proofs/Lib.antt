@@ -1,2 +1,5 @@
+mod Turns
+pub mod Applies
+pub mod Spelled
 mod Outputs
 mod Tried

@@ -12,7 +12,7 @@ use Rattle.ft_semantics.specs.Run.{outputs_after}
 use Rattle.ft_campaign.specs.declared.verdict.Verdict.{Verdict}
 use Rattle.ft_campaign.specs.Verdicts.{AreVerdicts}
 use Rattle.ft_campaign.specs.Texts.{is_corrupt, totals_of, end_line}
-use Rattle.ft_sample.specs.Sample.{sample_object}
+use Rattle.ft_demo.specs.Sample.{sample_object}
 use Rattle.ft_demo.specs.declared.demo_end.DemoEnd.{DemoEnd}
 use Rattle.ft_demo.specs.declared.demo_end.DemoEnd.TheVariants.{Finished, WriteFault, NoMemory}
 

@@ -1,6 +1,6 @@
 //! Demonstrations.
 ghost use Rattle.std.specs.Prelude.{◌≡◌, ◌≤◌, ◌<◌, [], length, None, IfOk};
-ghost use Rattle.ft_sample.specs.Sample.{sample_object};
+ghost use Rattle.ft_demo.specs.Sample.{sample_object};
 ghost use Rattle.ft_typing.specs.Accepted.{IsAccepted, refusal};
 ghost use Rattle.ft_types.specs.Spellable.{IsSpellable};
 ghost use Rattle.ft_demo.specs.Demonstrations.{EndsAs, IsExcused};
@@ -8,6 +8,7 @@ ghost use Rattle.ft_demo.specs.Shown.{IsShown, AreTotals};
 
 use crate::demo_end::DemoEnd;
 use crate::faults::all_faults;
+use crate::making::sample;
 use crate::report::put_lines;
 use crate::tally::{STEPS, Tally, tally_run};
 use ft_campaign::{CampaignEnd, Totals, campaign};
@@ -15,7 +16,6 @@ use ft_checker::{CheckError, Checked, check};
 use ft_edge::{NullSink, Sink};
 use ft_inject::Clean;
 use ft_isa::{NoMemory, Strike};
-use ft_sample::sample;
 use ft_steps::Steps;
 use ft_types::{Object, Program};
 use std::alloc::Global;

@@ -1,14 +1,14 @@
 //! A sink that gathers what it takes and hands it to a writer in large pieces.
-ghost use Rattle.std.specs.Prelude.{◌≡◌, ◌≤◌, None, IfOk, OnOk, OnErr};
+ghost use Rattle.std.specs.Prelude.{◌≡◌, ◌≤◌, [], length, drop, None, IsTrue, IfOk, OnOk, OnErr};
 ghost use Rattle.std.specs.Io.KnownBytes.{Appends, Keeps};
 ghost use Rattle.ft_edge.specs.Calls.{next_count};
 ghost use Rattle.ft_edge.specs.Streams.{AppendsFront};
 
-use crate::writing::put_to;
+use crate::writing::{put_to, write_front};
 use crate::{Failed, Sink};
 use ft_isa::NoMemory;
 use std::alloc::Global;
-use std::io::{BufWriter, Write};
+use std::io::Write;
 
 /// How many bytes are gathered before they are handed on.
 const ROOM: usize = 65_536;
@@ -18,7 +18,8 @@ const ROOM: usize = 65_536;
 /// bytes, and its count of failures stands still at 2^64 - 1.
 #[derive(Drop)]
 pub struct GatheringSink<W: Write + Drop> {
-    out: BufWriter<W>,
+    out: W,
+    gathered: Vec<u8>,
     failures: u64,
 }
 
@@ -30,34 +31,103 @@ impl<W: Write + Drop> GatheringSink<W> {
         ensures empty { IfOk result (λ sink. Keeps (W.contents writer) (written_to W.contents sink)) }
         ensures count { IfOk result (λ sink. sink.failures ≡ 0) }
     {
-        match BufWriter::with_capacity(alloc, ROOM, writer) {
-            Ok(out) => Ok(GatheringSink { out, failures: 0 }),
+        match Vec::with_capacity(alloc, ROOM) {
+            Ok(gathered) => Ok(GatheringSink {
+                out: writer,
+                gathered,
+                failures: 0,
+            }),
             Err(_) => Err(NoMemory),
         }
+    }
+
+    /// Hands on what is gathered. What was not written stays gathered.
+    fn hand_on(&mut self) -> bool
+        ensures kept { Keeps (written_to W.contents self.old) (written_to W.contents self.new) }
+        ensures all { IsTrue result → self.new.gathered.items ≡ [] }
+        ensures count { self.new.failures ≡ self.old.failures }
+    {
+        let done = write_front(&mut self.out, self.gathered.as_slice());
+        remove_front(&mut self.gathered, done);
+        self.gathered.is_empty()
     }
 
     /// Hands on what is gathered, and gives the writer back.
     pub fn finish(self) -> Result<W, Failed>
         ensures { IfOk result (λ writer. Keeps (written_to W.contents self) (W.contents writer)) }
     {
-        let GatheringSink { out, failures: _ } = self;
-        match out.into_inner() {
-            Ok(writer) => Ok(writer),
-            Err(error) => {
-                let _ = error.into_inner().into_parts();
-                Err(Failed)
-            }
+        let mut sink = self;
+        if !sink.hand_on() {
+            return Err(Failed);
         }
+        Ok(sink.discard())
     }
 
     /// Gives the writer back, and lets go of what is gathered: nothing more is written.
     pub fn discard(self) -> W
         ensures { (sink_writer self) ≡ result }
     {
-        let GatheringSink { out, failures: _ } = self;
-        let (writer, _) = out.into_parts();
-        writer
+        let GatheringSink {
+            out,
+            gathered: _,
+            failures: _,
+        } = self;
+        out
     }
+
+    /// Counts a put that failed.
+    fn fail(&mut self) -> Result<(), Failed>
+        ensures failed { OnOk result ⊥ }
+        ensures rise { self.old.failures ≤ self.new.failures }
+        ensures count { self.new ≡ record self.old { failures = next_count self.old.failures } }
+    {
+        self.failures = self.failures.saturating_add(1);
+        Err(Failed)
+    }
+
+    /// Puts a piece for which there is no room.
+    #[cold]
+    #[inline(never)]
+    fn put_apart(&mut self, bytes: &[u8]) -> Result<(), Failed>
+        ensures gathers { OnOk result (Appends (written_to W.contents self.old) (written_to W.contents self.new) bytes.now) }
+        ensures front { OnErr result (AppendsFront (written_to W.contents self.old) (written_to W.contents self.new) bytes.now) }
+        ensures count { self.old.failures ≤ self.new.failures }
+        ensures same_count { OnOk result (self.new.failures ≡ self.old.failures) }
+        ensures counted { OnErr result (self.new.failures ≡ next_count self.old.failures) }
+    {
+        if !self.hand_on() {
+            return self.fail();
+        }
+        if bytes.len() > ROOM {
+            return put_to(&mut self.out, bytes, &mut self.failures);
+        }
+        self.gather(bytes)
+    }
+
+    /// Gathers a piece.
+    #[inline(always)]
+    fn gather(&mut self, bytes: &[u8]) -> Result<(), Failed>
+        ensures gathers { OnOk result (Appends (written_to W.contents self.old) (written_to W.contents self.new) bytes.now) }
+        ensures front { OnErr result (AppendsFront (written_to W.contents self.old) (written_to W.contents self.new) bytes.now) }
+        ensures count { self.old.failures ≤ self.new.failures }
+        ensures same_count { OnOk result (self.new.failures ≡ self.old.failures) }
+        ensures counted { OnErr result (self.new.failures ≡ next_count self.old.failures) }
+    {
+        match self.gathered.extend_from_slice(bytes) {
+            Ok(()) => Ok(()),
+            Err(_) => self.fail(),
+        }
+    }
+}
+
+/// Takes away so many bytes from the front.
+fn remove_front(bytes: &mut Vec<u8>, count: usize)
+    requires { count ≤ length bytes.old.items }
+    ensures { bytes.new.items ≡ drop count bytes.old.items }
+{
+    let len = bytes.len();
+    bytes.as_mut_slice().copy_within(count..len, 0);
+    bytes.truncate(len - count);
 }
 
 impl<W: Write + Drop> Sink for GatheringSink<W> {
@@ -69,6 +139,7 @@ impl<W: Write + Drop> Sink for GatheringSink<W> {
 
     ghost pieces = { λ _. None };
 
+    #[inline(always)]
     fn put(&mut self, bytes: &[u8]) -> Result<(), Failed>
         ensures gathers { OnOk result (Appends (written_to W.contents self.old) (written_to W.contents self.new) bytes.now) }
         ensures front { OnErr result (AppendsFront (written_to W.contents self.old) (written_to W.contents self.new) bytes.now) }
@@ -76,6 +147,9 @@ impl<W: Write + Drop> Sink for GatheringSink<W> {
         ensures same_count { OnOk result (self.new.failures ≡ self.old.failures) }
         ensures counted { OnErr result (self.new.failures ≡ next_count self.old.failures) }
     {
-        put_to(&mut self.out, bytes, &mut self.failures)
+        if bytes.len() > self.gathered.capacity() - self.gathered.len() {
+            return self.put_apart(bytes);
+        }
+        self.gather(bytes)
     }
 }

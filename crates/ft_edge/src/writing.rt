@@ -1,5 +1,5 @@
 //! Whole pieces, written by single writes.
-ghost use Rattle.std.specs.Prelude.{◌≡◌, ◌≤◌, OnOk, OnErr};
+ghost use Rattle.std.specs.Prelude.{◌≡◌, ◌≤◌, length, take, OnOk, OnErr};
 ghost use Rattle.std.specs.Io.KnownBytes.{Appends};
 ghost use Rattle.ft_edge.specs.Calls.{next_count};
 ghost use Rattle.ft_edge.specs.Streams.{AppendsFront};
@@ -8,18 +8,31 @@ use crate::Failed;
 use crate::system::write_once;
 use std::io::Write;
 
-/// Writes the whole piece. A write that takes nothing of what is left is a failure.
-fn write_whole<W: Write>(out: &mut W, bytes: &[u8]) -> Result<(), Failed>
-    ensures ok { OnOk result (Appends (W.contents out.old) (W.contents out.new) bytes.now) }
-    ensures err { OnErr result (AppendsFront (W.contents out.old) (W.contents out.new) bytes.now) }
+/// Writes a piece from its front on, and tells how many of its bytes were written: fewer than all only where a write failed,
+/// or took nothing.
+pub(crate) fn write_front<W: Write>(out: &mut W, bytes: &[u8]) -> usize
+    ensures within { result ≤ length bytes.now }
+    ensures written { Appends (W.contents out.old) (W.contents out.new) (take result bytes.now) }
 {
     let mut done = 0;
     while done < bytes.len() {
         match write_once(out, &bytes[done..]) {
-            Ok(0) => return Err(Failed),
+            Ok(0) => return done,
             Ok(count) => done += count,
-            Err(_) => return Err(Failed),
+            Err(_) => return done,
         }
+    }
+    done
+}
+
+/// Writes the whole piece.
+fn write_whole<W: Write>(out: &mut W, bytes: &[u8]) -> Result<(), Failed>
+    ensures ok { OnOk result (Appends (W.contents out.old) (W.contents out.new) bytes.now) }
+    ensures err { OnErr result (AppendsFront (W.contents out.old) (W.contents out.new) bytes.now) }
+{
+    let done = write_front(out, bytes);
+    if done < bytes.len() {
+        return Err(Failed);
     }
     Ok(())
 }

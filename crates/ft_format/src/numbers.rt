@@ -2,7 +2,7 @@
 ghost use Rattle.std.specs.Prelude.{◌≡◌, ◌≤◌, ◌+◌, ◌∷◌, [], length, drop, OnOk};
 ghost use Rattle.std.specs.Int.{w8, w16, w32, w64};
 ghost use Rattle.ft_format.specs.Puts.{Puts};
-ghost use Rattle.ft_format.specs.Layout.{number_of, bytes_of, written, code_layout};
+ghost use Rattle.ft_format.specs.Layout.{number_of, bytes_of, written, cell_layout, code_layout, type_layout, reg_layout, pair_layout};
 
 use byteorder::{BigEndian, ByteOrder};
 use ft_isa::NoMemory;
@@ -61,30 +61,13 @@ pub(crate) fn read_u64(bytes: &[u8]) -> (u64, &[u8])
     (number, rest)
 }
 
-/// Puts bytes at the end.
+/// Puts bytes at the end. It is compiled where it is called, since there the number of bytes is known.
+#[inline(always)]
 pub(crate) fn put(out: &mut Vec<u8>, bytes: &[u8]) -> Result<(), NoMemory>
     ensures { OnOk result (Puts out.old.items out.new.items (bytes.now)) }
 {
     out.extend_from_slice(bytes)?;
     Ok(())
-}
-
-/// Puts a number of one byte at the end.
-#[tactic(auto, unfolding(crate::specs::Layout::bytes_of))]
-pub(crate) fn put_u8(out: &mut Vec<u8>, n: u8) -> Result<(), NoMemory>
-    ensures { OnOk result (Puts out.old.items out.new.items (bytes_of w8 n)) }
-{
-    put(out, &[n])
-}
-
-/// Puts a number of two bytes at the end.
-#[tactic(auto, unfolding(crate::specs::Layout::bytes_of))]
-pub(crate) fn put_u16(out: &mut Vec<u8>, n: u16) -> Result<(), NoMemory>
-    ensures { OnOk result (Puts out.old.items out.new.items (bytes_of w16 n)) }
-{
-    let mut bytes = [0; 2];
-    BigEndian::write_u16(&mut bytes, n);
-    put(out, &bytes)
 }
 
 /// Puts a number of four bytes at the end.
@@ -116,4 +99,57 @@ pub(crate) fn code_bytes(a: u8, b: u8, c: u8, d: u8, x: u32, y: u32, z: u32) -> 
     let [y0, y1, y2, y3] = y.to_be_bytes();
     let [z0, z1, z2, z3] = z.to_be_bytes();
     [a, b, c, d, x0, x1, x2, x3, y0, y1, y2, y3, z0, z1, z2, z3]
+}
+
+/// The bytes of a cell's record.
+#[tactic(auto, unfolding(crate::specs::Layout::written, crate::specs::Layout::bytes_of))]
+pub(crate) fn cell_bytes(past: u32, refs: u8, base: u8, code_type: u16, init: u64) -> [u8; 16]
+    ensures { result ≡ written cell_layout (past ∷ refs ∷ base ∷ code_type ∷ init ∷ []) }
+{
+    let [p0, p1, p2, p3] = past.to_be_bytes();
+    let [t0, t1] = code_type.to_be_bytes();
+    let [i0, i1, i2, i3, i4, i5, i6, i7] = init.to_be_bytes();
+    [
+        p0, p1, p2, p3, refs, base, t0, t1, i0, i1, i2, i3, i4, i5, i6, i7,
+    ]
+}
+
+/// The bytes of a type's record.
+#[tactic(auto, unfolding(crate::specs::Layout::written, crate::specs::Layout::bytes_of))]
+pub(crate) fn type_bytes(x: u32, y: u32, z: u32, a: u8, b: u8, c: u8, d: u8) -> [u8; 16]
+    ensures { result ≡ written type_layout (x ∷ y ∷ z ∷ a ∷ b ∷ c ∷ d ∷ []) }
+{
+    let [x0, x1, x2, x3] = x.to_be_bytes();
+    let [y0, y1, y2, y3] = y.to_be_bytes();
+    let [z0, z1, z2, z3] = z.to_be_bytes();
+    [x0, x1, x2, x3, y0, y1, y2, y3, z0, z1, z2, z3, a, b, c, d]
+}
+
+/// The bytes of a register row.
+#[tactic(auto, unfolding(crate::specs::Layout::written, crate::specs::Layout::bytes_of))]
+pub(crate) fn reg_bytes(
+    reg: u8,
+    colour: u8,
+    pad: u16,
+    refs: u8,
+    base: u8,
+    code_type: u16,
+    expr: u32,
+) -> [u8; 12]
+    ensures { result ≡ written reg_layout (reg ∷ colour ∷ pad ∷ refs ∷ base ∷ code_type ∷ expr ∷ []) }
+{
+    let [p0, p1] = pad.to_be_bytes();
+    let [t0, t1] = code_type.to_be_bytes();
+    let [e0, e1, e2, e3] = expr.to_be_bytes();
+    [reg, colour, p0, p1, refs, base, t0, t1, e0, e1, e2, e3]
+}
+
+/// The bytes of a queue row or of a block's record.
+#[tactic(auto, unfolding(crate::specs::Layout::written, crate::specs::Layout::bytes_of))]
+pub(crate) fn pair_bytes(first: u32, second: u32) -> [u8; 8]
+    ensures { result ≡ written pair_layout (first ∷ second ∷ []) }
+{
+    let [a0, a1, a2, a3] = first.to_be_bytes();
+    let [b0, b1, b2, b3] = second.to_be_bytes();
+    [a0, a1, a2, a3, b0, b1, b2, b3]
 }

@@ -1,8 +1,8 @@
 //! Outputs and their lines.
-ghost use Rattle.std.specs.Prelude.{◌≡◌, ◌≤◌, ◌+◌, ◌++◌, length, take};
+ghost use Rattle.std.specs.Prelude.{◌≡◌, ◌≤◌, ◌+◌, ◌++◌, length, drop};
 ghost use Rattle.ft_isa.specs.Words.{line};
 
-use itoa::Buffer;
+use itoa::write_digits;
 
 /// A pair of address and value that a blue store committed.
 #[derive(Clone, Copy, Debug, PartialEq, Eq)]
@@ -20,28 +20,31 @@ pub const VALUE_ROOM: usize = 22;
 /// The most bytes that an output's line takes where the name has at most 40 bytes.
 pub const LINE_ROOM: usize = 62;
 
-/// Puts a piece into a buffer at a place, and tells the place after it.
-fn put_at(buf: &mut [u8], at: usize, piece: &[u8]) -> usize
-    requires { at + length piece.now ≤ length buf.old }
-    ensures after { result ≡ at + length piece.now }
-    ensures written { take result buf.new ≡ take at buf.old ++ piece.now }
+/// Puts a piece into a buffer so that it ends at a place, and tells where it begins.
+#[inline(always)]
+fn put_before(buf: &mut [u8], end: usize, piece: &[u8]) -> usize
+    requires room { length piece.now ≤ end }
+    requires end { end ≤ length buf.old }
+    ensures start { result + length piece.now ≡ end }
+    ensures written { drop result buf.new ≡ piece.now ++ drop end buf.old }
     ensures same { length buf.new ≡ length buf.old }
 {
-    let end = at + piece.len();
-    buf[at..end].copy_from_slice(piece);
-    end
+    let start = end - piece.len();
+    buf[start..end].copy_from_slice(piece);
+    start
 }
 
-/// Writes an output's line into a buffer, from its start on, and tells the line's length.
+/// Writes an output's line into a buffer, up to its end, and tells where the line begins. Digits are found from the last to the
+/// first, and this one is written where it stays.
+#[inline(always)]
 pub fn write_line(buf: &mut [u8], name: &[u8], value: u64) -> usize
     requires { length name.now + VALUE_ROOM ≤ length buf.old }
-    ensures within { result ≤ length name.now + VALUE_ROOM }
-    ensures written { take result buf.new ≡ line name.now value }
+    ensures within { result ≤ length buf.old }
+    ensures written { drop result buf.new ≡ line name.now value }
     ensures same { length buf.new ≡ length buf.old }
 {
-    let mut digits = Buffer::new();
-    let end = put_at(buf, 0, name);
-    let end = put_at(buf, end, b" ");
-    let end = put_at(buf, end, digits.format(value).as_bytes());
-    put_at(buf, end, b"\n")
+    let end = put_before(buf, buf.len(), b"\n");
+    let digits = write_digits(value, buf, end);
+    let end = put_before(buf, digits, b" ");
+    put_before(buf, end, name)
 }

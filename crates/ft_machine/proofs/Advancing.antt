@@ -1,5 +1,5 @@
 -- Steps up to the first that is not quiet.
-use Rattle.std.proofs.Common.{◌≡◌, ℕ, zero, suc, ◌+◌, ◌-◌, ◌*◌, ◌^◌, ◌<◌, ◌≤◌, List, [], ◌∷◌, ◌++◌, Option, Some, None, true, refl, ap, sym, subst, ◌∙◌, ⊎_elim, arith}
+use Rattle.std.proofs.Common.{◌≡◌, ℕ, zero, suc, ◌+◌, ◌-◌, ◌^◌, ◌<◌, ◌≤◌, List, [], ◌∷◌, ◌++◌, Option, Some, None, true, refl, ap, sym, subst, ◌∙◌, ⊎_elim, arith}
 use Rattle.std.proofs.lemmas.Bool.{cases_lt}
 use Rattle.std.specs.Option.{option_to_list}
 use Rattle.ft_edge.specs.Told.{append_told}
@@ -25,7 +25,7 @@ use Rattle.ft_machine.specs.Answers.{Takes, told_output}
 use Rattle.ft_machine.specs.Drives.{EndsWith, GivesLast, TurnEnds, TurnPuts, output_lines}
 use Rattle.ft_machine.specs.Effects.{Does, doing, followed, put_out, told_effect}
 use Rattle.ft_machine.specs.Spans.{span, span-zero, span-add_one, HasGone, Goes}
-use Rattle.ft_machine.specs.Advances.{output_told, status_told, IsEnough, IsQuiet, Advances, state_where}
+use Rattle.ft_machine.specs.Advances.{output_told, status_told, IsEnough, IsQuiet, Advances}
 use Rattle.ft_machine.proofs.Steps.{step_is_proper}
 use Rattle.ft_machine.proofs.Spanned.{joined, span_join, span_one, span_two, span_lost, span_keeps_cells, fetched_step, gone_more}
 
@@ -266,17 +266,16 @@ module _ (o : Object) (s s1 s2 : State) (w w1 w2 : List Wild) (k k1 k2 : Option 
 pub next_is : (i : ℕ) → i < 2 ^ 32 → next (1 + i) ≡ 1 + i + 1
 next_is i small = omega arith
 
+pub after_it : (i : ℕ) → i < 2 ^ 32 → next (1 + i) ≡ 2 + i
+after_it i small = omega arith
+
 pub same_place : (i : ℕ) → 1 + i + 1 ≡ 1 + (i + 1)
 same_place i = omega arith
 
--- quiet steps lead to the running state
-pub advances_quietly : (o : Object) (s : State) (w w' : List Wild) (pc : ℕ) (b : Bank) (n : ℕ) (last : Stepped) → last ≡ Quiet → Advances o s w (state_where o pc last b) w' n n last → Advances o s w (doing b pc pc None) w' n n Quiet
-advances_quietly o s w w' pc b n last e h = subst (λ l. Advances o s w (state_where o pc l b) w' n n l) e h
-
--- an instruction after those before it in a stretch
-pub advances_straight : (o : Object) (b b1 : Bank) (from i : ℕ) (w w1 w2 : List Wild) (n : ℕ) (last : Stepped) (s2 : State) → 2 * (i - from) + 2 ≡ n
-    → Advances o (doing b (1 + from) (1 + from) None) w (doing b1 (1 + i) (1 + i) None) w1 (2 * (i - from)) (2 * (i - from)) Quiet → Advances o (doing b1 (1 + i) (1 + i) None) w1 s2 w2 2 2 last
-    → Advances o (doing b (1 + from) (1 + from) None) w s2 w2 n n last
-advances_straight o b b1 from i w w1 w2 n last s2 is a h =
-    subst (λ k. Advances o (doing b (1 + from) (1 + from) None) w s2 w2 k k last) is
-    (advances_more o (doing b (1 + from) (1 + from) None) (doing b1 (1 + i) (1 + i) None) s2 w w1 w2 (2 * (i - from)) 2 last (omega arith) a h)
+-- an instruction after those before it
+pub advances_then : (o : Object) (s : State) (b1 : Bank) (i t : ℕ) (w w1 w2 : List Wild) (n : ℕ) (last : Stepped) (s2 : State) → t + 2 ≡ n
+    → Advances o s w (doing b1 (1 + i) (1 + i) None) w1 t t Quiet → Advances o (doing b1 (1 + i) (1 + i) None) w1 s2 w2 2 2 last
+    → Advances o s w s2 w2 n n last
+advances_then o s b1 i t w w1 w2 n last s2 is a h =
+    subst (λ k. Advances o s w s2 w2 k k last) is
+    (advances_more o s (doing b1 (1 + i) (1 + i) None) s2 w w1 w2 t 2 last (omega arith) a h)

@@ -1,5 +1,5 @@
 -- The rows of the table of steps as a bank's methods choose them.
-use Rattle.std.proofs.Common.{◌≡◌, ℕ, Bool, true, false, not, ◌&&◌, List, [], ◌∷◌, length, drop, ◌++◌, Option, Some, None, ap, sym, ◌∙◌, refl, nat_lt}
+use Rattle.std.proofs.Common.{◌≡◌, ℕ, Bool, true, false, ◌&&◌, List, [], ◌∷◌, length, drop, ◌++◌, Option, Some, None, ap, sym, ◌∙◌, refl, nat_lt}
 use Rattle.std.specs.Prelude.{if◌then◌else◌, ◌==◌}
 use Rattle.std.proofs.lemmas.Bool.{eq-eqb}
 use Rattle.ft_isa.specs.declared.colour.Colour.{Colour}

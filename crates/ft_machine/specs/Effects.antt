@@ -1,5 +1,5 @@
 -- What an instruction does to a bank, and what is left of its step: the counters, what is fetched, and the status.
-use Rattle.std.specs.Prelude.{◌≡◌, ℕ, List, Option, Some, None}
+use Rattle.std.specs.Prelude.{◌≡◌, ℕ, Bool, true, false, List, Option, Some, None}
 use Rattle.ft_isa.specs.declared.output.Output.{Output}
 use Rattle.ft_isa.specs.declared.instr.Instr.{Instr}
 use Rattle.ft_isa.specs.declared.plan.Wild.{Wild}
@@ -11,6 +11,11 @@ use Rattle.ft_machine.specs.declared.bank.Effect.{Effect}
 use Rattle.ft_machine.specs.declared.bank.Effect.TheVariants.{On, To, Commit, Done, Detected}
 use Rattle.ft_machine.specs.declared.stepped.Stepped.{Stepped}
 use Rattle.ft_machine.specs.declared.stepped.Stepped.TheVariants as stepped
+
+-- the effect of a load that goes on, or does not
+abbrev pub went : Bool → Effect
+went true = On
+went false = Detected
 
 -- the running state with this bank, these counters and this fetched
 abbrev pub doing : Bank → ℕ → ℕ → Option Instr → State

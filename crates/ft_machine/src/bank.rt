@@ -5,7 +5,7 @@ ghost use Rattle.ft_isa.specs.Pending.{is_oldest};
 ghost use Rattle.ft_isa.specs.declared.instr.Instr as instrs;
 ghost use Rattle.ft_semantics.specs.State.{held, is_cell};
 ghost use Rattle.ft_semantics.specs.Step.{execute, detected, writes, found, load, wild_load, store_green, store_blue, commit, jump_green, jump_blue, pass};
-ghost use Rattle.ft_machine.specs.Effects.{Does, DoesQuietly, doing};
+ghost use Rattle.ft_machine.specs.Effects.{Does, DoesQuietly, doing, went};
 ghost use Rattle.ft_machine.specs.Lengths.{HasNoEmptyRun};
 
 use crate::cells::Cells;
@@ -89,12 +89,20 @@ impl Bank {
         self.registers.get(r).word
     }
 
+    /// Puts a coloured word into a register, and goes on.
+    #[inline(always)]
+    fn put(&mut self, rd: Reg, value: Coloured)
+        ensures { DoesQuietly (writes rd value.colour value.word) self.old self.new Effect.On }
+    {
+        self.registers.put(rd, value);
+    }
+
     /// Writes a register.
     #[inline(always)]
     fn write(&mut self, rd: Reg, value: Coloured) -> Effect
         ensures { DoesQuietly (writes rd value.colour value.word) self.old self.new result }
     {
-        self.registers.put(rd, value);
+        self.put(rd, value);
         Effect::On
     }
 
@@ -125,10 +133,26 @@ impl Bank {
     fn load(&mut self, colour: Colour, rd: Reg, rs: Reg, wild: &mut WildLeft) -> Effect
         ensures { Does (λ s w. load colour rd (found colour s (held s.registers rs.number).word) s w) self.old self.new result wild.old wild.new }
     {
+        if self.loads(colour, rd, rs, wild) {
+            Effect::On
+        } else {
+            Effect::Detected
+        }
+    }
+
+    /// Loads, and tells whether the machine goes on. It is done apart: the search of the pending stores and the answers to
+    /// wild loads need registers that the loop over instructions keeps for itself.
+    #[inline(never)]
+    fn loads(&mut self, colour: Colour, rd: Reg, rs: Reg, wild: &mut WildLeft) -> bool
+        ensures { Does (λ s w. load colour rd (found colour s (held s.registers rs.number).word) s w) self.old self.new (went result) wild.old wild.new }
+    {
         let addr = self.word(rs);
         match self.found(colour, addr) {
-            Some(word) => self.write(rd, Coloured { colour, word }),
-            None => self.load_wild(colour, rd, wild),
+            Some(word) => {
+                self.put(rd, Coloured { colour, word });
+                true
+            }
+            None => self.loads_wild(colour, rd, wild),
         }
     }
 
@@ -147,12 +171,15 @@ impl Bank {
     }
 
     #[inline(always)]
-    fn load_wild(&mut self, colour: Colour, rd: Reg, wild: &mut WildLeft) -> Effect
-        ensures { Does (wild_load colour rd) self.old self.new result wild.old wild.new }
+    fn loads_wild(&mut self, colour: Colour, rd: Reg, wild: &mut WildLeft) -> bool
+        ensures { Does (wild_load colour rd) self.old self.new (went result) wild.old wild.new }
     {
         match wild.next() {
-            Wild::Word(word) => self.write(rd, Coloured { colour, word }),
-            Wild::Stop => Effect::Detected,
+            Wild::Word(word) => {
+                self.put(rd, Coloured { colour, word });
+                true
+            }
+            Wild::Stop => false,
         }
     }
 
@@ -256,23 +283,39 @@ impl Bank {
 }
 
 /// What an operation gives of two words. A shift is done apart: its machine code needs a register that the loop over
-/// instructions keeps for itself.
+/// instructions keeps for itself. Each operation is named, so that its code makes one choice.
 #[inline(always)]
 fn applied(op: Op, a: u64, b: u64) -> u64
     ensures { result ≡ apply op a b }
 {
     match op {
-        Op::Shl | Op::Shr => shifted(op, a, b),
-        _ => apply(op, a, b),
+        Op::Add => apply(Op::Add, a, b),
+        Op::Sub => apply(Op::Sub, a, b),
+        Op::Mul => apply(Op::Mul, a, b),
+        Op::Ltu => apply(Op::Ltu, a, b),
+        Op::Eq => apply(Op::Eq, a, b),
+        Op::And => apply(Op::And, a, b),
+        Op::Or => apply(Op::Or, a, b),
+        Op::Xor => apply(Op::Xor, a, b),
+        Op::Shl => shifted_left(a, b),
+        Op::Shr => shifted_right(a, b),
     }
 }
 
-/// What a shift gives of two words.
+/// The first word shifted left by the second.
 #[inline(never)]
-fn shifted(op: Op, a: u64, b: u64) -> u64
-    ensures { result ≡ apply op a b }
+fn shifted_left(a: u64, b: u64) -> u64
+    ensures { result ≡ apply Op.Shl a b }
 {
-    apply(op, a, b)
+    apply(Op::Shl, a, b)
+}
+
+/// The first word shifted right by the second.
+#[inline(never)]
+fn shifted_right(a: u64, b: u64) -> u64
+    ensures { result ≡ apply Op.Shr a b }
+{
+    apply(Op::Shr, a, b)
 }
 
 /// The address of the cell of a run that a word names. It is done apart, as a shift is: a division needs two registers.

@@ -52,8 +52,8 @@ fn put_line<P: Program, K: Sink>(program: &P, output: Output, out: &mut K) -> Re
 {
     let name = program.name((output.addr - FIRST_CELL) as u32);
     let mut line = [0u8; LINE_ROOM];
-    let end = write_line(&mut line, name, output.value);
-    out.put(&line[..end])
+    let start = write_line(&mut line, name, output.value);
+    out.put(&line[start..])
 }
 
 /// Strikes before step `k`, where the plan strikes there.

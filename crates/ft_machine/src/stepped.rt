@@ -1,9 +1,7 @@
 //! What steps did.
 ghost use Rattle.std.specs.Prelude.{◌≡◌, Decides};
-ghost use Rattle.ft_machine.specs.Advances.{status_told};
 
 use ft_isa::Output;
-use ft_semantics::Status;
 
 /// What a step did.
 #[derive(Clone, Copy, Debug, PartialEq, Eq)]
@@ -38,17 +36,5 @@ pub(crate) fn is_quiet(stepped: Stepped) -> bool
         Stepped::Commit(_) => false,
         Stepped::Done => false,
         Stepped::Detected => false,
-    }
-}
-
-/// How a machine stands after a step.
-pub(crate) fn status_told(stepped: Stepped) -> Status
-    ensures { result ≡ status_told stepped }
-{
-    match stepped {
-        Stepped::Quiet => Status::Running,
-        Stepped::Commit(_) => Status::Running,
-        Stepped::Done => Status::Done,
-        Stepped::Detected => Status::Detected,
     }
 }

@@ -6,14 +6,14 @@ ghost use Rattle.ft_semantics.specs.State.{is_cell, HasCells};
 ghost use Rattle.ft_semantics.specs.Step.{step, advance, detected, goes_on};
 ghost use Rattle.ft_semantics.specs.Strike.{is_there, struck_state};
 ghost use Rattle.ft_machine.specs.Answers.{Takes, TakesQuietly};
-ghost use Rattle.ft_machine.specs.Advances.{Advances, fetched_where};
+ghost use Rattle.ft_machine.specs.Advances.{Advances};
 ghost use Rattle.ft_machine.specs.Effects.{doing, followed, told_effect, bank_of};
 ghost use Rattle.ft_machine.specs.Lengths.{HasNoEmptyRun};
 ghost use Rattle.ft_isa.specs.declared.output.Output as outputs;
 
 use crate::bank::Effect;
 use crate::machine::Machine;
-use crate::stepped::{Advance, Stepped, is_quiet, status_told};
+use crate::stepped::{Advance, Stepped, is_quiet};
 use crate::stretch::do_instructions;
 use crate::wild::WildLeft;
 use ft_isa::{Coloured, Instr, Site};
@@ -87,6 +87,7 @@ impl Machine {
     }
 
     /// Fetches an instruction, or does the one that is fetched.
+    #[inline(never)]
     fn fetch_or_execute<P: Program>(&mut self, program: &P, wild: &mut WildLeft) -> Stepped
         requires spellable { IsSpellable (P.object program.now) }
         requires running { self.old.status ≡ Status.Running }
@@ -169,6 +170,7 @@ impl Machine {
     }
 
     /// Takes at most `most` steps of a running machine, and stops at the first that is not quiet.
+    #[inline(always)]
     pub fn advance<P: Program>(&mut self, program: &P, wild: &mut WildLeft, most: u64) -> Advance
         requires spellable { IsSpellable (P.object program.now) }
         requires running { self.old.status ≡ Status.Running }
@@ -198,6 +200,7 @@ impl Machine {
     }
 
     /// Takes some steps: whole instructions where the machine is ready for them, and else one step.
+    #[inline(always)]
     fn advance_some<P: Program>(&mut self, program: &P, wild: &mut WildLeft, most: u64) -> Advance
         requires spellable { IsSpellable (P.object program.now) }
         requires running { self.old.status ≡ Status.Running }
@@ -224,6 +227,7 @@ impl Machine {
     }
 
     /// Takes whole instructions of a machine that is ready for one, each in two steps.
+    #[inline(always)]
     fn advance_ready<P: Program>(&mut self, program: &P, wild: &mut WildLeft, most: u64) -> Advance
         requires spellable { IsSpellable (P.object program.now) }
         requires ready { self.old ≡ doing (bank_of self.old) self.old.pc_green self.old.pc_green None }
@@ -235,8 +239,18 @@ impl Machine {
         let stretch = do_instructions(&mut self.bank, program, self.pc_green, most, wild);
         self.pc_green = stretch.pc;
         self.pc_blue = stretch.pc;
-        self.fetched = fetched_where(program, stretch.pc, stretch.last);
-        self.status = status_told(stretch.last);
+        match stretch.last {
+            Stepped::Quiet => {}
+            Stepped::Commit(_) => {}
+            Stepped::Done => {
+                self.fetched = instr_at(program, stretch.pc);
+                self.status = Status::Done;
+            }
+            Stepped::Detected => {
+                self.fetched = instr_at(program, stretch.pc);
+                self.status = Status::Detected;
+            }
+        }
         Advance {
             taken: stretch.taken,
             last: stretch.last,
@@ -255,18 +269,4 @@ fn instr_at<P: Program>(program: &P, pc: u64) -> Option<Instr>
         return None;
     }
     Some(program.instr((pc - 1) as u32))
-}
-
-/// What is fetched after the last step of whole instructions.
-fn fetched_where<P: Program>(program: &P, pc: u64, last: Stepped) -> Option<Instr>
-    requires { IsSpellable (P.object program.now) }
-    ensures found { result ≡ fetched_where (P.object program.now) pc last }
-    ensures length { IfSome result HasNoEmptyRun }
-{
-    match last {
-        Stepped::Quiet => None,
-        Stepped::Commit(_) => None,
-        Stepped::Done => instr_at(program, pc),
-        Stepped::Detected => instr_at(program, pc),
-    }
 }

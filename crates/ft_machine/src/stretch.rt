@@ -1,14 +1,14 @@
 //! Stretches of whole instructions, each a fetch and what it does.
-ghost use Rattle.std.specs.Prelude.{◌≡◌, ◌<◌, ◌≤◌, ◌+◌, ◌-◌, ◌*◌, length, None, IfSome, IfNone};
+ghost use Rattle.std.specs.Prelude.{◌≡◌, ◌<◌, ◌≤◌, ◌+◌, ◌-◌, ◌*◌, ◌/◌, ◌^◌, ℕ, length, None, IfSome, IfNone};
 ghost use Rattle.ft_types.specs.Objects.{instr_at};
 ghost use Rattle.ft_types.specs.Spellable.{IsSpellable};
 ghost use Rattle.ft_machine.specs.Advances.{Advances, state_where};
 ghost use Rattle.ft_machine.specs.Effects.{doing};
 
 use crate::bank::{Bank, Effect};
-use crate::stepped::{Stepped, is_quiet};
+use crate::stepped::Stepped;
 use crate::wild::WildLeft;
-use ft_types::Program;
+use ft_types::{INSTR_BYTES, Program};
 
 /// Steps of whole instructions: how many, where both counters stand after them, and what the last of
 /// them did.
@@ -19,9 +19,23 @@ pub(crate) struct Stretch {
     pub last: Stepped,
 }
 
+/// The most instructions that a stretch does, so that no place overflows.
+const MOST: u64 = 0xffff_ffff;
+
+/// How many instructions a stretch does that may take so many steps.
+#[inline(always)]
+fn instructions_in(steps: u64) -> u64
+    ensures few { 2 * result ≤ steps }
+    ensures some { 1 < steps → 0 < result }
+    ensures small { result < 2 ^ 32 }
+{
+    let whole = steps / 2;
+    if whole < MOST { whole } else { MOST }
+}
+
 /// The number of the instruction at a code address, if one is there.
 #[inline(always)]
-fn index_at<P: Program>(program: &P, count: u32, pc: u64) -> Option<u32>
+fn index_at<P: Program>(program: &P, count: usize, pc: u64) -> Option<usize>
     requires counted { count ≡ length (P.object program.now).instrs }
     ensures some { IfSome result (λ i. (pc ≡ 1 + i) × (i < count)) }
     ensures none { IfNone result (instr_at (P.object program.now) pc ≡ None) }
@@ -30,87 +44,48 @@ fn index_at<P: Program>(program: &P, count: u32, pc: u64) -> Option<u32>
     if i >= count as u64 {
         return None;
     }
-    Some(i as u32)
+    Some(i as usize)
 }
 
-/// Where a stretch from `from` on ends at the latest, if at most `left` instructions are to be done.
+/// Where an instruction stands, in bytes after the first one.
 #[inline(always)]
-fn stretch_end(from: u32, count: u32, left: u64) -> u32
-    requires there { from < count }
-    requires some { 0 < left }
-    ensures some { from < result }
-    ensures there { result ≤ count }
-    ensures few { result - from ≤ left }
+fn place_of(i: usize) -> usize
+    requires { i < 2 ^ 32 }
+    ensures { result ≡ 16 * i }
 {
-    if left < (count - from) as u64 {
-        from + left as u32
-    } else {
-        count
-    }
+    INSTR_BYTES * i
 }
 
-/// Fetches and does the instructions from `from` up to `past` in turn, until one leads elsewhere, or its
-/// step is not quiet.
+/// The number of the instruction that stands at a place.
 #[inline(always)]
-fn go_straight<P: Program>(
-    bank: &mut Bank,
-    program: &P,
-    from: u32,
-    past: u32,
-    wild: &mut WildLeft,
-) -> Stretch
-    requires spellable { IsSpellable (P.object program.now) }
-    requires some { from < past }
-    requires there { past ≤ length (P.object program.now).instrs }
-    ensures some { 0 < result.taken }
-    ensures few { result.taken ≤ 2 * (past - from) }
-    ensures advances { Advances (P.object program.now) (doing bank.old (1 + from) (1 + from) None) wild.old
-        (state_where (P.object program.now) result.pc result.last bank.new) wild.new result.taken result.taken result.last }
+fn number_at(at: usize) -> u64
+    ensures { result ≡ at / 16 }
 {
-    let code = program.code();
-    for i in from..past {
-        let pc = 1 + i as u64;
-        let taken = 2 * (1 + (i - from) as u64);
-        match bank.execute(program.fetch(code, i), wild) {
-            Effect::On => {}
-            Effect::To(target) => {
-                return Stretch {
-                    taken,
-                    pc: target,
-                    last: Stepped::Quiet,
-                };
-            }
-            Effect::Commit(output) => {
-                return Stretch {
-                    taken,
-                    pc: pc + 1,
-                    last: Stepped::Commit(output),
-                };
-            }
-            Effect::Done => {
-                return Stretch {
-                    taken,
-                    pc,
-                    last: Stepped::Done,
-                };
-            }
-            Effect::Detected => {
-                return Stretch {
-                    taken,
-                    pc,
-                    last: Stepped::Detected,
-                };
-            }
-        }
-    }
-    Stretch {
-        taken: 2 * (past - from) as u64,
-        pc: 1 + past as u64,
-        last: Stepped::Quiet,
-    }
+    (at / INSTR_BYTES) as u64
 }
 
-/// Fetches and does whole instructions in at most `most` steps, until a step is not quiet.
+/// Where instructions end: at the limit of this stretch, or where the code ends.
+#[inline(always)]
+fn stretch_end(limit: usize, end: usize) -> usize
+    ensures limit { result ≤ limit }
+    ensures end { result ≤ end }
+    ensures some { (at : ℕ) → at < limit → at < end → at < result }
+{
+    if limit < end { limit } else { end }
+}
+
+/// The steps of all instructions but those that so many bytes hold.
+#[inline(always)]
+fn steps_but(all: u64, rest: usize) -> u64
+    requires few { rest / 16 ≤ all }
+    requires small { all < 2 ^ 32 }
+    ensures { result ≡ 2 * (all - rest / 16) }
+{
+    2 * (all - number_at(rest))
+}
+
+/// Fetches and does whole instructions in at most `most` steps, until a step is not quiet. Where an instruction leads
+/// elsewhere, it goes on there.
 #[inline(never)]
 pub(crate) fn do_instructions<P: Program>(
     bank: &mut Bank,
@@ -126,32 +101,62 @@ pub(crate) fn do_instructions<P: Program>(
     ensures advances { Advances (P.object program.now) (doing bank.old first first None) wild.old
         (state_where (P.object program.now) result.pc result.last bank.new) wild.new result.taken result.taken result.last }
 {
-    let count = program.counts().instrs;
-    let mut pc = first;
-    let mut taken = 0;
-    while most - taken > 1 {
-        let Some(from) = index_at(program, count, pc) else {
-            return Stretch {
-                taken: taken + 1,
-                pc,
-                last: Stepped::Detected,
-            };
+    let count = program.counts().instrs as usize;
+    let code = program.code();
+    let Some(start) = index_at(program, count, first) else {
+        return Stretch {
+            taken: 1,
+            pc: first,
+            last: Stepped::Detected,
         };
-        let past = stretch_end(from, count, (most - taken) / 2);
-        let stretch = go_straight(bank, program, from, past, wild);
-        taken += stretch.taken;
-        pc = stretch.pc;
-        if !is_quiet(stretch.last) {
-            return Stretch {
-                taken,
-                pc,
-                last: stretch.last,
-            };
+    };
+    let all = instructions_in(most);
+    let end = place_of(count);
+    let mut at = place_of(start);
+    let mut limit = at + place_of(all as usize);
+    let mut past = stretch_end(limit, end);
+    while at < past {
+        match bank.execute(program.fetch(code, at), wild) {
+            Effect::On => at += INSTR_BYTES,
+            Effect::To(target) => {
+                let rest = limit - (at + INSTR_BYTES);
+                let Some(next) = index_at(program, count, target) else {
+                    return Stretch {
+                        taken: steps_but(all, rest),
+                        pc: target,
+                        last: Stepped::Quiet,
+                    };
+                };
+                at = place_of(next);
+                limit = at + rest;
+                past = stretch_end(limit, end);
+            }
+            Effect::Commit(output) => {
+                return Stretch {
+                    taken: steps_but(all, limit - (at + INSTR_BYTES)),
+                    pc: 2 + number_at(at),
+                    last: Stepped::Commit(output),
+                };
+            }
+            Effect::Done => {
+                return Stretch {
+                    taken: steps_but(all, limit - (at + INSTR_BYTES)),
+                    pc: 1 + number_at(at),
+                    last: Stepped::Done,
+                };
+            }
+            Effect::Detected => {
+                return Stretch {
+                    taken: steps_but(all, limit - (at + INSTR_BYTES)),
+                    pc: 1 + number_at(at),
+                    last: Stepped::Detected,
+                };
+            }
         }
     }
     Stretch {
-        taken,
-        pc,
+        taken: steps_but(all, limit - at),
+        pc: 1 + number_at(at),
         last: Stepped::Quiet,
     }
 }

@@ -1,12 +1,29 @@
-//! Tests of the machine, step by step, and of runs of an accepted object that are struck once.
+//! Tests of the outside, the machine, struck runs, the debugger and the scheduler.
 //!
 //! The crate holds tests alone, since a crate with tests is proved twice. The values come from the
-//! definitions, not from this implementation's output.
+//! definitions, not from this implementation's output. Worked objects were made by another implementation of the
+//! format, and orders by another program, which makes permitted exchanges at random until none is left.
 #![tactic(auto)]
 
+#[cfg(test)]
+mod checked;
+#[cfg(test)]
+mod full;
 #[cfg(test)]
 mod indexed;
 #[cfg(test)]
 mod machine;
 #[cfg(test)]
+mod orders;
+#[cfg(test)]
+mod outside;
+#[cfg(test)]
+mod runs;
+#[cfg(test)]
+mod scripts;
+#[cfg(test)]
+mod sessions;
+#[cfg(test)]
 mod strikes;
+#[cfg(test)]
+mod told;

@@ -35,20 +35,52 @@ fn first_cell(machine: &Machine, object: &Object) -> Option<u64>
     }
 }
 
-#[test]
-fn a_machine_starts(rt: HostRuntime) -> Result<(), Fail> {
-    let object = decode(rt.alloc(), A)?;
-    let machine = Machine::new(rt.alloc(), &object)?;
+/// Whether a new machine is at the start of the object.
+fn starts(machine: &Machine, object: &Object, r33: Reg) -> bool
+    requires { HasCells (length object.now.cells) machine.now }
+{
     let zero = Coloured {
         colour: Colour::Green,
         word: 0,
     };
-    let r33 = Reg::new(33).expect(&rt, "below 64");
-    assert_eq!(rt; object.cells.len(), 1);
-    assert_eq!(rt; machine.reg(r33), zero);
-    assert_eq!(rt; machine.pc(Colour::Green), 1);
-    assert_eq!(rt; first_cell(&machine, &object), Some(0));
-    Ok(())
+    object.cells.len() == 1
+        && machine.reg(r33) == zero
+        && machine.pc(Colour::Green) == 1
+        && first_cell(machine, object) == Some(0)
+}
+
+/// Whether strikes change their sites.
+fn strikes_change(
+    machine: &mut Machine,
+    object: &Object,
+    wild: &mut WildLeft,
+    r0: Reg,
+    r33: Reg,
+) -> bool
+    requires { IsSpellable object.now }
+{
+    step_thrice(machine, object, wild);
+    step_thrice(machine, object, wild);
+    let quiet = step_thrice(machine, object, wild) == Stepped::Quiet;
+    let fetched = machine.fetched().is_some();
+    let register = machine.strike(Site::R(r0), 3);
+    let nothing = !machine.strike(Site::QVal(0), 6);
+    let stores = machine.step(object, wild) == Stepped::Quiet;
+    let waits = machine.queue().get(0) == Some((3, 5));
+    let address = machine.strike(Site::QAddr(0), OUT);
+    let target = machine.strike(Site::D, 2);
+    quiet
+        && fetched
+        && register
+        && nothing
+        && stores
+        && waits
+        && address
+        && target
+        && machine.d() == 2
+        && machine.reg(r0).word == 3
+        && machine.reg(r33).colour == Colour::Blue
+        && machine.pc(Colour::Blue) == 6
 }
 
 #[test]
@@ -58,21 +90,9 @@ fn strikes_change_their_sites(rt: HostRuntime) -> Result<(), Fail> {
     let object = decode(rt.alloc(), A)?;
     let mut wild = WildLeft::new(&[]);
     let mut machine = Machine::new(rt.alloc(), &object)?;
-    step_thrice(&mut machine, &object, &mut wild);
-    step_thrice(&mut machine, &object, &mut wild);
-    let last = step_thrice(&mut machine, &object, &mut wild);
-    assert_eq!(rt; last, Stepped::Quiet);
-    assert!(rt; machine.fetched().is_some());
-    assert!(rt; machine.strike(Site::R(r0), 3));
-    assert!(rt; !machine.strike(Site::QVal(0), 6));
-    assert_eq!(rt; machine.step(&object, &mut wild), Stepped::Quiet);
-    assert_eq!(rt; machine.queue().get(0), Some((3, 5)));
-    assert!(rt; machine.strike(Site::QAddr(0), OUT));
-    assert!(rt; machine.strike(Site::D, 2));
-    assert_eq!(rt; machine.d(), 2);
-    assert_eq!(rt; machine.reg(r0).word, 3);
-    assert_eq!(rt; machine.reg(r33).colour, Colour::Blue);
-    assert_eq!(rt; machine.pc(Colour::Blue), 6);
+    let started = starts(&machine, &object, r33);
+    let changed = strikes_change(&mut machine, &object, &mut wild, r0, r33);
+    assert!(rt; started && changed);
     Ok(())
 }
 
@@ -97,26 +117,33 @@ fn struck_machine(
     Ok(machine)
 }
 
+/// Whether the struck machine commits its store and stops, and then stays so.
+fn commits_and_stops(machine: &mut Machine, object: &Object, wild: &mut WildLeft) -> bool
+    requires spelled { IsSpellable object.now }
+    requires cells { HasCells (length object.now.cells) machine.old }
+{
+    let output = Output {
+        addr: OUT,
+        value: 5,
+    };
+    let quiet = machine.step(object, wild) == Stepped::Quiet;
+    let commits = machine.step(object, wild) == Stepped::Commit(output);
+    let stored = first_cell(machine, object) == Some(5) && machine.queue().is_empty();
+    let running = machine.status() == Status::Running;
+    let jumps = machine.step(object, wild) == Stepped::Quiet;
+    let done = machine.step(object, wild) == Stepped::Done && machine.status() == Status::Done;
+    let nothing = !machine.strike(Site::PcG, 1);
+    let stays = machine.step(object, wild) == Stepped::Done;
+    quiet && commits && stored && running && jumps && done && nothing && stays && wild.left() == 0
+}
+
 #[test]
 fn a_struck_machine_commits_and_stops(rt: HostRuntime) -> Result<(), Fail> {
     let r0 = Reg::new(0).expect(&rt, "below 64");
     let object = decode(rt.alloc(), A)?;
     let mut wild = WildLeft::new(&[]);
     let mut machine = struck_machine(rt.alloc(), &object, &mut wild, r0)?;
-    let output = Output {
-        addr: OUT,
-        value: 5,
-    };
-    assert_eq!(rt; machine.step(&object, &mut wild), Stepped::Quiet);
-    assert_eq!(rt; machine.step(&object, &mut wild), Stepped::Commit(output));
-    assert_eq!(rt; first_cell(&machine, &object), Some(5));
-    assert!(rt; machine.queue().is_empty());
-    assert_eq!(rt; machine.status(), Status::Running);
-    assert_eq!(rt; machine.step(&object, &mut wild), Stepped::Quiet);
-    assert_eq!(rt; machine.step(&object, &mut wild), Stepped::Done);
-    assert_eq!(rt; machine.status(), Status::Done);
-    assert!(rt; !machine.strike(Site::PcG, 1));
-    assert_eq!(rt; machine.step(&object, &mut wild), Stepped::Done);
-    assert_eq!(rt; wild.left(), 0);
+    let stopped = commits_and_stops(&mut machine, &object, &mut wild);
+    assert!(rt; stopped);
     Ok(())
 }

@@ -31,6 +31,6 @@ pub fn put_line<K: Sink>(name: &[u8], value: u64, buf: &mut [u8], out: &mut K) -
     ensures err { OnErr result (AddsPrefix (K.written out.old) (K.written out.new) (line name.now value)) }
     ensures cause { OnErr result (Rose (K.failures out.old) (K.failures out.new)) }
 {
-    let end = write_line(buf, name, value);
-    out.put(&buf[..end])
+    let start = write_line(buf, name, value);
+    out.put(&buf[start..])
 }

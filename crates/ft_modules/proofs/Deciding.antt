@@ -36,13 +36,13 @@ use Rattle.ft_modules.proofs.Elements.{all_of}
 -- TREES
 
 -- the operation of a code
-op_of : ℕ → Op
+pub op_of : ℕ → Op
 op_of n =
     if n == 0 then Add else if n == 1 then Sub else if n == 2 then Mul else if n == 3 then Ltu else if n == 4 then Eq
     else if n == 5 then And else if n == 6 then Or else if n == 7 then Xor else if n == 8 then Shl else Shr
 
 -- an operation is that of its code
-op_again : (o : Op) → op_of (op_code o) ≡ o
+pub op_again : (o : Op) → op_of (op_code o) ≡ o
 unfolding op_of
 op_again Add = refl
 op_again Sub = refl
@@ -126,13 +126,13 @@ memory_same m n h = subst (λ (z : Memory). same_memory m z ≡ true) h (memory_
 -- CODE TYPES
 
 -- a colour is found the same as itself
-colour_itself : (c : Colour) → same_colour c c ≡ true
+pub colour_itself : (c : Colour) → same_colour c c ≡ true
 unfolding same_colour
 colour_itself Green = refl
 colour_itself Blue = refl
 
 -- equal colours are found the same
-colour_same : (c d : Colour) → c ≡ d → same_colour c d ≡ true
+pub colour_same : (c d : Colour) → c ≡ d → same_colour c d ≡ true
 colour_same c d h = subst (λ (z : Colour). same_colour c z ≡ true) h (colour_itself c)
 
 -- register rows that the test finds the same say the same

@@ -26,7 +26,7 @@ use Rattle.ft_modules.proofs.Deciding.{like_is, is_like, cells_are, are_cells, p
 -- TESTS
 
 -- what is not refused passed the test
-unless_true : (b : Bool) (r : LinkRefusal) → unless b r ≡ None → b ≡ true
+pub unless_true : (b : Bool) (r : LinkRefusal) → unless b r ≡ None → b ≡ true
 unless_true true r e = refl
 unless_true false r e = cc
 
@@ -35,18 +35,18 @@ true_unless : (b : Bool) (r : LinkRefusal) → b ≡ true → unless b r ≡ Non
 true_unless b r e = ap (λ z. unless z r) e
 
 -- the negation of a test that fails
-not_false : (b : Bool) → not b ≡ false → b ≡ true
+pub not_false : (b : Bool) → not b ≡ false → b ≡ true
 not_false true e = refl
 not_false false e = cc
 
 -- the first element, where nothing is found
-none_first : {X : Type 0} (b : Bool) (p : X → Bool) (y : X) (ys : List X) (n : ℕ) (x : X) → p y ≡ b → cond b (Some y) (find p ys) ≡ None → slice_get (y ∷ ys) n ≡ Some x → (find p ys ≡ None → (m : ℕ) (z : X) → slice_get ys m ≡ Some z → p z ≡ false) → p x ≡ false
+pub none_first : {X : Type 0} (b : Bool) (p : X → Bool) (y : X) (ys : List X) (n : ℕ) (x : X) → p y ≡ b → cond b (Some y) (find p ys) ≡ None → slice_get (y ∷ ys) n ≡ Some x → (find p ys ≡ None → (m : ℕ) (z : X) → slice_get ys m ≡ Some z → p z ≡ false) → p x ≡ false
 none_first true p y ys n x g e f h = cc
 none_first false p y ys zero x g e f h = let same : y ≡ x = cc in subst (λ z. p z ≡ false) same g
 none_first false p y ys (suc n) x g e f h = h e n x f
 
 -- nothing that a test looks for is there
-none_found : {X : Type 0} (p : X → Bool) (xs : List X) → find p xs ≡ None → (n : ℕ) (x : X) → slice_get xs n ≡ Some x → p x ≡ false
+pub none_found : {X : Type 0} (p : X → Bool) (xs : List X) → find p xs ≡ None → (n : ℕ) (x : X) → slice_get xs n ≡ Some x → p x ≡ false
 none_found p [] e n x f = cc
 none_found p (y ∷ ys) e n x f = none_first (p y) p y ys n x refl e f (none_found p ys)
 
@@ -123,7 +123,7 @@ pass_modules earlier m cells (o ∷ os) h few =
 -- LINES
 
 -- a block that the test finds, by the module that is there
-has_block_by : (modules : List Object) (m b : ℕ) (u : Option Object) → slice_get modules m ≡ u → nat_lt b (unwrap_or (option_map (λ (o : Object). length o.blocks) u) 0) ≡ true → HasBlock modules m b
+pub has_block_by : (modules : List Object) (m b : ℕ) (u : Option Object) → slice_get modules m ≡ u → nat_lt b (unwrap_or (option_map (λ (o : Object). length o.blocks) u) 0) ≡ true → HasBlock modules m b
 has_block_by modules m b None e t = absurd (omega (arith, ltb-true b 0 t))
 has_block_by modules m b (Some o) e t = record { object = o; there = e; below = ltb-true b (length o.blocks) t }
 
@@ -136,7 +136,7 @@ is_has_block : (modules : List Object) (m b : ℕ) → HasBlock modules m b → 
 is_has_block modules m b h = ap (λ (u : Option Object). nat_lt b (unwrap_or (option_map (λ (o : Object). length o.blocks) u) 0)) h.there ∙ lt-ltb b (length h.object.blocks) h.below
 
 -- where the lower of two lines is nothing, both are
-no_line : (a b : Option ℕ) → lower_line a b ≡ None → (a ≡ None) × (b ≡ None)
+pub no_line : (a b : Option ℕ) → lower_line a b ≡ None → (a ≡ None) × (b ≡ None)
 no_line None b e = (refl, e)
 no_line (Some x) None e = cc
 no_line (Some x) (Some y) e = cc

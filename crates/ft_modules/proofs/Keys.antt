@@ -11,7 +11,7 @@ use Rattle.ft_static.proofs.NodeTrees.{tree_at-row}
 use Rattle.ft_modules.specs.TreeKeys.{number_in, key_of, AreTreeNumbers}
 
 -- a named node's tree is of its sort
-integer_tree : (ts : List Expression) (y : Shape) → is_memory y ≡ false → tree_of ts y ≡ integer (integer_part (tree_of ts y))
+pub integer_tree : (ts : List Expression) (y : Shape) → is_memory y ≡ false → tree_of ts y ≡ integer (integer_part (tree_of ts y))
 integer_tree ts (shape.Word w) e = refl
 integer_tree ts (shape.Var i) e = refl
 integer_tree ts (shape.Op o a b) e = refl
@@ -21,7 +21,7 @@ integer_tree ts (shape.Upd m a v) e = cc
 integer_tree ts (shape.Rem a m) e = refl
 
 -- the tree of a memory node is a memory
-memory_tree : (ts : List Expression) (y : Shape) → is_memory y ≡ true → tree_of ts y ≡ memory (memory_part (tree_of ts y))
+pub memory_tree : (ts : List Expression) (y : Shape) → is_memory y ≡ true → tree_of ts y ≡ memory (memory_part (tree_of ts y))
 memory_tree ts (shape.Word w) e = cc
 memory_tree ts (shape.Var i) e = cc
 memory_tree ts (shape.Op o a b) e = cc

@@ -1,16 +1,23 @@
-//! Modules and what is linked of them, as definitions.
+//! Modules and what is linked of them, as definitions and laws.
 //!
 //! A module is an accepted object. `specs/Linked.antt` defines what a map links of modules,
 //! `specs/LinkRefusals.antt` when it does not, and `specs/ModulesRun.antt` the run that goes from module to
 //! module. The crate promises in `laws` that modules can be linked exactly when nothing of them is refused, that
-//! they are refused in turn, and that trees of expressions are compared by numbers (`specs/TreeKeys.antt`).
+//! they are refused in turn, and that trees of expressions are compared by numbers (`specs/TreeKeys.antt`). It
+//! promises in `linking_laws` that what is linked is an object that some bytes spell and is accepted, that it runs
+//! as its modules do, and that one fault in it is masked or detected.
 #![tactic(auto)]
 
 mod before;
 mod examples;
 mod laws;
+mod linking_laws;
 
 pub use before::Before;
 pub use laws::{
     equal_keys_are_of_equal_trees, linkable_modules_are_not_refused, modules_are_refused_in_turn,
+};
+pub use linking_laws::{
+    laid_nodes_stand_for_the_same_trees, linked_objects_are_accepted,
+    linked_objects_run_as_their_modules, linked_objects_tolerate_one_fault,
 };

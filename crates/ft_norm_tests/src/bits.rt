@@ -19,17 +19,29 @@ fn leaves(forms: &mut Interner, word: u64, length: u32, rest: u64) -> Result<boo
     Ok(forms.same(folded, rest))
 }
 
-#[test]
-fn remainders_of_words_are_words(rt: HostRuntime) -> Result<(), Fail> {
-    let mut forms = Interner::new(rt.alloc())?;
-    assert!(rt; leaves(&mut forms, 0, 1, 0)?);
-    assert!(rt; leaves(&mut forms, 7, 3, 1)?);
-    assert!(rt; leaves(&mut forms, 6, 3, 0)?);
-    assert!(rt; leaves(&mut forms, 2, 1024, 2)?);
-    assert!(rt; leaves(&mut forms, u64::MAX, 1, 0)?);
-    assert!(rt; leaves(&mut forms, u64::MAX, 10, 5)?);
-    assert!(rt; leaves(&mut forms, u64::MAX, 1024, 1023)?);
-    Ok(())
+fn remainders_of_words_are_words(forms: &mut Interner) -> Result<bool, NoMemory> {
+    if !leaves(forms, 0, 1, 0)? {
+        return Ok(false);
+    }
+    if !leaves(forms, 7, 3, 1)? {
+        return Ok(false);
+    }
+    if !leaves(forms, 6, 3, 0)? {
+        return Ok(false);
+    }
+    if !leaves(forms, 2, 1024, 2)? {
+        return Ok(false);
+    }
+    if !leaves(forms, u64::MAX, 1, 0)? {
+        return Ok(false);
+    }
+    if !leaves(forms, u64::MAX, 10, 5)? {
+        return Ok(false);
+    }
+    if !leaves(forms, u64::MAX, 1024, 1023)? {
+        return Ok(false);
+    }
+    Ok(true)
 }
 
 /// Whether the remainders of a form by two lengths are the same.
@@ -47,33 +59,45 @@ fn leave_the_same(forms: &mut Interner, x: Form, length: u32, other: u32) -> Res
     Ok(forms.same(left, right))
 }
 
-#[test]
-fn remainders_are_told_by_their_length(rt: HostRuntime) -> Result<(), Fail> {
-    let mut forms = Interner::new(rt.alloc())?;
+fn remainders_are_told_by_their_length(forms: &mut Interner) -> Result<bool, NoMemory> {
     let x = forms.var(0)?;
-    assert!(rt; leave_the_same(&mut forms, x, 3, 3)?);
-    assert!(rt; !leave_the_same(&mut forms, x, 3, 4)?);
+    if !leave_the_same(forms, x, 3, 3)? {
+        return Ok(false);
+    }
+    if leave_the_same(forms, x, 3, 4)? {
+        return Ok(false);
+    }
     let square = forms.op(Op::Mul, x, x)?;
-    assert!(rt; leave_the_same(&mut forms, square, 1024, 1024)?);
-    assert!(rt; !leave_the_same(&mut forms, square, 1, 1024)?);
-    Ok(())
+    if !leave_the_same(forms, square, 1024, 1024)? {
+        return Ok(false);
+    }
+    if leave_the_same(forms, square, 1, 1024)? {
+        return Ok(false);
+    }
+    Ok(true)
 }
 
-#[test]
-fn remainders_are_atoms(rt: HostRuntime) -> Result<(), Fail> {
-    let mut forms = Interner::new(rt.alloc())?;
+fn remainders_are_atoms(forms: &mut Interner) -> Result<bool, NoMemory> {
     let x = forms.var(0)?;
     let rest = forms.rem(x, 3)?;
     let again = forms.rem(rest, 3)?;
-    assert!(rt; !forms.same(rest, x));
-    assert!(rt; !forms.same(again, rest));
+    if forms.same(rest, x) {
+        return Ok(false);
+    }
+    if forms.same(again, rest) {
+        return Ok(false);
+    }
     let zero = forms.word(0)?;
     let none = forms.rem(x, 1)?;
-    assert!(rt; !forms.same(none, zero));
+    if forms.same(none, zero) {
+        return Ok(false);
+    }
     let twice = forms.op(Op::Add, rest, rest)?;
     let once = forms.op(Op::Sub, twice, rest)?;
-    assert!(rt; forms.same(once, rest));
-    Ok(())
+    if !forms.same(once, rest) {
+        return Ok(false);
+    }
+    Ok(true)
 }
 
 /// Whether an operation on two words gives that word.
@@ -88,9 +112,7 @@ fn gives(forms: &mut Interner, op: Op, a: u64, b: u64, word: u64) -> Result<bool
     Ok(forms.same(folded, word))
 }
 
-#[test]
-fn operations_on_bits_of_words_are_words(rt: HostRuntime) -> Result<(), Fail> {
-    let mut forms = Interner::new(rt.alloc())?;
+fn operations_on_bits_of_words_are_words(forms: &mut Interner) -> Result<bool, NoMemory> {
     for (op, a, b, word) in [
         (Op::And, 12, 10, 8),
         (Op::Or, 12, 10, 14),
@@ -101,22 +123,47 @@ fn operations_on_bits_of_words_are_words(rt: HostRuntime) -> Result<(), Fail> {
         (Op::Shr, u64::MAX, 63, 1),
         (Op::Shr, u64::MAX, 64, 0),
     ] {
-        assert!(rt; gives(&mut forms, op, a, b, word)?);
+        if !gives(forms, op, a, b, word)? {
+            return Ok(false);
+        }
     }
-    Ok(())
+    Ok(true)
 }
 
-#[test]
-fn operations_on_bits_are_atoms(rt: HostRuntime) -> Result<(), Fail> {
-    let mut forms = Interner::new(rt.alloc())?;
+fn operations_on_bits_are_atoms(forms: &mut Interner) -> Result<bool, NoMemory> {
     let x = forms.var(0)?;
     let zero = forms.word(0)?;
     let differing = forms.op(Op::Xor, x, x)?;
-    assert!(rt; !forms.same(differing, zero));
+    if forms.same(differing, zero) {
+        return Ok(false);
+    }
     let left = forms.op(Op::Shl, x, zero)?;
     let right = forms.op(Op::Shr, x, zero)?;
-    assert!(rt; !forms.same(left, right));
+    if forms.same(left, right) {
+        return Ok(false);
+    }
     let again = forms.op(Op::Xor, x, x)?;
-    assert!(rt; forms.same(differing, again));
+    if !forms.same(differing, again) {
+        return Ok(false);
+    }
+    Ok(true)
+}
+
+/// Whether each of these tests passes.
+fn all_bits(forms: &mut Interner) -> Result<bool, NoMemory> {
+    Ok(
+        remainders_of_words_are_words(forms)?
+            && remainders_are_told_by_their_length(forms)?
+            && remainders_are_atoms(forms)?
+            && operations_on_bits_of_words_are_words(forms)?
+            && operations_on_bits_are_atoms(forms)?,
+    )
+}
+
+#[test]
+fn operations_on_bits_and_remainders(rt: HostRuntime) -> Result<(), Fail> {
+    let mut forms = Interner::new(rt.alloc())?;
+    let passed = all_bits(&mut forms)?;
+    assert!(rt; passed);
     Ok(())
 }

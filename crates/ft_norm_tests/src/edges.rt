@@ -18,27 +18,65 @@ fn comes_back(forms: &mut Interner, x: Form, y: Form) -> Result<bool, NoMemory>
     Ok(forms.same(back, x))
 }
 
-#[test]
-fn atom_alone_is_one_form(rt: HostRuntime) -> Result<(), Fail> {
-    let mut forms = Interner::new(rt.alloc())?;
+fn atom_alone_is_one_form(forms: &mut Interner) -> Result<bool, NoMemory> {
     let x = forms.var(0)?;
     let one = forms.word(1)?;
-    assert!(rt; comes_back(&mut forms, x, one)?);
-    assert!(rt; comes_back(&mut forms, one, x)?);
-    assert!(rt; comes_back(&mut forms, x, x)?);
-    Ok(())
+    if !comes_back(forms, x, one)? {
+        return Ok(false);
+    }
+    if !comes_back(forms, one, x)? {
+        return Ok(false);
+    }
+    if !comes_back(forms, x, x)? {
+        return Ok(false);
+    }
+    Ok(true)
 }
 
-#[test]
-fn products_come_and_go(rt: HostRuntime) -> Result<(), Fail> {
-    let mut forms = Interner::new(rt.alloc())?;
+fn products_come_and_go(forms: &mut Interner) -> Result<bool, NoMemory> {
     let x = forms.var(0)?;
     let y = forms.var(1)?;
     let product = forms.op(Op::Mul, x, y)?;
-    assert!(rt; comes_back(&mut forms, x, product)?);
-    assert!(rt; comes_back(&mut forms, product, x)?);
-    assert!(rt; comes_back(&mut forms, product, product)?);
-    Ok(())
+    if !comes_back(forms, x, product)? {
+        return Ok(false);
+    }
+    if !comes_back(forms, product, x)? {
+        return Ok(false);
+    }
+    if !comes_back(forms, product, product)? {
+        return Ok(false);
+    }
+    Ok(true)
+}
+
+/// The product of two products.
+#[tactic(auto, using(ft_norm::proofs::Places::keeps_both))]
+fn by_pairs(forms: &mut Interner, a: Form, b: Form, c: Form, d: Form) -> Result<Form, NoMemory>
+    requires first { IsInteger forms.old a }
+    requires second { IsInteger forms.old b }
+    requires third { IsInteger forms.old c }
+    requires fourth { IsInteger forms.old d }
+    ensures kept { Keeps forms.old forms.new }
+    ensures sort { IfOk result (λ f. IsInteger forms.new f) }
+{
+    let left = forms.op(Op::Mul, a, b)?;
+    let right = forms.op(Op::Mul, c, d)?;
+    Ok(forms.op(Op::Mul, left, right)?)
+}
+
+/// The product of four forms, one by one from the last.
+#[tactic(auto, using(ft_norm::proofs::Places::keeps_both))]
+fn one_by_one(forms: &mut Interner, a: Form, b: Form, c: Form, d: Form) -> Result<Form, NoMemory>
+    requires first { IsInteger forms.old a }
+    requires second { IsInteger forms.old b }
+    requires third { IsInteger forms.old c }
+    requires fourth { IsInteger forms.old d }
+    ensures kept { Keeps forms.old forms.new }
+    ensures sort { IfOk result (λ f. IsInteger forms.new f) }
+{
+    let two = forms.op(Op::Mul, d, c)?;
+    let three = forms.op(Op::Mul, b, two)?;
+    Ok(forms.op(Op::Mul, three, a)?)
 }
 
 /// Whether two products of four forms are the same: by pairs, and one by one from the last.
@@ -50,37 +88,41 @@ fn commute(forms: &mut Interner, a: Form, b: Form, c: Form, d: Form) -> Result<b
     requires fourth { IsInteger forms.old d }
     ensures { Keeps forms.old forms.new }
 {
-    let left = forms.op(Op::Mul, a, b)?;
-    let right = forms.op(Op::Mul, c, d)?;
-    let pairs = forms.op(Op::Mul, left, right)?;
-    let two = forms.op(Op::Mul, d, c)?;
-    let three = forms.op(Op::Mul, b, two)?;
-    let four = forms.op(Op::Mul, three, a)?;
+    let pairs = by_pairs(forms, a, b, c, d)?;
+    let four = one_by_one(forms, a, b, c, d)?;
     Ok(forms.same(pairs, four))
 }
 
-#[test]
-fn four_atoms_are_in_one_order(rt: HostRuntime) -> Result<(), Fail> {
-    let mut forms = Interner::new(rt.alloc())?;
+fn four_atoms_are_in_one_order(forms: &mut Interner) -> Result<bool, NoMemory> {
     let a = forms.var(0)?;
     let b = forms.var(1)?;
     let c = forms.var(2)?;
     let d = forms.var(3)?;
-    assert!(rt; commute(&mut forms, a, b, c, d)?);
-    assert!(rt; commute(&mut forms, d, b, c, a)?);
-    assert!(rt; commute(&mut forms, c, a, d, b)?);
-    Ok(())
+    if !commute(forms, a, b, c, d)? {
+        return Ok(false);
+    }
+    if !commute(forms, d, b, c, a)? {
+        return Ok(false);
+    }
+    if !commute(forms, c, a, d, b)? {
+        return Ok(false);
+    }
+    Ok(true)
 }
 
-#[test]
-fn equal_atoms_are_kept(rt: HostRuntime) -> Result<(), Fail> {
-    let mut forms = Interner::new(rt.alloc())?;
+fn equal_atoms_are_kept(forms: &mut Interner) -> Result<bool, NoMemory> {
     let a = forms.var(0)?;
     let b = forms.var(1)?;
-    assert!(rt; commute(&mut forms, a, a, a, a)?);
-    assert!(rt; commute(&mut forms, b, a, b, a)?);
-    assert!(rt; commute(&mut forms, a, a, b, a)?);
-    Ok(())
+    if !commute(forms, a, a, a, a)? {
+        return Ok(false);
+    }
+    if !commute(forms, b, a, b, a)? {
+        return Ok(false);
+    }
+    if !commute(forms, a, a, b, a)? {
+        return Ok(false);
+    }
+    Ok(true)
 }
 
 /// Whether `x` times two numbers is 0.
@@ -97,16 +139,22 @@ fn vanishes(forms: &mut Interner, x: Form, first: u64, second: u64) -> Result<bo
     Ok(forms.same(twice, zero))
 }
 
-#[test]
-fn coefficients_vanish(rt: HostRuntime) -> Result<(), Fail> {
-    let mut forms = Interner::new(rt.alloc())?;
+fn coefficients_vanish(forms: &mut Interner) -> Result<bool, NoMemory> {
     let x = forms.var(0)?;
     let square = forms.op(Op::Mul, x, x)?;
-    assert!(rt; vanishes(&mut forms, x, 0, 1)?);
-    assert!(rt; vanishes(&mut forms, x, 1 << 63, 2)?);
-    assert!(rt; vanishes(&mut forms, square, 1 << 32, 1 << 32)?);
-    assert!(rt; !vanishes(&mut forms, square, 1 << 31, 1 << 32)?);
-    Ok(())
+    if !vanishes(forms, x, 0, 1)? {
+        return Ok(false);
+    }
+    if !vanishes(forms, x, 1 << 63, 2)? {
+        return Ok(false);
+    }
+    if !vanishes(forms, square, 1 << 32, 1 << 32)? {
+        return Ok(false);
+    }
+    if vanishes(forms, square, 1 << 31, 1 << 32)? {
+        return Ok(false);
+    }
+    Ok(true)
 }
 
 /// Whether the word that was put at `at` is found there past an update at `past`.
@@ -136,28 +184,59 @@ fn next_is_passed(forms: &mut Interner, at: Form) -> Result<bool, NoMemory>
     Ok(up && down)
 }
 
-#[test]
-fn addresses_differ_by_a_constant(rt: HostRuntime) -> Result<(), Fail> {
-    let mut forms = Interner::new(rt.alloc())?;
+fn addresses_differ_by_a_constant(forms: &mut Interner) -> Result<bool, NoMemory> {
     let five = forms.word(5)?;
-    assert!(rt; next_is_passed(&mut forms, five)?);
+    if !next_is_passed(forms, five)? {
+        return Ok(false);
+    }
     let x = forms.var(0)?;
-    assert!(rt; next_is_passed(&mut forms, x)?);
+    if !next_is_passed(forms, x)? {
+        return Ok(false);
+    }
     let double = forms.op(Op::Add, x, x)?;
-    assert!(rt; next_is_passed(&mut forms, double)?);
+    if !next_is_passed(forms, double)? {
+        return Ok(false);
+    }
     let square = forms.op(Op::Mul, x, x)?;
-    assert!(rt; next_is_passed(&mut forms, square)?);
-    Ok(())
+    if !next_is_passed(forms, square)? {
+        return Ok(false);
+    }
+    Ok(true)
+}
+
+fn other_addresses_are_not_known_to_differ(forms: &mut Interner) -> Result<bool, NoMemory> {
+    let x = forms.var(0)?;
+    let double = forms.op(Op::Add, x, x)?;
+    let square = forms.op(Op::Mul, x, x)?;
+    if is_passed(forms, x, double)? {
+        return Ok(false);
+    }
+    if is_passed(forms, double, square)? {
+        return Ok(false);
+    }
+    if is_passed(forms, square, x)? {
+        return Ok(false);
+    }
+    Ok(true)
+}
+
+/// Whether each of these tests passes.
+fn all_edges(forms: &mut Interner) -> Result<bool, NoMemory> {
+    Ok(
+        atom_alone_is_one_form(forms)?
+            && products_come_and_go(forms)?
+            && four_atoms_are_in_one_order(forms)?
+            && equal_atoms_are_kept(forms)?
+            && coefficients_vanish(forms)?
+            && addresses_differ_by_a_constant(forms)?
+            && other_addresses_are_not_known_to_differ(forms)?,
+    )
 }
 
 #[test]
-fn other_addresses_are_not_known_to_differ(rt: HostRuntime) -> Result<(), Fail> {
+fn forms_at_the_edges(rt: HostRuntime) -> Result<(), Fail> {
     let mut forms = Interner::new(rt.alloc())?;
-    let x = forms.var(0)?;
-    let double = forms.op(Op::Add, x, x)?;
-    let square = forms.op(Op::Mul, x, x)?;
-    assert!(rt; !is_passed(&mut forms, x, double)?);
-    assert!(rt; !is_passed(&mut forms, double, square)?);
-    assert!(rt; !is_passed(&mut forms, square, x)?);
+    let passed = all_edges(&mut forms)?;
+    assert!(rt; passed);
     Ok(())
 }

@@ -70,17 +70,19 @@ fn tower(forms: &mut Interner, variable: u8, height: u32) -> Result<Form, NoMemo
     Ok(top)
 }
 
-#[test]
-fn towers_are_compared_by_number(rt: HostRuntime) -> Result<(), Fail> {
-    let mut forms = Interner::new(rt.alloc())?;
-    let x = tower(&mut forms, 0, 100_000)?;
-    let again = tower(&mut forms, 0, 100_000)?;
-    assert!(rt; forms.same(x, again));
-    let y = tower(&mut forms, 1, 100_000)?;
+fn towers_are_compared_by_number(forms: &mut Interner) -> Result<bool, NoMemory> {
+    let x = tower(forms, 0, 100_000)?;
+    let again = tower(forms, 0, 100_000)?;
+    if !forms.same(x, again) {
+        return Ok(false);
+    }
+    let y = tower(forms, 1, 100_000)?;
     let up = forms.op(Op::Add, x, y)?;
     let down = forms.op(Op::Add, y, x)?;
-    assert!(rt; forms.same(up, down));
-    Ok(())
+    if !forms.same(up, down) {
+        return Ok(false);
+    }
+    Ok(true)
 }
 
 /// A tower of tests, with a sum at each level, over the two towers that are added there.
@@ -124,134 +126,158 @@ fn is_binomial(forms: &mut Interner, p: Form, q: Form) -> Result<bool, NoMemory>
     Ok(forms.same(product, squares))
 }
 
-#[test]
-fn forms_do_not_depend_on_the_order_of_making(rt: HostRuntime) -> Result<(), Fail> {
-    let mut forms = Interner::new(rt.alloc())?;
+fn forms_do_not_depend_on_the_order_of_making(forms: &mut Interner) -> Result<bool, NoMemory> {
     let x = forms.var(0)?;
     let y = forms.var(1)?;
     let p = forms.op(Op::Ltu, x, y)?;
     let q = forms.op(Op::Eq, x, y)?;
-    assert!(rt; is_binomial(&mut forms, p, q)?);
-    assert!(rt; is_binomial(&mut forms, q, p)?);
-    Ok(())
+    if !is_binomial(forms, p, q)? {
+        return Ok(false);
+    }
+    if !is_binomial(forms, q, p)? {
+        return Ok(false);
+    }
+    Ok(true)
 }
 
-#[test]
-fn sums_drop_zeros_and_order_terms(rt: HostRuntime) -> Result<(), Fail> {
-    let mut forms = Interner::new(rt.alloc())?;
+fn sums_drop_zeros_and_order_terms(forms: &mut Interner) -> Result<bool, NoMemory> {
     let x = forms.var(0)?;
     let y = forms.var(1)?;
     let up = forms.op(Op::Add, x, y)?;
     let down = forms.op(Op::Add, y, x)?;
-    assert!(rt; forms.same(up, down));
+    if !forms.same(up, down) {
+        return Ok(false);
+    }
     let less = forms.op(Op::Sub, up, y)?;
-    assert!(rt; forms.same(less, x));
-    assert!(rt; !forms.same(less, y));
+    if !forms.same(less, x) {
+        return Ok(false);
+    }
+    if forms.same(less, y) {
+        return Ok(false);
+    }
     let turned = forms.op(Op::Sub, y, up)?;
-    assert!(rt; !forms.same(less, turned));
-    Ok(())
+    if forms.same(less, turned) {
+        return Ok(false);
+    }
+    Ok(true)
 }
 
-#[test]
-fn words_wrap(rt: HostRuntime) -> Result<(), Fail> {
-    let mut forms = Interner::new(rt.alloc())?;
+fn words_wrap(forms: &mut Interner) -> Result<bool, NoMemory> {
     let most = forms.word(u64::MAX)?;
     let one = forms.word(1)?;
     let sum = forms.op(Op::Add, most, one)?;
     let zero = forms.word(0)?;
-    assert!(rt; forms.same(sum, zero));
-    assert!(rt; !forms.same(sum, one));
+    if !forms.same(sum, zero) {
+        return Ok(false);
+    }
+    if forms.same(sum, one) {
+        return Ok(false);
+    }
     let memory = forms.memory()?;
-    assert!(rt; !forms.same(memory, zero));
-    Ok(())
+    if forms.same(memory, zero) {
+        return Ok(false);
+    }
+    Ok(true)
 }
 
-#[test]
-fn limits_are_64_monomials_and_64_products(rt: HostRuntime) -> Result<(), Fail> {
-    let mut forms = Interner::new(rt.alloc())?;
-    let right = sum(&mut forms, 0, 64, true)?;
-    let left = sum(&mut forms, 0, 64, false)?;
-    assert!(rt; forms.same(right, left));
+fn limits_are_64_monomials_and_64_products(forms: &mut Interner) -> Result<bool, NoMemory> {
+    let right = sum(forms, 0, 64, true)?;
+    let left = sum(forms, 0, 64, false)?;
+    if !forms.same(right, left) {
+        return Ok(false);
+    }
     let nothing = forms.op(Op::Sub, right, left)?;
     let zero = forms.word(0)?;
-    assert!(rt; forms.same(nothing, zero));
-    let right = sum(&mut forms, 0, 65, true)?;
-    let left = sum(&mut forms, 0, 65, false)?;
-    assert!(rt; !forms.same(right, left));
-    Ok(())
+    if !forms.same(nothing, zero) {
+        return Ok(false);
+    }
+    let right = sum(forms, 0, 65, true)?;
+    let left = sum(forms, 0, 65, false)?;
+    if forms.same(right, left) {
+        return Ok(false);
+    }
+    Ok(true)
 }
 
-#[test]
-fn products_within_the_limits_commute(rt: HostRuntime) -> Result<(), Fail> {
-    let mut forms = Interner::new(rt.alloc())?;
-    let p = sum(&mut forms, 0, 8, true)?;
-    let q = sum(&mut forms, 8, 8, true)?;
+fn products_within_the_limits_commute(forms: &mut Interner) -> Result<bool, NoMemory> {
+    let p = sum(forms, 0, 8, true)?;
+    let q = sum(forms, 8, 8, true)?;
     let pq = forms.op(Op::Mul, p, q)?;
     let qp = forms.op(Op::Mul, q, p)?;
-    assert!(rt; forms.same(pq, qp));
-    let p = sum(&mut forms, 0, 5, true)?;
-    let q = sum(&mut forms, 5, 13, true)?;
+    if !forms.same(pq, qp) {
+        return Ok(false);
+    }
+    let p = sum(forms, 0, 5, true)?;
+    let q = sum(forms, 5, 13, true)?;
     let pq = forms.op(Op::Mul, p, q)?;
     let qp = forms.op(Op::Mul, q, p)?;
-    assert!(rt; !forms.same(pq, qp));
-    Ok(())
+    if forms.same(pq, qp) {
+        return Ok(false);
+    }
+    Ok(true)
 }
 
-#[test]
-fn constants_are_tested(rt: HostRuntime) -> Result<(), Fail> {
-    let mut forms = Interner::new(rt.alloc())?;
+fn constants_are_tested(forms: &mut Interner) -> Result<bool, NoMemory> {
     let one = forms.word(1)?;
     let two = forms.word(2)?;
     let less = forms.op(Op::Ltu, one, two)?;
-    assert!(rt; forms.same(less, one));
+    if !forms.same(less, one) {
+        return Ok(false);
+    }
     let more = forms.op(Op::Ltu, two, one)?;
-    assert!(rt; !forms.same(more, one));
+    if forms.same(more, one) {
+        return Ok(false);
+    }
     let x = forms.var(0)?;
     let equal = forms.op(Op::Eq, x, x)?;
-    assert!(rt; !forms.same(equal, one));
-    Ok(())
+    if forms.same(equal, one) {
+        return Ok(false);
+    }
+    Ok(true)
 }
 
-#[test]
-fn walk_goes_past_a_known_difference(rt: HostRuntime) -> Result<(), Fail> {
-    let mut forms = Interner::new(rt.alloc())?;
+fn walk_goes_past_a_known_difference(forms: &mut Interner) -> Result<bool, NoMemory> {
     let memory = forms.memory()?;
     let seven = forms.word(7)?;
     let x = forms.var(0)?;
     let at_x = forms.upd(memory, x, seven)?;
     let next = forms.op(Op::Add, x, seven)?;
     let past_x = forms.upd(at_x, next, x)?;
-    let found = sel(&mut forms, past_x, x)?;
-    assert!(rt; forms.same(found, seven));
-    Ok(())
+    let found = sel(forms, past_x, x)?;
+    if !forms.same(found, seven) {
+        return Ok(false);
+    }
+    Ok(true)
 }
 
-#[test]
-fn walk_stops_at_the_unknown(rt: HostRuntime) -> Result<(), Fail> {
-    let mut forms = Interner::new(rt.alloc())?;
+fn walk_stops_at_the_unknown(forms: &mut Interner) -> Result<bool, NoMemory> {
     let memory = forms.memory()?;
     let seven = forms.word(7)?;
     let y = forms.var(1)?;
     let x = forms.var(0)?;
     let at_x = forms.upd(memory, x, seven)?;
     let then_y = forms.upd(at_x, y, x)?;
-    let unknown = sel(&mut forms, then_y, x)?;
-    assert!(rt; !forms.same(unknown, seven));
-    Ok(())
+    let unknown = sel(forms, then_y, x)?;
+    if forms.same(unknown, seven) {
+        return Ok(false);
+    }
+    Ok(true)
 }
 
-#[test]
-fn newest_update_is_replaced(rt: HostRuntime) -> Result<(), Fail> {
-    let mut forms = Interner::new(rt.alloc())?;
+fn newest_update_is_replaced(forms: &mut Interner) -> Result<bool, NoMemory> {
     let x = forms.var(0)?;
     let y = forms.var(1)?;
     let memory = forms.memory()?;
     let at_y = forms.upd(memory, x, y)?;
     let at_x = forms.upd(memory, x, x)?;
-    assert!(rt; !forms.same(at_x, at_y));
+    if forms.same(at_x, at_y) {
+        return Ok(false);
+    }
     let again = forms.upd(at_y, x, x)?;
-    assert!(rt; forms.same(again, at_x));
-    Ok(())
+    if !forms.same(again, at_x) {
+        return Ok(false);
+    }
+    Ok(true)
 }
 
 /// The nodes of `ft_static`'s examples: the memory variable, variable 0, the word 5, the sum of the
@@ -314,10 +340,35 @@ fn found<L: Ledger>(forms: &mut Interner, blank: Blank) -> Result<bool, NoMemory
     Ok(forms.same(sum, seven) && forms.same(word, two))
 }
 
+fn node_is_found_under_a_substitution(forms: &mut Interner) -> Result<bool, NoMemory> {
+    let right = found::<Brand>(forms, Blank::new(1))?;
+    if !right {
+        return Ok(false);
+    }
+    Ok(true)
+}
+
+/// Whether each of these tests passes.
+fn all_tests(forms: &mut Interner) -> Result<bool, NoMemory> {
+    Ok(
+        towers_are_compared_by_number(forms)?
+            && forms_do_not_depend_on_the_order_of_making(forms)?
+            && sums_drop_zeros_and_order_terms(forms)?
+            && words_wrap(forms)?
+            && limits_are_64_monomials_and_64_products(forms)?
+            && products_within_the_limits_commute(forms)?
+            && constants_are_tested(forms)?
+            && walk_goes_past_a_known_difference(forms)?
+            && walk_stops_at_the_unknown(forms)?
+            && newest_update_is_replaced(forms)?
+            && node_is_found_under_a_substitution(forms)?,
+    )
+}
+
 #[test]
-fn node_is_found_under_a_substitution(rt: HostRuntime) -> Result<(), Fail> {
+fn forms_are_known_by_hand(rt: HostRuntime) -> Result<(), Fail> {
     let mut forms = Interner::new(rt.alloc())?;
-    let right = found::<Brand>(&mut forms, Blank::new(1))?;
-    assert!(rt; right);
+    let passed = all_tests(&mut forms)?;
+    assert!(rt; passed);
     Ok(())
 }

@@ -1,13 +1,14 @@
-//! Worked rows of the command `mean`, and of refusals of sources by each command, over files in memory.
+//! Tests of sources: texts that are parsed or refused, their names and limits, and what they are lowered to.
 //!
-//! The crate holds tests alone: for each row the source, the words, the text that is written and the
-//! status. The values come from the definitions and from another implementation, not from this one's
-//! output.
+//! The crate holds tests alone, since a crate with tests is proved twice. Outputs are known by hand, and a plain
+//! interpreter runs the flows, beside the definition that the contract of `lower` cites.
 #![tactic(auto)]
 
 #[cfg(test)]
-mod limits;
+mod flow_run;
 #[cfg(test)]
-mod meanings;
+mod lowering;
 #[cfg(test)]
-mod refusals;
+mod naming;
+#[cfg(test)]
+mod parsing;

@@ -22,10 +22,10 @@ use Rattle.ft_link_map.specs.MapAnswers.{answer_of, Is, IsRefusal}
 use Rattle.ft_modules.specs.Linked.{linked}
 use Rattle.ft_modules.specs.LinkRefusals.{LinkRefusal, link_refusal, Cells, Rows, CodeOf, TooBig, NoBlock, Stub, Missing, Types}
 use Rattle.ft_modules.specs.ModulesRun.{modules_outputs, modules_status}
-use Rattle.ft_link_steps.specs.declared.link_error.LinkError.{LinkError}
-use Rattle.ft_link_steps.specs.declared.link_error.LinkError.TheVariants as links
-use Rattle.ft_link_steps.specs.LinkErrors.{IsRefusalOf}
-use Rattle.ft_link_steps.specs.Linking.{added_refusal, refusal_of, IsLinked}
+use Rattle.ft_linker.specs.declared.link_error.LinkError.{LinkError}
+use Rattle.ft_linker.specs.declared.link_error.LinkError.TheVariants as links
+use Rattle.ft_linker.specs.LinkErrors.{IsRefusalOf}
+use Rattle.ft_linker.specs.Linking.{added_refusal, refusal_of, IsLinked}
 use Rattle.ft_command.specs.Options.{Word}
 use Rattle.ft_command.specs.Commands.{Links}
 use Rattle.ft_tool.specs.declared.load.ObjectFault.{ObjectFault}

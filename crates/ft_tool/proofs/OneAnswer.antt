@@ -28,7 +28,7 @@ use Rattle.ft_meaning.specs.Meaning.{outputs, meaning}
 use Rattle.ft_meaning.specs.Lines.{output_lines}
 use Rattle.ft_compile.specs.StandsFor.{StandsFor}
 use Rattle.ft_compile.specs.Laws.{object_lines, LinesBegin, DoneRunsWriteTheMeaning, RunningRunsBeginTheMeaning}
-use Rattle.ft_sample.specs.Sample.{sample_object}
+use Rattle.ft_demo.specs.Sample.{sample_object}
 use Rattle.ft_demo.specs.Demonstrations.{first_faults, demo_lines}
 use Rattle.ft_command.specs.Options.{Word}
 use Rattle.ft_command.specs.Commands.{Campaign, Debugging, Run, Request, Usage, Checks, Runs, Trials, Campaigns, Surveys, Compiles, Executes, Means, Debugs, Demonstrates, Upgrades, Assembles, Disassembles, Asks, Schedules, Recovers, Links}
@@ -38,7 +38,7 @@ use Rattle.ft_link_map.specs.MapAnswers.{Answer as MapSaid, answer_of}
 use Rattle.ft_link_map.specs.MapAnswers as maps
 use Rattle.ft_modules.specs.Linked.{linked}
 use Rattle.ft_modules.specs.LinkRefusals.{LinkRefusal, link_refusal}
-use Rattle.ft_link_steps.specs.Linking.{added_refusal}
+use Rattle.ft_linker.specs.Linking.{added_refusal}
 use Rattle.ft_tool.specs.Links.{SaysOf, IsMap, EndsAtMap, long_map, bad_line, line_twice, unlinked, EndsAtObject, not_accepted, not_added, EndsAtBytes, no_object, no_module, IsAdded, LinksUnless, LinksAdded, LinksFiles, LinksText, LinksFile}
 use Rattle.ft_tool.specs.Texts.{source_line, link_line}
 use Rattle.ft_tool.specs.Replies.{Answer, one_piece, ran, status_of_run, IsSpelling}

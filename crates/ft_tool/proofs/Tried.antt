@@ -11,9 +11,9 @@ use Rattle.ft_format.specs.Broken.{object_of, version_at}
 use Rattle.ft_format.proofs.Write.{spells_read}
 use Rattle.ft_tolerance.specs.Soundness.{IsNeverDetected}
 use Rattle.ft_tolerance.proofs.Whole.{never_detected}
-use Rattle.ft_sample.specs.Sample.{sample_object}
-use Rattle.ft_sample.proofs.Spelled.{sample_is_spellable}
-use Rattle.ft_sample.proofs.Applies.{sample_is_accepted}
+use Rattle.ft_demo.specs.Sample.{sample_object}
+use Rattle.ft_demo.proofs.Spelled.{sample_is_spellable}
+use Rattle.ft_demo.proofs.Applies.{sample_is_accepted}
 use Rattle.ft_campaign.specs.declared.totals.Totals.{Totals}
 use Rattle.ft_campaign.specs.declared.verdict.Verdict.{Verdict}
 use Rattle.ft_campaign.specs.declared.fault_list.ListError.TheVariants as lists

@@ -2,7 +2,7 @@
 use Rattle.std.specs.Prelude.{◌≡◌, ℕ, List, []}
 use Rattle.ft_tolerance.specs.Soundness.{IsNeverDetected}
 use Rattle.ft_campaign.specs.declared.verdict.Verdict.{Verdict}
-use Rattle.ft_sample.specs.Sample.{sample_object}
+use Rattle.ft_demo.specs.Sample.{sample_object}
 use Rattle.ft_demo.specs.Demonstrations.{AreDemoVerdicts, demo_lines}
 use Rattle.ft_tool.specs.Lists.{NoneCorrupt}
 use Rattle.ft_tool.specs.Replies.{Answer}

@@ -22,8 +22,8 @@ use Rattle.ft_tool.specs.Objects.{refused, judged}
 use Rattle.ft_tool.specs.Answers.{AssemblesAs}
 use Rattle.ft_link_map.specs.declared.map_error.MapError.{MapError}
 use Rattle.ft_link_map.specs.declared.map_error.MapError.TheVariants as maps
-use Rattle.ft_link_steps.specs.declared.link_error.LinkError.{LinkError}
-use Rattle.ft_link_steps.specs.declared.link_error.LinkError.TheVariants as links
+use Rattle.ft_linker.specs.declared.link_error.LinkError.{LinkError}
+use Rattle.ft_linker.specs.declared.link_error.LinkError.TheVariants as links
 use Rattle.ft_modules.specs.LinkRefusals as link_refusals
 use Rattle.ft_tool.specs.Links.{unlinked}
 use Rattle.ft_tool.specs.Texts.{link_line}

@@ -5,7 +5,7 @@ use Rattle.ft_edge.specs.Loads.{Files}
 use Rattle.ft_types.specs.declared.object.Object.{Object}
 use Rattle.ft_typing.specs.Accepted.{refusal}
 use Rattle.ft_link_map.specs.declared.link_map.LinkMap.{LinkMap}
-use Rattle.ft_link_steps.specs.Linking.{added_refusal}
+use Rattle.ft_linker.specs.Linking.{added_refusal}
 use Rattle.ft_command.specs.Options.{Word}
 use Rattle.ft_tool.specs.Replies.{Answer, IsToldFile}
 use Rattle.ft_tool.specs.Links.{IsMap, EndsAtMap, EndsAtBytes, IsAdded, LinksFiles, ComesInTurn}

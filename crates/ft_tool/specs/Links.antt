@@ -15,7 +15,7 @@ use Rattle.ft_link_map.specs.MapAnswers.{Answer as Said, Is, Line, Twice, answer
 use Rattle.ft_modules.specs.Linked.{linked}
 use Rattle.ft_modules.specs.LinkRefusals.{LinkRefusal, link_refusal}
 use Rattle.ft_modules.specs.ModulesRun.{modules_outputs, modules_status}
-use Rattle.ft_link_steps.specs.Linking.{added_refusal}
+use Rattle.ft_linker.specs.Linking.{added_refusal}
 use Rattle.ft_command.specs.Options.{Word}
 use Rattle.ft_tool.specs.Texts.{link_line, unlinked_line}
 use Rattle.ft_tool.specs.Replies.{Answer, one_piece, IsToldFile, IsSpelling}

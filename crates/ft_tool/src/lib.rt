@@ -29,6 +29,6 @@ mod trial;
 mod unlinked;
 mod upgrade;
 
-pub use ft_sample::sample;
+pub use ft_demo::sample;
 pub use laws::{answers_matter_after_a_strike_alone, words_have_one_answer};
 pub use top::tool;

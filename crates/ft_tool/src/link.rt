@@ -16,8 +16,8 @@ use crate::ending::{Ending, put_object, refuse_check, refuse_object};
 use crate::load::{load_map, load_object};
 use crate::unlinked::{refuse_long_map, refuse_map, refuse_modules};
 use ft_edge::{Shelf, Sink};
-use ft_link::Linker;
 use ft_link_map::{LinkMap, read_map};
+use ft_linker::Linker;
 use ft_types::{Program, Table};
 use std::alloc::Global;
 

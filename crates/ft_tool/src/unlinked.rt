@@ -10,7 +10,7 @@ use crate::load::SourceFault;
 use crate::refused::{link_code_line, link_line};
 use ft_edge::Sink;
 use ft_link_map::MapError;
-use ft_link_steps::LinkError;
+use ft_linker::LinkError;
 
 /// Puts the line of a link that is refused.
 fn put_link_line<K: Sink>(number: u64, told: u64, out: &mut K) -> Ending

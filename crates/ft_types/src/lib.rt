@@ -11,6 +11,6 @@ mod table;
 mod words;
 
 pub use object::{Block, Cell, CellHead, CodeType, Counts, Object, RegType, TypeHead};
-pub use program::Program;
+pub use program::{INSTR_BYTES, Program};
 pub use table::Table;
 pub use words::{joined, op_code, row_words};

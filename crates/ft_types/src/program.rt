@@ -1,11 +1,14 @@
 //! Programs: objects, however they are kept.
-ghost use Rattle.std.specs.Prelude.{◌≡◌, ◌<◌, ◌^◌, Some, length, slice_get};
+ghost use Rattle.std.specs.Prelude.{◌≡◌, ◌<◌, ◌*◌, ◌/◌, ◌^◌, Some, length, slice_get};
 ghost use Rattle.std.specs.Option.{option_map};
 
 use crate::object::{Block, CellHead, Counts, Object, RegType, TypeHead};
 use crate::words::node_words;
 use ft_isa::Instr;
 use ft_static::{Node, Nodes};
+
+/// How many bytes an instruction takes in the object format.
+pub const INSTR_BYTES: usize = 16;
 
 /// An object, however it is kept. Its meaning is one `Object`, and each call tells a part of it.
 pub trait Program: Nodes {
@@ -45,11 +48,13 @@ pub trait Program: Nodes {
     fn code(&self) -> Self::Code
         ensures { is_code self.now result };
 
-    /// Instruction `i`, from what `code` told.
-    fn fetch(&self, code: Self::Code, i: u32) -> Instr
-        requires there { i < length (object self.now).instrs }
+    /// The instruction that stands `at` bytes after the first one, where each takes `INSTR_BYTES`, from what `code` told. A loop
+    /// counts these bytes, so that no fetch has to multiply.
+    fn fetch(&self, code: Self::Code, at: usize) -> Instr
+        requires there { at / 16 < length (object self.now).instrs }
+        requires whole { at ≡ 16 * (at / 16) }
         requires code { is_code self.now code }
-        ensures { slice_get (object self.now).instrs i ≡ Some result };
+        ensures { slice_get (object self.now).instrs (at / 16) ≡ Some result };
 
     /// Block `b`.
     fn block(&self, b: u32) -> Block
@@ -145,8 +150,8 @@ impl Program for Object {
 
     fn code(&self) {}
 
-    fn fetch(&self, _: (), i: u32) -> Instr {
-        *self.instrs.at(i as usize)
+    fn fetch(&self, _: (), at: usize) -> Instr {
+        *self.instrs.at(at / INSTR_BYTES)
     }
 
     fn block(&self, b: u32) -> Block {

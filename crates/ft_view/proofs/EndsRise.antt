@@ -9,7 +9,7 @@ use Rattle.std.proofs.lemmas.Bool.Decides.{nat_tests}
 use Rattle.ft_static.specs.declared.node.Node.{Node}
 use Rattle.ft_format.specs.declared.header.Header.{Header}
 use Rattle.ft_format.specs.declared.object_error.ObjectError.{ObjectError}
-use Rattle.ft_records.specs.Found.{Finds}
+use Rattle.ft_view.specs.Found.{Finds}
 use Rattle.std.specs.Prelude.{OnOk}
 use Rattle.ft_format.specs.Rules.{type_broken, cell_broken}
 use Rattle.ft_format.specs.Broken.{types_broken, cells_broken}

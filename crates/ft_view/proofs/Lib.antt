@@ -1,9 +1,12 @@
+mod Names
+mod NodeRows
+pub mod Records
 mod At
 mod EndsRise
 mod Named
 mod NodePlain
 mod Opened
-mod Parts
+mod CountedParts
 mod Plain
 mod RegPlain
 mod RowsAfter

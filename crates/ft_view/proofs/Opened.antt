@@ -1,9 +1,9 @@
 -- What a view's bytes tell at a place.
-use Rattle.std.proofs.Common.{◌≡◌, ℕ, ◌+◌, ◌-◌, ◌*◌, ◌<◌, ◌≤◌, List, [], ◌∷◌, length, take, drop, Some, sym, ap, ◌∙◌, subst, arith}
+use Rattle.std.proofs.Common.{◌≡◌, ℕ, ◌+◌, ◌-◌, ◌*◌, ◌<◌, ◌≤◌, List, [], ◌∷◌, length, take, drop, Some, refl, sym, ap, ◌∙◌, subst, arith}
 use Rattle.std.specs.Prelude.{slice_get}
 use Rattle.std.specs.Option.{option_map}
 use Rattle.std.specs.Int.{Width}
-use Rattle.std.proofs.lemmas.List.{length-map, length-drop, length-take-le, drop-take, take-take}
+use Rattle.std.proofs.lemmas.List.{length-map, length-drop, length-take-le, drop-take, take-take, drop-drop}
 use Rattle.std.proofs.lemmas.Option.{slice_get-map}
 use Rattle.ft_format.specs.declared.header.Header.{Header}
 use Rattle.ft_format.specs.declared.places.Places.{Places}
@@ -15,8 +15,10 @@ use Rattle.ft_view.specs.Viewed.{IsView}
 use Rattle.ft_view.specs.Sections.{section_of}
 use Rattle.ft_view.specs.declared.section.Section.TheVariants.{Instrs}
 use Rattle.ft_view.proofs.Whole.{AreUnbroken, unbroken}
-use Rattle.ft_records.proofs.Records.{record_at, row_at}
-use Rattle.ft_view.proofs.Plain.{AreBelow, plain_at}
+use Rattle.ft_view.proofs.Records.{record_at, row_at}
+use Rattle.ft_view.proofs.Plain.{AreBelow, plain_at, one_at}
+use Rattle.ft_view.specs.InPlace.{kind_in, a_in, b_in, c_in, x_in, high_in, low_in}
+use Rattle.ft_view.specs.Known.{IsKnown}
 
 -- the sections under the view's own header
 pub sections : (h : Header) (p : Places) (bytes : List ℕ) → IsView h p bytes → AreUnbroken h bytes
@@ -90,3 +92,21 @@ code_there h p bytes seen code part row i v e code_is lt is numbers_are =
     ap (λ n. take 16 (drop (16 * i) (take n bs))) (sym all) ∙ ap (take 16) (drop-take (16 * i) rest bs) ∙ take-take 16 rest (drop (16 * i) bs) (omega (arith, lt)) in
     let there = row_at code_layout k.instrs i bs lt in
     rw (numbers_are, is, code_is, same) there
+
+-- a record's numbers, each by its place
+pub numbers_in : (bs : List ℕ) → numbers code_layout bs ≡ kind_in bs ∷ a_in bs ∷ b_in bs ∷ c_in bs ∷ x_in bs ∷ high_in bs ∷ low_in bs ∷ []
+unfolding numbers
+numbers_in bs =
+    let two = drop-drop 1 1 bs in
+    rw (two, drop-drop 1 2 bs, drop-drop 1 3 bs, drop-drop 4 4 bs, drop-drop 4 8 bs) refl
+
+-- what is known of the record of an instruction
+pub instr_known : (h : Header) (p : Places) (bytes seen part : List ℕ) (i : ℕ) → IsView h p bytes → seen ≡ bytes
+    → slice_get (instr_rows_of (header_at seen) seen) i ≡ Some (numbers code_layout part) → IsKnown part
+instr_known h p bytes seen part i v e there =
+    let u = sections h p bytes v in
+    let seen_here : slice_get (instr_rows_of (header_at seen) seen) i ≡ Some (kind_in part ∷ a_in part ∷ b_in part ∷ c_in part ∷ x_in part ∷ high_in part ∷ low_in part ∷ []) = there ∙ ap Some (numbers_in part) in
+    let here : slice_get (instr_rows_of h bytes) i ≡ Some (kind_in part ∷ a_in part ∷ b_in part ∷ c_in part ∷ x_in part ∷ high_in part ∷ low_in part ∷ []) = subst (λ k. slice_get (instr_rows_of k bytes) i ≡ Some (kind_in part ∷ a_in part ∷ b_in part ∷ c_in part ∷ x_in part ∷ high_in part ∷ low_in part ∷ [])) (sym v.header) (subst (λ l. slice_get (instr_rows_of (header_at l) l) i ≡ Some (kind_in part ∷ a_in part ∷ b_in part ∷ c_in part ∷ x_in part ∷ high_in part ∷ low_in part ∷ [])) e seen_here) in
+    let below_all = plain_at h (nodes_read h bytes) 0 (instrs_at h) (instr_rows_of h bytes) i _ _ _ _ _ _ _ u.instrs here in
+    let known = one_at h (nodes_read h bytes) 0 (instrs_at h) (instr_rows_of h bytes) i _ _ _ _ _ _ _ u.instrs here in
+    record { kind = known.0; op = known.1; a = below_all.0; b = below_all.1; c = below_all.2 }

@@ -1,3 +1,6 @@
+pub mod Found
+pub mod InPlace
 pub mod Ends
+pub mod Known
 pub mod Sections
 pub mod Viewed

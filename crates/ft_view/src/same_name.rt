@@ -4,7 +4,7 @@ ghost use Rattle.std.specs.Int.{w64};
 ghost use Rattle.std.specs.Str.{bytes_eq};
 ghost use Rattle.ft_format.specs.Layout.{number_of};
 
-use ft_records::stretch;
+use crate::byte_part::stretch;
 
 /// Eight bytes from a place on, as a number.
 #[inline(always)]

@@ -5,10 +5,14 @@ ghost use Rattle.ft_format.specs.Places.{IsWhole};
 ghost use Rattle.ft_format.specs.Values.{past_of};
 ghost use Rattle.ft_format.specs.Versions.{version_of};
 ghost use Rattle.ft_format.specs.Broken.{cells_broken, nodes_broken, code_types_broken, blocks_broken, instrs_broken, rows_taken, substs_broken, names_broken, nodes_at, blocks_at, instrs_at, substs_at, names_at, total, cells_part, nodes_part, blocks_part, substs_part, instr_rows_of, cells_read, nodes_read, tables_broken, header_at, front_broken, broken};
-ghost use Rattle.ft_records.specs.Found.{Finds};
+ghost use Rattle.ft_view.specs.Found.{Finds};
 ghost use Rattle.ft_view.specs.Ends.{AreEnds};
 
+use crate::code_type::check_types;
+use crate::header::check_header;
+use crate::node_records::NodeRecords;
 use crate::part::part;
+use crate::rules::check;
 use crate::sections::blocks::check_blocks;
 use crate::sections::cells::check_cells;
 use crate::sections::instrs::check_instrs;
@@ -18,7 +22,6 @@ use crate::sections::queue::check_queue;
 use crate::sections::regs::check_regs;
 use crate::sections::substs::check_substs;
 use ft_format::{Header, ObjectError, Places};
-use ft_records::{NodeRecords, check, check_header, check_types};
 
 /// The most bytes that an object file may have.
 const LIMIT: usize = 67108864;

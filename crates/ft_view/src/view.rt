@@ -1,15 +1,21 @@
 //! Objects in place.
-ghost use Rattle.std.specs.Prelude.{◌≡◌, ◌<◌, ◌≤◌, ◌^◌, ◌↔◌, ◌+◌, None, Some, length, slice_get, IfOk};
+ghost use Rattle.std.specs.Prelude.{◌≡◌, ◌<◌, ◌≤◌, ◌^◌, ◌↔◌, ◌+◌, ◌*◌, ◌/◌, None, Some, length, slice_get, IfOk};
 
+use crate::block::read_block;
+use crate::byte_part::stretch;
+use crate::cell::read_cell;
+use crate::in_place::instr_in;
+use crate::instr_parts::read_instr;
+use crate::node::read_node;
+use crate::reg::read_reg;
 use crate::section::Section;
 use crate::tables::judge;
 use ft_format::{
     CellRow, CodeRow, Header, NodeRow, ObjectError, PairRow, Places, RegRow, SubstRow, TypeRow,
 };
 use ft_isa::Instr;
-use ft_records::{read_block, read_cell, read_instr, read_node, read_reg, stretch};
 use ft_static::{Node, Nodes};
-use ft_types::{Block, CellHead, Counts, Program, RegType, TypeHead};
+use ft_types::{Block, CellHead, Counts, INSTR_BYTES, Program, RegType, TypeHead};
 use std::marker::Model;
 
 /// Bytes that spell an object. A view is seen as its bytes, and the object that they spell is one (`object_of`).
@@ -41,9 +47,11 @@ impl<'a> View<'a> {
     ghost use Rattle.ft_format.specs.Broken.{header_at, version_at, instr_rows_of, object_of, broken};
     ghost use Rattle.ft_format.specs.declared.version.Version.{Version};
     ghost use Rattle.ft_format.specs.Format.{Spells};
-    ghost use Rattle.ft_records.specs.Found.{Finds};
+    ghost use Rattle.ft_view.specs.Found.{Finds};
     ghost use Rattle.ft_types.specs.declared.object.Object.{Object};
+    ghost use Rattle.ft_format.specs.Layout.{numbers, code_layout};
     ghost use Rattle.ft_view.specs.Sections.{section_at, section_size, section_of};
+    ghost use Rattle.ft_view.specs.Known.{IsKnown};
     ghost use Rattle.ft_view.specs.Viewed.{last_end, cell_records, node_records, type_records, reg_records, queue_records, block_records, subst_records};
 
     /// The object that the bytes spell, in place; or the first rule of the format that they break, with its place.
@@ -134,15 +142,18 @@ impl<'a> View<'a> {
         CodeRow::read(stretch(self.bytes, self.at.instrs + 16 * i as usize, 16))
     }
 
-    /// The numbers of the record of instruction `i`, from the section of the instructions.
-    fn record_in(&self, code: &[u8], i: u32) -> CodeRow
-        requires there { i < (header_at self.now).instrs }
+    /// The bytes of the record of an instruction, which begins at this place in the section of the instructions.
+    #[inline(always)]
+    fn record_in<'c>(&self, code: &'c [u8], at: usize) -> &'c [u8]
+        requires there { at / 16 < (header_at self.now).instrs }
+        requires whole { at ≡ 16 * (at / 16) }
         requires code { code.now ≡ section_of Section.Instrs self.now }
-        ensures there { slice_get (instr_rows_of (header_at self.now) self.now) i ≡ Some (code_numbers result) }
-        ensures below { (result.a < 64) × (result.b < 64) × (result.c < 64) }
+        ensures long { 16 ≤ length result.now }
+        ensures there { slice_get (instr_rows_of (header_at self.now) self.now) (at / 16) ≡ Some (numbers code_layout result.now) }
+        ensures known { IsKnown result.now }
     {
         let _ = &self.header;
-        CodeRow::read(stretch(code, 16 * i as usize, 16))
+        stretch(code, at, INSTR_BYTES)
     }
 
     /// Where the register rows and the queue rows of code type `t` begin.
@@ -273,8 +284,9 @@ impl<'a> Program for View<'a> {
         self.section(Section::Instrs)
     }
 
-    fn fetch(&self, code: &'a [u8], i: u32) -> Instr {
-        read_instr(self.record_in(code, i))
+    #[inline(always)]
+    fn fetch(&self, code: &'a [u8], at: usize) -> Instr {
+        instr_in(self.record_in(code, at))
     }
 
     fn block(&self, b: u32) -> Block {

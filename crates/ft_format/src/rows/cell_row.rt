@@ -4,7 +4,7 @@ ghost use Rattle.ft_format.specs.Layout.{numbers, written, cell_layout};
 ghost use Rattle.ft_format.specs.Puts.{Puts};
 ghost use Rattle.ft_format.specs.Fields.{cell_numbers};
 
-use crate::numbers::{put_u8, put_u16, put_u32, put_u64, read_u8, read_u16, read_u32, read_u64};
+use crate::numbers::{cell_bytes, put, read_u8, read_u16, read_u32, read_u64};
 use ft_isa::NoMemory;
 
 /// The numbers of a cell's record: where its name ends, its basic type, its initial word.
@@ -39,15 +39,11 @@ impl CellRow {
     }
 
     /// Puts the record's bytes at the end. Where memory runs out, some of them may stand there.
-    #[tactic(auto, unfolding(crate::specs::Layout::written))]
+    #[inline(always)]
     pub fn write(self, out: &mut Vec<u8>) -> Result<(), NoMemory>
         ensures { OnOk result (Puts out.old.items out.new.items (written cell_layout (cell_numbers self))) }
     {
-        put_u32(out, self.past)?;
-        put_u8(out, self.refs)?;
-        put_u8(out, self.base)?;
-        put_u16(out, self.code_type)?;
-        put_u64(out, self.init)?;
-        Ok(())
+        let bytes = cell_bytes(self.past, self.refs, self.base, self.code_type, self.init);
+        put(out, &bytes)
     }
 }

@@ -4,7 +4,7 @@ ghost use Rattle.ft_format.specs.Layout.{numbers, written, pair_layout};
 ghost use Rattle.ft_format.specs.Puts.{Puts};
 ghost use Rattle.ft_format.specs.Fields.{pair_numbers};
 
-use crate::numbers::{put_u32, read_u32};
+use crate::numbers::{pair_bytes, put, read_u32};
 use ft_isa::NoMemory;
 
 /// The numbers of a queue row, its address and its value, or of a block, its first instruction and its code
@@ -28,12 +28,10 @@ impl PairRow {
     }
 
     /// Puts the record's bytes at the end. Where memory runs out, some of them may stand there.
-    #[tactic(auto, unfolding(crate::specs::Layout::written))]
+    #[inline(always)]
     pub fn write(self, out: &mut Vec<u8>) -> Result<(), NoMemory>
         ensures { OnOk result (Puts out.old.items out.new.items (written pair_layout (pair_numbers self))) }
     {
-        put_u32(out, self.first)?;
-        put_u32(out, self.second)?;
-        Ok(())
+        put(out, &pair_bytes(self.first, self.second))
     }
 }

@@ -4,7 +4,7 @@ ghost use Rattle.ft_format.specs.Layout.{numbers, written, reg_layout};
 ghost use Rattle.ft_format.specs.Puts.{Puts};
 ghost use Rattle.ft_format.specs.Fields.{reg_numbers};
 
-use crate::numbers::{put_u8, put_u16, put_u32, read_u8, read_u16, read_u32};
+use crate::numbers::{put, read_u8, read_u16, read_u32, reg_bytes};
 use ft_isa::NoMemory;
 
 /// The numbers of a register row: register, colour, padding, basic type, expression.
@@ -45,17 +45,19 @@ impl RegRow {
     }
 
     /// Puts the record's bytes at the end. Where memory runs out, some of them may stand there.
-    #[tactic(auto, unfolding(crate::specs::Layout::written))]
+    #[inline(always)]
     pub fn write(self, out: &mut Vec<u8>) -> Result<(), NoMemory>
         ensures { OnOk result (Puts out.old.items out.new.items (written reg_layout (reg_numbers self))) }
     {
-        put_u8(out, self.reg)?;
-        put_u8(out, self.colour)?;
-        put_u16(out, self.pad)?;
-        put_u8(out, self.refs)?;
-        put_u8(out, self.base)?;
-        put_u16(out, self.code_type)?;
-        put_u32(out, self.expr)?;
-        Ok(())
+        let bytes = reg_bytes(
+            self.reg,
+            self.colour,
+            self.pad,
+            self.refs,
+            self.base,
+            self.code_type,
+            self.expr,
+        );
+        put(out, &bytes)
     }
 }

@@ -5,7 +5,7 @@ ghost use Rattle.ft_format.specs.Layout.{numbers, written, type_layout};
 ghost use Rattle.ft_format.specs.Puts.{Puts};
 ghost use Rattle.ft_format.specs.Fields.{type_numbers};
 
-use crate::numbers::{put_u8, put_u32, read_u8, read_u32};
+use crate::numbers::{put, read_u8, read_u32, type_bytes};
 use ft_isa::NoMemory;
 
 /// The numbers of a type's record: where its register rows and its queue rows end, its memory, how many
@@ -47,17 +47,19 @@ impl TypeRow {
     }
 
     /// Puts the record's bytes at the end. Where memory runs out, some of them may stand there.
-    #[tactic(auto, unfolding(crate::specs::Layout::written))]
+    #[inline(always)]
     pub fn write(self, out: &mut Vec<u8>) -> Result<(), NoMemory>
         ensures { OnOk result (Puts out.old.items out.new.items (written type_layout (type_numbers self))) }
     {
-        put_u32(out, self.regs)?;
-        put_u32(out, self.queue)?;
-        put_u32(out, self.memory)?;
-        put_u8(out, self.ints)?;
-        put_u8(out, self.pad0)?;
-        put_u8(out, self.pad1)?;
-        put_u8(out, self.pad2)?;
-        Ok(())
+        let bytes = type_bytes(
+            self.regs,
+            self.queue,
+            self.memory,
+            self.ints,
+            self.pad0,
+            self.pad1,
+            self.pad2,
+        );
+        put(out, &bytes)
     }
 }

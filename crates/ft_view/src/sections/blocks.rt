@@ -2,10 +2,10 @@
 ghost use Rattle.std.specs.Prelude.{◌+◌, ◌*◌, ◌≤◌, ◌^◌, None, length};
 ghost use Rattle.ft_format.specs.Layout.{rows, pair_layout};
 ghost use Rattle.ft_format.specs.Broken.{blocks_broken};
-ghost use Rattle.ft_records.specs.Found.{Finds};
+ghost use Rattle.ft_view.specs.Found.{Finds};
 
+use crate::block::check_block;
 use ft_format::{Header, ObjectError, PairRow};
-use ft_records::check_block;
 
 /// The rules of the records of all blocks, the first of which is at a place.
 pub(crate) fn check_blocks(header: Header, at: usize, bytes: &[u8]) -> Result<(), ObjectError>

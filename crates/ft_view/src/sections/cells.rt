@@ -2,10 +2,10 @@
 ghost use Rattle.std.specs.Prelude.{◌*◌, ◌≤◌, ◌^◌, length};
 ghost use Rattle.ft_format.specs.Layout.{rows, cell_layout};
 ghost use Rattle.ft_format.specs.Broken.{cells_broken};
-ghost use Rattle.ft_records.specs.Found.{Finds};
+ghost use Rattle.ft_view.specs.Found.{Finds};
 
+use crate::cell::check_cell;
 use ft_format::{CellRow, Header, ObjectError};
-use ft_records::check_cell;
 
 /// The rules of the records of all cells, but for the bytes of their names.
 pub(crate) fn check_cells(header: Header, bytes: &[u8]) -> Result<(), ObjectError>

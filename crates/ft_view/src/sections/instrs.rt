@@ -2,10 +2,11 @@
 ghost use Rattle.std.specs.Prelude.{◌≡◌, ◌+◌, ◌*◌, ◌≤◌, ◌^◌, length, IfOk};
 ghost use Rattle.ft_format.specs.Layout.{rows, code_layout};
 ghost use Rattle.ft_format.specs.Broken.{instrs_broken, rows_taken};
-ghost use Rattle.ft_records.specs.Found.{Finds};
+ghost use Rattle.ft_view.specs.Found.{Finds};
 
+use crate::instr::{check_instr, rows_past};
+use crate::node_records::NodeRecords;
 use ft_format::{CodeRow, Header, ObjectError};
-use ft_records::{NodeRecords, check_instr, rows_past};
 
 /// The rules of the records of all instructions, the first of which is at a place, and how many substitution rows
 /// they take.

@@ -5,12 +5,14 @@ ghost use Rattle.std.specs.Str.{bytes_eq};
 ghost use Rattle.ft_format.specs.Layout.{rows, cell_layout};
 ghost use Rattle.ft_format.specs.Values.{past_of, cells_of};
 ghost use Rattle.ft_format.specs.Broken.{name_broken, names_broken};
-ghost use Rattle.ft_records.specs.Found.{Finds};
+ghost use Rattle.ft_view.specs.Found.{Finds};
 ghost use Rattle.ft_view.specs.Ends.{AreEnds};
 
+use crate::byte_part::stretch;
+use crate::name::check_name_bytes;
+use crate::rules::check;
 use crate::same_name::is_same;
 use ft_format::{CellRow, ObjectError, Version};
-use ft_records::{check, check_name_bytes, stretch};
 
 /// Whether one of the first cells has this name.
 fn has_name(names: &[u8], count: u32, records: &[u8], name: &[u8]) -> bool

@@ -2,10 +2,11 @@
 ghost use Rattle.std.specs.Prelude.{◌+◌, ◌*◌, ◌≤◌, ◌^◌, [], length};
 ghost use Rattle.ft_format.specs.Layout.{rows, code_layout};
 ghost use Rattle.ft_format.specs.Broken.{nodes_broken};
-ghost use Rattle.ft_records.specs.Found.{Finds};
+ghost use Rattle.ft_view.specs.Found.{Finds};
 
+use crate::node::check_node;
+use crate::node_records::NodeRecords;
 use ft_format::{NodeRow, ObjectError, Version};
-use ft_records::{NodeRecords, check_node};
 
 /// The rules of so many records of nodes, the first of which is at a place. By itself the loop has enough registers.
 #[inline(never)]

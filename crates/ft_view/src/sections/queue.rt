@@ -3,11 +3,13 @@ ghost use Rattle.std.specs.Prelude.{◌≡◌, ◌+◌, ◌*◌, ◌≤◌, ◌^
 ghost use Rattle.ft_format.specs.Layout.{rows, pair_layout, type_layout};
 ghost use Rattle.ft_format.specs.Values.{queue_end_of};
 ghost use Rattle.ft_format.specs.Broken.{type_queue_broken, queues_broken};
-ghost use Rattle.ft_records.specs.Found.{Finds};
+ghost use Rattle.ft_view.specs.Found.{Finds};
 ghost use Rattle.ft_view.specs.Ends.{AreEnds};
 
+use crate::node_records::NodeRecords;
+use crate::queue_pair::check_queue_row;
+use crate::rules::check;
 use ft_format::{Header, ObjectError, PairRow, TypeRow};
-use ft_records::{NodeRecords, check, check_queue_row};
 
 /// The rules of the queue rows of one type, and the bytes after them.
 fn check_type_queue<'a>(

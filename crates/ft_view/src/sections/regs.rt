@@ -3,11 +3,13 @@ ghost use Rattle.std.specs.Prelude.{◌≡◌, ◌+◌, ◌*◌, ◌≤◌, ◌^
 ghost use Rattle.ft_format.specs.Layout.{rows, reg_layout, type_layout};
 ghost use Rattle.ft_format.specs.Values.{regs_end_of};
 ghost use Rattle.ft_format.specs.Broken.{type_regs_broken, regs_broken};
-ghost use Rattle.ft_records.specs.Found.{Finds};
+ghost use Rattle.ft_view.specs.Found.{Finds};
 ghost use Rattle.ft_view.specs.Ends.{AreEnds};
 
+use crate::node_records::NodeRecords;
+use crate::reg::check_reg;
+use crate::rules::check;
 use ft_format::{Header, ObjectError, RegRow, TypeRow};
-use ft_records::{NodeRecords, check, check_reg};
 
 /// The rules of the register rows of one type, and the bytes after them.
 fn check_type_regs<'a>(

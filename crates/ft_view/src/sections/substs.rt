@@ -2,10 +2,11 @@
 ghost use Rattle.std.specs.Prelude.{◌+◌, ◌*◌, ◌≤◌, ◌^◌, length};
 ghost use Rattle.ft_format.specs.Layout.{rows, subst_layout};
 ghost use Rattle.ft_format.specs.Broken.{subst_rows_broken, substs_broken};
-ghost use Rattle.ft_records.specs.Found.{Finds};
+ghost use Rattle.ft_view.specs.Found.{Finds};
 
+use crate::node_records::NodeRecords;
+use crate::rules::{check, check_node_number};
 use ft_format::{Header, ObjectError, SubstRow};
-use ft_records::{NodeRecords, check, check_node_number};
 
 /// The rules of so many rows.
 fn check_rows(nodes: &NodeRecords, at: usize, count: u32, bytes: &[u8]) -> Result<(), ObjectError>

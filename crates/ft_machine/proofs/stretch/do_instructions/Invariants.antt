@@ -1,14 +1,21 @@
-use Rattle.std.proofs.Common.{◌≤◌, ◌-◌, None}
+use Rattle.std.proofs.Common.{◌≡◌, ◌<◌, ◌≤◌, ◌+◌, ◌-◌, ◌*◌, ◌/◌, None}
 use Rattle.ft_machine.specs.declared.stepped.Stepped.TheVariants.{Quiet}
 use Rattle.ft_machine.specs.Advances.{Advances}
 use Rattle.ft_machine.specs.Effects.{doing}
 use Rattle.ft_machine.proofs.stretch.do_instructions.Given as goal
 
-abbrev pub invariant-loop-taken : goal.invariant-loop-taken
-invariant-loop-taken g l = record {
-  few : l.taken ≤ l.most;
-  advances : Advances (g.P.Program.object l.program) (doing l.fn.bank l.first l.first None) l.fn.wild (doing l.bank l.pc l.pc None) l.wild l.taken l.taken Quiet;
+abbrev pub invariant-loop-at : goal.invariant-loop-at
+invariant-loop-at g l = record {
+  whole : l.at ≡ 16 * (l.at / 16);
+  limit_whole : l.limit ≡ 16 * (l.limit / 16);
+  within : l.at ≤ l.limit;
+  past : l.past ≤ l.limit;
+  there : l.past ≤ 16 * l.count;
+  left : l.limit - l.at ≤ 16 * l.all;
+  some : 0 < (16 * l.all - (l.limit - l.at)) + (l.past - l.at);
+  advances : Advances (g.P.Program.object l.program) (doing l.fn.bank l.first l.first None) l.fn.wild (doing l.bank (1 + l.at / 16) (1 + l.at / 16) None) l.wild
+      (2 * (l.all - (l.limit - l.at) / 16)) (2 * (l.all - (l.limit - l.at) / 16)) Quiet;
 }
 
-abbrev pub decreases-loop-taken : goal.decreases-loop-taken
-decreases-loop-taken g l = l.most - l.taken
+abbrev pub decreases-loop-at : goal.decreases-loop-at
+decreases-loop-at g l = l.limit - l.at

@@ -1,4 +1,4 @@
 use Rattle.ft_norm_tests.proofs.tests.node_is_found_under_a_substitution.Given as goal
 
 abbrev pub ghosts-found : goal.ghosts-found
-ghosts-found g a = record { name = a.blank.name; parts = a.blank.parts }
+ghosts-found a = record { name = a.blank.name; parts = a.blank.parts }

@@ -1,5 +1,5 @@
 use Rattle.std.proofs.Common.{refl}
-use Rattle.ft_sample.specs.Sample.{sample_object}
+use Rattle.ft_demo.specs.Sample.{sample_object}
 use Rattle.ft_demo.specs.Demonstrations.{demo_lines}
 use Rattle.ft_tool.proofs.Tried.{sample_undetected}
 use Rattle.ft_tool.proofs.demo.demonstrate.Goals as goal

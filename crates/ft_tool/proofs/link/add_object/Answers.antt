@@ -1,6 +1,6 @@
 use Rattle.std.proofs.Common.{◌≡◌, [], ◌∷◌, ◌++◌, None, subst}
-use Rattle.ft_link_steps.specs.LinkErrors.{IsRefusalOf}
-use Rattle.ft_link_steps.specs.Linking.{added_refusal}
+use Rattle.ft_linker.specs.LinkErrors.{IsRefusalOf}
+use Rattle.ft_linker.specs.Linking.{added_refusal}
 use Rattle.ft_tool.specs.Files.{IsNotAccepted, IsUnlinkedBy}
 use Rattle.ft_tool.specs.Links.{EndsAtObject}
 use Rattle.ft_tool.proofs.Answered.{Ends-map}

@@ -3,7 +3,7 @@ use Rattle.std.proofs.lemmas.List.{length-drop}
 use Rattle.ft_format.specs.Layout.{rows, cell_layout}
 use Rattle.ft_format.specs.Values.{past_of}
 use Rattle.ft_format.specs.Broken.{cells_broken}
-use Rattle.ft_records.specs.Found.{Finds}
+use Rattle.ft_view.specs.Found.{Finds}
 use Rattle.ft_view.specs.Ends.{AreEnds}
 use Rattle.ft_view.proofs.EndsRise.{ends_of_cells, found_fine}
 use Rattle.ft_view.proofs.tables.judge_cells.Goals as goal

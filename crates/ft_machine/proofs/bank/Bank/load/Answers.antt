@@ -1,10 +1,11 @@
-use Rattle.std.proofs.Common.{ap, ◌∙◌}
-use Rattle.ft_semantics.specs.Step.{found}
-use Rattle.ft_machine.specs.Effects.{doing}
-use Rattle.ft_machine.proofs.Banks.{load_found}
+use Rattle.std.proofs.Common.{subst}
+use Rattle.ft_semantics.specs.State.{held}
+use Rattle.ft_semantics.specs.Step.{load, found}
+use Rattle.ft_machine.specs.Effects.{Does, went}
 use Rattle.ft_machine.proofs.bank.Bank.load.Goals as goal
 
-pub returns-in-Some : goal.returns-in-Some
-returns-in-Some c =
-    load_found c.args.colour c.args.rd c.args.rs c.in-Some.word c.args.self.now c.write.new.self c.write.result c.args.wild.now
-    (λ g b f. c.in-Some.ensures g b f ∙ ap (found c.args.colour (doing c.args.self.now g b f)) c.word-addr.ensures) c.write.ensures
+pub returns-then-loads : goal.returns-then-loads
+returns-then-loads c = subst (λ v. Does (λ s w. load c.args.colour c.args.rd (found c.args.colour s (held s.registers c.args.rs.number).word) s w) c.args.self.now c.loads.new.self (went v) c.args.wild.now c.loads.new.wild) c.if-loads.true c.loads.ensures
+
+pub returns-else-loads : goal.returns-else-loads
+returns-else-loads c = subst (λ v. Does (λ s w. load c.args.colour c.args.rd (found c.args.colour s (held s.registers c.args.rs.number).word) s w) c.args.self.now c.loads.new.self (went v) c.args.wild.now c.loads.new.wild) c.if-loads.false c.loads.ensures

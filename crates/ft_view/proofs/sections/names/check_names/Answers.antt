@@ -6,7 +6,7 @@ use Rattle.ft_format.specs.Fields.{cell_numbers}
 use Rattle.ft_format.specs.Values.{past_of, cells_of}
 use Rattle.ft_format.specs.Broken.{name_broken, names_broken}
 use Rattle.ft_format.proofs.Loops.{past_more}
-use Rattle.ft_records.specs.Found.{Finds}
+use Rattle.ft_view.specs.Found.{Finds}
 use Rattle.ft_view.proofs.EndsRise.{first_end}
 use Rattle.ft_view.proofs.Named.{ends_first, last_more, name_goes, name_halts, names_end, no_cells, no_past}
 use Rattle.ft_view.proofs.sections.names.check_names.Goals as goal

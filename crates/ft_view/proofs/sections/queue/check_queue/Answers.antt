@@ -9,7 +9,7 @@ use Rattle.ft_format.specs.Rules.{must}
 use Rattle.ft_format.specs.Values.{queue_end_of}
 use Rattle.ft_format.specs.Broken.{type_queue_broken, queues_broken}
 use Rattle.ft_format.proofs.Loops.{goes, stops, ends}
-use Rattle.ft_records.specs.Found.{Finds}
+use Rattle.ft_view.specs.Found.{Finds}
 use Rattle.ft_view.proofs.EndsRise.{first_end}
 use Rattle.ft_view.proofs.sections.queue.check_queue.Goals as goal
 

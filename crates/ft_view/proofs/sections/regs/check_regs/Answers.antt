@@ -9,7 +9,7 @@ use Rattle.ft_format.specs.Rules.{must}
 use Rattle.ft_format.specs.Values.{regs_end_of}
 use Rattle.ft_format.specs.Broken.{type_regs_broken, regs_broken}
 use Rattle.ft_format.proofs.Loops.{goes, stops, ends}
-use Rattle.ft_records.specs.Found.{Finds}
+use Rattle.ft_view.specs.Found.{Finds}
 use Rattle.ft_view.proofs.EndsRise.{first_end}
 use Rattle.ft_view.proofs.sections.regs.check_regs.Goals as goal
 

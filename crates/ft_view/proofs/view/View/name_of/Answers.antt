@@ -6,7 +6,7 @@ use Rattle.ft_format.specs.Broken.{header_at, names_at, names_part}
 use Rattle.ft_view.specs.Viewed.{cell_records}
 use Rattle.ft_view.proofs.At.{ends_at}
 use Rattle.ft_view.proofs.Opened.{sections}
-use Rattle.ft_view.proofs.Parts.{cell_count, cell_ends, name_is}
+use Rattle.ft_view.proofs.CountedParts.{cell_count, cell_ends, name_is}
 use Rattle.ft_view.proofs.view.View.name_of.Goals as goal
 
 pub name_before-start-requires : goal.name_before-start-requires

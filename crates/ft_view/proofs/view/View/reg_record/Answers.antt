@@ -7,7 +7,7 @@ use Rattle.ft_format.specs.Fields.{reg_numbers}
 use Rattle.ft_format.specs.Broken.{header_at, broken, nodes_read, regs_part}
 use Rattle.ft_view.specs.Viewed.{reg_records, type_records}
 use Rattle.ft_view.proofs.Whole.{unbroken}
-use Rattle.ft_view.proofs.Parts.{type_ends}
+use Rattle.ft_view.proofs.CountedParts.{type_ends}
 use Rattle.ft_view.proofs.RegPlain.{reg_at}
 use Rattle.ft_view.proofs.Opened.{sections, below, row_there}
 use Rattle.ft_view.proofs.view.View.reg_record.Goals as goal

@@ -1,5 +1,5 @@
 use Rattle.std.proofs.Common.{◌<◌, subst}
-use Rattle.ft_view.proofs.Parts.{node_count, node_is}
+use Rattle.ft_view.proofs.CountedParts.{node_count, node_is}
 use Rattle.ft_view.proofs.view.ViewNodes.node.Goals as goal
 
 pub node_record-requires : goal.node_record-requires

@@ -1,5 +1,5 @@
 use Rattle.std.proofs.Common.{sym, ap, ◌∙◌}
-use Rattle.ft_view.proofs.Parts.{node_count}
+use Rattle.ft_view.proofs.CountedParts.{node_count}
 use Rattle.ft_format.specs.Broken.{header_at}
 use Rattle.ft_view.proofs.view.ViewNodes.node_count.Goals as goal
 

@@ -1,5 +1,5 @@
 use Rattle.std.proofs.Common.{◌<◌, subst}
-use Rattle.ft_view.proofs.Parts.{block_count, block_is}
+use Rattle.ft_view.proofs.CountedParts.{block_count, block_is}
 use Rattle.ft_view.proofs.view.ViewProgram.block.Goals as goal
 
 pub block_record-requires : goal.block_record-requires

@@ -1,5 +1,5 @@
 use Rattle.std.proofs.Common.{◌<◌, subst}
-use Rattle.ft_view.proofs.Parts.{cell_count, cell_is}
+use Rattle.ft_view.proofs.CountedParts.{cell_count, cell_is}
 use Rattle.ft_view.proofs.view.ViewProgram.cell.Goals as goal
 
 pub cell_record-requires : goal.cell_record-requires

@@ -4,7 +4,7 @@ use Rattle.ft_format.specs.Values.{regs_end_of, queue_end_of}
 use Rattle.ft_format.specs.Broken.{header_at}
 use Rattle.ft_view.specs.Viewed.{type_records}
 use Rattle.ft_view.proofs.At.{ends_at}
-use Rattle.ft_view.proofs.Parts.{type_count, type_ends, head_is}
+use Rattle.ft_view.proofs.CountedParts.{type_count, type_ends, head_is}
 use Rattle.ft_view.proofs.view.ViewProgram.code_type.Goals as goal
 
 pub type_record-row-requires : goal.type_record-row-requires

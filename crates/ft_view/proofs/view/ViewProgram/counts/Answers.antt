@@ -1,5 +1,5 @@
 use Rattle.std.proofs.Common.{sym, ap, ◌∙◌}
-use Rattle.ft_view.proofs.Parts.{cell_count, type_count, block_count, subst_count}
+use Rattle.ft_view.proofs.CountedParts.{cell_count, type_count, block_count, subst_count}
 use Rattle.ft_view.proofs.Opened.{instr_count}
 use Rattle.ft_format.specs.Broken.{header_at}
 use Rattle.ft_view.proofs.view.ViewProgram.counts.Goals as goal

@@ -1,5 +1,5 @@
 use Rattle.std.proofs.Common.{sym, ap, ◌∙◌}
-use Rattle.ft_view.proofs.Parts.{entry_is}
+use Rattle.ft_view.proofs.CountedParts.{entry_is}
 use Rattle.ft_format.specs.Broken.{header_at}
 use Rattle.ft_view.proofs.view.ViewProgram.entry.Goals as goal
 

@@ -1,5 +1,5 @@
 use Rattle.std.proofs.Common.{◌<◌, subst}
-use Rattle.ft_view.proofs.Parts.{node_count, words_are}
+use Rattle.ft_view.proofs.CountedParts.{node_count, words_are}
 use Rattle.ft_view.proofs.view.ViewProgram.node_words.Goals as goal
 
 pub node_record-requires : goal.node_record-requires

@@ -1,5 +1,5 @@
 use Rattle.std.proofs.Common.{refl, sym, ap, ◌∙◌, arith}
-use Rattle.ft_view.proofs.Parts.{type_count, type_ends, queue_inside, pair_is}
+use Rattle.ft_view.proofs.CountedParts.{type_count, type_ends, queue_inside, pair_is}
 use Rattle.ft_view.proofs.Opened.{sections}
 use Rattle.ft_format.specs.Broken.{header_at}
 use Rattle.ft_view.proofs.view.ViewProgram.queue_row.Goals as goal

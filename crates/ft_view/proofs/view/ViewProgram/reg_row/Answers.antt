@@ -1,5 +1,5 @@
 use Rattle.std.proofs.Common.{sym, ap, ◌∙◌, arith}
-use Rattle.ft_view.proofs.Parts.{type_count, type_ends, reg_inside, reg_is}
+use Rattle.ft_view.proofs.CountedParts.{type_count, type_ends, reg_inside, reg_is}
 use Rattle.ft_view.proofs.Opened.{sections}
 use Rattle.ft_format.specs.Broken.{header_at}
 use Rattle.ft_view.proofs.view.ViewProgram.reg_row.Goals as goal

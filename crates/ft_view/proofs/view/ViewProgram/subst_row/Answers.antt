@@ -1,5 +1,5 @@
 use Rattle.std.proofs.Common.{◌<◌, refl, subst}
-use Rattle.ft_view.proofs.Parts.{subst_count, subst_is}
+use Rattle.ft_view.proofs.CountedParts.{subst_count, subst_is}
 use Rattle.ft_view.proofs.view.ViewProgram.subst_row.Goals as goal
 
 pub subst_record-requires : goal.subst_record-requires

@@ -1,4 +1,0 @@
-pub mod OneKey
-pub mod Numbering
-pub mod Zips
-pub mod Compared

@@ -1,7 +1,0 @@
-use Rattle.std.proofs.Common.{take}
-use Rattle.std.specs.List.{AllZip}
-use Rattle.ft_modules.specs.LikeTypes.{SamePair}
-use Rattle.ft_alike.proofs.types.same_pairs.Given as goal
-
-abbrev pub invariant-loop-j : goal.invariant-loop-j
-invariant-loop-j l = AllZip (SamePair l.a l.b) (take l.j l.rs) (take l.j l.qs)

@@ -1,4 +1,0 @@
-pub mod LinkErrors
-pub mod Linking
-pub mod Totals
-pub mod Joins

@@ -1,6 +1,0 @@
-use Rattle.ft_linked.proofs.AcceptedLinked.{accepted_linked}
-use Rattle.ft_linked.proofs.SpelledWhole.{spelled_linked}
-use Rattle.ft_linked.proofs.laws.linked_objects_are_accepted.Goals as goal
-
-pub returns : goal.returns
-returns c = record { spelled = spelled_linked; accepted = accepted_linked }

@@ -1,0 +1,16 @@
+pub mod Mapped
+pub mod Raisable
+pub mod Stacking
+pub mod OneKey
+pub mod Numbering
+pub mod Zips
+pub mod Compared
+pub mod Walks
+pub mod Ranges
+pub mod Comparing
+pub mod Adding
+pub mod Joining
+pub mod JoinedBlocks
+pub mod Assembled
+pub mod Ready
+pub mod Outcome

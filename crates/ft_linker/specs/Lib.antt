@@ -1,0 +1,10 @@
+pub mod Raises
+pub mod Tables
+pub mod Changes
+pub mod Keys
+pub mod Numbers
+pub mod Stands
+pub mod LinkErrors
+pub mod Linking
+pub mod Totals
+pub mod Joins

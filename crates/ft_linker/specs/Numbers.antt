@@ -1,0 +1,49 @@
+-- Nodes with the numbers of their trees.
+use Rattle.std.specs.Prelude.{◌≡◌, ◌↔◌, ℕ, ◌+◌, ◌<◌, ◌≤◌, List, false, length, Option, Some, slice_get}
+use Rattle.ft_static.specs.NodeTree.{tree_at}
+use Rattle.ft_static.specs.declared.node.Node.{Node}
+use Rattle.ft_static.specs.declared.node.Shape.{Shape}
+use Rattle.ft_static.specs.declared.node.Shape.TheVariants as shape
+use Rattle.ft_types.specs.declared.object.Object.{Object}
+use Rattle.ft_types.specs.declared.object.RegType.{RegType}
+use Rattle.ft_types.specs.Spellable.{IsNodeIn}
+use Rattle.ft_modules.specs.TreeKeys.{AreTreeNumbers, number_in, key_of}
+use Rattle.ft_linker.specs.declared.key.Key.{Key}
+use Rattle.ft_linker.specs.Keys.{key_as}
+
+-- the parts of a shape are below n
+abbrev pub HasPartsBelow : ℕ → Shape → Type 0
+HasPartsBelow n (shape.Word w) = Unit {0}
+HasPartsBelow n (shape.Var i) = Unit {0}
+HasPartsBelow n (shape.Op o a b) = (a < n) × (b < n)
+HasPartsBelow n (shape.Sel m a) = (m < n) × (a < n)
+HasPartsBelow n shape.Memory = Unit {0}
+HasPartsBelow n (shape.Upd m a v) = (m < n) × (a < n) × (v < n)
+HasPartsBelow n (shape.Rem a m) = a < n
+
+-- these are the numbers of all nodes
+pub record AreNumbered (nodes : List Node) (cs : List ℕ) : Type 0 where
+  pub count : length cs ≡ length nodes
+  pub trees : AreTreeNumbers nodes cs (length nodes)
+
+-- the numbers of the first n nodes, with what is known of each key: the first node that has it
+pub record AreKnown (nodes : List Node) (cs : List ℕ) (n : ℕ) (known : Key → Option ℕ) : Type 0 where
+  pub count : length cs ≡ n
+  pub trees : AreTreeNumbers nodes cs n
+  pub each : (i : ℕ) (y : Node) → i < n → slice_get nodes i ≡ Some y → known (key_as (key_of cs y.shape)) ≡ Some (number_in cs i)
+  pub first : (k : Key) (c : ℕ) → known k ≡ Some c → (y : Node) × (c < n) × (slice_get nodes c ≡ Some y) × (key_as (key_of cs y.shape) ≡ k)
+
+-- nodes of two objects, numbered from k and from l on: two have one number exactly where they stand for one tree
+pub record AreCompared (cs : List ℕ) (o : Object) (k : ℕ) (x : Object) (l : ℕ) : Type 0 where
+  pub from : k + length o.nodes ≤ length cs
+  pub to : l + length x.nodes ≤ length cs
+  pub same : (n m : ℕ) → n < length o.nodes → m < length x.nodes → number_in cs (k + n) ≡ number_in cs (l + m) ↔ tree_at o.nodes n ≡ tree_at x.nodes m
+
+-- a register row and a queue row have nodes of integers of the object
+abbrev pub HasRow : Object → RegType → Type 0
+HasRow o r = (scope : ℕ) × IsNodeIn o.nodes scope false r.expr
+
+pub record HasPair (o : Object) (q : ℕ × ℕ) : Type 0 where
+  pub scope : ℕ
+  pub address : IsNodeIn o.nodes scope false q.0
+  pub value : IsNodeIn o.nodes scope false q.1

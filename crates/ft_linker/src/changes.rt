@@ -1,0 +1,91 @@
+//! Moves of imported blocks' addresses.
+ghost use Rattle.std.specs.Prelude.{◌≡◌, [], ◌∷◌, List, Some, IfOk, OnOk, map};
+ghost use Rattle.std.specs.Option.{option_map};
+ghost use Rattle.ft_modules.specs.Linked.{Change, change_at, changed_instr};
+
+use ft_isa::{Base, Basic, Coloured, Instr};
+use std::alloc::{AllocError, Global};
+use std::collections::BTreeMap;
+
+/// Where a code address is sent: to the first instruction of a block of this code type.
+#[derive(Clone, Copy, Debug, PartialEq, Eq, Drop)]
+pub struct Target {
+    pub address: u64,
+    pub code_type: u16,
+}
+
+/// Code addresses that are sent to others.
+#[derive(Drop)]
+pub struct Changes {
+    targets: BTreeMap<u64, Target>,
+}
+
+impl Changes {
+    ghost use Rattle.ft_linker.specs.Changes.{Holds, target_of};
+
+    /// No changes.
+    pub fn new(alloc: Global) -> Changes
+        ensures { Holds result [] }
+    {
+        Changes {
+            targets: BTreeMap::new(alloc),
+        }
+    }
+
+    /// Sends an address to another, in the place of where it was sent before.
+    pub fn send(&mut self, from: u64, target: Target) -> Result<(), AllocError>
+        ensures { OnOk result ((c : Change) (cs : List Change) → c.from ≡ from → target_of c ≡ target → Holds self.old cs → Holds self.new (c ∷ cs)) }
+    {
+        self.targets.insert(from, target)?;
+        Ok(())
+    }
+
+    /// Where an address is sent.
+    fn at(&self, address: u64) -> Option<Target>
+        ensures { (cs : List Change) → Holds self.now cs → result ≡ option_map target_of (change_at cs address) }
+    {
+        self.targets.get(&address).copied()
+    }
+
+    /// An instruction, where its move is changed if its address is sent to another.
+    fn change_instr(&self, instr: Instr) -> Instr
+        ensures { (cs : List Change) → Holds self.now cs → result ≡ changed_instr cs instr }
+    {
+        match instr {
+            Instr::Mov {
+                rd,
+                value,
+                basic: Basic {
+                    refs: 0,
+                    base: Base::Code(_),
+                },
+            } => match self.at(value.word) {
+                Some(target) => Instr::Mov {
+                    rd,
+                    value: Coloured {
+                        colour: value.colour,
+                        word: target.address,
+                    },
+                    basic: Basic {
+                        refs: 0,
+                        base: Base::Code(target.code_type),
+                    },
+                },
+                None => instr,
+            },
+            other => other,
+        }
+    }
+
+    /// Instructions with their moves changed.
+    pub fn change(&self, alloc: Global, instrs: &[Instr]) -> Result<Vec<Instr>, AllocError>
+        ensures { IfOk result (λ v. (cs : List Change) → Holds self.now cs → v.items ≡ map (changed_instr cs) instrs.now) }
+    {
+        let mut changed = Vec::with_capacity(alloc, instrs.len())?;
+        for i in 0..instrs.len() {
+            let instr = instrs[i];
+            changed.push(self.change_instr(instr))?;
+        }
+        Ok(changed)
+    }
+}

@@ -1,0 +1,133 @@
+//! Entered registers.
+ghost use Rattle.std.specs.Prelude.{◌≡◌};
+ghost use Rattle.std.specs.FinMap as finite;
+ghost use Rattle.ft_modules.specs.CodeWalk.{Entered, are_free, code_claimed, entered_after, entered_with, is_entered, is_free, is_free_target, is_traced};
+
+use ft_isa::{Base, Basic, Instr, Reg};
+use ft_types::{Object, RegType, Table};
+
+/// The code type of a basic type `code T`.
+fn code_claimed(basic: Basic) -> Option<u16>
+    ensures { result ≡ code_claimed basic }
+{
+    match basic {
+        Basic {
+            refs: 0,
+            base: Base::Code(code_type),
+        } => Some(code_type),
+        _ => None,
+    }
+}
+
+/// For each register, the code type with which it is entered.
+#[derive(Drop)]
+pub struct Traced {
+    types: [Option<u16>; 64],
+}
+
+impl Traced {
+    ghost use Rattle.ft_linker.specs.Stands.{Stands};
+
+    /// No register is entered.
+    pub fn new() -> Traced
+        ensures { Stands result finite.empty }
+    {
+        Traced { types: [None; 64] }
+    }
+
+    /// The code type with which a register is entered.
+    fn get(&self, r: Reg) -> Option<u16>
+        ensures { (e : Entered) → Stands self.now e → result ≡ finite.get e r.number }
+    {
+        self.types[r.number() as usize]
+    }
+
+    /// Enters a register, or takes it out.
+    fn enter(&mut self, r: Reg, target: Option<u16>)
+        ensures { (e : Entered) → Stands self.old e → Stands self.new (entered_with r.number target e) }
+    {
+        self.types[r.number() as usize] = target;
+    }
+
+    /// Whether a register is not entered.
+    fn is_free(&self, r: Reg) -> bool
+        ensures { (e : Entered) → Stands self.now e → result ≡ is_free e r }
+    {
+        !self.get(r).is_some()
+    }
+
+    /// Whether a register is entered.
+    fn is_entered(&self, r: Reg) -> bool
+        ensures { (e : Entered) → Stands self.now e → result ≡ is_entered e r }
+    {
+        self.get(r).is_some()
+    }
+
+    /// Whether no row types an entered register.
+    fn are_free(&self, rows: &Table<RegType>) -> bool
+        ensures { (e : Entered) → Stands self.now e → result ≡ are_free e rows.now }
+    {
+        for j in 0..rows.len() {
+            let row = *rows.at(j);
+            if !self.is_free(row.reg) {
+                return false;
+            }
+        }
+        true
+    }
+
+    /// Whether a target is entered, with a code type that types no entered register.
+    fn is_free_target(&self, object: &Object, target: Option<u16>) -> bool
+        ensures { (e : Entered) → Stands self.now e → result ≡ is_free_target object.now e target }
+    {
+        let Some(code_type) = target else {
+            return false;
+        };
+        let code_type = code_type as usize;
+        if code_type < object.types.len() {
+            self.are_free(&object.types.at(code_type).regs)
+        } else {
+            true
+        }
+    }
+
+    /// Whether the walk passes an instruction.
+    pub fn is_traced(&self, object: &Object, instr: Instr) -> bool
+        ensures { (e : Entered) → Stands self.now e → result ≡ is_traced object.now e instr }
+    {
+        match instr {
+            Instr::OpReg { rs, rt, .. } => self.is_free(rs) && self.is_free(rt),
+            Instr::OpWord { rs, .. } => self.is_free(rs),
+            Instr::Mov { .. } => true,
+            Instr::Ld { rs, .. } => self.is_free(rs),
+            Instr::St { rd, rs, .. } => self.is_free(rd) && self.is_free(rs),
+            Instr::JmpG { rd } => self.is_entered(rd),
+            Instr::JmpB { rd, .. } => self.is_free_target(object, self.get(rd)),
+            Instr::BzG { rz, rd } => self.is_free(rz) && self.is_entered(rd),
+            Instr::BzB { rz, rd, .. } => {
+                self.is_free(rz) && self.is_free_target(object, self.get(rd))
+            }
+            Instr::Halt => true,
+            Instr::Idx { rs, .. } => self.is_free(rs),
+        }
+    }
+
+    /// Goes past an instruction.
+    pub fn pass(&mut self, instr: Instr)
+        ensures { (e : Entered) → Stands self.old e → Stands self.new (entered_after instr e) }
+    {
+        match instr {
+            Instr::OpReg { rd, .. } => self.enter(rd, None),
+            Instr::OpWord { rd, .. } => self.enter(rd, None),
+            Instr::Mov { rd, basic, .. } => self.enter(rd, code_claimed(basic)),
+            Instr::Ld { rd, .. } => self.enter(rd, None),
+            Instr::St { .. } => {}
+            Instr::JmpG { .. } => {}
+            Instr::JmpB { .. } => {}
+            Instr::BzG { .. } => {}
+            Instr::BzB { .. } => {}
+            Instr::Halt => {}
+            Instr::Idx { rd, .. } => self.enter(rd, None),
+        }
+    }
+}

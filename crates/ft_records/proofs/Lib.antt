@@ -1,3 +1,0 @@
-mod Names
-mod NodeRows
-pub mod Records

@@ -1,6 +1,0 @@
-use Rattle.std.proofs.Common.{◌≡◌, ◌++◌, map, take}
-use Rattle.ft_modules.specs.Linked.{raised_node}
-use Rattle.ft_relocate.proofs.rows.lay_nodes.Given as goal
-
-abbrev pub invariant-loop-n : goal.invariant-loop-n
-invariant-loop-n l = l.laid.items ≡ l.initial.laid.items ++ map (raised_node l.k) (take l.n l.nodes)

@@ -1,3 +1,0 @@
-pub mod Raises
-pub mod Tables
-pub mod Changes

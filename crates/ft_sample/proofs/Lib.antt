@@ -1,3 +1,0 @@
-mod Turns
-pub mod Applies
-pub mod Spelled

@@ -1,5 +1,0 @@
-use Rattle.ft_trace.proofs.Walks.{stands_with}
-use Rattle.ft_trace.proofs.traced.Traced.enter.Goals as goal
-
-pub returns : goal.returns
-returns c = λ e h. stands_with c.args.self.now e c.args.r.number c.number.result c.args.target c.number.ensures.same c.args.r.in_range h

@@ -1,0 +1,47 @@
+//! Blocks, which begin one after the other.
+ghost use Rattle.std.specs.Prelude.{◌≡◌, ◌≤◌, ◌^◌};
+ghost use Rattle.ft_view.specs.Found.{Finds};
+ghost use Rattle.ft_format.specs.Fields.{pair_numbers};
+ghost use Rattle.ft_format.specs.Rules.{may_begin, block_broken};
+ghost use Rattle.ft_format.specs.Values.{block_of};
+
+use crate::rules::check;
+use ft_format::{Header, ObjectError, PairRow};
+use ft_types::Block;
+
+/// Whether a block may begin here, after a block that begins at the previous place: at 0 where there is none.
+fn may_begin(previous: Option<u32>, start: u32) -> bool
+    ensures { result ≡ may_begin previous start }
+{
+    match previous {
+        None => start == 0,
+        Some(previous) => previous < start,
+    }
+}
+
+/// The rules of the record of a block, after a block that begins at the previous instruction; `previous` is `None`
+/// for block 0, which begins at 0. `Order` where it begins elsewhere, not behind the previous one or not within the
+/// instructions, `Index` for a type that is not there.
+pub fn check_block(
+    header: Header,
+    previous: Option<u32>,
+    at: usize,
+    row: PairRow,
+) -> Result<(), ObjectError>
+    requires { at ≤ 2 ^ 27 }
+    ensures { Finds result (block_broken header previous at (pair_numbers row)) }
+{
+    check(may_begin(previous, row.first), ObjectError::Order { at })?;
+    check(row.first < header.instrs, ObjectError::Order { at })?;
+    check(row.second < header.types, ObjectError::Index { at: at + 4 })
+}
+
+/// The block of a record.
+pub fn read_block(row: PairRow) -> Block
+    ensures { result ≡ block_of (pair_numbers row) }
+{
+    Block {
+        start: row.first,
+        code_type: row.second,
+    }
+}

@@ -1,0 +1,229 @@
+//! Instructions: their rules.
+ghost use Rattle.std.specs.Prelude.{◌≡◌, ◌≤◌, ◌^◌};
+ghost use Rattle.ft_view.specs.Found.{Finds};
+ghost use Rattle.ft_format.specs.Fields.{code_numbers};
+ghost use Rattle.ft_format.specs.Rules.{no_word_broken, basic_number_broken, substitution_broken, transfer_broken, op_reg_broken, op_word_broken, mov_broken, access_broken, jump_broken, branch_broken, halt_broken, run_broken, index_broken, instr_broken};
+ghost use Rattle.ft_format.specs.Values.{rows_past};
+
+use crate::instr_parts::basic_numbers;
+use crate::node_records::NodeRecords;
+use crate::rules::{
+    check, check_basic, check_colour, check_node_number, check_op, check_register, check_some,
+    check_zero,
+};
+use ft_format::{CodeRow, Header, ObjectError, Version};
+
+/// The word of a record, which is zero.
+fn check_no_word(at: usize, row: CodeRow) -> Result<(), ObjectError>
+    ensures { Finds result (no_word_broken at row.high row.low) }
+{
+    check_zero(at, row.high)?;
+    check_zero(at, row.low)
+}
+
+/// An operation on two registers.
+fn check_op_reg(version: Version, at: usize, row: CodeRow) -> Result<(), ObjectError>
+    requires { at ≤ 2 ^ 27 }
+    ensures { Finds result (op_reg_broken version at row.a row.b row.c row.x row.high row.low) }
+{
+    check_register(at + 1, row.a)?;
+    check_register(at + 2, row.b)?;
+    check_register(at + 3, row.c)?;
+    check_op(version, at + 4, row.x)?;
+    check_no_word(at + 8, row)
+}
+
+/// An operation on a register and a word.
+fn check_op_word(version: Version, at: usize, row: CodeRow) -> Result<(), ObjectError>
+    requires { at ≤ 2 ^ 27 }
+    ensures { Finds result (op_word_broken version at row.a row.b row.c row.x) }
+{
+    check_register(at + 1, row.a)?;
+    check_register(at + 2, row.b)?;
+    check_colour(at + 3, row.c)?;
+    check_op(version, at + 4, row.x)
+}
+
+/// The basic type that x spells.
+fn check_basic_number(types: u32, at: usize, x: u32) -> Result<(), ObjectError>
+    requires { at ≤ 2 ^ 28 }
+    ensures { Finds result (basic_number_broken types at x) }
+{
+    let (refs, base, code_type) = basic_numbers(x);
+    check_basic(types, at, refs, base, code_type)
+}
+
+/// A `mov`, which claims a type.
+fn check_mov(types: u32, at: usize, row: CodeRow) -> Result<(), ObjectError>
+    requires { at ≤ 2 ^ 27 }
+    ensures { Finds result (mov_broken types at row.a row.b row.c row.x) }
+{
+    check_register(at + 1, row.a)?;
+    check_zero(at + 2, u32::from(row.b))?;
+    check_colour(at + 3, row.c)?;
+    check_basic_number(types, at + 4, row.x)
+}
+
+/// A load or a store: two registers and a colour.
+fn check_access(at: usize, row: CodeRow) -> Result<(), ObjectError>
+    requires { at ≤ 2 ^ 27 }
+    ensures { Finds result (access_broken at row.a row.b row.c row.x row.high row.low) }
+{
+    check_register(at + 1, row.a)?;
+    check_register(at + 2, row.b)?;
+    check_colour(at + 3, row.c)?;
+    check_zero(at + 4, row.x)?;
+    check_no_word(at + 8, row)
+}
+
+/// The substitution of a blue jump or branch, at its first field.
+fn check_substitution(
+    header: Header,
+    nodes: &NodeRecords,
+    first: u32,
+    at: usize,
+    row: CodeRow,
+) -> Result<(), ObjectError>
+    requires places { at ≤ 2 ^ 28 }
+    requires first { first ≤ 2 ^ 27 }
+    ensures { Finds result (substitution_broken header nodes.now first at row.x row.high row.low) }
+{
+    check(row.x == first, ObjectError::Order { at })?;
+    check(row.x <= row.high, ObjectError::Order { at: at + 4 })?;
+    check(row.high <= header.substs, ObjectError::Order { at: at + 4 })?;
+    check(row.high <= first + 128, ObjectError::Count { at: at + 4 })?;
+    check_node_number(nodes, true, at + 8, row.low)
+}
+
+/// What a jump or branch has from field x on: zeros in a green one, a substitution in a blue one.
+fn check_transfer(
+    header: Header,
+    nodes: &NodeRecords,
+    first: u32,
+    at: usize,
+    row: CodeRow,
+) -> Result<(), ObjectError>
+    requires places { at ≤ 2 ^ 28 }
+    requires first { first ≤ 2 ^ 27 }
+    ensures { Finds result (transfer_broken header nodes.now first at row.c row.x row.high row.low) }
+{
+    if row.c == 0 {
+        check_zero(at, row.x)?;
+        check_no_word(at + 4, row)
+    } else {
+        check_substitution(header, nodes, first, at, row)
+    }
+}
+
+/// A jump in the colour of its field c.
+fn check_jump(
+    header: Header,
+    nodes: &NodeRecords,
+    first: u32,
+    at: usize,
+    row: CodeRow,
+) -> Result<(), ObjectError>
+    requires places { at ≤ 2 ^ 27 }
+    requires first { first ≤ 2 ^ 27 }
+    ensures { Finds result (jump_broken header nodes.now first at row.a row.b row.c row.x row.high row.low) }
+{
+    check_register(at + 1, row.a)?;
+    check_zero(at + 2, u32::from(row.b))?;
+    check_colour(at + 3, row.c)?;
+    check_transfer(header, nodes, first, at + 4, row)
+}
+
+/// A branch in the colour of its field c.
+fn check_branch(
+    header: Header,
+    nodes: &NodeRecords,
+    first: u32,
+    at: usize,
+    row: CodeRow,
+) -> Result<(), ObjectError>
+    requires places { at ≤ 2 ^ 27 }
+    requires first { first ≤ 2 ^ 27 }
+    ensures { Finds result (branch_broken header nodes.now first at row.a row.b row.c row.x row.high row.low) }
+{
+    check_register(at + 1, row.a)?;
+    check_register(at + 2, row.b)?;
+    check_colour(at + 3, row.c)?;
+    check_transfer(header, nodes, first, at + 4, row)
+}
+
+/// A `halt`, all of whose fields are zero.
+fn check_halt(at: usize, row: CodeRow) -> Result<(), ObjectError>
+    requires { at ≤ 2 ^ 27 }
+    ensures { Finds result (halt_broken at row.a row.b row.c row.x row.high row.low) }
+{
+    check_zero(at + 1, u32::from(row.a))?;
+    check_zero(at + 2, u32::from(row.b))?;
+    check_zero(at + 3, u32::from(row.c))?;
+    check_zero(at + 4, row.x)?;
+    check_no_word(at + 8, row)
+}
+
+/// The word of a record, which is the length of a run from cell x on.
+fn check_run(cells: u32, at: usize, row: CodeRow) -> Result<(), ObjectError>
+    ensures { Finds result (run_broken cells at row.x row.high row.low) }
+{
+    check(row.high == 0, ObjectError::Count { at })?;
+    check_some(1024, at, row.low)?;
+    let past = u64::from(row.x) + u64::from(row.low);
+    check(past <= u64::from(cells), ObjectError::Index { at })
+}
+
+/// An `idx`: two registers, and a run of so many cells.
+fn check_index(cells: u32, at: usize, row: CodeRow) -> Result<(), ObjectError>
+    requires { at ≤ 2 ^ 27 }
+    ensures { Finds result (index_broken cells at row.a row.b row.c row.x row.high row.low) }
+{
+    check_register(at + 1, row.a)?;
+    check_register(at + 2, row.b)?;
+    check_zero(at + 3, u32::from(row.c))?;
+    check(row.x < cells, ObjectError::Index { at: at + 4 })?;
+    check_run(cells, at + 8, row)
+}
+
+/// The rules of the record of an instruction, where the substitutions before took the rows up to `first`: `Kind` for
+/// a code that stands for nothing or a substitution's memory that is an integer, `Index` for a register, type,
+/// node or cell that is not there, `Pad`, `Order` and `Count` for the rows of its substitution, and `Count` for the
+/// length of a run.
+pub fn check_instr(
+    header: Header,
+    nodes: &NodeRecords,
+    first: u32,
+    at: usize,
+    row: CodeRow,
+) -> Result<(), ObjectError>
+    requires places { at ≤ 2 ^ 27 }
+    requires first { first ≤ 2 ^ 27 }
+    ensures { Finds result (instr_broken header nodes.now first at (code_numbers row)) }
+{
+    let version = header.version();
+    check(
+        row.kind <= version.last_instr_kind(),
+        ObjectError::Kind { at },
+    )?;
+    match row.kind {
+        0 => check_op_reg(version, at, row),
+        1 => check_op_word(version, at, row),
+        2 => check_mov(header.types, at, row),
+        3 | 4 => check_access(at, row),
+        5 => check_jump(header, nodes, first, at, row),
+        6 => check_branch(header, nodes, first, at, row),
+        7 => check_halt(at, row),
+        _ => check_index(header.cells, at, row),
+    }
+}
+
+/// The row after those that the substitutions up to the instruction of this record take, where the ones before took
+/// the rows up to `first`.
+pub fn rows_past(first: u32, row: CodeRow) -> u32
+    ensures { result ≡ rows_past first (code_numbers row) }
+{
+    match row.kind {
+        5 | 6 if row.c != 0 => row.high,
+        _ => first,
+    }
+}

@@ -1,0 +1,23 @@
+//! Queue rows: what each type says of the stores that wait.
+ghost use Rattle.std.specs.Prelude.{◌≤◌, ◌^◌};
+ghost use Rattle.ft_view.specs.Found.{Finds};
+ghost use Rattle.ft_format.specs.Fields.{pair_numbers};
+ghost use Rattle.ft_format.specs.Rules.{queue_broken};
+
+use crate::node_records::NodeRecords;
+use crate::rules::check_named;
+use ft_format::{ObjectError, PairRow};
+
+/// The rules of the record of a queue row, in a type of so many variables: `Index` and `Kind` for its nodes.
+pub fn check_queue_row(
+    nodes: &NodeRecords,
+    ints: u8,
+    at: usize,
+    row: PairRow,
+) -> Result<(), ObjectError>
+    requires { at ≤ 2 ^ 27 }
+    ensures { Finds result (queue_broken nodes.now ints at (pair_numbers row)) }
+{
+    check_named(nodes, ints, false, at, row.first)?;
+    check_named(nodes, ints, false, at + 4, row.second)
+}
