@@ -116,6 +116,19 @@ for line in 4:r64:6 04:r1:6 4:r1:18446744073709551616 '4:r1:6 '; do
   refuses "a list with the line $line" "campaign: bad.list:2: '$line' is no fault STEP:SITE:WORD" \
     campaign fibonacci.obj --faults bad.list
 done
+report 'nothing is kept of a list that is refused' '' "$(find . -maxdepth 1 -name fibonacci.obj.campaign)"
+
+# A long list is cut into as many parts for one job as for another, and a line is named by its place in the whole list.
+"$top/tools/faults" fibonacci.obj --flip all --sample 9000 >long.list 2>said
+"$top/tools/campaign" fibonacci.obj --faults long.list --steps 1000 --jobs 2 --dir even >written 2>said
+report 'the parts for two jobs' 2 "$(find even -name '*.faults' | wc -l)"
+report 'the faults of both parts, in order' '' "$(sed '$d; s/ .*//' written | cmp - long.list 2>&1)"
+sed '8000s/.*/8:r64:1/' long.list >bad.list
+mkdir other
+touch other/mine
+refuses 'a bad line of a later part' "campaign: bad.list:8000: '8:r64:1' is no fault STEP:SITE:WORD" \
+  campaign fibonacci.obj --faults bad.list --steps 1000 --jobs 2 --dir other
+report 'what else the folder holds' other/mine "$(find other -type f)"
 refuses 'a missing list' 'campaign: missing: No such file or directory' campaign fibonacci.obj --faults missing
 refuses 'an object that is not accepted' \
   'campaign: mixed.obj.campaign/000000.faults: status 8: check block 0 index 3 premise 2' \

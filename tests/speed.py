@@ -1,0 +1,90 @@
+"""The inputs of speed.sh, and its table. `speed.py inputs FOLDER TALFT` writes the sources, maps and faults of all rows
+into the folder, and has the program make their objects and texts. `speed.py table ROWS COUNTS DOCUMENT` puts the counts
+into the table of the document that begins with `| row |`.
+"""
+import os
+import subprocess
+import sys
+
+sys.dont_write_bytecode = True
+from limits_objects import HALT, memory, pair, spell  # noqa: E402
+
+ASSIGNMENTS, CHOICES, VARIABLES = 10_921, 2_900, 20
+MODULES, BLOCKS = 8, 1_024
+FAULTS, STEPS = 2_048, 15_000
+
+
+
+def assignments(count):
+    return "cell out = 0;\n" + "out = 1;\n" * count
+
+
+def choices(count):
+    return "cell out = 0;\n" + "".join(f"var v{k};\n" for k in range(VARIABLES)) + "if (v0) { v1 = 1; }\n" * count
+
+
+SOURCES = {
+    "assignments": assignments(ASSIGNMENTS),
+    "choices": choices(CHOICES),
+    "part-assignments": assignments(ASSIGNMENTS // MODULES - 1),
+    "part-choices": choices(CHOICES // MODULES - 1),
+    "counting": "cell out = 0; var i; while (i < 100000000) { i = i + 1; } out = i;\n",
+    "storing": "cell out = 0; var i; while (i < 100000000) { i = i + 1; if ((i & 15) == 0) { out = i; } }\n",
+    "often": "cell out = 0; var i; while (i < 100000000) { i = i + 1; out = i; }\n",
+    "turns": "var i; while (i < 20000000) { i = i + 1; }\n",
+}
+
+
+def put(name, data):
+    with open(name, "wb") as out:
+        out.write(data if isinstance(data, bytes) else data.encode())
+
+
+def drawn(count, most):
+    """So many numbers below a bound, the same ones each time."""
+    state = 1
+    for _ in range(count):
+        state = (state * 6364136223846793005 + 1442695040888963407) % 2**64
+        yield (state >> 33) % most
+
+
+def faults():
+    """Strikes at steps and registers that are drawn."""
+    numbers = drawn(3 * FAULTS, 1 << 30)
+    return "".join(f"{next(numbers) % STEPS}:r{next(numbers) % 64}:{next(numbers)}\n" for _ in range(FAULTS))
+
+
+def write_inputs(folder, talft):
+    talft = os.path.abspath(talft)
+    os.chdir(folder)
+
+    def made(name, *words):
+        put(name, subprocess.run([talft, *words], check=True, stdout=subprocess.PIPE, stdin=subprocess.DEVNULL).stdout)
+
+    for name, text in SOURCES.items():
+        put(name + ".src", text)
+        made(name + ".obj", "compile", name + ".src")
+    made("assignments.asm", "dis", "assignments.obj")
+    put("part-blocks.obj", spell(memory(), HALT * BLOCKS, blocks=b"".join(pair(k, 0) for k in range(BLOCKS))))
+    for part in "assignments", "choices", "blocks":
+        put(part + ".map", f"module part-{part}.obj\n" * MODULES)
+    put("faults", faults())
+
+
+def write_table(rows, counts, document):
+    with open(counts, encoding="ascii") as lines:
+        counts_of = (line.split() for line in lines if line[0] != "#")
+        found = {name: (int(ours), int(plain)) for name, ours, plain in counts_of}
+    table = ["| row | words | machine instructions | plain Rust | ratio |", "|---|---|---|---|---|"]
+    with open(rows, encoding="ascii") as lines:
+        for name, words in (line.strip().split(" ", 1) for line in lines):
+            ours, plain = found[name]
+            table.append(f"| {name} | `{words}` | {ours:,} | {plain:,} | {ours / plain if plain else 0:.2f} |")
+    with open(document, encoding="utf-8") as text:
+        lines = text.read().split("\n")
+    first = next(k for k, line in enumerate(lines) if line.startswith("| row |"))
+    lines[first:lines.index("", first)] = table
+    put(document, "\n".join(lines))
+
+
+{"inputs": write_inputs, "table": write_table}[sys.argv[1]](*sys.argv[2:])

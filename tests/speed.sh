@@ -1,0 +1,97 @@
+#!/usr/bin/env bash
+# Counts the machine instructions of each command by valgrind's callgrind. No other work on the machine changes a
+# count. A row fails where its count is more than 2 in 100 above the one in tests/speed.counts. It is a part of the
+# gate. The C library chooses how it copies by the processor: here it takes what all processors have. Counts with
+# another version of it are not compared.
+#
+#     bash tests/speed.sh [--write] [ROW..]
+#
+# PLAIN names another program, with words that come before those of a row. Then its counts are taken, too; else those
+# that are kept are shown. With --write the counts become those that are kept, and docs/SPEED.md shows them.
+set -u
+top=$(cd "$(dirname "$0")/.." && pwd)
+. "$top/tests/report.sh"
+kept=$top/tests/speed.counts
+program=$top/crates/talft/out/talft
+write=no
+[ "${1-}" = --write ] && write=yes && shift
+export GLIBC_TUNABLES=glibc.cpu.hwcaps=-AVX2,-AVX2_Usable,-AVX_Fast_Unaligned_Load,-AVX512F,-AVX512VL,-ERMS,-FSRM
+library=$(getconf GNU_LIBC_VERSION)
+has valgrind 'the counts of machine instructions' || { close; exit; }
+if [ "$write" = no ] && ! grep -qs "^# $library\$" "$kept"; then
+  skip 'the counts of machine instructions' "they were not taken with $library"
+  close
+  exit
+fi
+bash "$top/build/prove.sh" >"$work/said" || { cat "$work/said"; exit 1; }
+
+# Each row's name, and its words.
+rows() {
+  cat <<'ROWS'
+check-assignments check assignments.obj
+check-choices check choices.obj
+compile-assignments compile assignments.src
+compile-choices compile choices.src
+exec-assignments exec assignments.src
+exec-choices exec choices.src
+upgrade upgrade assignments.obj
+dis dis assignments.obj
+asm asm assignments.asm
+schedule schedule assignments.obj
+link-assignments link assignments.map
+link-choices link choices.map
+link-blocks link blocks.map
+demo demo 4000
+trial-counting trial counting.obj --steps 4000000
+trial-storing trial storing.obj --steps 4000000
+run-often run often.obj --steps 2000000
+recover recover often.obj --steps 1000000 --fault 999000:r1:7
+mean mean turns.src --turns 500000
+survey survey storing.obj --faults faults --steps 15000
+campaign campaign counting.obj --faults faults --steps 15000
+ROWS
+}
+
+# `count FILE WORDS..` runs the words under callgrind, and puts their machine instructions into the file.
+count() {
+  local to=$1
+  shift
+  valgrind --tool=callgrind --callgrind-out-file=/dev/null "$@" 2>&1 >/dev/null </dev/null |
+    sed -n 's/^.*Collected : \([0-9]*\).*$/\1/p' >"$to"
+}
+
+cd "$work" || exit 2
+python3 "$top/tests/speed.py" inputs . "$program" || exit 1
+names=() jobs=0
+while read -r name words; do
+  [ $# -eq 0 ] || [[ " $* " == *" $name "* ]] || continue
+  names+=("$name")
+  # shellcheck disable=SC2086
+  count "$name.ours" "$program" $words &
+  # shellcheck disable=SC2086
+  [ -z "${PLAIN-}" ] || count "$name.plain" $PLAIN $words &
+  [ $((++jobs % $(nproc))) -ne 0 ] || wait
+done < <(rows)
+wait
+
+printf '%-20s %13s %13s %13s %6s\n' row count kept plain ratio
+: >counts
+for name in "${names[@]}"; do
+  read -r _ before plain < <(grep -s "^$name " "$kept" || echo "$name 0 0")
+  now=$(cat "$name.ours")
+  [ ! -s "$name.plain" ] || plain=$(cat "$name.plain")
+  printf '%-20s %13d %13d %13d %6s\n' "$name" "$now" "$before" "$plain" \
+    "$(awk -v a="$now" -v b="$plain" 'BEGIN { if (b) printf "%.2f", a / b; else print "-" }')"
+  echo "$name $now $plain" >>counts
+  [ "$write" = yes ] || report "the machine instructions of $name" 'at most 2 in 100 more' \
+    "$(awk -v a="$now" -v b="$before" \
+      'BEGIN { print (a > 0 && a <= b * 1.02 ? "at most 2 in 100 more" : a " for " b) }')"
+done
+if [ "$write" = yes ]; then
+  {
+    printf '# The machine instructions of each row of speed.sh: of this program, and of one in plain Rust.\n'
+    printf '# %s\n' "$library"
+    cat counts "$kept" 2>errors | awk '/^[a-z]/ && !($1 in seen) { seen[$1]; print }' | sort
+  } >new && cp new "$kept" && rows >rows && python3 "$top/tests/speed.py" table rows "$kept" "$top/docs/SPEED.md"
+fi
+close
