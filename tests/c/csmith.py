@@ -1,0 +1,100 @@
+#!/usr/bin/env python3
+"""Has csmith make C programs, and tools/cc make objects of them: `csmith.py FIRST COUNT`.
+
+Each puts its variables into one at the end. gcc -m32, whose `long` is as long as for wasm32, must give the same words.
+Programs that do not end, or that gcc cannot take, are left out."""
+import os
+import re
+import subprocess
+import sys
+import tempfile
+
+here = os.path.dirname(os.path.abspath(__file__))
+top = os.path.join(here, "..", "..")
+LEVELS = "-O0", "-O1", "-O2", "-O3", "-Os", "-Oz"
+SMALL = ("--no-argc --no-checksum --no-float --concise --max-funcs 4 --max-block-size 3 --max-block-depth 3 "
+         "--max-expr-complexity 6 --max-array-dim 2 --max-array-len-per-dim 5 --max-pointer-depth 2 "
+         "--max-struct-fields 4 --max-union-fields 3").split()
+HEADER = """
+#include <float.h>
+#include <limits.h>
+#include <stdint.h>
+#define fabsf __builtin_fabsf
+#define fabs __builtin_fabs
+float ldexpf(float, int);
+double ldexp(double, int);
+#define STATIC static
+#define UNDEFINED(value) (value)
+#define LOG_INDEX
+#define LOG_EXEC
+#define FUNC_NAME(x) (safe_##x)
+#define assert(x)
+#include "safe_math.h"
+#define platform_main_begin()
+#define platform_main_end(x, flag)
+#ifdef __wasm__
+extern volatile uint64_t csmith_sink_;
+#define SINK(x) (csmith_sink_ = (uint64_t)(x))
+#else
+int printf(const char *, ...);
+#define SINK(x) printf("csmith_sink_ %llu\\n", (unsigned long long)(x))
+#endif
+"""
+
+
+def program(seed, folder):
+    made = subprocess.run(["csmith", "--seed", str(seed), *SMALL], stdout=subprocess.PIPE, text=True, check=True).stdout
+    made = re.sub(r"^(\s+)csmith_sink_ = (.*);$", r"\1SINK(\2);", made, flags=re.MULTILINE)
+    made = made.replace('#include "csmith.h"', HEADER)
+    made = made.replace("uint64_t csmith_sink_ = 0;", "uint64_t csmith_sink_ __attribute__((aligned(8))) = 0;")
+    source = os.path.join(folder, "program.c")
+    with open(source, "w", encoding="ascii") as out:
+        out.write(made)
+    return source
+
+
+def native(source, folder):
+    """What gcc's program writes, or None where it does not end."""
+    made = os.path.join(folder, "native")
+    words = ["gcc", "-m32", "-w", "-O1", "-fwrapv", "-fno-strict-aliasing", "-I/usr/include/csmith", source, "-o", made]
+    if subprocess.run(words, stderr=subprocess.DEVNULL).returncode:
+        return None
+    try:
+        done = subprocess.run([made], stdout=subprocess.PIPE, text=True, timeout=1)
+    except subprocess.TimeoutExpired:
+        return None
+    return done.stdout if done.returncode == 0 else None
+
+
+def tried(seed, folder):
+    source, made = program(seed, folder), os.path.join(folder, "object")
+    wanted = native(source, folder)
+    if wanted is None:
+        return "left out", None
+    run = subprocess.run([os.path.join(top, "tools", "cc"), source, LEVELS[seed % len(LEVELS)], "-w", "-fwrapv",
+                          "-fno-strict-aliasing", "-I/usr/include/csmith", "--stack", "1024", "-o", made],
+                         stdout=subprocess.PIPE, stderr=subprocess.PIPE, text=True)
+    if run.returncode:
+        why = run.stderr.strip().splitlines()[-1]
+        return "refused", re.sub(r".*(function \S+: offset \S+: |\.c: )", "", why)[-160:]
+    if "; verified: " not in run.stderr:
+        return "not verified", run.stderr.strip().splitlines()[-1][-200:]
+    talft = os.environ.get("TALFT", os.path.join(top, "talft"))
+    lines = subprocess.run([talft, "run", made], stdout=subprocess.PIPE, text=True).stdout.splitlines()
+    same = [line for line in lines if line.startswith("csmith_sink_ ")] == wanted.splitlines()
+    return ("same", None) if same else ("wrong", "its lines are not those of gcc")
+
+
+def main(first, count):
+    counts = {}
+    with tempfile.TemporaryDirectory() as folder:
+        for seed in range(int(first), int(first) + int(count)):
+            word, why = tried(seed, folder)
+            counts[word] = counts.get(word, 0) + 1
+            if why:
+                print(f"{seed} {LEVELS[seed % len(LEVELS)]}: {word}: {why}", flush=True)
+    print(f"{count} programs: " + ", ".join(f"{word} {n}" for word, n in sorted(counts.items())))
+
+
+if __name__ == "__main__":
+    main(*sys.argv[1:])

@@ -1,0 +1,13 @@
+"""The passes of tools/wasm2asm: a module of WebAssembly becomes an assembly text. `translate` runs them in this order.
+
+binary, opcodes, code, module   the bytes: read and validated
+names, memory                   the memory that the program uses, in cells, and their names
+build                           functions to graphs of values (ir, fold, words): structured control (build),
+                                arithmetic (arith, divide), accesses (memory), calls (called), bulk memory (bulk),
+                                floating point (floats)
+opt, bits, ranges, narrow       folding, bits that may be 1 and that matter, ranges of words (loops: counters), and
+                                their uses
+layout, split                   the order of blocks; blocks end with their calls
+subroutines, alloc, spill       registers, of one function after the other
+emit, turn, nodes, text         instructions in two colours, code types and substitutions, and the text
+"""

@@ -1,0 +1,232 @@
+"""Pass 5: values to 31 pairs of registers, by colouring. What does not fit is spilled."""
+from .ir import Value
+from .spill import Spiller, cells_of
+
+K = 31    # pair 31 is the spare of addresses
+
+
+def has_register(v):
+    return v.op not in ("ref", "st")
+
+
+def last_uses(b):
+    """What the end of a block uses itself."""
+    op = b.term[0]
+    words = [b.term[1]] if op == "bz" else b.term[2] if op in ("call", "ret") else []
+    return [x for x in [*words, b.term[1].back if op == "ret" else None] if isinstance(x, Value)]
+
+
+def used(v):
+    return [x for x in (v.a, v.b) if isinstance(x, Value) and x.op != "ref"]
+
+
+def liveness(blocks):
+    """What is live at the start of each block, with its parameters that are used, and at its end, with what the moves
+    take."""
+    start = {b: set() for b in blocks}
+    end = {b: set() for b in blocks}
+    changed = True
+    while changed:
+        changed = False
+        for b in reversed(blocks):
+            live = set()
+            for e in b.edges():
+                wanted = start[e.to]
+                live |= wanted.difference(e.to.params)
+                for p, x in zip(e.to.params, e.args):
+                    if p in wanted and isinstance(x, Value):
+                        live.add(x)
+            if live != end[b]:
+                end[b] = set(live)
+                changed = True
+            live.update(last_uses(b))
+            for v in reversed(b.insts):
+                live.discard(v)
+                live.update(used(v))
+            if live != start[b]:
+                start[b] = live
+                changed = True
+    return start, end
+
+
+def interference(blocks, start, end):
+    adj = {}
+    for b in blocks:
+        live = set(end[b])
+        live.update(last_uses(b))
+        for v in live:
+            adj.setdefault(v, set())
+        for v in reversed(b.insts):
+            if has_register(v):
+                live.discard(v)
+                mine = adj.setdefault(v, set())
+                mine |= live
+                for u in live:
+                    adj[u].add(v)
+            for u in used(v):
+                adj.setdefault(u, set())
+                live.add(u)
+        params = [p for p in b.params if p in start[b]]
+        for p in params:
+            mine = adj.setdefault(p, set())
+            others = live - {p}
+            mine |= others
+            for u in others:
+                adj[u].add(p)
+    return adj
+
+
+def moves_of(blocks, start):
+    moves = []
+    for b in blocks:
+        for e in b.edges():
+            for p, x in zip(e.to.params, e.args):
+                if p in start[e.to] and isinstance(x, Value) and x is not p:
+                    moves.append((10 ** min(b.depth, 6), p, x))
+    return sorted(moves, key=lambda m: (-m[0], m[1].id, m[2].id))
+
+
+class Colouring:
+    def __init__(self, blocks, cannot_spill, banned):
+        """`banned`: registers that no value of these blocks may have."""
+        self.blocks, self.cannot = blocks, cannot_spill
+        self.start, self.end = liveness(blocks)
+        self.adj = interference(blocks, self.start, self.end)
+        self.group = {v: v for v in self.adj}
+        self.members = {v: [v] for v in self.adj}
+        self.moves = moves_of(blocks, self.start)
+        self.most = max((len(s) for s in self.start.values()), default=0)
+        self.count = K - len(banned)
+        self.taken = {v: set(banned) for v in self.adj}
+        self.fixed = {}
+        self.at_calls()
+
+    def at_calls(self):
+        """What lives across a call is in no register that the function uses; arguments and results like those that it
+        has."""
+        for b in self.blocks:
+            if b.term[0] == "call":
+                shared = b.term[1]
+                for v in self.start[b.term[3].to]:
+                    self.taken[v] |= shared.used
+                for p, x in zip(shared.graph.entry.params, b.term[2]):
+                    if isinstance(x, Value) and p in shared.pairs:
+                        self.fixed.setdefault(x, []).append(shared.pairs[p])
+            if b.after:
+                gets = [v for v in b.insts if v.op == "get"]
+                for i, v in enumerate(gets):
+                    self.fixed.setdefault(v, []).append(b.after.results[v.a])
+                    self.taken[v] |= {b.after.results[later.a] for later in gets[i + 1:]}
+
+    def of(self, v):
+        while self.group[v] is not v:
+            v = self.group[v]
+        return v
+
+    def coalesce(self):
+        adj, again = self.adj, True
+        while again:
+            again = False
+            for _, p, x in self.moves:
+                a, b = self.of(p), self.of(x)
+                if a is b or b in adj[a]:
+                    continue
+                both, taken = adj[a] | adj[b], self.taken[a] | self.taken[b]
+                if len(taken) > max(len(self.taken[a]), len(self.taken[b])) and len(both) + len(taken) >= K:
+                    continue
+                heavy = sum(1 for n in both if len(adj[n]) - (n in adj[a] and n in adj[b]) >= self.count)
+                if heavy >= self.count and not all(len(adj[n]) < self.count or n in adj[b] for n in adj[a]) \
+                        and not all(len(adj[n]) < self.count or n in adj[a] for n in adj[b]):
+                    continue
+                self.group[b], self.taken[a] = a, taken
+                self.members[a] += self.members.pop(b)
+                for n in adj.pop(b):
+                    adj[n].discard(b)
+                    adj[n].add(a)
+                    adj[a].add(n)
+                again = True
+
+    def costs(self):
+        cost = {}
+        for b in self.blocks:
+            weight = 10 ** min(b.depth, 6)
+            for v in b.insts:
+                if has_register(v) and v in self.group:
+                    w = 0.5 if v.op == "const" else 1 if v.op == "idx" else 12
+                    cost[self.of(v)] = cost.get(self.of(v), 0) + w * weight
+                for u in used(v):
+                    cost[self.of(u)] = cost.get(self.of(u), 0) + 4 * weight
+            for u in last_uses(b):
+                u = self.of(u)
+                cost[u] = cost.get(u, 0) + 4 * weight
+            for e in b.edges():
+                for p, x in zip(e.to.params, e.args):
+                    if p in self.group and (not isinstance(x, Value) or self.of(x) is not self.of(p)):
+                        u = self.of(p)
+                        cost[u] = cost.get(u, 0) + 12 * weight
+        for v in self.cannot:
+            if v in self.group:
+                cost[self.of(v)] = float("inf")
+        return cost
+
+    def colour(self):
+        """The colours of groups, and the groups that have none."""
+        adj = self.adj
+        degree = {v: len(n) + len(self.taken[v]) for v, n in adj.items()}
+        cost = self.costs()
+        rest = dict.fromkeys(sorted(adj, key=lambda v: v.id))
+        low = [v for v in rest if degree[v] < K]
+        stack = []
+        while rest:
+            if low:
+                v = low.pop()
+                if v not in rest:
+                    continue
+            else:
+                v = min(rest, key=lambda v: (cost.get(v, 0) / (degree[v] or 1), v.id))
+            del rest[v]
+            stack.append(v)
+            near = [n for n in adj[v] if n in rest]
+            for n in near:
+                degree[n] -= 1
+            # Sorted, so that a text is the same in each run.
+            low += sorted((n for n in near if degree[n] == K - 1), key=lambda n: n.id)
+        likes = {}
+        for _, p, x in self.moves:
+            a, b = self.of(p), self.of(x)
+            likes.setdefault(a, []).append(b)
+            likes.setdefault(b, []).append(a)
+        colours, spilled = {}, []
+        for v in reversed(stack):
+            taken = {colours[n] for n in adj[v] if n in colours} | self.taken[v]
+            free = [c for c in range(K) if c not in taken]
+            if not free:
+                spilled.append(v)
+                continue
+            liked = [colours[n] for n in likes.get(v, ()) if n in colours and colours[n] not in taken]
+            liked += [c for member in self.members[v] for c in self.fixed.get(member, ()) if c not in taken]
+            colours[v] = liked[0] if liked else free[0]
+        return colours, spilled
+
+
+def allocate(blocks, first_cell, banned=frozenset(), kept=()):
+    """Pairs of all values, what is live where each block starts, and how many cells were needed for spills. `kept`:
+    calls that leave no register alone: what lives across them is in a frame."""
+    tiny, cells, framed = {v for v in blocks[0].params if v.op == "return"}, 0, 0
+    if kept:
+        start, _ = liveness(blocks)
+        across = sorted({v for tail in kept for v in start[tail]}, key=lambda v: v.id)
+        again = dict.fromkeys(v for v in across if v.op in ("const", "idx"))
+        stay = [v for v in across if v not in again]
+        framed = len(stay)
+        Spiller({**again, **{v: ("frame", k) for k, v in enumerate(stay)}}, tiny).run(blocks)
+    for _ in range(40):
+        colouring = Colouring(blocks, tiny, banned)
+        colouring.coalesce()
+        colours, spilled = colouring.colour()
+        if not spilled:
+            return {v: colours[colouring.of(v)] for v in colouring.group}, colouring.start, cells, framed
+        place, more = cells_of(colouring, spilled, first_cell + cells)
+        Spiller(place, tiny).run(blocks)
+        cells += more
+    raise RuntimeError("the spills do not settle")

@@ -1,0 +1,151 @@
+"""Pass 3b: the bits that may be 1 and the bits that matter; masks that no one needs go."""
+from .ir import Value
+from .narrow import use_ranges
+from .opt import clean, find, resolve
+from .words import M32, M64, PURE, low_bit, ones_after, ones_of, smear
+
+
+def known_ones(blocks, preds):
+    """For each value the bits that may be 1, from nothing upwards."""
+    for b in blocks:
+        for p in b.params:
+            p.ones = 0 if preds[b] else p.full
+        for v in b.insts:
+            v.ones = 0 if v.op in PURE else v.full
+    for turn in range(200):
+        changed = False
+        for b in blocks:
+            for i, p in enumerate(b.params):
+                ones = p.ones
+                for _, e in preds[b]:
+                    ones |= ones_of(e.args[i])
+                ones &= p.most
+                if ones != p.ones:
+                    if turn > 2:
+                        step = low_bit(ones)
+                        ones = smear(ones)
+                        ones = M32 if turn > 4 and ones <= M32 else M64 if turn > 4 else ones
+                        ones &= p.most & -step
+                    p.ones, changed = ones, True
+            for v in b.insts:
+                if v.op in PURE:
+                    ones = v.ones | ones_after(v.op, v.a, v.b)
+                    if ones != v.ones:
+                        v.ones, changed = ones, True
+        if not changed:
+            return
+    for b in blocks:    # did not settle: nothing is known
+        for v in b.params + b.insts:
+            v.ones = M64
+
+
+def asked(v, bits, length):
+    """Which bits of the two operands matter where these bits of a value do."""
+    op, word = v.op, v.b if isinstance(v.b, int) else None
+    if op in ("add", "sub", "mul"):
+        return smear(bits), smear(bits)
+    if op == "and":
+        return bits if word is None else bits & word, bits
+    if op == "or":
+        return bits if word is None else bits & ~word, bits
+    if op == "xor":
+        return bits, bits
+    if op == "shl":
+        return smear(bits) if word is None else bits >> word, M64
+    if op == "shr":
+        return M64 if word is None else (bits << word) & M64, M64
+    if op == "idx" and length & (length - 1) == 0:
+        return length - 1, 0
+    return M64, M64
+
+
+def demanded(blocks, preds, length):
+    """For each value the bits that matter to what uses it."""
+    need, todo = {}, []
+    owner = {p: (b, i) for b in blocks for i, p in enumerate(b.params)}
+
+    def ask(x, bits):
+        if isinstance(x, Value):
+            have = need.get(x, 0)
+            if bits & ~have:
+                need[x] = have | bits
+                todo.append(x)
+
+    for b in blocks:
+        for v in b.insts:
+            if v.op in ("st", "put"):
+                ask(v.a, M64)
+                ask(v.b, M64)
+        if b.term[0] == "bz":
+            ask(b.term[1], M64)
+    while todo:
+        v = todo.pop()
+        if v.op == "param":
+            b, i = owner[v]
+            for _, e in preds[b]:
+                ask(e.args[i], need[v])
+        else:
+            first, second = asked(v, need[v], length)
+            ask(v.a, first)
+            ask(v.b, second)
+    return need
+
+
+def drop_masks(blocks, preds, length):
+    """A mask whose cleared bits matter to no one is left out. A place of a shift is one of a sum, where that is
+    enough."""
+    need = demanded(blocks, preds, length)
+    changed = False
+    for b in blocks:
+        for v in b.insts:
+            if v.op == "and" and isinstance(v.b, int) and need.get(v, 0) & ~v.b == 0:
+                v.repl, changed = find(v.a), True
+            elif v.op == "add" and isinstance(v.b, int) and need.get(v, 0) and v.b & smear(need[v]) == 0:
+                v.repl, changed = find(v.a), True
+    resolve(blocks)
+    if not changed:
+        # (x << k) + c >> k is x + (c >> k), but for the k highest bits
+        for b in blocks:
+            insts = []
+            for v in b.insts:
+                if v.op == "shr" and isinstance(v.b, int) and need.get(v, 0) >> (64 - v.b) == 0:
+                    k, s = v.b, v.a
+                    if s.op == "shl" and s.b == k and isinstance(s.b, int):
+                        v.repl, changed = find(s.a), True
+                        continue
+                    if s.op == "add" and isinstance(s.b, int) and s.b & ((1 << k) - 1) == 0:
+                        inner = Value("shr", s.a, k)
+                        insts.append(inner)
+                        v.op, v.a, v.b, changed = "add", inner, s.b >> k, True
+                    elif s.op == "add" and not isinstance(s.b, int):
+                        for x, y in ((s.a, s.b), (s.b, s.a)):
+                            if x.op == "shl" and isinstance(x.b, int) and x.b >= k:
+                                high = x.a if x.b == k else Value("shl", x.a, x.b - k)
+                                low = Value("shr", y, k)
+                                insts += [low] + ([high] if x.b > k else [])
+                                v.op, v.a, v.b, changed = "add", high, low, True
+                                break
+                insts.append(v)
+            b.insts = insts
+        resolve(blocks)
+    return changed
+
+
+def optimise(g, length, rounds=12):
+    """Folds, finds ranges, and drops masks, until nothing changes."""
+    g.length = length
+    blocks, preds = clean(g)
+    for turn in range(rounds):
+        known_ones(blocks, preds)
+        if turn < 2:
+            use_ranges(blocks, preds)
+        blocks, preds = clean(g)
+        known_ones(blocks, preds)
+        changed = drop_masks(blocks, preds, length)
+        for b in blocks:
+            for p in b.params:      # without their masks words may have other bits
+                p.most = M64
+        if not changed and turn:
+            return blocks
+    known_ones(blocks, preds)
+    return clean(g)[0]

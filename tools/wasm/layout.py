@@ -1,0 +1,73 @@
+"""Pass 4: which branch goes on without a jump, tests turned where that helps, words put into registers where an
+instruction takes no word there, and edges with moves made blocks."""
+from .ir import Block, Edge, Value
+from .opt import dominators, order, preds_of, sweep
+
+
+def turned(block, cond):
+    """A value that is 0 exactly where cond is not 0."""
+    if cond.op == "eq":
+        new = Value("xor", cond.a, cond.b, block=block)
+    elif cond.op in ("xor", "sub"):
+        new = Value("eq", cond.a, cond.b, 1, block)
+    else:
+        new = Value("eq", cond, 0, 1, block)
+    block.insts.append(new)
+    return new
+
+
+def depths(blocks, preds):
+    """How many loops each block is in: a loop is what reaches a jump back to its head without passing the head."""
+    idom = dominators(blocks, preds)
+    loops = {}
+    for b in blocks:
+        b.depth = 0
+        for e in b.edges():
+            up = b
+            while up is not e.to and idom[up] is not up:
+                up = idom[up]
+            if up is e.to:
+                body = loops.setdefault(e.to, {e.to})
+                todo = [b]
+                while todo:
+                    x = todo.pop()
+                    if x not in body:
+                        body.add(x)
+                        todo += [p for p, _ in preds[x]]
+    for body in loops.values():
+        for b in body:
+            b.depth += 1
+
+
+def place(g):
+    blocks = order(g)
+    preds = preds_of(blocks)
+    depths(blocks, preds)
+    for b in blocks:
+        if b.term[0] != "bz":
+            continue
+        _, cond, zero, other = b.term
+        one_zero, one_other = len(preds[zero.to]) == 1, len(preds[other.to]) == 1
+        if not one_other and (one_zero or other.to.depth > zero.to.depth):
+            b.term = ("bz", turned(b, cond), other, zero)
+    sweep(blocks, preds)
+    for b in blocks:
+        insts = []
+        for v in b.insts:
+            if v.op not in ("const", "ref", "idx", "ld", "put", "get") and isinstance(v.a, int):
+                v.a = Value("const", v.a, block=b)
+                insts.append(v.a)
+            if v.op == "st" and isinstance(v.b, int):
+                v.b = Value("const", v.b, block=b)
+                insts.append(v.b)
+            insts.append(v)
+        b.insts = insts
+    for b in list(blocks):
+        if b.term[0] != "bz":
+            continue
+        for e in b.term[2:4]:
+            if len(preds[e.to]) > 1 or e.args:
+                mid = Block(min(b.depth, e.to.depth), "edge")
+                mid.term = ("jmp", Edge(e.to, e.args))
+                e.to, e.args = mid, []
+    return order(g)
