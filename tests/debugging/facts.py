@@ -1,0 +1,84 @@
+"""What the tools know of the machine, against the program: python3 facts.py SEED RUNS STEPS PROGRAM.. .
+
+Each run goes step by step, with random strikes. Of each step the module debugging/machine.py has to say whether it
+fetches, which register it writes, whether it changes d, and whether it is detected. Ends with `N steps: M wrong`."""
+import os
+import random
+import sys
+
+sys.path.insert(0, os.path.join(os.path.dirname(os.path.abspath(__file__)), os.pardir, os.pardir, "tools"))
+from common import SITES, Refused
+from debugging import machine
+from debugging.person import Session
+from debugging.target import Target
+
+WORDS = [0, 1, 2, 3, 7, 9, 1_048_576, 1_048_577, 2 ** 63, 2 ** 64 - 1]
+
+
+class Facts:
+    """Counts steps, and what is wrong of them."""
+
+    def __init__(self):
+        self.steps, self.wrong, self.detected = 0, 0, {}
+
+    def check(self, session, name, wanted, got):
+        """Tells what is wrong."""
+        if wanted != got:
+            self.wrong += 1
+            print(f"FAILED {name} at {session.position} after {session.strikes}: wanted {wanted}, got {got}")
+
+    def step(self, session):
+        """One step, and what the module says of it."""
+        before, fetched = session.state(), session.fetched(session.position)
+        told = None if fetched is None and not machine.is_fetch(before.position) else machine.detection(before, fetched)
+        session.step(1)
+        after = session.state()
+        self.steps += 1
+        self.check(session, "whether it is detected", after.status == "detected", told is not None)
+        if told:
+            self.detected[told.sentence] = self.detected.get(told.sentence, 0) + 1
+        registers = {name for name in machine.REGISTERS if before.words[name] != after.words[name]}
+        may = set()
+        if not machine.is_fetch(before.position) and fetched:
+            may = {machine.written_register(fetched.words)} | ({"d"} if machine.may_write_d(fetched.words) else set())
+        self.check(session, "the registers that change", set(), registers - may)
+        if machine.is_fetch(before.position) or after.status != "running":
+            same = all(getattr(before, part) == getattr(after, part) for part in ("pcg", "pcb", "queue", "cells"))
+            self.check(session, "what a fetch, a stop and a detection leave alone", True, same)
+        changed = {name for name in after.cells if before.cells[name] != after.cells[name]}
+        stored = {line.split(" ")[0] for line in after.commits.splitlines()}
+        self.check(session, "only a commit changes a cell", set(), changed - stored)
+
+    def run(self, target, chance, steps):
+        """One run. It strikes what the program uses, for most words of others do nothing."""
+        session = Session(target)
+        used = {word for instruction in target.code for word in instruction.words if word in SITES}
+        sites = sorted(used) + ["d", "pcg", "pcb", "qa0", "qv0"]
+        session.go_to(chance.randrange(40))
+        for _ in range(steps):
+            if session.state().status != "running":
+                return
+            if chance.random() < 0.05:
+                try:
+                    session.zap(chance.choice(sites), chance.choice(WORDS))
+                except Refused:
+                    # Nothing is pending there.
+                    pass
+            self.step(session)
+
+
+def main(seed, runs, steps, *programs):
+    facts, chance = Facts(), random.Random(int(seed))
+    for program in programs:
+        target = Target(program)
+        for _ in range(int(runs)):
+            facts.run(target, chance, int(steps))
+        target.close()
+    for sentence, count in sorted(facts.detected.items()):
+        print(f"  {count:>5} {sentence}")
+    print(f"{facts.steps} steps: {facts.wrong} wrong")
+    return 1 if facts.wrong else 0
+
+
+if __name__ == "__main__":
+    sys.exit(main(*sys.argv[1:]))

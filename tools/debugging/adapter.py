@@ -1,0 +1,228 @@
+"""A debug adapter: requests of an editor, answered by a session of the proved debugger."""
+import os
+import threading
+
+from common import Refused
+from debugging import explaining, runs, stepping
+from debugging.adapter_breaks import Breaks
+from debugging.adapter_views import THREAD, Views
+from debugging.person import Session
+from debugging.sessions import Interrupted
+from debugging.target import Target
+
+# Requests that end what runs.
+BREAKS_OFF = ("pause", "terminate", "disconnect")
+# Requests that need no session.
+FIRST = ("initialize", "launch", "attach", "disconnect", "terminate")
+CAN = ["supportsConfigurationDoneRequest", "supportsStepBack", "supportsDisassembleRequest",
+       "supportsInstructionBreakpoints", "supportsSteppingGranularity", "supportsSetVariable", "supportsSetExpression",
+       "supportsEvaluateForHovers", "supportsTerminateRequest", "supportsRestartRequest", "supportsDataBreakpoints",
+       "supportsCompletionsRequest", "supportsExceptionInfoRequest", "supportsLoadedSourcesRequest",
+       "supportsBreakpointLocationsRequest", "supportsValueFormattingOptions", "supportsConditionalBreakpoints",
+       "supportsHitConditionalBreakpoints"]
+FILTER = {"filter": "detected", "label": "Detected", "default": True,
+          "description": "Halts where the machine has stopped itself"}
+
+
+class Adapter(Views, Breaks):
+    """Answers requests; `handle` is called for one after the other."""
+
+    def __init__(self, wire):
+        self.wire, self.session, self.over, self.ended = wire, None, False, False
+        self.client, self.asked, self.frame = {}, {}, 0
+        self.line_breaks, self.instruction_breaks = {}, {}
+        self.filters = {"detected"}
+        self.lock, self.waiting, self.stop = threading.Lock(), 0, threading.Event()
+
+    def interrupt(self):
+        """From another thread, before a request that breaks off what runs is queued."""
+        with self.lock:
+            self.waiting += 1
+            self.stop.set()
+
+    def taken(self):
+        """Such a request is handled now."""
+        with self.lock:
+            self.waiting -= 1
+            if self.waiting == 0:
+                self.stop.clear()
+
+    def handle(self, request):
+        """Answers one request."""
+        command = request["command"]
+        if command in BREAKS_OFF:
+            self.taken()
+        call = getattr(self, "on_" + command, None)
+        if not call:
+            return self.wire.refuse(request, f"{command}: no request of this adapter")
+        if not self.session and command not in FIRST:
+            return self.wire.refuse(request, "nothing is launched")
+        try:
+            return call(request, request.get("arguments") or {})
+        except Refused as error:
+            return self.wire.refuse(request, str(error))
+        except Interrupted:
+            return self.wire.refuse(request, "interrupted")
+        except (AttributeError, IndexError, KeyError, TypeError, ValueError) as error:
+            return self.wire.refuse(request, f"{command}: bad arguments: {error!r}")
+
+    # BEGIN AND END
+
+    def on_initialize(self, request, asked):
+        self.client = asked
+        self.wire.answer(request, dict(dict.fromkeys(CAN, True), exceptionBreakpointFilters=[FILTER]))
+
+    def on_attach(self, request, asked):
+        raise Refused("nothing can be attached to: a session is a run from its start; use launch")
+
+    def on_launch(self, request, asked):
+        if not isinstance(asked.get("program"), str):
+            raise Refused("launch: `program` has to name an object, an assembly text or a source")
+        wild = asked.get("wild")
+        wild = ",".join(str(part) for part in wild) if isinstance(wild, list) else wild
+        target = Target(asked["program"], wild, asked.get("text"), asked.get("source"))
+        try:
+            session = Session(target, asked.get("fault"))
+            session.state()
+        except Refused:
+            target.close()
+            raise
+        session.timeline.calls.stop = self.stop
+        self.close()
+        self.session, self.asked = session, asked
+        self.wire.answer(request)
+        self.wire.event("process", {"name": os.path.basename(asked["program"]), "isLocalProcess": True,
+                                    "startMethod": "launch"})
+        self.wire.event("initialized")
+
+    def on_configurationDone(self, request, asked):
+        self.wire.answer(request)
+        if self.asked.get("noDebug") or not self.asked.get("stopOnEntry", True):
+            return self.run(self.session.go)
+        return self.stopped("entry", "At the start")
+
+    def on_terminate(self, request, asked):
+        self.wire.answer(request)
+        self.end()
+
+    def on_disconnect(self, request, asked):
+        self.wire.answer(request)
+        self.over = True
+
+    def on_restart(self, request, asked):
+        self.session.go_to(0)
+        self.wire.answer(request)
+        self.stopped("entry", "At the start")
+
+    def end(self):
+        """Tells that the run has ended, once."""
+        if self.session and not self.ended:
+            self.ended = True
+            self.wire.event("exited", {"exitCode": 1 if self.session.state().status == "detected" else 0})
+            self.wire.event("terminated", {})
+
+    def close(self):
+        """Lets go of the session."""
+        if self.session:
+            self.session.target.close()
+
+    # STOPS
+
+    def stopped(self, reason, description, text=None, hits=()):
+        """Tells that the run has stopped."""
+        self.frame += 1
+        body = {"reason": reason, "description": description, "threadId": THREAD, "allThreadsStopped": True}
+        if text:
+            body["text"] = text
+        if hits:
+            body["hitBreakpointIds"] = list(hits)
+        self.wire.event("stopped", body)
+
+    def run(self, call, *words, forward=True, reason="step"):
+        """A move, its outputs, and why it stopped."""
+        session = self.session
+        position = session.position
+        if session.state().status != "running" and forward:
+            return self.end()
+        old = session.outputs()
+        session.timeline.calls.may_stop = True
+        try:
+            stop = call(*words)
+        except Interrupted:
+            return self.stopped("pause", "Interrupted: the session is where it was")
+        except Refused as error:
+            self.wire.event("output", {"category": "important", "output": f"{error}\n"})
+            return self.stopped(reason, "Refused", str(error))
+        finally:
+            session.timeline.calls.may_stop = False
+        new = session.outputs()
+        if session.position > position and len(new) > len(old):
+            text = "".join(line + "\n" for line in new.since(len(old)))
+            self.wire.event("output", {"category": "stdout", "output": text})
+        return self.tell(stop if isinstance(stop, runs.Stop) else None, reason)
+
+    def tell(self, stop, reason):
+        """Why the run stopped here."""
+        state, why = self.session.state(), stop.reason if stop else None
+        at = f"at {state.position}"
+        if why == "watch":
+            return self.stopped("data breakpoint", f"{stop.what[2]} is {stop.what[3]}, {at}", hits=[stop.what[0]])
+        if why == "breakpoint":
+            return self.stopped(*self.broken_at(stop.what, at))
+        if state.status == "detected" and "detected" in self.filters and not self.asked.get("noDebug"):
+            instruction, told = explaining.reason(self.session)
+            return self.stopped("exception", f"Detected, {at}", told.sentence if told else None)
+        if state.status == "detected":
+            return self.end()
+        if state.status == "done":
+            if self.asked.get("noDebug") or not self.asked.get("stopAtEnd", True):
+                return self.end()
+            return self.stopped("pause", f"Done, {at}: steps back are possible")
+        if why == "start":
+            return self.stopped("entry", "At the start")
+        return self.stopped(reason, f"{state.status}, {at}")
+
+    def broken_at(self, place, at):
+        """What `stopped` tells of a break place."""
+        hits = [number for number, one in self.session.breaks.items() if one.place == place]
+        only = bool(hits) and all(number in self.instruction_breaks for number in hits)
+        return "instruction breakpoint" if only else "breakpoint", f"Break place, {at}", None, hits
+
+    # MOVES
+
+    def move(self, request, call, *words, body=None, forward=True):
+        """Answers, and then moves."""
+        self.wire.answer(request, body)
+        self.run(call, *words, forward=forward)
+
+    @staticmethod
+    def by_line(asked):
+        """Whether a client steps by lines."""
+        return asked.get("granularity") != "instruction"
+
+    def on_continue(self, request, asked):
+        self.move(request, self.session.go, body={"allThreadsContinued": True})
+
+    def on_reverseContinue(self, request, asked):
+        self.move(request, self.session.go_back, forward=False)
+
+    def on_next(self, request, asked):
+        self.move(request, stepping.forward, self.session, 1, self.by_line(asked))
+
+    def on_stepIn(self, request, asked):
+        if self.by_line(asked) and self.session.target.source is not None:
+            self.move(request, stepping.forward, self.session, 1, False)
+        else:
+            self.move(request, self.session.step, 1)
+
+    def on_stepOut(self, request, asked):
+        self.move(request, self.session.finish)
+
+    def on_stepBack(self, request, asked):
+        if self.session.position == 0:
+            self.wire.answer(request)
+            return self.stopped("entry", "At the start")
+        return self.move(request, stepping.back, self.session, 1, self.by_line(asked), forward=False)
+
+    def on_pause(self, request, asked):
+        self.wire.answer(request)

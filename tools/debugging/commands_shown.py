@@ -1,0 +1,171 @@
+"""The commands of the prompt that show something, and its completion."""
+import os
+import re
+
+from common import SITES, Refused
+from debugging import explaining, views
+from debugging.help import HELP, INFO, SHORT, help_lines
+from debugging.reading import number, one_word, word_of
+
+
+class Shown:
+    """Commands that show; the session, `say` and the rest are those of Commands."""
+
+    def do_info(self, words):
+        topics = [topic for topic in INFO if words and topic.startswith(words[0])]
+        if len(topics) != 1:
+            raise Refused("info " + "|".join(INFO))
+        call = {"breaks": self.breaks, "strikes": self.strikes, "names": self.names}.get(topics[0])
+        if call:
+            call()
+        elif topics[0] == "position":
+            self.do_where([])
+        else:
+            getattr(self, "do_" + topics[0])(words[1:])
+
+    def strikes(self):
+        """All strikes."""
+        session = self.session
+        lines = []
+        for strike in session.strikes:
+            line = f"  {strike.step}:{strike.site}:{strike.word}" + (" planned" if strike.planned else "")
+            if strike.step > session.position:
+                line += ", not made yet"
+            elif session.timeline.idle.get(strike):
+                line += ", nothing was there"
+            lines.append(line)
+        self.say(*lines or ["no strike"])
+
+    def breaks(self):
+        """All break places, with how often each was come by so far, and watches."""
+        session = self.session
+        lines = []
+        for at, one in session.breaks.items():
+            hits = explaining.counted(session.hits(one), "hit")
+            parts = [f"  {at}", f"break {one.place[0]} {one.place[1]}", one.instruction.short(), one.told()]
+            lines.append("  ".join([part for part in parts if part] + [f"{hits} so far"]))
+        lines += [f"  {at}  watch {name}" for at, name in session.watches.items()]
+        self.say(*lines or ["no break place and no watch"])
+
+    def names(self):
+        """What the source's names are."""
+        names = self.session.target.names
+        lines = [f"  {name}  {place.told()}" for name, place in (names or {}).items()]
+        self.say(*lines or ["no names of a source are known"])
+
+    def note(self, *lines):
+        """Records the lines of `talft debug` that tell what was asked."""
+        self.session.journal.put(*lines)
+
+    def do_registers(self, words):
+        every = bool(words) and "all".startswith(words[0])
+        self.note(*[f"reg {name}" for name in SITES[:67]])
+        self.say(*views.register_lines(self.session, self.paint, every, self.before))
+
+    def do_queue(self, words):
+        self.note("queue")
+        self.say(*views.queue_lines(self.session))
+
+    def do_cells(self, words):
+        cells = self.session.cells()
+        self.note(*[f"cell {name}" for name in cells])
+        self.say(*[f"  {name} {word}" for name, word in cells.items()] or ["no cells"])
+
+    def told_word(self, name, base=""):
+        """A word by its name; a variable's in both colours."""
+        session = self.session
+        told = []
+        for site in session.registers_of(name):
+            word, state = session.word(site), session.state()
+            has_colour = site in state.words or site in ("pcg", "pcb")
+            told.append(f"{site}{' ' + state.colour(site) if has_colour else ''} {views.in_base(word, base)}")
+        return told[0] if told[0].split()[0] == name else f"{name}: " + ", ".join(told)
+
+    def do_print(self, words, base=""):
+        if not words:
+            raise Refused("say a word: print r1")
+        for name in words:
+            line = self.told_word(name, base)
+            for site in self.session.registers_of(name):
+                self.note("cell " + site if site in self.session.target.listing.cells else
+                          "queue" if site[0] == "q" else "reg " + site)
+            self.say(line)
+
+    def do_x(self, words, count=""):
+        names = self.session.target.listing.cells
+        first = one_word(words, "say a cell or its address")
+        first = first if first in names else self.session.target.cell_at(word_of(first))
+        if first is None:
+            raise Refused("say a cell or its address")
+        digits = re.match(r"\d*", count)[0]
+        at = names.index(first)
+        for name in names[at:at + int(digits or 1)]:
+            self.do_print([name], count[len(digits):])
+
+    def do_disassemble(self, words):
+        if len(words) == 1 and words[0].isdigit():
+            self.say(*views.code_lines(self.session, self.paint, int(words[0])))
+        else:
+            at = self.session.target.find(" ".join(words)).address if words else None
+            self.say(*views.code_lines(self.session, self.paint, 5, at))
+
+    def do_where(self, words):
+        self.note("where")
+        state = self.session.state()
+        place = "" if state.block is None else f" block {state.block} index {state.index}"
+        self.say(f"{views.status_line(self.session)} pcg {state.pcg} pcb {state.pcb}{place}", views.doing(self.session))
+
+    def do_outputs(self, words):
+        outputs, most = self.session.outputs(), number(words, 20)
+        last = f", the last {most}:" if len(outputs) > most else ""
+        count = explaining.counted(len(outputs), "output")
+        self.say(count + last, *["  " + line for line in outputs.last(most)])
+
+    def do_diff(self, words):
+        rows = explaining.differences(self.session.state(), self.session.unstruck())
+        lines = ["  " + explaining.Change.difference(self.session.target, *row) for row in rows]
+        self.say(*lines or ["no word differs"])
+
+    def do_help(self, words):
+        if words:
+            form, told = HELP[self.resolve(words[0])]
+            self.say(form, "  " + told)
+        else:
+            self.say(*help_lines())
+
+    # COMPLETION
+
+    def complete(self, line):
+        """What the last word of a line may become."""
+        words = line.split(" ")
+        start = words[-1]
+        if len(words) == 1:
+            names = sorted(HELP) + sorted(name for name in SHORT if len(name) > 2)
+            return [name for name in names if name.startswith(start)]
+        try:
+            name = self.resolve(words[0].split("/")[0])
+        except Refused:
+            return []
+        if name in ("source", "record"):
+            return files(start)
+        return [word for word in self.known(name, len(words) == 2) if word.startswith(start)]
+
+    def known(self, name, is_first):
+        """The words that may follow a command."""
+        listing, names = self.session.target.listing, list(self.session.target.names or {})
+        if name in ("break", "tbreak", "disassemble", "until"):
+            return list(listing.labels) + [f"b{block}" for block in range(len(listing.blocks))]
+        if name in ("zap", "flip"):
+            return SITES if is_first else []
+        return {"print": SITES + listing.cells + names, "display": SITES + listing.cells + names,
+                "watch": SITES[:67] + listing.cells + names, "x": listing.cells, "info": INFO,
+                "help": sorted(HELP)}.get(name, [])
+
+
+def files(start):
+    """The files that a word may become."""
+    folder, base = os.path.split(start)
+    try:
+        return [os.path.join(folder, file) for file in sorted(os.listdir(folder or ".")) if file.startswith(base)]
+    except OSError:
+        return []

@@ -1,0 +1,54 @@
+"""The record of a session: a script of `talft debug` that leads to the same place by the same answers."""
+import os
+
+from common import Refused
+from debugging.sessions import made_by, path
+
+# How far one script can go back (docs/COMMANDS.md).
+MOST_BACK = 4_096
+
+
+class Journal:
+    """The lines so far, and the file that has them."""
+
+    def __init__(self):
+        self.lines, self.low, self.file = [], 0, None
+
+    def record(self, path, sure):
+        """Keeps the lines in a file; one that is there is overwritten only if `sure` says so."""
+        path = os.path.abspath(path)
+        if os.path.lexists(path) and path != self.file and not sure(f"{path} is there: overwrite it? (y or n) "):
+            raise Refused(f"{path} is there already, and stays as it is: say another file")
+        old, self.file = self.file, path
+        try:
+            self.put()
+        except Refused:
+            self.file = old
+            raise
+
+    def put(self, *lines):
+        """More lines."""
+        self.lines += lines
+        if not self.file:
+            return
+        try:
+            with open(self.file, "w", encoding="ascii") as out:
+                out.write("".join(line + "\n" for line in self.lines))
+        except OSError as error:
+            path, self.file = self.file, None
+            raise Refused(f"{path}: {error.strerror}; it is recorded no more") from error
+
+    def move(self, old, new, strikes):
+        """From a position to another; what is too far back is gone to from the start, in place of all lines before."""
+        if new > old:
+            self.low = max(self.low, new - MOST_BACK)
+            self.put(*path(strikes, old, new))
+        elif self.low <= new < old:
+            self.put(f"back {old - new}")
+        elif new < old:
+            self.again(new, strikes)
+
+    def again(self, position, strikes):
+        """To a position from the start, in place of all lines before."""
+        self.lines, self.low = [], max(0, position - MOST_BACK)
+        self.put(*path(made_by(strikes, position), 0, position))

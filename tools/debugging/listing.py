@@ -1,0 +1,104 @@
+"""An assembly text as the debugger shows it: instructions with their places and lines, blocks, cells, labels."""
+import re
+
+NOT_CODE = {"cell", "node", "type", "reg", "pend", "block", "entry"}
+LABEL = re.compile(r"#\s*([A-Za-z_]\w*):")
+PLACE = re.compile(r"(?:b|block\s+)?(\d+)(?:\s*[:+ ]\s*(\d+))?")
+WORDS_OF_TRANSFER = {"jmp_B": 2, "bz_B": 3}
+
+
+class Instruction:
+    """An instruction: its text, its code address, its place in its block, and its lines."""
+
+    def __init__(self, text, address, block, index, line):
+        self.text, self.address, self.block, self.index, self.line = text, address, block, index, line
+        self.words = text.split()
+        self.source_line = None
+
+    def place(self):
+        """Block and index."""
+        return f"{self.block}:{self.index}"
+
+    def key(self):
+        """Block and index, as numbers."""
+        return self.block, self.index
+
+    def short(self):
+        """The text without the substitution of a blue jump."""
+        return " ".join(self.words[:WORDS_OF_TRANSFER.get(self.words[0])])
+
+    def shown_line(self):
+        """The line of the source where it is known, or else of the text."""
+        return self.source_line or self.line
+
+
+class Listing:
+    """A text as `dis` writes it, or the user's own, whose words are the same.
+
+    A comment `# NAME:` labels the next block."""
+
+    def __init__(self, lines):
+        self.lines, self.code, self.blocks, self.cells, self.labels = lines, [], [], [], {}
+        label = None
+        for number, line in enumerate(lines, 1):
+            words = line.split()
+            if not words:
+                continue
+            if words[0].startswith("#"):
+                named = LABEL.match(line.strip())
+                label = named[1] if named else label
+                continue
+            if words[0] == "cell":
+                self.cells.append(words[1])
+            elif words[0] == "block":
+                if label:
+                    self.labels[label] = len(self.blocks)
+                self.blocks.append(len(self.code))
+            elif words[0] not in NOT_CODE:
+                self.add(words, number)
+            label = None
+
+    def add(self, words, number):
+        """One more instruction."""
+        block = len(self.blocks) - 1
+        index = len(self.code) - self.blocks[block]
+        self.code.append(Instruction(" ".join(words), len(self.code) + 1, block, index, number))
+
+    def said(self):
+        """The lines that say something, with single spaces."""
+        return [" ".join(line.split()) for line in self.lines if line.split() and line.split()[0][0] != "#"]
+
+    def at(self, address):
+        """The instruction at a code address, or None."""
+        return self.code[address - 1] if address is not None and 1 <= address <= len(self.code) else None
+
+    def at_place(self, block, index):
+        """The instruction of a block, or None."""
+        if not 0 <= block < len(self.blocks) or index < 0:
+            return None
+        start, after = self.blocks[block], (self.blocks + [len(self.code)])[block + 1]
+        return self.code[start + index] if start + index < after else None
+
+    def label_of(self, block):
+        """The block's label, or None."""
+        return next((name for name, labelled in self.labels.items() if labelled == block), None)
+
+    def first_of_line(self, line, source=False):
+        """The first instruction of this line or of the next that has one."""
+        field = "source_line" if source else "line"
+        there = [(getattr(i, field), i.address) for i in self.code if (getattr(i, field) or 0) >= max(1, line)]
+        return self.at(min(there)[1]) if there else None
+
+    def find(self, text, source=False):
+        """The instruction that a person names: B I, B:I, bB, *ADDRESS, LABEL, LABEL+I or a line; None where none is."""
+        if match := re.fullmatch(r"\*\s*(0[xX][0-9a-fA-F]+|\d+)", text):
+            return self.at(int(match[1], 0))
+        if match := re.fullmatch(r"([A-Za-z_]\w*)(?:\+(\d+))?", text):
+            if match[1] in self.labels:
+                return self.at_place(self.labels[match[1]], int(match[2] or 0))
+            block = re.fullmatch(r"b(?:lock)?(\d+)", match[1])
+            return self.at_place(int(block[1]), int(match[2] or 0)) if block else None
+        if match := re.fullmatch(r"(?:line\s+)?(\d+)", text):
+            return self.first_of_line(int(match[1]), source)
+        match = PLACE.fullmatch(text)
+        return self.at_place(int(match[1]), int(match[2] or 0)) if match else None

@@ -1,0 +1,119 @@
+"""All that the debugger for people itself knows of the machine. Everything else it asks the program.
+
+Each fact names the part of docs/MACHINE.md that states it. tests/debugging/facts.py compares them with the program,
+step by step, over random runs with strikes."""
+import collections
+
+# "Words and addresses": cell k has the address FIRST_CELL + k, instruction i the code address 1 + i.
+FIRST_CELL = 1_048_576
+# "State" and docs/COMMANDS.md, "Sessions of the debugger": what `reg` tells, but for the counters.
+REGISTERS = [f"r{i}" for i in range(64)] + ["d"]
+# "Stores": a green store wants fewer pairs than this.
+QUEUE_LENGTH = 8
+OPERATIONS = ("add", "sub", "mul", "ltu", "eq", "and", "or", "xor", "shl", "shr")
+
+# Two words that an instruction compares; `same` says whether the machine goes on.
+Compared = collections.namedtuple("Compared", "what left right same")
+# Why a step is detected: a sentence, and what was compared.
+Detection = collections.namedtuple("Detection", "sentence compared")
+
+
+def is_fetch(position):
+    """Whether the step from a position of a running machine fetches. "Steps": an instruction takes two steps."""
+    return position % 2 == 0
+
+
+def written_register(words):
+    """The register that an instruction writes, or None. "Operations and moves", "Loads"."""
+    return words[1] if words[0] in OPERATIONS or words[0] in ("mov", "idx", "ld_G", "ld_B") else None
+
+
+def may_write_d(words):
+    """Whether an instruction may change d. "Jumps, branches and the end"."""
+    return words[0][:4] in ("jmp_", "bz_G", "bz_B")
+
+
+def cell_number(word, count):
+    """The number of the cell that has this address among so many, or None."""
+    return word - FIRST_CELL if FIRST_CELL <= word < FIRST_CELL + count else None
+
+
+def detection(state, instruction, named=str, target=str):
+    """Why the step from a state is detected, or None where it is not. The instruction is the one that is fetched.
+
+    `named` and `target` write a word that is an address of a cell, or of an instruction. Of a wild load this says what
+    happens when no answer is left, as only the program knows its answers."""
+    if instruction is None:
+        return of_fetch(state)
+    rule = RULES.get(instruction.words[0])
+    return rule(state, instruction.words, named, target) if rule else None
+
+
+def of_fetch(state):
+    """The rows of "Fetches"."""
+    rows = [Compared("counter", f"pcg = {state.pcg}", f"pcb = {state.pcb}", state.pcg == state.pcb)]
+    if state.pcg != state.pcb:
+        return Detection("the fetch: the green counter is not the blue one", rows)
+    if state.block is None:
+        return Detection("the fetch: no instruction has the address of both counters", rows)
+    return None
+
+
+def of_load(state, words, named, target):
+    """The rows of "Loads": a wild load has no cell, and a green one no pending store either."""
+    address = state.word(words[2])
+    pending = words[0] == "ld_G" and any(queued == address for queued, _ in state.queue)
+    if pending or state.is_cell(address):
+        return None
+    return Detection("a wild load: no answer is left to it, or the answer is `stop`",
+                     [Compared("address", f"{words[2]} = {named(address)}", "no cell is there", False)])
+
+
+def of_green_store(state, words, named, target):
+    """The rows of `st_G` in "Stores"."""
+    if len(state.queue) < QUEUE_LENGTH:
+        return None
+    return Detection("eight green stores are pending already",
+                     [Compared("queue", f"{len(state.queue)} pairs", f"at most {QUEUE_LENGTH}", False)])
+
+
+def of_blue_store(state, words, named, target):
+    """The rows of `st_B` in "Stores"."""
+    address, value = state.word(words[1]), state.word(words[2])
+    if not state.queue:
+        return Detection("no green store is pending",
+                         [Compared("address", f"{words[1]} = {named(address)}", "the queue is empty", False)])
+    oldest = state.queue[0]
+    rows = [Compared("address", f"{words[1]} = {named(address)}", f"qa0 = {named(oldest[0])}", address == oldest[0]),
+            Compared("value", f"{words[2]} = {named(value)}", f"qv0 = {named(oldest[1])}", value == oldest[1])]
+    if not all(row.same for row in rows):
+        return Detection("the blue pair is not the oldest green one", rows)
+    return None if state.is_cell(address) else Detection("both pairs are equal, but no cell has the address", rows)
+
+
+def of_green_jump(state, words, named, target):
+    """The rows of `jmp_G` and `bz_G` in "Jumps, branches and the end"."""
+    d = state.word("d")
+    if d == 0:
+        return None
+    return Detection("a green jump is pending already: d is not 0", [Compared("d", f"d = {target(d)}", "0", False)])
+
+
+def of_blue_jump(state, words, named, target):
+    """The rows of `jmp_B` and `bz_B` in "Jumps, branches and the end"."""
+    d, register = state.word("d"), words[2] if words[0] == "bz_B" else words[1]
+    own = state.word(register)
+    rows = [Compared("target", f"{register} = {target(own)}", f"d = {target(d)}", own == d)]
+    if words[0] == "bz_B":
+        tested = state.word(words[1])
+        if tested:
+            told = [Compared("tested", f"{words[1]} = {tested}", f"d = {target(d)}", False)]
+            return None if d == 0 else Detection("blue passes, and green was to jump", told)
+        rows.insert(0, Compared("tested", f"{words[1]} = 0", "so blue jumps", True))
+    if d == 0:
+        return Detection("blue jumps, and green has not: d is 0", rows)
+    return None if own == d else Detection("the blue target is not the green one", rows)
+
+
+RULES = {"ld_G": of_load, "ld_B": of_load, "st_G": of_green_store, "st_B": of_blue_store, "jmp_G": of_green_jump,
+         "bz_G": of_green_jump, "jmp_B": of_blue_jump, "bz_B": of_blue_jump}

@@ -1,0 +1,124 @@
+"""What the full screen shows."""
+import curses
+
+from debugging import explaining, views
+
+KEYS = ("n/p step  i/I instr  l/L line  c/r run  b break  z zap  f flip  u undo  e explain  g goto  : command  ? help"
+        "  q quit")
+# How many columns the green half of a pair of registers takes.
+HALF = 27
+
+
+class Panes:
+    """Draws the screen; the window, the session and the choices are those of Screen."""
+
+    def put(self, row, column, text, style=None, width=None):
+        """Puts a text at a place, cut or filled to the width."""
+        height, wide = self.window.getmaxyx()
+        # A character in the last cell of all would scroll.
+        room = wide - column - (1 if row == height - 1 else 0)
+        width = room if width is None else min(width, room)
+        if 0 <= row < height and width > 0:
+            try:
+                self.window.addnstr(row, column, text.ljust(width), width, self.style[style])
+            except curses.error:
+                # The window became smaller meanwhile: its next key is that of its new size.
+                pass
+
+    def draw(self):
+        """The whole screen."""
+        self.window.erase()
+        height, wide = self.window.getmaxyx()
+        session = self.session
+        left, body = max(34, min(56, wide // 2)), height - 5
+        self.put(0, 0, f" {session.target.path}   {views.status_line(session)}   {views.doing(session)}", "here")
+        self.code(1, body, left - 1)
+        for row in range(1, body + 1):
+            self.put(row, left - 1, "|", "dim", 1)
+        row = self.registers(1, left + 1, body - 8)
+        self.rest(row, left + 1, body - row + 1)
+        self.time(height - 4, wide)
+        self.put(height - 2, 0, self.message, "changed" if self.message else None)
+        self.put(height - 1, 0, KEYS, "dim")
+        self.window.refresh()
+
+    def code_lines(self, height):
+        """(address or None, text, style) of the instructions around the chosen one, and the chosen address."""
+        session, current = self.session, self.session.current()
+        here = current.address if current else min(max(1, session.state().pcg), len(session.target.code))
+        here = self.cursor or here
+        rows, source = [], None
+        for instruction, is_break, arrow in views.code_rows(session, here - height, here + height):
+            if instruction.index == 0:
+                rows.append((None, views.block_line(session, instruction.block), "title"))
+            if instruction.source_line and instruction.source_line != source:
+                source = instruction.source_line
+                rows.append((None, f"{source}: {session.target.source[source - 1].strip()}", "dim"))
+            style = "here" if instruction.address == here and self.cursor else "title" if arrow != "  " else \
+                "break" if is_break else views.colour_of(instruction)
+            rows.append((instruction.address, f"{arrow}{'*' if is_break else ' '}{instruction.address:>5} "
+                         f"{instruction.place():<7}{instruction.short()}", style))
+        return rows, here
+
+    def code(self, top, height, width):
+        """The instructions, with the chosen one in the middle."""
+        rows, here = self.code_lines(height)
+        at = next((i for i, row in enumerate(rows) if row[0] == here), 0)
+        first = max(0, min(at - height // 2, len(rows) - height))
+        shown = rows[first:first + height]
+        number = self.session.target.at(here).source_line if self.session.target.at(here) else None
+        if number and first and shown and at > first:
+            # The chosen instruction's line stays in sight.
+            shown[0] = (None, f"{number}: {self.session.target.source[number - 1].strip()}", "dim")
+        for i, (_, text, style) in enumerate(shown):
+            self.put(top + i, 0, text, style, width)
+
+    def registers(self, top, column, height):
+        """Both colours side by side; the row behind them."""
+        state = self.session.state()
+        shown = [pair for pair in views.pairs(self.session, self.before) if self.every or not pair.is_unset]
+        cut = max(0, len(shown) - max(3, height - 3))
+        self.put(top, column, f"  {'green':<{HALF}}blue" + (f"   ({cut} more)" if cut else ""), "title")
+        row = top + 1
+        for pair in shown[:len(shown) - cut]:
+            styles = ["differs" if pair.differs else "changed" if changed else colour
+                      for changed, colour in zip(pair.changed, ("green", "blue"))]
+            self.put(row, column, "* " if pair.differs else "  ", "differs", 2)
+            self.put(row, column + 2, pair.green, styles[0], HALF)
+            self.put(row, column + 2 + HALF, pair.blue, styles[1])
+            row += 1
+        style = "differs" if state.pcg != state.pcb else None
+        self.put(row, column, f"{'*' if style else ' '} {'pcg G ' + str(state.pcg):<{HALF}}pcb B {state.pcb}", style)
+        self.put(row + 1, column, f"  d   G {views.spelled(self.session, state.word('d'))}")
+        return row + 3
+
+    def rest(self, row, column, height):
+        """Queue, cells and outputs, as far as there is room."""
+        session = self.session
+        state, outputs = session.state(), session.outputs()
+        total = len(session.target.listing.cells)
+        lines = [("queue" + ("" if state.queue else ": empty"), "title")]
+        lines += [(line, "green") for line in (views.queue_lines(session) if state.queue else [])]
+        # Where there are many cells, each screen would ask for all of them once more.
+        few = list(state.cells.items())[:max(1, (height - len(lines)) // 3)]
+        lines.append(("cells" + (f" ({len(few)} of {total}; `:cells` has all)" if total > len(few) else ""), "title"))
+        lines += [(f"  {name} {word}", None) for name, word in few]
+        room = max(1, height - len(lines) - 1)
+        lines.append((explaining.counted(len(outputs), "output"), "title"))
+        lines += [("  " + line, None) for line in outputs.last(room)]
+        for i, (text, style) in enumerate(lines[:max(0, height)]):
+            self.put(row + i, column, text, style)
+
+    def time(self, row, wide):
+        """The time line, and the strikes."""
+        session = self.session
+        end = max(self.length, session.position)
+        note = f" {end}{'' if self.ends else '..'}"
+        bar = views.time_line(session, wide - len(note) - 4, end)
+        self.put(row, 0, "0 ")
+        for i, mark in enumerate(bar):
+            self.put(row, 2 + i, mark, {"o": "here", "!": "differs", "@": "differs"}.get(mark, "dim"), 1)
+        self.put(row, 2 + len(bar), note)
+        strikes = "  ".join(f"! {s.step}:{s.site}:{s.word}" for s in session.strikes)
+        detected = session.state().status == "detected"
+        self.put(row + 1, 0, f"o {views.status_line(session)}   {strikes}", "differs" if detected else None)

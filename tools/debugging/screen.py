@@ -1,0 +1,207 @@
+"""The full screen of the debugger: what its keys do."""
+import curses
+import os
+import sys
+
+from common import Refused
+from debugging import explaining, runs, stepping, views
+from debugging.commands import Commands, Quit
+from debugging.panes import Panes
+from debugging.sessions import Interrupted
+
+HELP = ["n p        one machine step forward, back (arrows right and left, too)",
+        "N P        ten machine steps",
+        "i I        one instruction forward, back (two steps: its fetch, its execution)",
+        "l L        one line of the source, where lines are known",
+        "c r        on, or back, to a break place or a change",
+        "o          out of this block",
+        "up down    choose an instruction; b sets or forgets a break place there",
+        "w          watch a cell or a register",
+        "z f        strike: a site and a word, or a bit to turn", "u          undo",
+        "e          why was it detected?", "d          what differs from the run without the strikes",
+        "g          go to a position; Home and End go to the start and to the stop",
+        "a          all registers, or those that were set",
+        ":          any command of the prompt", "q          end"]
+ENDS = {"start": "this is the start", "done": "the machine is done", "detected": "detected: e says why",
+        "breakpoint": "a break place"}
+COLOURS = (("green", "COLOR_GREEN"), ("blue", "COLOR_CYAN"), ("differs", "COLOR_RED"), ("changed", "COLOR_YELLOW"),
+           ("break", "COLOR_RED"))
+
+
+class Screen(Panes):
+    """What keys do; what is shown is in Panes."""
+
+    def __init__(self, window, session):
+        self.window, self.session = window, session
+        self.lines, self.message, self.cursor, self.every, self.before = [], "", None, False, None
+        self.commands = Commands(session, views.plain, self.lines.append, self.is_sure)
+        end = runs.place_at(session.timeline, 1_000_000, ())
+        self.length, self.ends = end.position, end.status != "running"
+        self.styles()
+
+    def styles(self):
+        """Attributes by name; colours where the terminal has them and NO_COLOR is not set."""
+        bold = curses.A_BOLD
+        self.style = {"here": curses.A_REVERSE, "title": bold, "dim": curses.A_DIM, "green": 0, "blue": 0,
+                      "differs": bold | curses.A_UNDERLINE, "changed": bold, "break": bold, None: 0}
+        if not curses.has_colors() or os.environ.get("NO_COLOR"):
+            return
+        curses.start_color()
+        curses.use_default_colors()
+        for number, (name, colour) in enumerate(COLOURS, 1):
+            curses.init_pair(number, getattr(curses, colour), -1)
+            self.style[name] = curses.color_pair(number) | (bold if name in ("differs", "break") else 0)
+
+    # WHAT IS TYPED
+
+    def ask(self, prompt):
+        """A line that is typed at the bottom; None if it is given up."""
+        typed = ""
+        while True:
+            self.put(self.window.getmaxyx()[0] - 2, 0, f"{prompt} {typed}_", "title")
+            self.window.refresh()
+            key = self.window.get_wch()
+            if key in ("\n", "\r"):
+                return typed
+            if key == "\x1b":
+                return None
+            if key in (curses.KEY_BACKSPACE, "\x7f", "\b"):
+                typed = typed[:-1]
+            elif key == "\t":
+                line = typed if prompt == ":" else prompt.split()[0] + " " + typed
+                found = self.commands.complete(line)
+                typed = typed[:len(typed) - len(typed.split(" ")[-1])] + os.path.commonprefix(found) if found else typed
+            elif isinstance(key, str) and key.isprintable():
+                typed += key
+
+    def is_sure(self, question):
+        """Asks the person."""
+        return (self.ask(question) or "").strip().lower() in ("y", "yes")
+
+    def page(self, lines):
+        """Lines over the whole screen, up to a key."""
+        while lines:
+            self.window.erase()
+            height = max(2, self.window.getmaxyx()[0])
+            for row, line in enumerate(lines[:height - 1]):
+                self.put(row, 0, line, "differs" if "DIFFER" in line else None)
+            lines = lines[height - 1:]
+            more = f" ({len(lines)} lines more)" if lines else ""
+            self.put(height - 1, 0, "any key goes on" + more, "dim")
+            self.window.refresh()
+            self.window.get_wch()
+
+    # WHAT KEYS DO
+
+    def run(self, line):
+        """A command of the prompt; long answers get a page."""
+        self.before, self.cursor = self.session.state(), None
+        self.lines.clear()
+        self.commands.do(line)
+        if len(self.lines) > 1:
+            self.page(self.lines)
+        elif self.lines:
+            self.message = self.lines[0]
+
+    def toggle(self):
+        """Sets or forgets a break place at the chosen instruction."""
+        session = self.session
+        instruction = session.target.at(self.cursor) if self.cursor else session.current()
+        if not instruction:
+            raise Refused("no instruction is here")
+        there = [number for number, one in session.breaks.items() if one.place == instruction.key()]
+        for number in there:
+            session.delete(number)
+        if not there:
+            session.add_break(f"*{instruction.address}")
+        self.message = f"{'no break place any more' if there else 'a break place'} at {instruction.place()}"
+
+    def move(self, call, *words):
+        """A move, and why it stopped."""
+        self.before, self.cursor = self.session.state(), None
+        stop = call(*words)
+        if isinstance(stop, runs.Stop):
+            changed = stop.reason == "watch"
+            self.message = f"{stop.what[2]} -> {stop.what[3]}" if changed else ENDS.get(stop.reason, stop.reason)
+
+    def moves(self):
+        """The keys that move."""
+        session = self.session
+        return {"n": (session.step, 1), "N": (session.step, 10), curses.KEY_RIGHT: (session.step, 1),
+                "p": (session.back, 1), curses.KEY_LEFT: (session.back, 1),
+                "P": (session.back, min(10, session.position)),
+                "i": (stepping.forward, session, 1, False), "I": (stepping.back, session, 1, False),
+                "l": (stepping.forward, session), "L": (stepping.back, session), "c": (session.go,),
+                "r": (session.go_back,), "o": (session.finish,), "u": (session.undo,),
+                curses.KEY_HOME: (session.go_to, 0), curses.KEY_END: (session.go_to, session.position + 1_000_000)}
+
+    def choose(self, key):
+        """Moves the cursor over the instructions."""
+        current = self.session.current()
+        here = self.cursor or (current.address if current else 1)
+        self.cursor = min(max(1, here + (1 if key == curses.KEY_DOWN else -1)), len(self.session.target.code))
+
+    def key(self, key):
+        """One key."""
+        typed_for = {"z": "zap SITE V:", "f": "flip SITE BIT:", "g": "goto P:", "w": "watch WORD:"}
+        shown = {"e": lambda: explaining.explain(self.session), "?": lambda: HELP, "h": lambda: HELP}
+        moves = self.moves()
+        if key in moves:
+            self.move(*moves[key])
+        elif key in (curses.KEY_UP, curses.KEY_DOWN):
+            self.choose(key)
+        elif key in typed_for:
+            if typed := self.ask(typed_for[key]):
+                self.run(typed_for[key].split()[0] + " " + typed)
+        elif key in shown:
+            self.page(shown[key]())
+        elif key == ":":
+            if typed := self.ask(":"):
+                self.run(typed)
+        elif key == "d":
+            self.run("diff")
+        elif key == "b":
+            self.toggle()
+        elif key == "a":
+            self.every = not self.every
+        elif key == "q":
+            raise Quit
+
+    def loop(self):
+        """Draws, and takes keys, up to the end."""
+        while True:
+            try:
+                self.draw()
+                key = self.window.get_wch()
+                self.message = ""
+                self.key(key)
+            except Refused as error:
+                self.message = str(error)
+            except Interrupted:
+                self.message = "interrupted: the session is where it was"
+            except curses.error:
+                # The window changed its size, or is too small for what was put.
+                pass
+            except KeyboardInterrupt:
+                self.message = "q ends"
+            except Quit:
+                return 0
+
+
+def show(session):
+    """Shows the full screen up to its end."""
+    if not (sys.stdin.isatty() and sys.stdout.isatty()):
+        raise Refused("--tui: standard input and output have to be a terminal")
+    os.environ.setdefault("ESCDELAY", "25")
+
+    def begin(window):
+        try:
+            curses.curs_set(0)
+        except curses.error:
+            # The terminal cannot hide its cursor.
+            pass
+        return Screen(window, session).loop()
+    try:
+        return curses.wrapper(begin)
+    except curses.error as error:
+        raise Refused(f"--tui: the terminal `{os.environ.get('TERM', '')}` cannot show it: {error}") from error

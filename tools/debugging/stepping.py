@@ -1,0 +1,73 @@
+"""Steps of instructions and of source lines, forward and back."""
+from debugging import breaks, runs
+from debugging.machine import is_fetch
+
+# How far one call looks for the end or the beginning of a line.
+CHUNKS = (512, 8_192) + (100_000,) * 1_000_000
+
+
+def forward(session, count=1, by_line=True):
+    """So many instructions on, or source lines where they are known; a break place or a stop ends it."""
+    for turn in range(count):
+        if session.state().status != "running":
+            break
+        line = line_of(session.current()) if by_line else None
+        if line is None:
+            end = session.position + (2 if is_fetch(session.position) else 1)
+        else:
+            end = end_of_line(session, line)
+        session.go_to(end, again=turn > 0)
+        state = session.state()
+        if (state.block, state.index) in session.places():
+            break
+    return session.state()
+
+
+def back(session, count=1, by_line=True):
+    """So many instructions back, or to where so many runs of source lines began."""
+    for turn in range(count):
+        if session.position == 0:
+            break
+        at = session.position - (1 if not is_fetch(session.position) else 2)
+        line = line_of(session.target.at(session.state_at(at).pcg)) if by_line else None
+        session.go_to(at if line is None else start_of_line(session, at, line), again=turn > 0)
+    return session.state()
+
+
+def line_of(instruction):
+    """The source line of an instruction, or None."""
+    return instruction.source_line if instruction else None
+
+
+def end_of_line(session, line):
+    """Where the run leaves a line, or comes to a break place: at a block's start, or behind another line's code."""
+    code = session.target.code
+    starts = {i.key() for before, i in zip([None] + code, code)
+              if i.source_line != line and (i.index == 0 or before.source_line != i.source_line)}
+    if len(starts | session.places()) <= breaks.MOST:
+        return runs.forward(session.timeline, session.position, session.strikes, starts | session.places()).position
+    start = session.position + session.position % 2
+    for chunk in CHUNKS:
+        told = runs.places_between(session.timeline, start, start + chunk, session.strikes)
+        for at, block, index in told:
+            here = session.target.listing.at_place(block, index) if block is not None else None
+            if at > session.position and (line_of(here) != line or (block, index) in session.places()):
+                return at
+        if told[-1][0] < start + chunk:
+            return told[-1][0]
+        start += chunk
+    return start
+
+
+def start_of_line(session, end, line):
+    """The first of the positions up to this one without another line between."""
+    for chunk in CHUNKS:
+        start = max(0, end - chunk)
+        for at, block, index in reversed(runs.places_between(session.timeline, start, end, session.strikes)):
+            here = session.target.listing.at_place(block, index) if block is not None else None
+            if is_fetch(at) and line_of(here) != line:
+                return at + 2
+        if start == 0:
+            return 0
+        end = start
+    return 0

@@ -1,0 +1,170 @@
+"""What is debugged: an object, an assembly text or a source, as an object with its listing, its lines and its names."""
+import os
+import subprocess
+
+from common import Refused, program, why
+from debugging.listing import Listing
+from debugging.machine import cell_number
+from debugging.source_lines import lines_of
+
+MAGIC = b"TALFT"
+NOT_BUILT = "the program is not proved yet, and unproved each answer takes most of a minute: run `make` first"
+
+
+def built_program():
+    """The program itself where the repository's script would run it: the script looks for changed sources each time."""
+    script = program()
+    sources = os.path.join(os.path.dirname(os.path.realpath(script)), "build", "sources.sh")
+    if not os.path.isfile(sources):
+        return script
+    asked = 'top=$1; . "$2" && is_built && printf %s "$program"'
+    words = ["bash", "-c", asked, "-", os.path.dirname(os.path.dirname(sources)), sources]
+    run = subprocess.run(words, stdout=subprocess.PIPE, universal_newlines=True, check=False)
+    if run.returncode != 0 or not run.stdout:
+        raise Refused(f"{script}: {NOT_BUILT}")
+    return run.stdout
+
+
+def asked_of(words, files=()):
+    """The bytes that one call of the program writes; a refusal is told in the program's own words."""
+    environment = dict(os.environ, TALFT_EXPLAIN="1")
+    try:
+        run = subprocess.run(words, stdout=subprocess.PIPE, stderr=subprocess.PIPE, env=environment, pass_fds=files,
+                             stdin=subprocess.DEVNULL, check=False)
+    except OSError as error:
+        raise Refused(f"{words[0]}: {error.strerror}") from error
+    if run.returncode != 0:
+        told = run.stderr.decode("utf-8", "replace").strip()
+        raise Refused(told or f"{words[2]}: {why(run.returncode, run.stdout.decode('utf-8', 'replace'))}")
+    return run.stdout
+
+
+def kind_of(path, data):
+    """Whether a file is an object, an assembly text or a source: by its first bytes, its name, or its last word."""
+    if data.startswith(MAGIC):
+        return "object"
+    for kind, endings in (("object", (".obj",)), ("source", (".src",)), ("text", (".asm", ".txt", ".s"))):
+        if path.endswith(endings):
+            return kind
+    words = [line.split()[0] for line in data.decode("utf-8", "replace").splitlines()
+             if line.split() and not line.split()[0].startswith("#")]
+    return "text" if words and words[-1] == "entry" else "source"
+
+
+class Target:
+    """The object in memory, so that nobody changes it meanwhile and nothing is left behind, and what is known of it."""
+
+    def __init__(self, path, wild=None, text=None, source=None):
+        self.path, self.wild, self.program = path, wild, built_program()
+        try:
+            with open(path, "rb") as file:
+                data = file.read()
+            self.stamp = self.stamp_now()
+        except OSError as error:
+            raise Refused(f"{path}: {error.strerror}") from error
+        self.kind = kind_of(path, data)
+        if self.kind != "object":
+            data = asked_of([self.program, "asm" if self.kind == "text" else "compile", path])
+        self.file = os.memfd_create("object")
+        self.object_file = f"/proc/self/fd/{self.file}"
+        with open(os.dup(self.file), "wb") as out:
+            out.write(data)
+        self.text_file = self.source_file = self.source = self.names = None
+        try:
+            self.listing = Listing(self.ask("dis").decode().splitlines())
+            if self.kind == "text" or text:
+                self.take_text(path if self.kind == "text" else text)
+            if self.kind == "source" or source:
+                self.take_source(path if self.kind == "source" else source)
+        except Refused:
+            self.close()
+            raise
+
+    def ask(self, command):
+        """What a command writes of the object."""
+        try:
+            return asked_of([self.program, command, self.object_file], [self.file])
+        except Refused as error:
+            raise Refused(str(error).replace(self.object_file, self.path)) from error
+
+    def stamp_now(self):
+        """What tells one state of the file from another."""
+        there = os.stat(self.path)
+        return there.st_mtime_ns, there.st_size, there.st_ino
+
+    def is_replaced(self):
+        """Whether the file is another than the one that was read."""
+        try:
+            return self.stamp_now() != self.stamp
+        except OSError:
+            return True
+
+    def take_text(self, own):
+        """The user's own text in place of that of `dis`, if it assembles to the same object."""
+        if asked_of([self.program, "asm", own]) != self.ask("upgrade"):
+            raise Refused(f"{own}: it assembles to another object than {self.path}")
+        with open(own, encoding="utf-8", errors="replace") as file:
+            listing = Listing(file.read().splitlines())
+        if listing.said() != self.listing.said():
+            raise Refused(f"{own}: its words are not those that `dis` writes")
+        self.listing, self.text_file = listing, os.path.abspath(own)
+
+    def take_source(self, own):
+        """The lines and names of a source, where the instructions are those that docs/COMPILER.md says."""
+        try:
+            with open(own, encoding="utf-8", errors="replace") as file:
+                text = file.read()
+        except OSError as error:
+            raise Refused(f"{own}: {error.strerror}") from error
+        lines, names = lines_of(text, self.code)
+        if lines is None:
+            if self.kind != "source":
+                raise Refused(f"{own}: the instructions of {self.path} are not those of this source")
+            return
+        for instruction, line in zip(self.code, lines):
+            instruction.source_line = line
+        self.source, self.source_file, self.names = text.splitlines(), os.path.abspath(own), names
+
+    def close(self):
+        """Lets go of the object."""
+        if self.file is not None:
+            os.close(self.file)
+            self.file = None
+
+    @property
+    def code(self):
+        """The instructions in order."""
+        return self.listing.code
+
+    def at(self, address):
+        """The instruction at a code address, or None."""
+        return self.listing.at(address)
+
+    def find(self, text):
+        """The instruction that a person names."""
+        found = self.listing.find(text, self.source is not None)
+        if not found:
+            raise Refused(f"no instruction is at `{text}`: say B I, B:I, bB, *ADDRESS, a label or a line")
+        return found
+
+    def cell_at(self, word):
+        """The name of the cell at an address, or None."""
+        number = cell_number(word, len(self.listing.cells))
+        return None if number is None else self.listing.cells[number]
+
+    def named(self, word):
+        """A word, with the cell that has this address."""
+        cell = self.cell_at(word)
+        return f"{word} ({cell})" if cell else str(word)
+
+    def named_target(self, word):
+        """A word, with the instruction that has this address."""
+        instruction = self.at(word)
+        return f"{word} (block {instruction.block} index {instruction.index})" if instruction else self.named(word)
+
+    def names_of(self, register):
+        """The source's names that a register keeps, with a space before it, or nothing."""
+        for name, place in (self.names or {}).items():
+            if place.pair is not None and register in (f"r{place.pair}", f"r{place.pair + 32}"):
+                return f" [{name}]"
+        return ""

@@ -1,0 +1,177 @@
+"""Lines for people: registers in both colours, the queue, cells, instructions, and the time line."""
+import os
+
+from debugging.machine import is_fetch
+
+RESET = "\033[0m"
+STYLES = {"green": "\033[32m", "blue": "\033[34m", "differs": "\033[1;31m", "dim": "\033[2m", "here": "\033[1m",
+          "changed": "\033[33m", "break": "\033[31m"}
+MOST_CHANGES = 12
+
+
+class Paint:
+    """Colours on a terminal, unless NO_COLOR is set; else the bare text."""
+
+    def __init__(self, stream):
+        self.on = stream.isatty() and not os.environ.get("NO_COLOR") and os.environ.get("TERM") != "dumb"
+
+    def __call__(self, style, text):
+        return f"{STYLES[style]}{text}{RESET}" if self.on and style else text
+
+
+def plain(style, text):
+    """In place of Paint, where lines have no colours."""
+    return text
+
+
+def in_base(word, base=""):
+    """A word in decimal, or in the base of gdb's letter."""
+    return {"x": hex, "b": bin, "o": oct}.get(base, str)(word)
+
+
+def spelled(session, word):
+    """A word, with the cell that has this address."""
+    cell = session.target.cell_at(word)
+    return f"{word} {cell}" if cell else str(word)
+
+
+class Pair:
+    """A register of each colour, as the compiler pairs them: rI and r(32 + I)."""
+
+    def __init__(self, session, i, state, before):
+        self.names = (f"r{i}", f"r{i + 32}")
+        words = [state.words[name] for name in self.names]
+        told = [f"{name:<4}{colour} {spelled(session, word)}" for name, (colour, word) in zip(self.names, words)]
+        self.green, self.blue = told[0] + session.target.names_of(self.names[0]), told[1]
+        self.differs = words[0][1] != words[1][1]
+        self.changed = [before is not None and before.words[name] != state.words[name] for name in self.names]
+        self.is_unset = words == [("G", 0), ("G", 0)]
+
+
+def pairs(session, before=None):
+    """Each pair of registers; what changed since the state before is marked."""
+    state = session.state()
+    return [Pair(session, i, state, before) for i in range(32)]
+
+
+def register_lines(session, paint, every=False, before=None):
+    """Both colours side by side; a star marks pairs that differ."""
+    state, rows = session.state(), pairs(session, before)
+    width = max(24, max(len(row.green) for row in rows) + 2)
+    lines = [f"  {'green':<{width}}blue"]
+    shown = [row for row in rows if every or not row.is_unset]
+    for row in shown:
+        style = "differs" if row.differs else None
+        lines.append(paint(style, "* " if row.differs else "  ")
+                     + paint(style or ("changed" if row.changed[0] else "green"), f"{row.green:<{width}}")
+                     + paint(style or ("changed" if row.changed[1] else "blue"), row.blue))
+    if len(shown) < len(rows):
+        lines.append(paint("dim", f"  {len(rows) - len(shown)} pairs are as at the start, G 0"
+                                  " (`info registers all` shows them)"))
+    same = state.pcg == state.pcb
+    lines.append(paint(None if same else "differs",
+                       f"{'  ' if same else '* '}{'pcg G ' + str(state.pcg):<{width}}pcb B {state.pcb}"))
+    return lines + [f"  d   G {spelled(session, state.word('d'))}"]
+
+
+def queue_lines(session):
+    """The pending stores."""
+    queue = session.state().queue
+    return [f"  {i}  {spelled(session, address):<20} {value}" + ("   oldest" if i == 0 else "")
+            for i, (address, value) in enumerate(queue)] or ["the queue is empty"]
+
+
+def place_of(session, instruction):
+    """Where an instruction is: its block and index, and its label."""
+    label = session.target.listing.label_of(instruction.block)
+    return f"block {instruction.block} index {instruction.index}" + (f" <{label}+{instruction.index}>" if label else "")
+
+
+def block_line(session, block):
+    """The head of a block."""
+    label = session.target.listing.label_of(block)
+    return f"block {block}" + (f" <{label}>" if label else "")
+
+
+def code_rows(session, first, last):
+    """(instruction, whether a break place is there, arrow) between two addresses."""
+    state, current, places = session.state(), session.current(), session.places()
+    rows = []
+    for address in range(max(1, first), min(len(session.target.code), last) + 1):
+        instruction = session.target.at(address)
+        arrow = "=>" if instruction is current else "  "
+        if state.status == "running" and state.pcg != state.pcb:
+            arrow = {state.pcg: "G>", state.pcb: "B>"}.get(address, arrow)
+        rows.append((instruction, instruction.key() in places, arrow))
+    return rows
+
+
+def colour_of(instruction):
+    """The style of an instruction's colour, or None."""
+    return {"_G": "green", "_B": "blue"}.get(instruction.words[0][-2:])
+
+
+def code_lines(session, paint, around=5, at=None):
+    """Instructions around the counters, or around an address, with an arrow."""
+    current = session.current()
+    here = at or (current.address if current else session.state().pcg)
+    if not 1 <= here <= len(session.target.code):
+        return [f"no instruction has the address {here}"]
+    lines, source = [], None
+    for instruction, is_break, arrow in code_rows(session, here - around, here + around):
+        if instruction.index == 0:
+            lines.append(paint("dim", block_line(session, instruction.block)))
+        if instruction.source_line and instruction.source_line != source:
+            source = instruction.source_line
+            lines.append(paint("dim", f"  {source}: {session.target.source[source - 1].strip()}"))
+        text = f"{arrow} {'b' if is_break else ' '}{instruction.address:>5} {instruction.place():<7}{instruction.text}"
+        lines.append(paint("here" if arrow != "  " else colour_of(instruction), text))
+    return lines
+
+
+def doing(session):
+    """What the next step does."""
+    state, current = session.state(), session.current()
+    if state.status == "done":
+        return "the machine is done"
+    if state.status == "detected":
+        return "the machine has stopped itself: `explain` says why"
+    if current is None:
+        return f"the next step fetches where no instruction is, or the counters differ: pcg {state.pcg} pcb {state.pcb}"
+    verb = "fetches" if is_fetch(state.position) else "executes"
+    return f"the next step {verb} {current.short()}  ({place_of(session, current)}, line {current.shown_line()})"
+
+
+def status_line(session):
+    """Where it is."""
+    state = session.state()
+    return f"at {state.position} {state.status}"
+
+
+def change_lines(session, before, after, paint):
+    """The words that differ between two states, but for the counters."""
+    left, right = before.all_words(), after.all_words()
+    lines = []
+    for name in sorted(set(left) | set(right), key=lambda name: (name[0] == "c", name)):
+        if name in ("pcg", "pcb") or left.get(name) == right.get(name):
+            continue
+        old, new = ("nothing" if name not in side else spelled(session, side[name]) for side in (left, right))
+        lines.append(paint("changed", f"  {name}{session.target.names_of(name)}: {old} -> {new}"))
+    if len(lines) > MOST_CHANGES:
+        lines[MOST_CHANGES:] = [f"  .. and {len(lines) - MOST_CHANGES} more words changed"]
+    return lines
+
+
+def time_line(session, width, length=0):
+    """The run as a bar: o is here, ! is a strike, @ is both."""
+    end = max(length, session.position, 1)
+    width = max(10, width)
+    marks = ["-"] * width
+
+    def at(position):
+        return min(width - 1, position * (width - 1) // end)
+    for strike in session.strikes:
+        if strike.step <= end:
+            marks[at(strike.step)] = "!"
+    marks[at(session.position)] = "o" if marks[at(session.position)] == "-" else "@"
+    return "".join(marks)
