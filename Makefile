@@ -5,9 +5,10 @@ bin = $(DESTDIR)$(PREFIX)/bin
 share = $(DESTDIR)$(PREFIX)/share
 to_bash = $(share)/bash-completion/completions
 to_vim = $(share)/vim/vimfiles
-scripts = tools/faults tools/campaign tools/plot tools/report
+scripts = tools/faults tools/campaign tools/plot tools/report tools/cc tools/wasm2asm tools/set tools/ending \
+  tools/debugger tools/dap tools/explain tools/lines
 
-.PHONY: all check install uninstall clean
+.PHONY: all check wrong-bodies install uninstall clean
 
 # Proves the crates that the program stands on, and builds it.
 all:
@@ -17,9 +18,14 @@ all:
 check:
 	@bash .ci/run
 
+# The wrong bodies that the gate does not try: before a release, and when a contract that they are about changes.
+wrong-bodies:
+	@bash tests/wrong-bodies.sh
+
 install: all
 	install -d $(bin) $(share)/man/man1 $(share)/man/man5 $(to_bash) $(to_vim)/syntax $(to_vim)/ftdetect \
-	  $(share)/talft/editors/vscode $(share)/talft/examples $(share)/talft/tools
+	  $(share)/talft/editors/vscode $(share)/talft/editors/debugging $(share)/talft/examples/c \
+	  $(share)/talft/tools/wasm $(share)/talft/tools/debugging
 	install -m 755 crates/talft/out/talft $(bin)/talft
 	install -m 644 man/*.1 $(share)/man/man1
 	install -m 644 man/*.5 $(share)/man/man5
@@ -28,9 +34,15 @@ install: all
 	install -m 644 editors/vim/ftdetect/talft.vim $(to_vim)/ftdetect
 	install -m 644 editors/talft.sublime-syntax $(share)/talft/editors
 	install -m 644 editors/vscode/*.json $(share)/talft/editors/vscode
-	install -m 644 examples/* $(share)/talft/examples
+	install -m 755 editors/vscode/dap $(share)/talft/editors/vscode
+	install -m 644 editors/debugging/* $(share)/talft/editors/debugging
+	install -m 644 $(wildcard examples/*.*) $(share)/talft/examples
+	install -m 644 $(wildcard examples/c/*.*) $(share)/talft/examples/c
+	install -m 755 examples/c/ten_cycles $(share)/talft/examples/c
 	install -m 755 $(scripts) $(share)/talft/tools
-	install -m 644 $(filter-out $(scripts),$(wildcard tools/*)) $(share)/talft/tools
+	install -m 644 $(filter-out $(scripts),$(wildcard tools/*.*)) $(share)/talft/tools
+	install -m 644 tools/wasm/*.* $(share)/talft/tools/wasm
+	install -m 644 tools/debugging/*.py $(share)/talft/tools/debugging
 
 uninstall:
 	rm -f $(bin)/talft $(to_bash)/talft $(to_vim)/syntax/talft.vim $(to_vim)/ftdetect/talft.vim

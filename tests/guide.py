@@ -1,15 +1,28 @@
-"""Runs a guide as a reader would: `guide.py GUIDE TOP` runs the blocks of a Markdown file in order, in one shell at TOP.
+"""Runs a guide as a reader would: `guide.py GUIDE TOP` runs the blocks of a Markdown file, in one shell at TOP.
 
+A chapter with the comment `<!-- needs PROGRAM .. -->` is left out where one of these is not there, and a line says so.
 In a block of `console`, a line that begins with `$ ` is a command, lines that begin with `> ` go on with it, and the
 lines below are what it must write on standard output. A block `text NAME` is put into the file NAME. Other blocks are
 for the reader alone. A line is written for each command that writes something else, and a last one with the counts."""
 import os
 import re
+import shutil
 import subprocess
 import sys
 
 MARK = "\x1e"
+NEEDS = re.compile(r"^<!-- needs (.+) -->$", re.MULTILINE)
 FENCE = re.compile(r"^```(\w*)(?: (\S+))?\n(.*?)^```$", re.MULTILINE | re.DOTALL)
+
+
+def chapters(text):
+    """The chapters whose programs are there."""
+    for chapter in re.split(r"^(?=## )", text, flags=re.MULTILINE):
+        needs = NEEDS.search(chapter)
+        if missing := [name for name in needs[1].split() if not shutil.which(name)] if needs else []:
+            print(f"left out: {len(list(calls(chapter)))} commands, as {missing[0]} is not installed")
+        else:
+            yield chapter
 
 
 def calls(text):
@@ -26,7 +39,7 @@ def calls(text):
 
 def main(guide, top):
     with open(guide, encoding="utf-8") as text:
-        asked = list(calls(text.read()))
+        asked = list(calls("".join(chapters(text.read()))))
     script = "".join(f"{{ {words.rstrip()}\n}} </dev/null\nprintf '\\036'\n" for words, _ in asked)
     # Functions of the caller's shell are none of the reader's.
     names = {name: value for name, value in os.environ.items() if not name.startswith("BASH_FUNC_")}

@@ -1,8 +1,9 @@
 #!/usr/bin/env bash
 # The tools as a user has them at large: 1,000,000 faults of two programs, with their pictures and pages; machines over
-# ssh, of which one goes away; and Slurm. It starts servers of its own, for this test alone. It is no part of the gate.
+# ssh, of which one goes away; Slurm; programs in C; long walks of the debugger, and Emacs as its client. It starts
+# servers of its own, for this test alone. It is no part of the gate.
 #
-#     bash tests/tools.sh [large | ssh | slurm ..]
+#     bash tests/tools.sh [large | ssh | slurm | c | debugger | editor ..]
 #
 # What is not installed is named, and what needs it is skipped. With KEEP=FOLDER the pictures and pages are kept there.
 set -u
@@ -225,12 +226,82 @@ over_slurm() {
   fi
 }
 
+# Programs in C: the examples at each level, random modules and programs, and damaged modules.
+in_c() {
+  unset TALFT
+  mkdir modules damaged floats
+  python3 "$top/tests/c/modules.py" modules 0 1000
+  python3 "$top/tests/c/modules.py" damaged 0 10000 damaged
+  python3 "$top/tests/c/floats.py" floats 20
+  if has node 'the interpreter'; then
+    for kind in modules floats; do
+      ls $kind/*.wasm | xargs -n 5000 python3 "$top/tests/c/like_node.py" >said
+      report "the interpreter on random $kind" '0 differ' "$(tail -n 1 said | grep -o '[0-9]* differ')"
+    done
+  fi
+  ls modules/*.wasm | xargs -n 5000 python3 "$top/tests/c/tried.py" valid | tee said >&3
+  report 'random modules' '0' "$(grep -c 'wrong\|failed\|: refused' said)"
+  find damaged -name '*.wasm' | xargs -n 20000 python3 "$top/tests/c/tried.py" damaged | tee said >&3
+  report 'damaged modules' '0' "$(grep -c 'wrong\|failed' said)"
+  report 'files left behind by damaged modules' '0 files left behind' "$(tail -n 1 said | grep -o '[0-9]* files.*')"
+  has clang 'programs in C' && has wasm-ld 'programs in C' && has gcc 'programs in C' || return
+  python3 "$top/tests/c/kernels.py" | tee said >&3
+  report 'the examples in C, at each level' '0 wrong' "$(tail -n 1 said)"
+  python3 "$top/tests/c/programs.py" 0 1000 | tee said >&3
+  report 'random programs in C' '1000 programs: same 1000' "$(tail -n 1 said)"
+  has csmith 'programs of csmith' || return
+  python3 "$top/tests/c/csmith.py" 1 1000 | tee said >&3
+  report 'programs of csmith' 0 "$(grep -c wrong said)"
+}
+
+# The debugger: walks over many programs, random sources, what it knows of the machine, and how long its commands take.
+debugger() {
+  local tests=$top/tests/debugging program
+  unset TALFT
+  for program in five.asm loop.asm index.asm stores.asm mixed.obj fibonacci.src sieve.src sort.src ring.src; do
+    report "walks over $program" '10 walks: 0 failed' \
+      "$(python3 -B "$tests/walks.py" "$top/examples/$program" 100 40 10 2>&1 | tail -n 1)"
+  done
+  report 'what the tools know of the machine' '0 wrong' "$(cd "$top/examples" && python3 -B "$tests/facts.py" 7 60 150 \
+    {five,loop,index,stores,conditional}.asm {mixed,reload}.obj {fibonacci,sieve,sort}.src 2>&1 | tail -n 1 |
+    sed 's/.*: //')"
+  report 'lines of 1,000 random sources' '1000 sources: 0 wrong' \
+    "$(python3 -B "$tests/random_sources.py" 1000 2>&1 | tail -n 1 | sed 's/, .*//')"
+  measured 'the debugger over 1,000,000 steps' python3 -B "$tests/speeds.py" 20833
+}
+
+# Emacs with dap-mode, both of Debian, as a client of tools/dap: it steps on and back, and meets what was detected.
+editor() {
+  local n
+  unset TALFT
+  has emacs 'Emacs' && has tmux 'Emacs' || return
+  emacs --batch --eval "(progn (package-initialize) (require 'dap-mode))" 2>errors ||
+    { skip 'Emacs' 'dap-mode is not installed'; return; }
+  cp "$top/examples/five.asm" .
+  TALFT_TOOLS=$top/tools PROGRAM=$work/five.asm TOLD=$work/told HOME=$work TERM=screen tmux -L emacs$$ -f /dev/null \
+    new-session -d -x 100 -y 40 "emacs -nw -q --eval '(package-initialize)' -l $top/tests/debugging/emacs.el"
+  for ((n = 0; n < 600; n++)); do [ ! -s told ] || break; sleep 0.1; done
+  tmux -L emacs$$ kill-server
+  report 'what Emacs saw' "$(cat <<'END'
+line 13: at 0 running: fetch mov r0 G 1048576 ref:int (block 0 index 0)
+line 14: at 2 running: fetch mov r1 G 5 int (block 0 index 1)
+line 16: at 4 running: fetch mov r32 B 1048576 ref:int (block 0 index 2)
+line 16: at 5 running: execute mov r32 B 1048576 ref:int (block 0 index 2)
+line 16: at 4 running: fetch mov r32 B 1048576 ref:int (block 0 index 2)
+line 20: at 12 detected: st_B r32 r33 (block 0 index 5)
+END
+)" "$(cat told 2>&1)"
+}
+
 for part in "${@:-all}"; do
   case $part in
     large) large ;;
     ssh) over_ssh ;;
     slurm) over_slurm ;;
-    *) large; over_ssh; over_slurm ;;
+    c) in_c ;;
+    debugger) debugger ;;
+    editor) editor ;;
+    *) large; over_ssh; over_slurm; in_c; debugger; editor ;;
   esac
 done
 close

@@ -86,6 +86,18 @@ if command -v gnuplot >/dev/null; then
 '/mov r32 B 4 int/idx r33 r32 0 3/mov r34 B 9 int/st_G r1 r2/st_B r33 r34/halt'
 fi
 
+# With the source an instruction is told with its line; the first store of Fibonacci's loop is on line 4.
+if command -v gnuplot >/dev/null; then
+  printf '60:r4:1 detected 63\n8:r9:1 masked\nfaults 2 masked 1 detected 1 idle 0 corrupt 0\n' >lined.lines
+  "$top/talft" compile "$top/examples/fibonacci.src" >fibonacci.obj
+  tool 'a page with lines of a source' 0 '' report lined.lines --object fibonacci.obj \
+    --source "$top/examples/fibonacci.src" --out lined.html
+  report 'its lines' "mov r2 G 0 int (before its fetch, block 0 index 4, line 2)/st_G r4 r5 (before its fetch, block 1 \
+index 14, line 4)" \
+    "$(grep -o '"places":\[[^]]*' lined.html | grep -o '[^"[]* (before[^"]*' | paste -sd /)"
+  report 'the way of its slow fault' 1 "$(grep -c 'the strike 60:r4:1' lined.html)"
+fi
+
 # The commands of docs/TOOLS.md, as a reader has them. They say nothing but how far they are.
 if command -v gnuplot >/dev/null; then
   mkdir reader
@@ -133,6 +145,8 @@ if command -v gnuplot >/dev/null && has $browser 'a page in a browser'; then
     echo 'document.getElementById("more").click(), document.querySelectorAll("#faults tbody tr").length'
     choose r1 corrupt
     echo 'document.querySelector("#faults tbody tr").innerText.replace(/\s+/g, " ")'
+    echo 'document.querySelector("#faults tbody tr a").click(),' \
+      'document.getElementById("way").innerText.split("\n").slice(0, 2).join("\n")'
     echo location.hash
   } | timeout 100 python3 "$top/tests/browser.py" page.html page.png 2>errors | tr -d , >browsed
   IFS=': ' read -r step site word verdict < <(grep ':r1:.* corrupt' unpaired.lines)
@@ -148,7 +162,9 @@ if command -v gnuplot >/dev/null && has $browser 'a page in a browser'; then
     chosen '' ''
     echo 200
     chosen r1 corrupt
-    echo "$step $site $word $verdict (before its $([ $((step % 2)) -eq 0 ] && echo fetch || echo execution) $where)"
+    echo "$step $site $word $verdict (before its $([ $((step % 2)) -eq 0 ] && echo fetch || echo execution) $where) why"
+    echo 'explain unpaired/object --fault '"$step:$site:$word"
+    "$top/tools/explain" unpaired.obj --fault "$step:$site:$word" | head -n 1 | tr -d ,
     echo '#site=r1&verdict=corrupt'
     echo '0 errors'
   } >page.wanted
