@@ -11,7 +11,7 @@ use ft_object::decode;
 use ft_static::{Node, Nodes};
 use ft_steps::Steps;
 use ft_tests::status_of;
-use ft_types::{Block, CellHead, Counts, INSTR_BYTES, Object, Program, RegType, TypeHead};
+use ft_types::{Block, CellHead, Counts, Object, Program, RegType, TypeHead};
 use std::alloc::Global;
 use std::cell::Cell;
 use std::marker::Brand;
@@ -66,8 +66,9 @@ impl<'a> Program for Counting<'a> {
 
     fn code(&self) {}
 
-    fn fetch(&self, _: (), at: usize) -> Instr {
-        self.instr((at / INSTR_BYTES) as u32)
+    fn fetch(&self, code: (), at: usize) -> Instr {
+        self.fetches.set(self.fetches.get().wrapping_add(1));
+        self.object.fetch(code, at)
     }
 
     fn block(&self, b: u32) -> Block {
