@@ -15,8 +15,8 @@ for crate in "${crates[@]}"; do
   cp -r "$top/tests/wrong-bodies/$crate" "$room/crates/$crate/must-fail" || exit 2
 done
 # `rt ci` proves what it has not kept, tries the edits of these crates, and says of each what came of it.
-(cd "$room" && rt ci "${crates[@]}" </dev/null) 2>&1 | tee "$room/log" | grep --line-buffered '^must-fail'
-refused=$(grep -c '^must-fail .*: refused' "$room/log")
+(cd "$room" && rt ci "${crates[@]}" </dev/null) 2>&1 | tee "$room/log" | grep --line-buffered '^rt: must-fail'
+refused=$(grep -c '^rt: must-fail .*: refused, as it must be' "$room/log")
 not=$(($(find "$room"/crates/*/must-fail -name '*.edit' | wc -l) - refused))
 echo "$refused refused, $not not"
 [ "$not" -eq 0 ]
