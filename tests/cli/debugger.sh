@@ -1,6 +1,7 @@
 # The debugger for people, its screen, its adapter for editors, and the tools explain and lines. tests/tools.sh has what
 # takes longer: more walks, random sources, Emacs, and times.
-debugging=$top/tests/debugging five_text=$top/examples/five.asm fibonacci=$top/examples/fibonacci.src
+debugging=$top/tests/debugging fibonacci=$top/examples/fibonacci.src
+five=$top/examples/five.obj five_text=$top/examples/five.asm
 export XDG_STATE_HOME=$work/state
 python3 "$top/tests/assembly.py" asm "$debugging/endless.asm" >endless.obj
 
