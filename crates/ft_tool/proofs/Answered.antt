@@ -1,7 +1,8 @@
 -- What the parts of a command conclude.
-use Rattle.std.proofs.Common.{◌≡◌, ◌≢◌, false, nat_le, ℕ, ◌<◌, List, [], ◌∷◌, length, Option, Some, None, Ok, Err, inl, inr, refl, sym, ap, ◌∙◌, subst}
+use Rattle.std.proofs.Common.{◌≡◌, ◌≢◌, false, nat_le, ℕ, ◌<◌, List, [], ◌∷◌, length, Option, Some, None, Err, inl, inr, refl, sym, ap, ◌∙◌, subst}
 use Rattle.std.specs.Prelude.{◌⊎◌, IsTrue}
 use Rattle.std.proofs.lemmas.Bool.{lt-leb}
+use Rattle.std.proofs.lemmas.Option.{same_Some, none-some}
 use Rattle.ft_edge.specs.Puts.{PutsLines, BreaksOff as LinesBreakOff}
 use Rattle.ft_edge.specs.Causes.{Rose}
 use Rattle.ft_edge.specs.Loads.{Files}
@@ -19,7 +20,7 @@ use Rattle.ft_isa.specs.declared.plan.Strike.{Strike}
 use Rattle.ft_machine.specs.declared.run.RunEnd.{RunEnd}
 use Rattle.ft_machine.specs.declared.run.RunEnd.TheVariants as runs
 use Rattle.ft_machine.specs.Drives.{EndsAs, Puts, IsExcused, output_lines}
-use Rattle.ft_format.specs.Broken.{broken, object_of, version_at}
+use Rattle.ft_format.specs.Broken.{broken}
 use Rattle.ft_format.proofs.Write.{spells_unbroken}
 use Rattle.ft_format.specs.declared.object_error.ObjectError.TheVariants.{Length}
 use Rattle.ft_command.specs.Options.{Word}
@@ -32,64 +33,64 @@ use Rattle.ft_typing.specs.Accepted.{Refusal, refusal}
 use Rattle.ft_checker.specs.declared.error.CheckError.{CheckError}
 use Rattle.ft_checker.specs.declared.error.CheckError.TheVariants as checks
 use Rattle.ft_checker.specs.Judges.{IsRefusalOf}
-use Rattle.ft_tool.specs.Replies.{Answer, one_piece, ran, status_of_run, IsToldFile}
-use Rattle.ft_tool.specs.Objects.{OverBytes}
-use Rattle.ft_tool.specs.Answers.{tried, Withstands, RunsUnless, RunsObject, TrialsObject, OverFile, SpellsFile, ComesTo, FailsIn, Concludes, BreaksOff}
+use Rattle.ft_tool.specs.Replies.{Answer, one_piece, ran, status_of_run}
+use Rattle.ft_tool.specs.Answers.{tried, Withstands, RunsUnless, RunsObject, TrialsObject, SpellsFile, ComesTo, FailsIn, Concludes, BreaksOff}
 use Rattle.ft_tool.specs.Told.{OfFiles}
 use Rattle.ft_tool.specs.Files.{LoadsObject, FaultCause, IsRefusedBy, IsNotAccepted}
+use Rattle.ft_tool.specs.Logs.{SinkLog, log_of}
 use Rattle.ft_tool.specs.Endings.{Ends, ends_early, ending_of_run}
-use Rattle.ft_tool.proofs.Mapped.{some_same, none_some, some_files, files_with}
+use Rattle.ft_tool.proofs.Mapped.{some_files, files_with}
 
 -- an ending says the same of an answer that is known less well
-pub Ends-map : (e : Ending) (P Q : Answer → Type 0) (old new : Option (List ℕ)) (puts puts' : Option (List (List ℕ))) (before now : ℕ) (L M : Type 0) → ((a : Answer) → P a → Q a) → (L → M) → Ends e P old new puts puts' before now L → Ends e Q old new puts puts' before now M
-Ends-map Done P Q old new puts puts' before now L M f g h = record { answer = h.answer; is = f h.answer h.is; put = h.put; status_is = h.status_is }
-Ends-map Detected P Q old new puts puts' before now L M f g h = record { answer = h.answer; is = f h.answer h.is; put = h.put; status_is = h.status_is }
-Ends-map Usage P Q old new puts puts' before now L M f g h = record { answer = h.answer; is = f h.answer h.is; put = h.put; status_is = h.status_is }
-Ends-map LoadFailed P Q old new puts puts' before now L M f g h = (h.0, g h.1)
-Ends-map WriteFailed P Q old new puts puts' before now L M f g h = (h.0, record { answer = h.1.answer; is = f h.1.answer h.1.is; broken = h.1.broken })
-Ends-map NoMemory P Q old new puts puts' before now L M f g h = h
-Ends-map SourceRefused P Q old new puts puts' before now L M f g h = record { answer = h.answer; is = f h.answer h.is; put = h.put; status_is = h.status_is }
-Ends-map ObjectRefused P Q old new puts puts' before now L M f g h = record { answer = h.answer; is = f h.answer h.is; put = h.put; status_is = h.status_is }
-Ends-map NotAccepted P Q old new puts puts' before now L M f g h = record { answer = h.answer; is = f h.answer h.is; put = h.put; status_is = h.status_is }
-Ends-map OutOfSteps P Q old new puts puts' before now L M f g h = record { answer = h.answer; is = f h.answer h.is; put = h.put; status_is = h.status_is }
-Ends-map Corrupt P Q old new puts puts' before now L M f g h = record { answer = h.answer; is = f h.answer h.is; put = h.put; status_is = h.status_is }
-Ends-map ListRefused P Q old new puts puts' before now L M f g h = record { answer = h.answer; is = f h.answer h.is; put = h.put; status_is = h.status_is }
-Ends-map TextRefused P Q old new puts puts' before now L M f g h = record { answer = h.answer; is = f h.answer h.is; put = h.put; status_is = h.status_is }
-Ends-map LinkRefused P Q old new puts puts' before now L M f g h = record { answer = h.answer; is = f h.answer h.is; put = h.put; status_is = h.status_is }
+pub Ends-map : (e : Ending) (P Q : Answer → Type 0) (old new : SinkLog) (L M : Type 0) → ((a : Answer) → P a → Q a) → (L → M) → Ends e P old new L → Ends e Q old new M
+Ends-map Done P Q old new L M f g h = record { answer = h.answer; is = f h.answer h.is; put = h.put; status_is = h.status_is }
+Ends-map Detected P Q old new L M f g h = record { answer = h.answer; is = f h.answer h.is; put = h.put; status_is = h.status_is }
+Ends-map Usage P Q old new L M f g h = record { answer = h.answer; is = f h.answer h.is; put = h.put; status_is = h.status_is }
+Ends-map LoadFailed P Q old new L M f g h = (h.0, g h.1)
+Ends-map WriteFailed P Q old new L M f g h = (h.0, record { answer = h.1.answer; is = f h.1.answer h.1.is; broken = h.1.broken })
+Ends-map NoMemory P Q old new L M f g h = h
+Ends-map SourceRefused P Q old new L M f g h = record { answer = h.answer; is = f h.answer h.is; put = h.put; status_is = h.status_is }
+Ends-map ObjectRefused P Q old new L M f g h = record { answer = h.answer; is = f h.answer h.is; put = h.put; status_is = h.status_is }
+Ends-map NotAccepted P Q old new L M f g h = record { answer = h.answer; is = f h.answer h.is; put = h.put; status_is = h.status_is }
+Ends-map OutOfSteps P Q old new L M f g h = record { answer = h.answer; is = f h.answer h.is; put = h.put; status_is = h.status_is }
+Ends-map Corrupt P Q old new L M f g h = record { answer = h.answer; is = f h.answer h.is; put = h.put; status_is = h.status_is }
+Ends-map ListRefused P Q old new L M f g h = record { answer = h.answer; is = f h.answer h.is; put = h.put; status_is = h.status_is }
+Ends-map TextRefused P Q old new L M f g h = record { answer = h.answer; is = f h.answer h.is; put = h.put; status_is = h.status_is }
+Ends-map LinkRefused P Q old new L M f g h = record { answer = h.answer; is = f h.answer h.is; put = h.put; status_is = h.status_is }
 
 -- a call that ends without an answer ends early
-pub unanswered : (e : Ending) (Is : Answer → Type 0) (old new : Option (List ℕ)) (puts puts' : Option (List (List ℕ))) (before now : ℕ) (L : Type 0) → ((a : Answer) → Is a → ⊥) → Ends e Is old new puts puts' before now L → IsTrue (ends_early e)
-unanswered Done Is old new puts puts' before now L none h = absurd (none h.answer h.is)
-unanswered Detected Is old new puts puts' before now L none h = absurd (none h.answer h.is)
-unanswered Usage Is old new puts puts' before now L none h = absurd (none h.answer h.is)
-unanswered LoadFailed Is old new puts puts' before now L none h = refl
-unanswered WriteFailed Is old new puts puts' before now L none h = absurd (none h.1.answer h.1.is)
-unanswered NoMemory Is old new puts puts' before now L none h = refl
-unanswered SourceRefused Is old new puts puts' before now L none h = absurd (none h.answer h.is)
-unanswered ObjectRefused Is old new puts puts' before now L none h = absurd (none h.answer h.is)
-unanswered NotAccepted Is old new puts puts' before now L none h = absurd (none h.answer h.is)
-unanswered OutOfSteps Is old new puts puts' before now L none h = absurd (none h.answer h.is)
-unanswered Corrupt Is old new puts puts' before now L none h = absurd (none h.answer h.is)
-unanswered ListRefused Is old new puts puts' before now L none h = absurd (none h.answer h.is)
-unanswered TextRefused Is old new puts puts' before now L none h = absurd (none h.answer h.is)
-unanswered LinkRefused Is old new puts puts' before now L none h = absurd (none h.answer h.is)
+pub unanswered : (e : Ending) (Is : Answer → Type 0) (old new : SinkLog) (L : Type 0) → ((a : Answer) → Is a → ⊥) → Ends e Is old new L → IsTrue (ends_early e)
+unanswered Done Is old new L none h = absurd (none h.answer h.is)
+unanswered Detected Is old new L none h = absurd (none h.answer h.is)
+unanswered Usage Is old new L none h = absurd (none h.answer h.is)
+unanswered LoadFailed Is old new L none h = refl
+unanswered WriteFailed Is old new L none h = absurd (none h.1.answer h.1.is)
+unanswered NoMemory Is old new L none h = refl
+unanswered SourceRefused Is old new L none h = absurd (none h.answer h.is)
+unanswered ObjectRefused Is old new L none h = absurd (none h.answer h.is)
+unanswered NotAccepted Is old new L none h = absurd (none h.answer h.is)
+unanswered OutOfSteps Is old new L none h = absurd (none h.answer h.is)
+unanswered Corrupt Is old new L none h = absurd (none h.answer h.is)
+unanswered ListRefused Is old new L none h = absurd (none h.answer h.is)
+unanswered TextRefused Is old new L none h = absurd (none h.answer h.is)
+unanswered LinkRefused Is old new L none h = absurd (none h.answer h.is)
 
 -- bytes that are refused spell no object, and else the call ends early
-pub unspelled : (told : Option Files) (name : Word) (e : ObjectFault) (end : Ending) (old new : Option (List ℕ)) (puts puts' : Option (List (List ℕ))) (before now : ℕ) (L : Type 0) → LoadsObject told name (Err e)
-    → Ends end (IsRefusedBy e) old new puts puts' before now L → OfFiles told (λ files. (SpellsFile files name → ⊥) ⊎ IsTrue (ends_early end))
-unspelled told name (Refused e) end old new puts puts' before now L h ends =
+pub unspelled : (told : Option Files) (name : Word) (e : ObjectFault) (end : Ending) (old new : SinkLog) (L : Type 0) → LoadsObject told name (Err e)
+    → Ends end (IsRefusedBy e) old new L → OfFiles told (λ files. (SpellsFile files name → ⊥) ⊎ IsTrue (ends_early end))
+unspelled told name (Refused e) end old new L h ends =
     let m = files_with told name h.0 h.1.0 in
-    (m.0, (m.1.0, inl (λ s. none_some e (sym (spells_unbroken s.0 s.1.1.1.0 s.1.1.0 s.1.1.1.1) ∙ ap broken (some_same s.0 h.0 (sym s.1.0 ∙ m.1.1)) ∙ h.1.1))))
-unspelled told name Failed end old new puts puts' before now L h ends = let m = some_files told in (m.0, (m.1.0, inr (unanswered end (IsRefusedBy Failed) old new puts puts' before now L (λ a is. is) ends)))
-unspelled told name no_memory end old new puts puts' before now L h ends = let m = some_files told in (m.0, (m.1.0, inr (unanswered end (IsRefusedBy no_memory) old new puts puts' before now L (λ a is. is) ends)))
+    (m.0, (m.1.0, inl (λ s. none-some e (sym (spells_unbroken s.0 s.1.1.1.0 s.1.1.0 s.1.1.1.1) ∙ ap broken (same_Some s.0 h.0 (sym s.1.0 ∙ m.1.1)) ∙ h.1.1))))
+unspelled told name Failed end old new L h ends = let m = some_files told in (m.0, (m.1.0, inr (unanswered end (IsRefusedBy Failed) old new L (λ a is. is) ends)))
+unspelled told name no_memory end old new L h ends = let m = some_files told in (m.0, (m.1.0, inr (unanswered end (IsRefusedBy no_memory) old new L (λ a is. is) ends)))
 
 -- an object that is not accepted is refused, and else the call ends early
-pub unaccepted : (x : Option Refusal) (e : CheckError) (end : Ending) (old new : Option (List ℕ)) (puts puts' : Option (List (List ℕ))) (before now : ℕ) (L : Type 0) → IsRefusalOf x e
-    → Ends end (IsNotAccepted e) old new puts puts' before now L → (x ≢ None) ⊎ IsTrue (ends_early end)
-unaccepted x checks.EntryType end old new puts puts' before now L h ends = inl (λ none. none_some _ (sym none ∙ h))
-unaccepted x (checks.CellType k) end old new puts puts' before now L h ends = inl (λ none. none_some _ (sym none ∙ h))
-unaccepted x (checks.Refused b i why) end old new puts puts' before now L h ends = inl (λ none. none_some _ (sym none ∙ h))
-unaccepted x checks.NoMemory end old new puts puts' before now L h ends = inr (unanswered end (IsNotAccepted checks.NoMemory) old new puts puts' before now L (λ a is. is) ends)
+pub unaccepted : (x : Option Refusal) (e : CheckError) (end : Ending) (old new : SinkLog) (L : Type 0) → IsRefusalOf x e
+    → Ends end (IsNotAccepted e) old new L → (x ≢ None) ⊎ IsTrue (ends_early end)
+unaccepted x checks.EntryType end old new L h ends = inl (λ none. none-some _ (sym none ∙ h))
+unaccepted x (checks.CellType k) end old new L h ends = inl (λ none. none-some _ (sym none ∙ h))
+unaccepted x (checks.Refused b i why) end old new L h ends = inl (λ none. none-some _ (sym none ∙ h))
+unaccepted x checks.NoMemory end old new L h ends = inr (unanswered end (IsNotAccepted checks.NoMemory) old new L (λ a is. is) ends)
 
 -- a run whose lines were put
 concludes : (r : Run) (o : objects.Object) (w : List Wild) (v : Status) (old new : Option (List ℕ)) (before now : Option (List (List ℕ))) → w ≡ r.wild → status_after o r.strike w r.steps ≡ v
@@ -112,7 +113,7 @@ breaks_off r o w old new before now is broken = record {
 
 -- a run that ended so, whose lines were put up to there
 pub trial_ends : (e : RunEnd) (r : Run) (o : objects.Object) (w : List Wild) (old new : Option (List ℕ)) (before now : Option (List (List ℕ))) (count count' : ℕ) → w ≡ r.wild → EndsAs e (status_after o r.strike w r.steps)
-    → Puts e (output_lines o (outputs_after o r.strike w r.steps)) old new before now → IsExcused e count count' → Ends (ending_of_run e) (TrialsObject r o) old new before now count count' ⊥
+    → Puts e (output_lines o (outputs_after o r.strike w r.steps)) old new before now → IsExcused e count count' → Ends (ending_of_run e) (TrialsObject r o) (log_of old before count) (log_of new now count') ⊥
 trial_ends runs.Done r o w old new before now count count' is status put excused = concludes r o w machine.Done old new before now is status put
 trial_ends runs.Detected r o w old new before now count count' is status put excused = concludes r o w machine.Detected old new before now is status put
 trial_ends runs.OutOfSteps r o w old new before now count count' is status put excused = concludes r o w machine.Running old new before now is status put
@@ -144,10 +145,10 @@ run_accepted r o spellable h a is = subst (λ x. RunsUnless x r o a) (sym h) (is
 
 -- a run of an accepted object
 pub run_ends : (e : RunEnd) (r : Run) (o x : objects.Object) (w : List Wild) (old new : Option (List ℕ)) (before now : Option (List (List ℕ))) (count count' : ℕ) → IsSpellable o → refusal o ≡ None → x ≡ o → w ≡ r.wild
-    → EndsAs e (status_after x r.strike w r.steps) → Puts e (output_lines x (outputs_after x r.strike w r.steps)) old new before now → IsExcused e count count' → Ends (ending_of_run e) (RunsObject r o) old new before now count count' ⊥
+    → EndsAs e (status_after x r.strike w r.steps) → Puts e (output_lines x (outputs_after x r.strike w r.steps)) old new before now → IsExcused e count count' → Ends (ending_of_run e) (RunsObject r o) (log_of old before count) (log_of new now count') ⊥
 run_ends e r o x w old new before now count count' spelled unrefused same is status put excused =
-    Ends-map (ending_of_run e) (TrialsObject r o) (RunsObject r o) old new before now count count' ⊥ ⊥ (run_accepted r o spelled unrefused) (λ n. n)
-    (subst (λ y. Ends (ending_of_run e) (TrialsObject r y) old new before now count count' ⊥) same (trial_ends e r x w old new before now count count' is status put excused))
+    Ends-map (ending_of_run e) (TrialsObject r o) (RunsObject r o) (log_of old before count) (log_of new now count') ⊥ ⊥ (run_accepted r o spelled unrefused) (λ n. n)
+    (subst (λ y. Ends (ending_of_run e) (TrialsObject r y) (log_of old before count) (log_of new now count') ⊥) same (trial_ends e r x w old new before now count count' is status put excused))
 
 -- a command whose run had no failed put keeps the count of failures
 pub run_excused : (e : RunEnd) (count count' : ℕ) → IsExcused e count count' → ending_of_run e ≢ WriteFailed → count' ≡ count
@@ -160,20 +161,6 @@ run_excused runs.WriteFault count count' excused other = absurd (other refl)
 pub too_long : (bytes : List ℕ) → 67108864 < length bytes → broken bytes ≡ Some (Length 67108864)
 unfolding broken
 too_long bytes long = let beyond : nat_le (length bytes) 67108864 ≡ false = lt-leb (length bytes) 67108864 long in rw beyond refl
-
--- the answer over the object that a file's bytes spell is one over the file
-pub over_object : (Over : objects.Object → Answer → Type 0) (told : Option Files) (name : Word) (bytes : List ℕ) → LoadsObject told name (Ok bytes) → (a : Answer) → Over (object_of bytes) a → OfFiles told (λ files. OverFile Over name files a)
-over_object Over told name bytes h a is = let m = files_with told name bytes h.0 in (m.0, (m.1.0, (bytes, (m.1.1, inl (object_of bytes, ((version_at bytes, h.1), is))))))
-
--- the answer over a file's bytes is one over the file
-pub over_loaded : (Over : objects.Object → Answer → Type 0) (told : Option Files) (name : Word) (bytes : List ℕ) → IsToldFile told name bytes → (a : Answer) → OverBytes Over bytes a → OfFiles told (λ files. OverFile Over name files a)
-over_loaded Over told name bytes h a is = let m = files_with told name bytes h in (m.0, (m.1.0, (bytes, (m.1.1, is))))
-
--- the answer to a file's bytes that are refused is one over the file
-pub over_fault : (Over : objects.Object → Answer → Type 0) (told : Option Files) (name : Word) (e : ObjectFault) → LoadsObject told name (Err e) → (a : Answer) → IsRefusedBy e a → OfFiles told (λ files. OverFile Over name files a)
-over_fault Over told name (Refused e) h a is = let m = files_with told name h.0 h.1.0 in (m.0, (m.1.0, (h.0, (m.1.1, inr (e, (h.1.1, is))))))
-over_fault Over told name Failed h a is = absurd is
-over_fault Over told name no_memory h a is = absurd is
 
 -- a load of an object that failed
 pub object_failed : (before now : ℕ) (failed failed' : Option (List ℕ)) (name : Word) (e : ObjectFault) → FaultCause before now failed failed' name e → e ≡ Failed → Rose before now × (failed' ≡ Some name)

@@ -1,8 +1,8 @@
 -- What is answered of the object that a source is compiled to.
-use Rattle.std.proofs.Common.{◌≢◌, ℕ, List, inl, inr}
+use Rattle.std.proofs.Common.{◌≢◌, ◌<◌, ℕ, List, length, inl, inr}
 use Rattle.ft_types.specs.declared.object.Object.{Object}
 use Rattle.ft_syntax.specs.declared.source_error.SourceError.{SourceError}
-use Rattle.ft_syntax.specs.declared.source_error.SourceError.TheVariants.{NoMemory}
+use Rattle.ft_syntax.specs.declared.source_error.SourceError.TheVariants.{NoMemory, TooLong}
 use Rattle.ft_scope.specs.Resolved.{Program}
 use Rattle.ft_scope.specs.Outcome.{IsProgramOf, IsRefusalOf}
 use Rattle.ft_compile.specs.StandsFor.{StandsFor}
@@ -17,3 +17,7 @@ source_refused Over text e err a is = inr (e, (err is.named, is))
 -- the bytes of an object that stands for the program of a text are an answer over it
 pub object_compiled : (text : List ℕ) (o : Object) → (p : Program) × IsProgramOf text p × StandsFor p o → (a : Answer) → UpgradesObject o a → OverText CompilesProgram text a
 object_compiled text o h a is = inl (h.0, (h.1, record { object = o; stands = h.2; bytes = is.bytes; spelled = is.spelled; answer = is.answer }))
+
+-- so is that to a source that is too long
+pub long_source : (Over : Program → Answer → Type 0) (text : List ℕ) → 1048576 < length text → (a : Answer) → IsSourceRefused TooLong a → OverText Over text a
+long_source Over text long a is = inr (TooLong, (inl long, is))

@@ -1,5 +1,6 @@
 mod Mapped
 mod Answered
+mod OverFiles
 mod Recovered
 mod Compiled
 mod Upgraded
@@ -8,8 +9,9 @@ mod Meant
 mod Frugal
 mod Taken
 mod Tried
-mod Asked
 mod OneAnswer
 mod Assembled
 mod MapNames
 mod Linking
+mod Statuses
+mod Obeyed

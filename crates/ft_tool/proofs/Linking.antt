@@ -2,6 +2,7 @@
 use Rattle.std.proofs.Common.{◌≡◌, ℕ, ◌+◌, ◌<◌, ◌≤◌, Bool, drop, get_or, true, List, [], ◌∷◌, ◌++◌, length, Option, Some, None, Ok, Err, inl, inr, refl, sym, ap, ◌∙◌, subst, arith}
 use Rattle.std.specs.Prelude.{◌⊎◌, IsTrue, IfErr, Result}
 use Rattle.std.proofs.lemmas.List.{append-nil, append_assoc, drop_more, length_push}
+use Rattle.std.proofs.lemmas.Option.{none-some}
 use Rattle.ft_edge.specs.Causes.{Rose}
 use Rattle.ft_edge.specs.Loads.{Files}
 use Rattle.ft_edge.specs.Told.{append_told}
@@ -30,47 +31,45 @@ use Rattle.ft_command.specs.Options.{Word}
 use Rattle.ft_command.specs.Commands.{Links}
 use Rattle.ft_tool.specs.declared.load.ObjectFault.{ObjectFault}
 use Rattle.ft_tool.specs.declared.load.ObjectFault.TheVariants.{Refused, Failed, NoMemory as no_memory}
-use Rattle.ft_tool.specs.declared.load.SourceFault.{SourceFault}
-use Rattle.ft_tool.specs.declared.load.SourceFault.TheVariants as source_faults
 use Rattle.ft_tool.specs.declared.ending.Ending.{Ending}
 use Rattle.ft_tool.specs.declared.ending.Ending.TheVariants as endings
-use Rattle.ft_tool.specs.Replies.{Answer, one_piece, IsToldFile}
-use Rattle.ft_tool.specs.Texts.{object_line, check_line, unlinked_line}
+use Rattle.ft_tool.specs.Replies.{Answer, IsToldFile}
 use Rattle.ft_tool.specs.Objects.{UpgradesObject}
-use Rattle.ft_tool.specs.Links.{IsMap, EndsAtMap, long_map, bad_line, line_twice, unlinked, EndsAtObject, not_accepted, not_added, EndsAtBytes, no_object, no_module, IsAdded, LinksObject, LinksUnless, LinksAdded, LinksFiles, LinksText, LinksFile}
+use Rattle.ft_tool.specs.Links.{IsMap, EndsAtMap, bad_line, line_twice, unlinked, EndsAtObject, not_accepted, not_added, no_object, no_module, LinksObject, LinksUnless, LinksAdded, LinksFiles, LinksText, LinksFile}
 use Rattle.ft_tool.specs.LinkTurns.{EndsWithFile, AddsFile, AddsObject, HasAdded, FailsInTurn, MakesInTurn, MakesOfText}
 use Rattle.ft_tool.specs.Calls.{LoadList, asked_after, HasMade, object_load, map_load, EndsAtFile, LoadsInTurn, LoadsLink}
-use Rattle.ft_tool.specs.Answers.{Concludes, FailsIn}
+use Rattle.ft_tool.specs.Answers.{FailsIn}
 use Rattle.ft_tool.specs.Told.{OfFiles}
-use Rattle.ft_tool.specs.Files.{LoadsObject, LoadsMap, IsRefusedBy, IsNotAccepted, IsLongMapBy, IsMapRefused, IsUnlinkedBy}
+use Rattle.ft_tool.specs.Files.{LoadsObject, IsRefusedBy, IsNotAccepted, IsMapRefused, IsUnlinkedBy}
+use Rattle.ft_tool.specs.Logs.{SinkLog}
 use Rattle.ft_tool.specs.Endings.{Ends, ends_early}
 use Rattle.ft_tool.proofs.Answered.{Ends-map}
-use Rattle.ft_tool.proofs.Mapped.{none_some, some_files}
+use Rattle.ft_tool.proofs.Mapped.{some_files}
 
 -- ENDINGS
 
 -- a call that ends has an answer, or ends early
-pub answered_or_early : (e : Ending) (P : Answer → Type 0) (old new : Option (List ℕ)) (puts puts' : Option (List (List ℕ))) (before now : ℕ) (L : Type 0) → Ends e P old new puts puts' before now L → ((a : Answer) × P a) ⊎ IsTrue (ends_early e)
-answered_or_early endings.Done P old new puts puts' before now L h = inl (h.answer, h.is)
-answered_or_early endings.Detected P old new puts puts' before now L h = inl (h.answer, h.is)
-answered_or_early endings.Usage P old new puts puts' before now L h = inl (h.answer, h.is)
-answered_or_early endings.LoadFailed P old new puts puts' before now L h = inr refl
-answered_or_early endings.WriteFailed P old new puts puts' before now L h = inl (h.1.answer, h.1.is)
-answered_or_early endings.NoMemory P old new puts puts' before now L h = inr refl
-answered_or_early endings.SourceRefused P old new puts puts' before now L h = inl (h.answer, h.is)
-answered_or_early endings.ObjectRefused P old new puts puts' before now L h = inl (h.answer, h.is)
-answered_or_early endings.NotAccepted P old new puts puts' before now L h = inl (h.answer, h.is)
-answered_or_early endings.OutOfSteps P old new puts puts' before now L h = inl (h.answer, h.is)
-answered_or_early endings.Corrupt P old new puts puts' before now L h = inl (h.answer, h.is)
-answered_or_early endings.ListRefused P old new puts puts' before now L h = inl (h.answer, h.is)
-answered_or_early endings.TextRefused P old new puts puts' before now L h = inl (h.answer, h.is)
-answered_or_early endings.LinkRefused P old new puts puts' before now L h = inl (h.answer, h.is)
+pub answered_or_early : (e : Ending) (P : Answer → Type 0) (old new : SinkLog) (L : Type 0) → Ends e P old new L → ((a : Answer) × P a) ⊎ IsTrue (ends_early e)
+answered_or_early endings.Done P old new L h = inl (h.answer, h.is)
+answered_or_early endings.Detected P old new L h = inl (h.answer, h.is)
+answered_or_early endings.Usage P old new L h = inl (h.answer, h.is)
+answered_or_early endings.LoadFailed P old new L h = inr refl
+answered_or_early endings.WriteFailed P old new L h = inl (h.1.answer, h.1.is)
+answered_or_early endings.NoMemory P old new L h = inr refl
+answered_or_early endings.SourceRefused P old new L h = inl (h.answer, h.is)
+answered_or_early endings.ObjectRefused P old new L h = inl (h.answer, h.is)
+answered_or_early endings.NotAccepted P old new L h = inl (h.answer, h.is)
+answered_or_early endings.OutOfSteps P old new L h = inl (h.answer, h.is)
+answered_or_early endings.Corrupt P old new L h = inl (h.answer, h.is)
+answered_or_early endings.ListRefused P old new L h = inl (h.answer, h.is)
+answered_or_early endings.TextRefused P old new L h = inl (h.answer, h.is)
+answered_or_early endings.LinkRefused P old new L h = inl (h.answer, h.is)
 
 -- an error whose ending says the same of an answer that is known less well
-pub err_ends : {T : Type 0} (r : Result T Ending) (P Q : Answer → Type 0) (old new : Option (List ℕ)) (puts puts' : Option (List (List ℕ))) (before now : ℕ) (L M : Type 0) → ((a : Answer) → P a → Q a) → (L → M)
-    → IfErr r (λ e. Ends e P old new puts puts' before now L) → IfErr r (λ e. Ends e Q old new puts puts' before now M)
-err_ends (Ok v) P Q old new puts puts' before now L M f g h = tt
-err_ends (Err e) P Q old new puts puts' before now L M f g h = Ends-map e P Q old new puts puts' before now L M f g h
+pub err_ends : {T : Type 0} (r : Result T Ending) (P Q : Answer → Type 0) (old new : SinkLog) (L M : Type 0) → ((a : Answer) → P a → Q a) → (L → M)
+    → IfErr r (λ e. Ends e P old new L) → IfErr r (λ e. Ends e Q old new M)
+err_ends (Ok v) P Q old new L M f g h = tt
+err_ends (Err e) P Q old new L M f g h = Ends-map e P Q old new L M f g h
 
 -- of such an answer less is known
 pub known_less : (P Q Early : Type 0) → (P → Q) → P ⊎ Early → Q ⊎ Early
@@ -276,7 +275,7 @@ links_object linkage modules o h unrefused a written =
 
 -- what it refuses
 refused_so : (linkage : LinkMap) (modules : List Object) (r : LinkRefusal) → refusal_of linkage modules ≡ Some r → (a : Answer) → a ≡ unlinked r → LinksAdded linkage modules a
-refused_so linkage [] r e a is = absurd (none_some r e)
+refused_so linkage [] r e a is = absurd (none-some r e)
 refused_so linkage (first ∷ others) r e a is = subst (λ x. LinksUnless x linkage first others a) (sym e) is
 
 pub links_refused : (linkage : LinkMap) (modules : List Object) (e : LinkError) → IsRefusalOf (refusal_of linkage modules) e → (a : Answer) → IsUnlinkedBy e a → LinksAdded linkage modules a
@@ -295,12 +294,6 @@ pub map_refused : (text : List ℕ) → length text ≤ 65536 → (said : List M
 map_refused text short said lines (maps.Line line) h a is = bad_line line (record { short = short; lines = said; are_said = lines; is = h }) is
 map_refused text short said lines (maps.Twice line) h a is = line_twice line (record { short = short; lines = said; are_said = lines; is = h }) is
 map_refused text short said lines maps.NoMemory h a is = absurd is
-
--- a file that is too long
-pub long_map_ends : {V : Type 0} (bytes_of : V → List ℕ) (told : Option Files) (name : Word) (e : SourceFault) → LoadsMap bytes_of told name (Err e) → (a : Answer) → IsLongMapBy e a → (text : List ℕ) × (IsToldFile told name text × EndsAtMap text a)
-long_map_ends bytes_of told name source_faults.TooLong h a is = (h.0, (h.1.0, long_map h.1.1 is))
-long_map_ends bytes_of told name source_faults.Failed h a is = absurd is
-long_map_ends bytes_of told name source_faults.NoMemory h a is = absurd is
 
 -- the loads after a text that was read
 pub makes_no_module : (told : Option Files) (text : List ℕ) (early : Bool) (asked : Option LoadList) → ((a : Answer) × EndsAtMap text a) ⊎ IsTrue early → MakesOfText told text early asked asked
@@ -321,14 +314,6 @@ loads_of_text told name text early asked between asked' file made (inr x) = inr 
   loads = x.1.1.0;
   in_turn = x.1.1.1.0;
   made = x.1.1.1.1 ∙ ap (asked_after x.1.1.0) made;
-})
-
-pub loads_of_long : {V : Type 0} (bytes_of : V → List ℕ) (told : Option Files) (name : Word) (e : SourceFault) (early : Bool) (asked asked' : Option LoadList) → LoadsMap bytes_of told name (Err e)
-    → ((a : Answer) × IsLongMapBy e a) ⊎ IsTrue early → HasMade (map_load name ∷ []) asked asked' → LoadsLink told name (IsTrue early) asked asked'
-loads_of_long bytes_of told name e early asked asked' h g made = inl (record {
-  none = known_less ((a : Answer) × IsLongMapBy e a) ((t : List ℕ) × (IsToldFile told name t × ((a : Answer) × EndsAtMap t a))) (IsTrue early)
-      (λ y. let l = long_map_ends bytes_of told name e h y.0 y.1 in (l.0, (l.1.0, (y.0, l.1.1)))) g;
-  made = made;
 })
 
 -- a load of a module failed
@@ -357,54 +342,3 @@ failed_between told again name text lent before before' now failed e f b file x 
 
 pub links_between : (told again : Option Files) (name : Word) (text lent : List ℕ) → again ≡ told → lent ≡ text → IsToldFile told name text → (a : Answer) → LinksText again lent a → LinksFile told name a
 links_between told again name text lent e f file a h = (text, (file, subst (λ t. LinksText t text a) e (subst (λ b. LinksText again b a) f h)))
-
-pub long_map_answer : {V : Type 0} (bytes_of : V → List ℕ) (told : Option Files) (name : Word) (e : SourceFault) → LoadsMap bytes_of told name (Err e) → (a : Answer) → IsLongMapBy e a → LinksFile told name a
-long_map_answer bytes_of told name e h a is = let l = long_map_ends bytes_of told name e h a is in (l.0, (l.1.0, inl l.1.1))
-
--- USAGE, which no link answers
-
-same_status : (n : ℕ) (piece : List ℕ) (a : Answer) → a ≡ one_piece piece n → 2 ≡ a.status → 2 ≡ n
-same_status n piece a is e = e ∙ ap (λ (r : Answer). r.status) is
-
-thirteen : (piece : List ℕ) (a : Answer) → a ≡ one_piece piece 13 → 2 ≡ a.status → ⊥
-thirteen piece a is e = let s : 2 ≡ 13 = same_status 13 piece a is e in omega (arith, s)
-
-map_no_usage : (text : List ℕ) (a : Answer) → EndsAtMap text a → 2 ≡ a.status → ⊥
-map_no_usage text a (long_map l is) e = thirteen _ a is e
-map_no_usage text a (bad_line n h is) e = thirteen _ a is e
-map_no_usage text a (line_twice n h is) e = thirteen _ a is e
-
-object_no_usage : (modules : List Object) (o : Object) (a : Answer) → EndsAtObject modules o a → 2 ≡ a.status → ⊥
-object_no_usage modules o a (not_accepted r h is) e = let s : 2 ≡ 8 = same_status 8 (check_line r) a is e in omega (arith, s)
-object_no_usage modules o a (not_added accepted r h is) e = thirteen (unlinked_line r) a is e
-
-bytes_no_usage : (modules : List Object) (bytes : List ℕ) (a : Answer) → EndsAtBytes modules bytes a → 2 ≡ a.status → ⊥
-bytes_no_usage modules bytes a (no_object x h is) e = let s : 2 ≡ 7 = same_status 7 (object_line x) a is e in omega (arith, s)
-bytes_no_usage modules bytes a (no_module o h x) e = object_no_usage modules o a x e
-
-unless_no_usage : (x : Option LinkRefusal) (linkage : LinkMap) (first : Object) (others : List Object) (a : Answer) → LinksUnless x linkage first others a → 2 ≡ a.status → ⊥
-unless_no_usage None linkage first others a h e = let s : 2 ≡ 0 = same_status 0 h.written.bytes a h.written.answer e in omega (arith, s)
-unless_no_usage (Some r) linkage first others a h e = thirteen (unlinked_line r) a h e
-
-added_no_usage : (linkage : LinkMap) (modules : List Object) (a : Answer) → LinksAdded linkage modules a → 2 ≡ a.status → ⊥
-added_no_usage linkage [] a h e = h
-added_no_usage linkage (first ∷ others) a h e = unless_no_usage (link_refusal linkage first others) linkage first others a h e
-
-next_no_usage : (told : Option Files) (linkage : LinkMap) (modules : List Object) (names : List Word) (bytes : List ℕ) (a : Answer) → ((o : Object) → LinksFiles told linkage (modules ++ o ∷ []) names a → 2 ≡ a.status → ⊥)
-    → EndsAtBytes modules bytes a ⊎ ((o : Object) × (IsAdded modules bytes o × LinksFiles told linkage (modules ++ o ∷ []) names a)) → 2 ≡ a.status → ⊥
-next_no_usage told linkage modules names bytes a on (inl x) e = bytes_no_usage modules bytes a x e
-next_no_usage told linkage modules names bytes a on (inr x) e = on x.0 x.1.1 e
-
-files_no_usage : (told : Option Files) (linkage : LinkMap) (modules : List Object) (names : List Word) (a : Answer) → LinksFiles told linkage modules names a → 2 ≡ a.status → ⊥
-files_no_usage told linkage modules [] a h e = added_no_usage linkage modules a h e
-files_no_usage told linkage modules (name ∷ names) a h e = next_no_usage told linkage modules names h.0 a (λ o x f. files_no_usage told linkage (modules ++ o ∷ []) names a x f) h.1.1 e
-
-text_no_usage : (told : Option Files) (text : List ℕ) (a : Answer) → LinksText told text a → 2 ≡ a.status → ⊥
-text_no_usage told text a (inl x) e = map_no_usage text a x e
-text_no_usage told text a (inr x) e = files_no_usage told x.0 [] x.0.files a x.1.1 e
-
--- a link does not end as words that are no command do
-pub link_is_no_usage : (end : Ending) (told : Option Files) (name : Word) (old new : Option (List ℕ)) (puts puts' : Option (List (List ℕ))) (before now : ℕ) (L : Type 0) → Ends end (LinksFile told name) old new puts puts' before now L → end ≡ endings.Usage → ⊥
-link_is_no_usage end told name old new puts puts' before now L h is =
-    let x : Concludes (LinksFile told name) 2 old new puts puts' = subst (λ r. Ends r (LinksFile told name) old new puts puts' before now L) is h in
-    text_no_usage told x.is.0 x.answer x.is.1.1 x.status_is

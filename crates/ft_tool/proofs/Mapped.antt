@@ -7,6 +7,7 @@ use Rattle.std.specs.Ordering.{nat_cmp, is_eq, eq_by_cmp}
 use Rattle.std.specs.Cmp.Lexicographic.{slice_cmp}
 use Rattle.std.specs.FinMap.{empty, get, insert, get-empty, get-insert, nat_cmp-IsAntisymmetric, slice_cmp-IsAntisymmetric}
 use Rattle.std.proofs.lemmas.Cmp.{nat_list_cmp_total, tied_itself}
+use Rattle.std.proofs.lemmas.Option.{none-some}
 use Rattle.ft_edge.specs.declared.shelf.Load.{Load}
 use Rattle.ft_edge.specs.declared.shelf.Load.TheVariants.{Whole, TooLong}
 use Rattle.ft_edge.specs.declared.shelf.LoadFault.{LoadFault}
@@ -15,13 +16,6 @@ use Rattle.ft_format.specs.Format.{AreBytes}
 use Rattle.ft_tool.specs.Replies.{IsFile, IsToldFile}
 use Rattle.ft_tool.specs.Told.{OfFiles, OfScript}
 use Rattle.ft_tool.specs.Files.{Gives}
-
--- what an option holds is one, and none holds nothing
-pub some_same : {A : Type 0} (x y : A) → Some x ≡ Some y → x ≡ y
-some_same x y e = cc
-
-pub none_some : {A : Type 0} (x : A) → None ≡ Some x → ⊥
-none_some x e = cc
 
 -- no byte, and a byte before others
 pub no_bytes : AreBytes []
@@ -47,7 +41,7 @@ abbrev HasBytes : Files → Type 0
 HasBytes files = (name bytes : List ℕ) → get files name ≡ Some bytes → AreBytes bytes
 
 none_bytes : HasBytes empty
-none_bytes name bytes e = absurd (none_some bytes (sym (get-empty (slice_cmp nat_cmp) name) ∙ e))
+none_bytes name bytes e = absurd (none-some bytes (sym (get-empty (slice_cmp nat_cmp) name) ∙ e))
 
 -- one more file of bytes
 chosen : (t : Bool) (old : Option (List ℕ)) (more bytes : List ℕ) → AreBytes more → (old ≡ Some bytes → AreBytes bytes) → cond t (Some more) old ≡ Some bytes → AreBytes bytes

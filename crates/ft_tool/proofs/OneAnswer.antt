@@ -2,6 +2,7 @@
 use Rattle.std.proofs.Common.{◌≡◌, ◌≢◌, ℕ, ◌<◌, ◌≤◌, List, [], ◌∷◌, ◌++◌, Option, Some, None, Result, Ok, Err, inl, inr, refl, sym, ap, ◌∙◌, subst, arith}
 use Rattle.std.specs.Prelude.{◌⊎◌}
 use Rattle.std.specs.List.{AllZip}
+use Rattle.std.proofs.lemmas.Option.{same_Some, none-some}
 use Rattle.ft_edge.specs.Loads.{Files}
 use Rattle.ft_isa.specs.declared.plan.Strike.{Strike}
 use Rattle.ft_isa.specs.declared.plan.Wild.{Wild}
@@ -51,7 +52,7 @@ use Rattle.ft_tool.specs.Answers.{ChecksObject, RunsUnless, TrialsObject, RunsOb
 use Rattle.ft_asm.specs.Reads.{Answer as Said, Is, TooLong, Text, Order, Broken, Applies}
 use Rattle.ft_tool.specs.OneAnswer.{AreCompilations, AreExecutions, AreAnswers}
 use Rattle.ft_tool.specs.OneAnswer as one
-use Rattle.ft_tool.proofs.Mapped.{some_same, none_some}
+use Rattle.ft_tool.proofs.Linking.{ok_no_err}
 
 -- what constructors hold is one
 ok_same : {A B : Type 0} (x y : A) (r s : Result A B) → r ≡ Ok x → s ≡ Ok y → r ≡ s → x ≡ y
@@ -59,9 +60,6 @@ ok_same x y r s a b e = cc
 
 err_same : {A B : Type 0} (x y : B) (r s : Result A B) → r ≡ Err x → s ≡ Err y → r ≡ s → x ≡ y
 err_same x y r s a b e = cc
-
-ok_err : {A B : Type 0} (x : A) (y : B) (r s : Result A B) → r ≡ Ok x → s ≡ Err y → r ≡ s → ⊥
-ok_err x y r s a b e = cc
 
 head_same : {A : Type 0} (x y : A) (xs ys : List A) → x ∷ xs ≡ y ∷ ys → x ≡ y
 head_same x y xs ys e = cc
@@ -79,15 +77,15 @@ answers_same a b e f = λ i. record { pieces = e i; status = f i }
 over_bytes : ((bytes : List ℕ) (o : Object) → IsSpelling bytes o → object_of bytes ≡ o) → ((bytes : List ℕ) (o : Object) → IsSpelling bytes o → broken bytes ≡ None)
     → (Over : Object → Answer → Type 0) → ((o : Object) (a b : Answer) → Over o a → Over o b → a ≡ b) → (bytes : List ℕ) (a b : Answer) → OverBytes Over bytes a → OverBytes Over bytes b → a ≡ b
 over_bytes one_object unbroken Over same bytes a b (inl x) (inl y) = same x.0 a b x.1.1 (subst (λ o. Over o b) (sym (one_object bytes y.0 y.1.0) ∙ one_object bytes x.0 x.1.0) y.1.1)
-over_bytes one_object unbroken Over same bytes a b (inl x) (inr y) = absurd (none_some y.0 (sym (unbroken bytes x.0 x.1.0) ∙ y.1.0))
-over_bytes one_object unbroken Over same bytes a b (inr x) (inl y) = absurd (none_some x.0 (sym (unbroken bytes y.0 y.1.0) ∙ x.1.0))
-over_bytes one_object unbroken Over same bytes a b (inr x) (inr y) = x.1.1 ∙ ap object_refused (some_same x.0 y.0 (sym x.1.0 ∙ y.1.0)) ∙ sym y.1.1
+over_bytes one_object unbroken Over same bytes a b (inl x) (inr y) = absurd (none-some y.0 (sym (unbroken bytes x.0 x.1.0) ∙ y.1.0))
+over_bytes one_object unbroken Over same bytes a b (inr x) (inl y) = absurd (none-some x.0 (sym (unbroken bytes y.0 y.1.0) ∙ x.1.0))
+over_bytes one_object unbroken Over same bytes a b (inr x) (inr y) = x.1.1 ∙ ap object_refused (same_Some x.0 y.0 (sym x.1.0 ∙ y.1.0)) ∙ sym y.1.1
 
 -- so is that over the file of a name
 over_file : ((bytes : List ℕ) (o : Object) → IsSpelling bytes o → object_of bytes ≡ o) → ((bytes : List ℕ) (o : Object) → IsSpelling bytes o → broken bytes ≡ None)
     → (Over : Object → Answer → Type 0) → ((o : Object) (a b : Answer) → Over o a → Over o b → a ≡ b) → (name : Word) (files : Files) (a b : Answer) → OverFile Over name files a → OverFile Over name files b → a ≡ b
 over_file one_object unbroken Over same name files a b x y =
-    over_bytes one_object unbroken Over same x.0 a b x.1.1 (subst (λ bytes. OverBytes Over bytes b) (some_same y.0 x.0 (sym y.1.0 ∙ x.1.0)) y.1.1)
+    over_bytes one_object unbroken Over same x.0 a b x.1.1 (subst (λ bytes. OverBytes Over bytes b) (same_Some y.0 x.0 (sym y.1.0 ∙ x.1.0)) y.1.1)
 
 -- the answer of an upgrade
 upgraded_same : (o : Object) (a b : Answer) → UpgradesObject o a → UpgradesObject o b → a ≡ b
@@ -103,7 +101,7 @@ assembled_same (Broken e) a b h g = h ∙ sym g
 
 over_assembly : ((text : List ℕ) (x y : Said) → Applies text x → Applies text y → x ≡ y) → (name : Word) (files : Files) (a b : Answer) → OverAssemblyFile name files a → OverAssemblyFile name files b → a ≡ b
 over_assembly one name files a b x y =
-    let texts : y.0 ≡ x.0 = some_same y.0 x.0 (sym y.1.0 ∙ x.1.0) in
+    let texts : y.0 ≡ x.0 = same_Some y.0 x.0 (sym y.1.0 ∙ x.1.0) in
     let saids : y.1.1.0 ≡ x.1.1.0 = one x.0 y.1.1.0 x.1.1.0 (subst (λ text. Applies text y.1.1.0) texts y.1.1.1.0) x.1.1.1.0 in
     assembled_same x.1.1.0 a b x.1.1.1.1 (subst (λ (s : Said). AssemblesAs s b) saids y.1.1.1.1)
 
@@ -171,7 +169,7 @@ over_list_file : ((o : Object) (x : Strike) (w : List Wild) (n : ℕ) (u v : Ver
     → ((text : List ℕ) (xs : List Strike) (e : ListError) → e ≢ NoMemory → IsFaultList text xs → ¬ (IsListError text e))
     → (Promised : List Verdict → Type 0) (c : Campaign) (files : Files) (o : Object) (a b : Answer) → OverListFile Promised c files o a → OverListFile Promised c files o b → a ≡ b
 over_list_file one one_list one_refusal either Promised c files o a b x y =
-    over_list one one_list one_refusal either Promised c o x.0 a b x.1.1 (subst (λ list. OverList Promised c o list b) (some_same y.0 x.0 (sym y.1.0 ∙ x.1.0)) y.1.1)
+    over_list one one_list one_refusal either Promised c o x.0 a b x.1.1 (subst (λ list. OverList Promised c o list b) (same_Some y.0 x.0 (sym y.1.0 ∙ x.1.0)) y.1.1)
 
 -- the answer of a campaign, unless its object is refused
 strikes_same : (x : Option Refusal) (Accepted : Answer → Type 0) → ((a b : Answer) → Accepted a → Accepted b → a ≡ b) → (a b : Answer) → CampaignsUnless x Accepted a → CampaignsUnless x Accepted b → a ≡ b
@@ -200,8 +198,8 @@ over_text : ((text : List ℕ) (r s : Result Program SourceError) → IsOutcome 
     → (text : List ℕ) (a b : Answer) → OverText Over text a → OverText Over text b → Agree a b
 over_text one Over Agree same refusals text a b (inl x) (inl y) =
     same x.0 a b x.1.1 (subst (λ p. Over p b) (ok_same y.0 x.0 (Ok y.0) (Ok x.0) refl refl (one text (Ok y.0) (Ok x.0) y.1.0 x.1.0)) y.1.1)
-over_text one Over Agree same refusals text a b (inl x) (inr y) = absurd (ok_err x.0 y.0 (Ok x.0) (Err y.0) refl refl (one text (Ok x.0) (Err y.0) x.1.0 y.1.0))
-over_text one Over Agree same refusals text a b (inr x) (inl y) = absurd (ok_err y.0 x.0 (Ok y.0) (Err x.0) refl refl (one text (Ok y.0) (Err x.0) y.1.0 x.1.0))
+over_text one Over Agree same refusals text a b (inl x) (inr y) = absurd (ok_no_err x.0 y.0 (Ok x.0) (Err y.0) refl refl (one text (Ok x.0) (Err y.0) x.1.0 y.1.0))
+over_text one Over Agree same refusals text a b (inr x) (inl y) = absurd (ok_no_err y.0 x.0 (Ok y.0) (Err x.0) refl refl (one text (Ok y.0) (Err x.0) y.1.0 x.1.0))
 over_text one Over Agree same refusals text a b (inr x) (inr y) =
     let e = err_same x.0 y.0 (Err x.0) (Err y.0) refl refl (one text (Err x.0) (Err y.0) x.1.0 y.1.0) in
     refusals a b (ap (λ (r : Answer). r.status) x.1.1.answer) (x.1.1.answer ∙ ap (λ f. one_piece (source_line f) 6) e ∙ sym y.1.1.answer)
@@ -210,7 +208,7 @@ over_source : ((text : List ℕ) (r s : Result Program SourceError) → IsOutcom
     → (Over : Program → Answer → Type 0) (Agree : Answer → Answer → Type 0) → ((p : Program) (a b : Answer) → Over p a → Over p b → Agree a b) → ((a b : Answer) → a.status ≡ 6 → a ≡ b → Agree a b)
     → (name : Word) (files : Files) (a b : Answer) → OverSource Over name files a → OverSource Over name files b → Agree a b
 over_source one Over Agree same refusals name files a b x y =
-    over_text one Over Agree same refusals x.0 a b x.1.1 (subst (λ text. OverText Over text b) (some_same y.0 x.0 (sym y.1.0 ∙ x.1.0)) y.1.1)
+    over_text one Over Agree same refusals x.0 a b x.1.1 (subst (λ text. OverText Over text b) (same_Some y.0 x.0 (sym y.1.0 ∙ x.1.0)) y.1.1)
 
 -- two objects for one program
 two_objects : (p : Program) (a b : Answer) → CompilesProgram p a → CompilesProgram p b → AreCompilations a b
@@ -303,15 +301,15 @@ map_goes_on one text linkage a h (line_twice n g e) = twice_map_differ n linkage
 
 -- the answer with which an object ends the link
 object_ends : (modules : List Object) (o : Object) (a b : Answer) → EndsAtObject modules o a → EndsAtObject modules o b → a ≡ b
-object_ends modules o a b (not_accepted r h e) (not_accepted s g f) = e ∙ ap (λ x. judged (Some x)) (some_same r s (sym h ∙ g)) ∙ sym f
-object_ends modules o a b (not_accepted r h e) (not_added accepted s g f) = absurd (none_some r (sym accepted ∙ h))
-object_ends modules o a b (not_added accepted s g f) (not_accepted r h e) = absurd (none_some r (sym accepted ∙ h))
-object_ends modules o a b (not_added accepted r h e) (not_added accepted' s g f) = e ∙ ap unlinked (some_same r s (sym h ∙ g)) ∙ sym f
+object_ends modules o a b (not_accepted r h e) (not_accepted s g f) = e ∙ ap (λ x. judged (Some x)) (same_Some r s (sym h ∙ g)) ∙ sym f
+object_ends modules o a b (not_accepted r h e) (not_added accepted s g f) = absurd (none-some r (sym accepted ∙ h))
+object_ends modules o a b (not_added accepted s g f) (not_accepted r h e) = absurd (none-some r (sym accepted ∙ h))
+object_ends modules o a b (not_added accepted r h e) (not_added accepted' s g f) = e ∙ ap unlinked (same_Some r s (sym h ∙ g)) ∙ sym f
 
 -- an object that is added ends no link
 object_goes_on : (modules : List Object) (o : Object) (a : Answer) → refusal o ≡ None → added_refusal modules o ≡ None → EndsAtObject modules o a → ⊥
-object_goes_on modules o a accepted unrefused (not_accepted r h e) = none_some r (sym accepted ∙ h)
-object_goes_on modules o a accepted unrefused (not_added again r h e) = none_some r (sym unrefused ∙ h)
+object_goes_on modules o a accepted unrefused (not_accepted r h e) = none-some r (sym accepted ∙ h)
+object_goes_on modules o a accepted unrefused (not_added again r h e) = none-some r (sym unrefused ∙ h)
 
 module _ (one_object : (bytes : List ℕ) (o : Object) → IsSpelling bytes o → object_of bytes ≡ o) (unbroken : (bytes : List ℕ) (o : Object) → IsSpelling bytes o → broken bytes ≡ None) where
   -- bytes spell one object
@@ -320,14 +318,14 @@ module _ (one_object : (bytes : List ℕ) (o : Object) → IsSpelling bytes o �
 
   -- the answer with which bytes end the link
   bytes_end : (modules : List Object) (bytes : List ℕ) (a b : Answer) → EndsAtBytes modules bytes a → EndsAtBytes modules bytes b → a ≡ b
-  bytes_end modules bytes a b (no_object x h e) (no_object y g f) = e ∙ ap object_refused (some_same x y (sym h ∙ g)) ∙ sym f
-  bytes_end modules bytes a b (no_object x h e) (no_module o g f) = absurd (none_some x (sym (unbroken bytes o g) ∙ h))
-  bytes_end modules bytes a b (no_module o g f) (no_object x h e) = absurd (none_some x (sym (unbroken bytes o g) ∙ h))
+  bytes_end modules bytes a b (no_object x h e) (no_object y g f) = e ∙ ap object_refused (same_Some x y (sym h ∙ g)) ∙ sym f
+  bytes_end modules bytes a b (no_object x h e) (no_module o g f) = absurd (none-some x (sym (unbroken bytes o g) ∙ h))
+  bytes_end modules bytes a b (no_module o g f) (no_object x h e) = absurd (none-some x (sym (unbroken bytes o g) ∙ h))
   bytes_end modules bytes a b (no_module o h e) (no_module u g f) = object_ends modules o a b e (subst (λ x. EndsAtObject modules x b) (spelled_same bytes o u h g) f)
 
   -- bytes of an object that is added end no link
   bytes_go_on : (modules : List Object) (bytes : List ℕ) (o : Object) (a : Answer) → IsAdded modules bytes o → EndsAtBytes modules bytes a → ⊥
-  bytes_go_on modules bytes o a h (no_object x g e) = none_some x (sym (unbroken bytes o h.spelled) ∙ g)
+  bytes_go_on modules bytes o a h (no_object x g e) = none-some x (sym (unbroken bytes o h.spelled) ∙ g)
   bytes_go_on modules bytes o a h (no_module u g e) = object_goes_on modules o a h.accepted h.unrefused (subst (λ x. EndsAtObject modules x a) (spelled_same bytes o u h.spelled g) e)
 
   -- the answer over modules that were added
@@ -354,7 +352,7 @@ module _ (one_object : (bytes : List ℕ) (o : Object) → IsSpelling bytes o �
   files_same files linkage modules [] a b h g = added_same linkage modules a b h g
   files_same files linkage modules (name ∷ names) a b h g =
       next_same files linkage modules names h.0 a b (λ o x y. files_same files linkage (modules ++ o ∷ []) names x y) h.1.1
-      (subst (λ bytes. EndsAtBytes modules bytes b ⊎ ((o : Object) × (IsAdded modules bytes o × LinksFiles (Some files) linkage (modules ++ o ∷ []) names b))) (some_same g.0 h.0 (sym g.1.0 ∙ h.1.0)) g.1.1)
+      (subst (λ bytes. EndsAtBytes modules bytes b ⊎ ((o : Object) × (IsAdded modules bytes o × LinksFiles (Some files) linkage (modules ++ o ∷ []) names b))) (same_Some g.0 h.0 (sym g.1.0 ∙ h.1.0)) g.1.1)
 
   -- the answer over the text of a map, and over its file
   map_text_same : ((text : List ℕ) (x y : MapSaid) → SaysOf text x → SaysOf text y → x ≡ y) → (files : Files) (text : List ℕ) (a b : Answer) → LinksText (Some files) text a → LinksText (Some files) text b → a ≡ b
@@ -366,7 +364,7 @@ module _ (one_object : (bytes : List ℕ) (o : Object) → IsSpelling bytes o �
       (subst (λ (m : LinkMap). LinksFiles (Some files) m [] m.files b) (map_same y.0 x.0 (one text (maps.Is y.0) (maps.Is x.0) y.1.0 x.1.0)) y.1.1)
 
   link_same : ((text : List ℕ) (x y : MapSaid) → SaysOf text x → SaysOf text y → x ≡ y) → (name : Word) (files : Files) (a b : Answer) → LinksFile (Some files) name a → LinksFile (Some files) name b → a ≡ b
-  link_same one name files a b h g = map_text_same one files h.0 a b h.1.1 (subst (λ text. LinksText (Some files) text b) (some_same g.0 h.0 (sym g.1.0 ∙ h.1.0)) g.1.1)
+  link_same one name files a b h g = map_text_same one files h.0 a b h.1.1 (subst (λ text. LinksText (Some files) text b) (same_Some g.0 h.0 (sym g.1.0 ∙ h.1.0)) g.1.1)
 
 -- what the answers rest on
 pub record HasLaws : Type 0 where

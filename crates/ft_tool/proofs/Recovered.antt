@@ -17,6 +17,7 @@ use Rattle.ft_command.specs.Commands.{Run}
 use Rattle.ft_tool.specs.Replies.{status_of_run}
 use Rattle.ft_tool.specs.Answers.{RecoversUnless, RecoversObject, recovered, again_lines, Concludes, BreaksOff}
 use Rattle.ft_tool.specs.declared.ending.Ending.TheVariants.{WriteFailed}
+use Rattle.ft_tool.specs.Logs.{log_of}
 use Rattle.ft_tool.specs.Endings.{Ends, again_of, ending_of_recovery}
 use Rattle.ft_tool.proofs.Answered.{undetected}
 
@@ -73,7 +74,7 @@ module _ (r : Run) (o : Object) (w : List Wild) (old mid new : Option (List ℕ)
   module _ (f f1 f2 : ℕ) where
     -- a recovery that ended so, after whose lines that of the restart was put
     pub recovery_ends : (e : RecoverEnd) → EndsAs e (status_after o None w r.steps) → Restarts e (restart_output o r.strike w r.steps) → Puts e (whole_output o w r.steps) old mid a b → IsExcused e f f1
-        → PutsLines (again_lines (again_of e)) mid new b c → f2 ≡ f1 → Ends (ending_of_recovery e) (RecoversObject r o) old new a c f f2 ⊥
+        → PutsLines (again_lines (again_of e)) mid new b c → f2 ≡ f1 → Ends (ending_of_recovery e) (RecoversObject r o) (log_of old a f) (log_of new c f2) ⊥
     recovery_ends (recoveries.Done again) status restart put excused more same = recovery_concludes again restart put machine.Done status more
     recovery_ends (recoveries.OutOfSteps again) status restart put excused more same = recovery_concludes again restart put machine.Running status more
     recovery_ends recoveries.WriteFault status restart put excused more same = (
@@ -85,7 +86,7 @@ module _ (r : Run) (o : Object) (w : List Wild) (old mid new : Option (List ℕ)
 
     -- and where the put of that line failed
     pub recovery_breaks_late : (e : RecoverEnd) → Restarts e (restart_output o r.strike w r.steps) → Puts e (whole_output o w r.steps) old mid a b → IsExcused e f f1
-        → LinesBreakOff (again_lines (again_of e)) mid new b c → Rose f1 f2 → Ends WriteFailed (RecoversObject r o) old new a c f f2 ⊥
+        → LinesBreakOff (again_lines (again_of e)) mid new b c → Rose f1 f2 → Ends WriteFailed (RecoversObject r o) (log_of old a f) (log_of new c f2) ⊥
     recovery_breaks_late (recoveries.Done again) restart put excused more rose = (subst (λ n. Rose n f2) excused rose, restart_breaks again restart put more)
     recovery_breaks_late (recoveries.OutOfSteps again) restart put excused more rose = (subst (λ n. Rose n f2) excused rose, restart_breaks again restart put more)
     recovery_breaks_late recoveries.WriteFault restart put excused more rose = absurd (nothing_breaks mid new b c more)

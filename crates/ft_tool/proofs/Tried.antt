@@ -2,6 +2,7 @@
 use Rattle.std.proofs.Common.{◌≡◌, ◌≢◌, ℕ, suc, ◌*◌, ◌<◌, ◌≤◌, List, [], ◌∷◌, length, Option, Some, None, Ok, Err, inl, inr, refl, sym, ap, ◌∙◌, subst, arith, if◌then◌else◌, eq-eqb, ne_eqb}
 use Rattle.std.specs.Prelude.{◌⊎◌, count_by}
 use Rattle.std.proofs.Math.Nat.{lt_of_not-le}
+use Rattle.std.proofs.lemmas.Option.{same_Some}
 use Rattle.ft_edge.specs.Causes.{Rose}
 use Rattle.ft_edge.specs.Loads.{Files}
 use Rattle.ft_isa.specs.declared.plan.Strike.{Strike}
@@ -32,7 +33,7 @@ use Rattle.ft_tool.specs.Calls.{LoadList, asked_after, HasMade, object_load, lis
 use Rattle.ft_tool.specs.Lists.{status_of, AnyVerdicts, NoneCorrupt, OverFaults, tried, refused_list, listed}
 use Rattle.ft_tool.specs.Told.{OfFiles, IsListOf, OverListOf, CampaignsListOf, LoadsOther}
 use Rattle.ft_tool.specs.Files.{LoadsObject, GetsList, ListCause, IsRefusedBy, IsListRefusedBy}
-use Rattle.ft_tool.proofs.Mapped.{some_same, files_with, files_with_both}
+use Rattle.ft_tool.proofs.Mapped.{files_with, files_with_both}
 
 -- a number that is not above another is at most it
 pub at_most : (n m : ℕ) → (n < m → ⊥) → m ≤ n
@@ -141,7 +142,7 @@ spells_accepted told name bytes h unrefused = let m = files_with told name bytes
 -- the file of an object that is refused spells none that is accepted
 unrefused : (files : Files) (name : Word) (bytes : List ℕ) → IsFile files name bytes → refusal (object_of bytes) ≢ None → SpellsAccepted files name → ⊥
 unrefused files name bytes file refused s =
-    refused (ap (λ bs. refusal (object_of bs)) (some_same bytes s.0 (sym file ∙ s.1.0)) ∙ ap refusal (spells_read s.0 s.1.1.1.0.0 s.1.1.0 s.1.1.1.0.1) ∙ s.1.1.1.1)
+    refused (ap (λ bs. refusal (object_of bs)) (same_Some bytes s.0 (sym file ∙ s.1.0)) ∙ ap refusal (spells_read s.0 s.1.1.1.0.0 s.1.1.0 s.1.1.1.0.1) ∙ s.1.1.1.1)
 
 refused_by : (files : Files) (name : Word) (bytes : List ℕ) (Early : Type 0) → IsFile files name bytes → (refusal (object_of bytes) ≢ None) ⊎ Early → (SpellsAccepted files name → ⊥) ⊎ Early
 refused_by files name bytes Early file (inl refused) = inl (unrefused files name bytes file refused)

@@ -1,5 +1,5 @@
 -- How a command's parts end: private to the tool.
-use Rattle.std.specs.Prelude.{ℕ, Bool, true, false, List, Option, None}
+use Rattle.std.specs.Prelude.{ℕ, Bool, true, false, Option, None}
 use Rattle.ft_edge.specs.Causes.{Rose}
 use Rattle.ft_edge.specs.Puts.{PutsNothing}
 use Rattle.ft_machine.specs.declared.run.RunEnd.{RunEnd}
@@ -7,6 +7,7 @@ use Rattle.ft_machine.specs.declared.run.RunEnd.TheVariants as runs
 use Rattle.ft_recover.specs.declared.recover_end.RecoverEnd.{RecoverEnd}
 use Rattle.ft_recover.specs.declared.recover_end.RecoverEnd.TheVariants as recoveries
 use Rattle.ft_tool.specs.Replies.{Answer}
+use Rattle.ft_tool.specs.Logs.{SinkLog}
 use Rattle.ft_tool.specs.Answers.{Concludes, BreaksOff}
 use Rattle.ft_tool.specs.declared.ending.Ending.{Ending}
 use Rattle.ft_tool.specs.declared.ending.Ending.TheVariants.{Done, Detected, Usage, LoadFailed, WriteFailed, NoMemory, SourceRefused, ObjectRefused, NotAccepted, OutOfSteps, Corrupt, ListRefused, TextRefused, LinkRefused}
@@ -28,22 +29,22 @@ ends_early ListRefused = false
 ends_early TextRefused = false
 ends_early LinkRefused = false
 
--- what an ending says of the answer, what was written, the puts that were made, the sink's count of failures and a failed load
-abbrev pub Ends : Ending → (Answer → Type 0) → Option (List ℕ) → Option (List ℕ) → Option (List (List ℕ)) → Option (List (List ℕ)) → ℕ → ℕ → Type 0 → Type 0
-Ends Done Is old new puts puts' before now Load = Concludes Is 0 old new puts puts'
-Ends Detected Is old new puts puts' before now Load = Concludes Is 1 old new puts puts'
-Ends Usage Is old new puts puts' before now Load = Concludes Is 2 old new puts puts'
-Ends LoadFailed Is old new puts puts' before now Load = PutsNothing old new puts puts' × Load
-Ends WriteFailed Is old new puts puts' before now Load = Rose before now × BreaksOff Is old new puts puts'
-Ends NoMemory Is old new puts puts' before now Load = PutsNothing old new puts puts'
-Ends SourceRefused Is old new puts puts' before now Load = Concludes Is 6 old new puts puts'
-Ends ObjectRefused Is old new puts puts' before now Load = Concludes Is 7 old new puts puts'
-Ends NotAccepted Is old new puts puts' before now Load = Concludes Is 8 old new puts puts'
-Ends OutOfSteps Is old new puts puts' before now Load = Concludes Is 9 old new puts puts'
-Ends Corrupt Is old new puts puts' before now Load = Concludes Is 10 old new puts puts'
-Ends ListRefused Is old new puts puts' before now Load = Concludes Is 11 old new puts puts'
-Ends TextRefused Is old new puts puts' before now Load = Concludes Is 12 old new puts puts'
-Ends LinkRefused Is old new puts puts' before now Load = Concludes Is 13 old new puts puts'
+-- what an ending says of the answer, what is told of the sink, and a failed load
+abbrev pub Ends : Ending → (Answer → Type 0) → SinkLog → SinkLog → Type 0 → Type 0
+Ends Done Is old new Load = Concludes Is 0 old.written new.written old.pieces new.pieces
+Ends Detected Is old new Load = Concludes Is 1 old.written new.written old.pieces new.pieces
+Ends Usage Is old new Load = Concludes Is 2 old.written new.written old.pieces new.pieces
+Ends LoadFailed Is old new Load = PutsNothing old.written new.written old.pieces new.pieces × Load
+Ends WriteFailed Is old new Load = Rose old.failures new.failures × BreaksOff Is old.written new.written old.pieces new.pieces
+Ends NoMemory Is old new Load = PutsNothing old.written new.written old.pieces new.pieces
+Ends SourceRefused Is old new Load = Concludes Is 6 old.written new.written old.pieces new.pieces
+Ends ObjectRefused Is old new Load = Concludes Is 7 old.written new.written old.pieces new.pieces
+Ends NotAccepted Is old new Load = Concludes Is 8 old.written new.written old.pieces new.pieces
+Ends OutOfSteps Is old new Load = Concludes Is 9 old.written new.written old.pieces new.pieces
+Ends Corrupt Is old new Load = Concludes Is 10 old.written new.written old.pieces new.pieces
+Ends ListRefused Is old new Load = Concludes Is 11 old.written new.written old.pieces new.pieces
+Ends TextRefused Is old new Load = Concludes Is 12 old.written new.written old.pieces new.pieces
+Ends LinkRefused Is old new Load = Concludes Is 13 old.written new.written old.pieces new.pieces
 
 -- how a command ends whose run ended so
 abbrev pub ending_of_run : RunEnd → Ending

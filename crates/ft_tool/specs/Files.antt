@@ -31,10 +31,6 @@ use Rattle.ft_isa.specs.declared.plan.Strike.{Strike}
 use Rattle.ft_campaign.specs.declared.fault_list.ListError.TheVariants as lists
 use Rattle.ft_campaign.specs.FaultList.{IsFaultList, IsListError}
 use Rattle.ft_tool.specs.Lists.{IsListAnswer}
-use Rattle.ft_syntax.specs.declared.source_error.SourceError.TheVariants as sources
-use Rattle.ft_tool.specs.Sources.{IsSourceRefused}
-use Rattle.ft_tool.specs.declared.load.SourceFault.{SourceFault}
-use Rattle.ft_tool.specs.declared.load.SourceFault.TheVariants as source_faults
 use Rattle.ft_tool.specs.declared.load.ListFault.{ListFault}
 use Rattle.ft_tool.specs.declared.load.ListFault.TheVariants as list_faults
 use Rattle.ft_tool.specs.declared.load.ObjectFault.{ObjectFault}
@@ -122,33 +118,6 @@ IsListRefusedBy list_faults.TooMany a = IsListAnswer lists.TooMany a
 IsListRefusedBy list_faults.Failed a = ⊥
 IsListRefusedBy list_faults.NoMemory a = ⊥
 
--- the file's bytes, or a file that is longer than a source may be
-abbrev pub LoadsSource : {V : Type 0} → (V → List ℕ) → Option Files → Word → Result V SourceFault → Type 0
-LoadsSource bytes_of files name (Ok v) = IsToldFile files name (bytes_of v)
-LoadsSource bytes_of files name (Err source_faults.TooLong) = (text : List ℕ) × (IsToldFile files name text × (1048576 < length text))
-LoadsSource bytes_of files name (Err source_faults.Failed) = Unit {0}
-LoadsSource bytes_of files name (Err source_faults.NoMemory) = Unit {0}
-
--- a load of a source that failed shows in the count and left its name; any other answer leaves both as they were
-abbrev pub SourceCause : {V : Type 0} → ℕ → ℕ → Option (List ℕ) → Option (List ℕ) → Word → Result V SourceFault → Type 0
-SourceCause before now failed failed' name (Ok v) = (now ≡ before) × (failed' ≡ failed)
-SourceCause before now failed failed' name (Err source_faults.TooLong) = (now ≡ before) × (failed' ≡ failed)
-SourceCause before now failed failed' name (Err source_faults.Failed) = Rose before now × (failed' ≡ Some name)
-SourceCause before now failed failed' name (Err source_faults.NoMemory) = (now ≡ before) × (failed' ≡ failed)
-
--- the answer of a command whose source is too long
-abbrev pub IsTooLongBy : SourceFault → Answer → Type 0
-IsTooLongBy source_faults.TooLong a = IsSourceRefused sources.TooLong a
-IsTooLongBy source_faults.Failed a = ⊥
-IsTooLongBy source_faults.NoMemory a = ⊥
-
--- the file's bytes, or a file that is longer than an assembly text may be
-abbrev pub LoadsText : {V : Type 0} → (V → List ℕ) → Option Files → Word → Result V SourceFault → Type 0
-LoadsText bytes_of files name (Ok v) = IsToldFile files name (bytes_of v)
-LoadsText bytes_of files name (Err source_faults.TooLong) = (text : List ℕ) × (IsToldFile files name text × (134217728 < length text))
-LoadsText bytes_of files name (Err source_faults.Failed) = Unit {0}
-LoadsText bytes_of files name (Err source_faults.NoMemory) = Unit {0}
-
 -- the answer of a command whose assembly text is refused
 abbrev pub IsTextRefused : AsmError → Answer → Type 0
 IsTextRefused (texts.Text line) a = AssemblesAs (Text line) a
@@ -156,25 +125,6 @@ IsTextRefused (texts.Order line) a = AssemblesAs (Order line) a
 IsTextRefused texts.TooLong a = AssemblesAs saids.TooLong a
 IsTextRefused (texts.Object e) a = AssemblesAs (Broken e) a
 IsTextRefused texts.NoMemory a = ⊥
-
--- the answer of a command whose assembly text is too long
-abbrev pub IsLongTextBy : SourceFault → Answer → Type 0
-IsLongTextBy source_faults.TooLong a = IsTextRefused texts.TooLong a
-IsLongTextBy source_faults.Failed a = ⊥
-IsLongTextBy source_faults.NoMemory a = ⊥
-
--- the file's bytes, or a file that is longer than a link map may be
-abbrev pub LoadsMap : {V : Type 0} → (V → List ℕ) → Option Files → Word → Result V SourceFault → Type 0
-LoadsMap bytes_of files name (Ok v) = (length (bytes_of v) ≤ 65536) × IsToldFile files name (bytes_of v)
-LoadsMap bytes_of files name (Err source_faults.TooLong) = (text : List ℕ) × (IsToldFile files name text × (65536 < length text))
-LoadsMap bytes_of files name (Err source_faults.Failed) = Unit {0}
-LoadsMap bytes_of files name (Err source_faults.NoMemory) = Unit {0}
-
--- the answer of a command whose link map is too long
-abbrev pub IsLongMapBy : SourceFault → Answer → Type 0
-IsLongMapBy source_faults.TooLong a = a ≡ one_piece (link_line 11 65536) 13
-IsLongMapBy source_faults.Failed a = ⊥
-IsLongMapBy source_faults.NoMemory a = ⊥
 
 -- the answer of a command whose link map is refused
 abbrev pub IsMapRefused : MapError → Answer → Type 0

@@ -12,4 +12,6 @@ pub mod OneAnswer
 pub mod Told
 pub mod LinkTurns
 pub mod Files
+pub mod Logs
 pub mod Endings
+pub mod Does

@@ -5,6 +5,7 @@ ghost use Rattle.ft_command.specs.Asked.{campaign_view};
 ghost use Rattle.ft_typing.specs.Accepted.{refusal};
 ghost use Rattle.ft_types.specs.Spellable.{IsSpellable};
 ghost use Rattle.ft_campaign.specs.Campaigns.{EndsAs as CampaignEnds, IsExcused, IsUncorrupted};
+ghost use Rattle.ft_tool.specs.Logs.{sink_log};
 ghost use Rattle.ft_tool.specs.Answers.{CampaignsUnless, CampaignsObject, OverFile, FailsIn};
 ghost use Rattle.ft_tool.specs.Calls.{HasMade, LoadsFor};
 ghost use Rattle.ft_tool.specs.Replies.{IsToldFile};
@@ -14,8 +15,9 @@ ghost use Rattle.ft_tool.specs.Endings.{Ends, ends_early};
 ghost use Rattle.ft_command.specs.Commands.{Campaigns};
 
 use crate::check::check;
-use crate::ending::{Ending, put_list_line, refuse_check, refuse_list, refuse_object};
-use crate::load::{list_of, load_object};
+use crate::ending::{Ending, put_list_line, refuse_check, refuse_object};
+use crate::load::load_object;
+use crate::over_list::{Target, over_list};
 use ft_campaign::{CampaignEnd, campaign};
 use ft_checker::Checked;
 use ft_command::Campaign;
@@ -71,7 +73,7 @@ fn campaign_faults<P: Program, K: Sink>(
     requires faults { length faults.now ≤ 65536 }
     requires steps { asked.now.steps ≤ 1000000 }
     ensures ends { Ends result (OverFaults NoneCorrupt (campaign_view asked.now) (P.object checked.now) faults.now)
-        (K.written out.old) (K.written out.new) (K.pieces out.old) (K.pieces out.new) (K.failures out.old) (K.failures out.new) ⊥ }
+        (sink_log K.Sink out.old) (sink_log K.Sink out.new) ⊥ }
     ensures failures { result ≢ Ending.WriteFailed → K.failures out.new ≡ K.failures out.old }
 {
     match campaign_counted::<P, K, Brand>(alloc, checked, faults, asked, out, Blank::new(1)) {
@@ -79,6 +81,35 @@ fn campaign_faults<P: Program, K: Sink>(
         CampaignEnd::TooMuch { product } => put_list_line(3, product, out),
         CampaignEnd::WriteFault => Ending::WriteFailed,
         CampaignEnd::NoMemory => Ending::NoMemory,
+    }
+}
+
+/// An object that is accepted, on which faults are tried.
+#[derive(Drop)]
+struct CheckedTarget<'a, P: Program> {
+    checked: &'a Checked<'a, P>,
+}
+
+impl<'a, P: Program> Target for CheckedTarget<'a, P> {
+    ghost use Rattle.std.specs.Prelude.{◌≡◌, None};
+    ghost use Rattle.ft_typing.specs.Accepted.{refusal};
+    ghost use Rattle.ft_types.specs.Spellable.{IsSpellable};
+    ghost use Rattle.ft_tool.specs.Lists.{NoneCorrupt};
+
+    ghost object = { λ t. P.object t.checked.now };
+
+    ghost known = { λ t. IsSpellable (P.object t.checked.now) × (refusal (P.object t.checked.now) ≡ None) };
+
+    ghost promised = { λ t. NoneCorrupt };
+
+    fn over_faults<K: Sink>(
+        &self,
+        alloc: Global,
+        faults: &[Strike],
+        asked: &Campaign,
+        out: &mut K,
+    ) -> Ending {
+        campaign_faults(alloc, self.checked, faults, asked, out)
     }
 }
 
@@ -96,16 +127,13 @@ fn campaign_checked<P: Program, F: Shelf, K: Sink>(
     requires steps { asked.now.steps ≤ 1000000 }
     requires own { IsToldFile (F.files shelf.old) asked.now.object.now bytes.now }
     ensures ends { Ends result (CampaignsListOf (campaign_view asked.now) (F.files shelf.old) bytes.now (P.object checked.now))
-        (K.written out.old) (K.written out.new) (K.pieces out.old) (K.pieces out.new) (K.failures out.old) (K.failures out.new)
+        (sink_log K.Sink out.old) (sink_log K.Sink out.new)
         (Rose (F.failures shelf.old) (F.failures shelf.new) × (F.failed_name shelf.new ≡ Some asked.now.faults.now)) }
     ensures failures { result ≢ Ending.WriteFailed → K.failures out.new ≡ K.failures out.old }
     ensures load_failures { result ≢ Ending.LoadFailed → (F.failures shelf.new ≡ F.failures shelf.old) × (F.failed_name shelf.new ≡ F.failed_name shelf.old) }
     ensures made { LoadsOther (campaign_view asked.now) (F.asked shelf.old) (F.asked shelf.new) }
 {
-    match list_of(alloc, asked, bytes, shelf) {
-        Ok(faults) => campaign_faults(alloc, checked, faults.as_slice(), asked, out),
-        Err(fault) => refuse_list(fault, out),
-    }
+    over_list(alloc, &CheckedTarget { checked }, bytes, asked, shelf, out)
 }
 
 /// Checks an object, and tries a fault list on it where it is accepted.
@@ -121,7 +149,7 @@ fn campaign_object<P: Program, F: Shelf, K: Sink>(
     requires steps { asked.now.steps ≤ 1000000 }
     requires own { IsToldFile (F.files shelf.old) asked.now.object.now bytes.now }
     ensures ends { Ends result (CampaignsUnless (refusal (P.object program.now)) (CampaignsListOf (campaign_view asked.now) (F.files shelf.old) bytes.now (P.object program.now)))
-        (K.written out.old) (K.written out.new) (K.pieces out.old) (K.pieces out.new) (K.failures out.old) (K.failures out.new)
+        (sink_log K.Sink out.old) (sink_log K.Sink out.new)
         (Rose (F.failures shelf.old) (F.failures shelf.new) × (F.failed_name shelf.new ≡ Some asked.now.faults.now) × (refusal (P.object program.now) ≡ None)) }
     ensures failures { result ≢ Ending.WriteFailed → K.failures out.new ≡ K.failures out.old }
     ensures load_failures { result ≢ Ending.LoadFailed → (F.failures shelf.new ≡ F.failures shelf.old) × (F.failed_name shelf.new ≡ F.failed_name shelf.old) }
@@ -143,7 +171,7 @@ pub(crate) fn campaign_file<F: Shelf, K: Sink>(
 ) -> Ending
     requires { asked.now.steps ≤ 1000000 }
     ensures ends { Ends result (λ a. OfFiles (F.files shelf.old) (λ files. OverFile (CampaignsObject (campaign_view asked.now) files) asked.now.object.now files a))
-        (K.written out.old) (K.written out.new) (K.pieces out.old) (K.pieces out.new) (K.failures out.old) (K.failures out.new)
+        (sink_log K.Sink out.old) (sink_log K.Sink out.new)
         (OfFiles (F.files shelf.old) (λ files. FailsIn (Campaigns (campaign_view asked.now)) (F.files shelf.old) files (F.failures shelf.old) (F.failures shelf.new) (F.failed_name shelf.new))) }
     ensures failures { result ≢ Ending.WriteFailed → K.failures out.new ≡ K.failures out.old }
     ensures load_failures { result ≢ Ending.LoadFailed → (F.failures shelf.new ≡ F.failures shelf.old) × (F.failed_name shelf.new ≡ F.failed_name shelf.old) }

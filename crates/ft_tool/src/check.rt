@@ -1,18 +1,16 @@
 //! The command `check`.
-ghost use Rattle.std.specs.Prelude.{◌≡◌, ◌<◌, IfOk, ◌≢◌, [], ◌∷◌};
+ghost use Rattle.std.specs.Prelude.{◌≡◌, ◌<◌, IfOk, ◌≢◌};
 ghost use Rattle.ft_typing.specs.Accepted.{refusal};
 ghost use Rattle.ft_types.specs.Spellable.{IsSpellable};
 ghost use Rattle.ft_checker.specs.Judges.{Judges};
-ghost use Rattle.ft_tool.specs.Answers.{ChecksObject, OverFile, FailsIn};
+ghost use Rattle.ft_tool.specs.Logs.{sink_log};
+ghost use Rattle.ft_tool.specs.Answers.{ChecksObject};
 ghost use Rattle.ft_tool.specs.Endings.{Ends};
-ghost use Rattle.ft_tool.specs.Calls.{HasMade, object_load};
-ghost use Rattle.ft_command.specs.Commands.{Checks};
-ghost use Rattle.ft_tool.specs.Told.{OfFiles};
 
-use crate::ending::{Ending, put_piece, refuse_check, refuse_object};
-use crate::load::load_object;
+use crate::ending::{Ending, put_piece, refuse_check};
+use crate::over_object::ObjectCommand;
 use ft_checker::{CheckError, Checked};
-use ft_edge::{Shelf, Sink};
+use ft_edge::Sink;
 use ft_steps::Steps;
 use ft_types::Program;
 use std::alloc::Global;
@@ -52,7 +50,7 @@ pub(crate) fn check<'a, P: Program>(
 fn check_object<P: Program, K: Sink>(alloc: Global, program: &P, out: &mut K) -> Ending
     requires { IsSpellable (P.object program.now) }
     ensures ends { Ends result (ChecksObject (P.object program.now))
-        (K.written out.old) (K.written out.new) (K.pieces out.old) (K.pieces out.new) (K.failures out.old) (K.failures out.new) ⊥ }
+        (sink_log K.Sink out.old) (sink_log K.Sink out.new) ⊥ }
     ensures failures { result ≢ Ending.WriteFailed → K.failures out.new ≡ K.failures out.old }
 {
     match check(alloc, program) {
@@ -64,23 +62,30 @@ fn check_object<P: Program, K: Sink>(alloc: Global, program: &P, out: &mut K) ->
     }
 }
 
-/// Loads an object and checks it.
-pub(crate) fn check_file<F: Shelf, K: Sink>(
-    alloc: Global,
-    name: &str,
-    shelf: &mut F,
-    out: &mut K,
-) -> Ending
-    ensures ends { Ends result (λ a. OfFiles (F.files shelf.old) (λ files. OverFile ChecksObject name.now files a))
-        (K.written out.old) (K.written out.new) (K.pieces out.old) (K.pieces out.new) (K.failures out.old) (K.failures out.new)
-        (OfFiles (F.files shelf.old) (λ files. FailsIn (Checks name.now) (F.files shelf.old) files (F.failures shelf.old) (F.failures shelf.new) (F.failed_name shelf.new))) }
-    ensures failures { result ≢ Ending.WriteFailed → K.failures out.new ≡ K.failures out.old }
-    ensures load_failures { result ≢ Ending.LoadFailed → (F.failures shelf.new ≡ F.failures shelf.old) × (F.failed_name shelf.new ≡ F.failed_name shelf.old) }
-    ensures made { HasMade (object_load name.now ∷ []) (F.asked shelf.old) (F.asked shelf.new) }
-{
-    let mut bytes = Vec::new(alloc);
-    match load_object(name, shelf, &mut bytes) {
-        Ok(view) => check_object(alloc, &view, out),
-        Err(fault) => refuse_object(fault, out),
+/// The check of the object of a file.
+#[derive(Drop)]
+pub(crate) struct CheckCommand<'w> {
+    pub object: &'w str,
+}
+
+impl<'w> ObjectCommand for CheckCommand<'w> {
+    ghost use Rattle.std.specs.Prelude.{refl};
+    ghost use Rattle.ft_command.specs.Commands.{Checks};
+    ghost use Rattle.ft_tool.specs.Answers.{ChecksObject};
+
+    ghost request = { λ c. Checks c.object.now };
+
+    ghost file = { λ c. c.object.now };
+
+    ghost answer = { λ c. ChecksObject };
+
+    ghost is_over_file = { λ c. record { answers = λ told files script bytes a is h. (bytes, (is, h)); comes = λ told files. refl; loads = λ told files early asked asked' made. made } };
+
+    fn file(&self) -> &str {
+        self.object
+    }
+
+    fn over_object<P: Program, K: Sink>(&self, alloc: Global, program: &P, out: &mut K) -> Ending {
+        check_object(alloc, program, out)
     }
 }

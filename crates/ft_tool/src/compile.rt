@@ -1,22 +1,21 @@
 //! The command `compile`.
-ghost use Rattle.std.specs.Prelude.{◌≡◌, ◌≢◌, [], ◌∷◌};
-ghost use Rattle.ft_command.specs.Commands.{Compiles};
-ghost use Rattle.ft_tool.specs.Answers.{OverSource, FailsIn};
-ghost use Rattle.ft_tool.specs.Calls.{HasMade, source_load};
-ghost use Rattle.ft_tool.specs.Told.{OfFiles};
+ghost use Rattle.std.specs.Prelude.{◌≡◌, ◌≢◌};
+ghost use Rattle.ft_tool.specs.Logs.{sink_log};
 ghost use Rattle.ft_tool.specs.Endings.{Ends};
 ghost use Rattle.ft_tool.specs.Sources.{OverText, CompilesProgram};
 
-use crate::ending::{Ending, put_object, refuse_long_source, refuse_source};
-use crate::load::load_source;
+use crate::ending::{Ending, put_object, refuse_source};
+use crate::load::SOURCE_LIMIT;
+use crate::over_file::FileCommand;
 use ft_compile::compile;
-use ft_edge::{Shelf, Sink};
+use ft_edge::Sink;
+use ft_syntax::SourceError;
 use std::alloc::Global;
 
 /// Compiles a source and puts its object.
 fn compile_text<K: Sink>(alloc: Global, text: &[u8], out: &mut K) -> Ending
     ensures ends { Ends result (OverText CompilesProgram text.now)
-        (K.written out.old) (K.written out.new) (K.pieces out.old) (K.pieces out.new) (K.failures out.old) (K.failures out.new) ⊥ }
+        (sink_log K.Sink out.old) (sink_log K.Sink out.new) ⊥ }
     ensures failures { result ≢ Ending.WriteFailed → K.failures out.new ≡ K.failures out.old }
 {
     match compile(alloc, text) {
@@ -25,22 +24,40 @@ fn compile_text<K: Sink>(alloc: Global, text: &[u8], out: &mut K) -> Ending
     }
 }
 
-/// Loads a source and compiles it.
-pub(crate) fn compile_file<F: Shelf, K: Sink>(
-    alloc: Global,
-    name: &str,
-    shelf: &mut F,
-    out: &mut K,
-) -> Ending
-    ensures ends { Ends result (λ a. OfFiles (F.files shelf.old) (λ files. OverSource CompilesProgram name.now files a))
-        (K.written out.old) (K.written out.new) (K.pieces out.old) (K.pieces out.new) (K.failures out.old) (K.failures out.new)
-        (OfFiles (F.files shelf.old) (λ files. FailsIn (Compiles name.now) (F.files shelf.old) files (F.failures shelf.old) (F.failures shelf.new) (F.failed_name shelf.new))) }
-    ensures failures { result ≢ Ending.WriteFailed → K.failures out.new ≡ K.failures out.old }
-    ensures load_failures { result ≢ Ending.LoadFailed → (F.failures shelf.new ≡ F.failures shelf.old) × (F.failed_name shelf.new ≡ F.failed_name shelf.old) }
-    ensures made { HasMade (source_load name.now ∷ []) (F.asked shelf.old) (F.asked shelf.new) }
-{
-    match load_source(alloc, name, shelf) {
-        Ok(text) => compile_text(alloc, text.as_slice(), out),
-        Err(fault) => refuse_long_source(fault, out),
+/// The object that the source of a file is compiled to.
+#[derive(Drop)]
+pub(crate) struct CompileCommand<'w> {
+    pub source: &'w str,
+}
+
+impl<'w> FileCommand for CompileCommand<'w> {
+    ghost use Rattle.std.specs.Prelude.{refl};
+    ghost use Rattle.ft_command.specs.Commands.{Compiles};
+    ghost use Rattle.ft_tool.specs.Sources.{OverText, CompilesProgram};
+
+    ghost request = { λ c. Compiles c.source.now };
+
+    ghost file = { λ c. c.source.now };
+
+    ghost limit = { λ c. 1048576 };
+
+    ghost answer = { λ c. OverText CompilesProgram };
+
+    ghost is_over_file = { λ c. record { answers = λ told files script bytes a is h. (bytes, (is, h)); comes = λ told files. refl; loads = λ told files early asked asked' made. made } };
+
+    fn file(&self) -> &str {
+        self.source
+    }
+
+    fn limit(&self) -> usize {
+        SOURCE_LIMIT
+    }
+
+    fn over_bytes<K: Sink>(&self, alloc: Global, bytes: &[u8], out: &mut K) -> Ending {
+        compile_text(alloc, bytes, out)
+    }
+
+    fn refuse_long<K: Sink>(&self, out: &mut K) -> Ending {
+        refuse_source(SourceError::TooLong, out)
     }
 }

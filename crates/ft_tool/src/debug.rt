@@ -6,6 +6,7 @@ ghost use Rattle.ft_types.specs.Spellable.{IsSpellable};
 ghost use Rattle.ft_format.specs.Format.{AreBytes};
 ghost use Rattle.ft_command.specs.Commands.{Debugs};
 ghost use Rattle.ft_command.specs.Asked.{debugging_view};
+ghost use Rattle.ft_tool.specs.Logs.{sink_log};
 ghost use Rattle.ft_tool.specs.Scripts.{DebugsObject};
 ghost use Rattle.ft_tool.specs.Answers.{OverFile, SpellsFile, FailsIn, FailsAtScript};
 ghost use Rattle.ft_tool.specs.Calls.{HasMade, object_load};
@@ -33,7 +34,7 @@ fn debug_text<P: Program, K: Sink>(
     requires short { length text.now ≤ 1048576 }
     ensures bytes { AreBytes text.now }
     ensures ends { Ends result (DebugsObject (debugging_view asked.now) text.now (P.object program.now))
-        (K.written out.old) (K.written out.new) (K.pieces out.old) (K.pieces out.new) (K.failures out.old) (K.failures out.new) ⊥ }
+        (sink_log K.Sink out.old) (sink_log K.Sink out.new) ⊥ }
     ensures failures { result ≢ Ending.WriteFailed → K.failures out.new ≡ K.failures out.old }
 {
     match session(alloc, program, asked.wild.as_slice(), text, out) {
@@ -53,7 +54,7 @@ fn debug_object<P: Program, I: Source, K: Sink>(
 ) -> Ending
     requires spellable { IsSpellable (P.object program.now) }
     ensures ends { Ends result (λ a. OfScript (I.left script.old) (λ text. DebugsObject (debugging_view asked.now) text (P.object program.now) a))
-        (K.written out.old) (K.written out.new) (K.pieces out.old) (K.pieces out.new) (K.failures out.old) (K.failures out.new)
+        (sink_log K.Sink out.old) (sink_log K.Sink out.new)
         (Rose (I.failures script.old) (I.failures script.new)) }
     ensures failures { result ≢ Ending.WriteFailed → K.failures out.new ≡ K.failures out.old }
     ensures script_failures { result ≢ Ending.LoadFailed → I.failures script.new ≡ I.failures script.old }
@@ -74,7 +75,7 @@ pub(crate) fn debug_file<F: Shelf, I: Source, K: Sink>(
     out: &mut K,
 ) -> Ending
     ensures ends { Ends result (λ a. OfFiles (F.files shelf.old) (λ files. OfScript (I.left script.old) (λ text. OverFile (DebugsObject (debugging_view asked.now) text) asked.now.object.now files a)))
-        (K.written out.old) (K.written out.new) (K.pieces out.old) (K.pieces out.new) (K.failures out.old) (K.failures out.new)
+        (sink_log K.Sink out.old) (sink_log K.Sink out.new)
         (OfFiles (F.files shelf.old) (λ files. FailsIn (Debugs (debugging_view asked.now)) (F.files shelf.old) files (F.failures shelf.old) (F.failures shelf.new) (F.failed_name shelf.new)
         ⊎ FailsAtScript (debugging_view asked.now) files (I.failures script.old) (I.failures script.new))) }
     ensures failures { result ≢ Ending.WriteFailed → K.failures out.new ≡ K.failures out.old }

@@ -3,16 +3,17 @@ ghost use Rattle.std.specs.Prelude.{◌≡◌, ◌≢◌, [], ◌∷◌, OnOk, O
 ghost use Rattle.ft_edge.specs.Causes.{Rose};
 ghost use Rattle.ft_edge.specs.Puts.{PutsLines, BreaksOff};
 ghost use Rattle.ft_types.specs.Spellable.{IsSpellable};
-ghost use Rattle.ft_tool.specs.Objects.{UpgradesObject};
+ghost use Rattle.ft_tool.specs.Logs.{sink_log};
+ghost use Rattle.ft_tool.specs.Objects.{UpgradesObject, refused};
 ghost use Rattle.ft_tool.specs.Answers.{usage};
 ghost use Rattle.ft_tool.specs.Replies.{one_piece};
-ghost use Rattle.ft_tool.specs.Files.{IsRefusedBy, IsNotAccepted, IsListRefusedBy, IsTooLongBy, IsTextRefused, IsLongTextBy};
+ghost use Rattle.ft_tool.specs.Files.{IsRefusedBy, IsNotAccepted, IsListRefusedBy, IsTextRefused};
 ghost use Rattle.ft_tool.specs.Texts.{list_line, asm_line};
 ghost use Rattle.ft_tool.specs.Sources.{IsSourceRefused};
 ghost use Rattle.ft_tool.specs.Scripts.{IsScriptRefusedBy};
 ghost use Rattle.ft_tool.specs.Endings.{Ends, ending_of_run};
 
-use crate::load::{ListFault, ObjectFault, SourceFault};
+use crate::load::{ListFault, ObjectFault};
 use crate::refused::{
     asm_line, cell_line, entry_line, list_line, object_line, place_line, source_line,
 };
@@ -21,7 +22,7 @@ use ft_asm::AsmError;
 use ft_checker::CheckError;
 use ft_edge::{Failed, Sink};
 use ft_machine::RunEnd;
-use ft_object::encode;
+use ft_object::{ObjectError, encode};
 use ft_syntax::SourceError;
 use ft_types::Object;
 use std::alloc::Global;
@@ -89,7 +90,7 @@ pub(crate) fn put_piece<K: Sink>(piece: &[u8], out: &mut K) -> Result<(), Failed
 pub(crate) fn put_object<K: Sink>(alloc: Global, object: &Object, out: &mut K) -> Ending
     requires { IsSpellable object.now }
     ensures ends { Ends result (UpgradesObject object.now)
-        (K.written out.old) (K.written out.new) (K.pieces out.old) (K.pieces out.new) (K.failures out.old) (K.failures out.new) ⊥ }
+        (sink_log K.Sink out.old) (sink_log K.Sink out.new) ⊥ }
     ensures failures { result ≢ Ending.WriteFailed → K.failures out.new ≡ K.failures out.old }
 {
     let Ok(bytes) = encode(alloc, object) else {
@@ -103,7 +104,7 @@ pub(crate) fn put_object<K: Sink>(alloc: Global, object: &Object, out: &mut K) -
 
 /// Puts the line of words that are no command.
 pub(crate) fn put_usage<K: Sink>(out: &mut K) -> Ending
-    ensures ends { Ends result (λ a. a ≡ usage) (K.written out.old) (K.written out.new) (K.pieces out.old) (K.pieces out.new) (K.failures out.old) (K.failures out.new) ⊥ }
+    ensures ends { Ends result (λ a. a ≡ usage) (sink_log K.Sink out.old) (sink_log K.Sink out.new) ⊥ }
     ensures failures { result ≢ Ending.WriteFailed → K.failures out.new ≡ K.failures out.old }
 {
     match put_piece(b"usage\n", out) {
@@ -112,17 +113,25 @@ pub(crate) fn put_usage<K: Sink>(out: &mut K) -> Ending
     }
 }
 
+/// Ends a command whose object's bytes are refused, with the line of the refusal.
+pub(crate) fn refuse_bytes<K: Sink>(error: ObjectError, out: &mut K) -> Ending
+    ensures ends { Ends result (λ a. a ≡ refused error) (sink_log K.Sink out.old) (sink_log K.Sink out.new) ⊥ }
+    ensures failures { result ≢ Ending.WriteFailed → K.failures out.new ≡ K.failures out.old }
+{
+    match put_piece(object_line(error).as_bytes(), out) {
+        Ok(()) => Ending::ObjectRefused,
+        Err(_) => Ending::WriteFailed,
+    }
+}
+
 /// Ends a command that has no object, with the line of the refusal where its bytes are refused.
 pub(crate) fn refuse_object<K: Sink>(fault: ObjectFault, out: &mut K) -> Ending
-    ensures ends { Ends result (IsRefusedBy fault) (K.written out.old) (K.written out.new) (K.pieces out.old) (K.pieces out.new) (K.failures out.old) (K.failures out.new) (fault ≡ ObjectFault.Failed) }
+    ensures ends { Ends result (IsRefusedBy fault) (sink_log K.Sink out.old) (sink_log K.Sink out.new) (fault ≡ ObjectFault.Failed) }
     ensures failures { result ≢ Ending.WriteFailed → K.failures out.new ≡ K.failures out.old }
     ensures failed { result ≢ Ending.LoadFailed → fault ≢ ObjectFault.Failed }
 {
     match fault {
-        ObjectFault::Refused(error) => match put_piece(object_line(error).as_bytes(), out) {
-            Ok(()) => Ending::ObjectRefused,
-            Err(_) => Ending::WriteFailed,
-        },
+        ObjectFault::Refused(error) => refuse_bytes(error, out),
         ObjectFault::Failed => Ending::LoadFailed,
         ObjectFault::NoMemory => Ending::NoMemory,
     }
@@ -130,7 +139,7 @@ pub(crate) fn refuse_object<K: Sink>(fault: ObjectFault, out: &mut K) -> Ending
 
 /// Ends a command whose object is not accepted, with the line of the refusal.
 pub(crate) fn refuse_check<K: Sink>(error: CheckError, out: &mut K) -> Ending
-    ensures ends { Ends result (IsNotAccepted error) (K.written out.old) (K.written out.new) (K.pieces out.old) (K.pieces out.new) (K.failures out.old) (K.failures out.new) ⊥ }
+    ensures ends { Ends result (IsNotAccepted error) (sink_log K.Sink out.old) (sink_log K.Sink out.new) ⊥ }
     ensures failures { result ≢ Ending.WriteFailed → K.failures out.new ≡ K.failures out.old }
 {
     let line = match error {
@@ -147,7 +156,7 @@ pub(crate) fn refuse_check<K: Sink>(error: CheckError, out: &mut K) -> Ending
 
 /// Puts the line of a list or of a campaign that is refused.
 pub(crate) fn put_list_line<K: Sink>(number: u64, told: u64, out: &mut K) -> Ending
-    ensures ends { Ends result (λ a. a ≡ one_piece (list_line number told) 11) (K.written out.old) (K.written out.new) (K.pieces out.old) (K.pieces out.new) (K.failures out.old) (K.failures out.new) ⊥ }
+    ensures ends { Ends result (λ a. a ≡ one_piece (list_line number told) 11) (sink_log K.Sink out.old) (sink_log K.Sink out.new) ⊥ }
     ensures failures { result ≢ Ending.WriteFailed → K.failures out.new ≡ K.failures out.old }
 {
     match put_piece(list_line(number, told).as_bytes(), out) {
@@ -158,7 +167,7 @@ pub(crate) fn put_list_line<K: Sink>(number: u64, told: u64, out: &mut K) -> End
 
 /// Ends a command that has no fault list, with the line of the refusal where its text is refused.
 pub(crate) fn refuse_list<K: Sink>(fault: ListFault, out: &mut K) -> Ending
-    ensures ends { Ends result (IsListRefusedBy fault) (K.written out.old) (K.written out.new) (K.pieces out.old) (K.pieces out.new) (K.failures out.old) (K.failures out.new) (fault ≡ ListFault.Failed) }
+    ensures ends { Ends result (IsListRefusedBy fault) (sink_log K.Sink out.old) (sink_log K.Sink out.new) (fault ≡ ListFault.Failed) }
     ensures failures { result ≢ Ending.WriteFailed → K.failures out.new ≡ K.failures out.old }
     ensures failed { result ≢ Ending.LoadFailed → fault ≢ ListFault.Failed }
 {
@@ -172,7 +181,7 @@ pub(crate) fn refuse_list<K: Sink>(fault: ListFault, out: &mut K) -> Ending
 
 /// Ends a command that has no script, with the line of the refusal where it is too long.
 pub(crate) fn refuse_script<K: Sink>(fault: ScriptFault, out: &mut K) -> Ending
-    ensures ends { Ends result (IsScriptRefusedBy fault) (K.written out.old) (K.written out.new) (K.pieces out.old) (K.pieces out.new) (K.failures out.old) (K.failures out.new) (fault ≡ ScriptFault.Failed) }
+    ensures ends { Ends result (IsScriptRefusedBy fault) (sink_log K.Sink out.old) (sink_log K.Sink out.new) (fault ≡ ScriptFault.Failed) }
     ensures failures { result ≢ Ending.WriteFailed → K.failures out.new ≡ K.failures out.old }
     ensures failed { result ≢ Ending.LoadFailed → fault ≢ ScriptFault.Failed }
 {
@@ -185,7 +194,7 @@ pub(crate) fn refuse_script<K: Sink>(fault: ScriptFault, out: &mut K) -> Ending
 
 /// Ends a command whose source is refused, with the line of the refusal.
 pub(crate) fn refuse_source<K: Sink>(error: SourceError, out: &mut K) -> Ending
-    ensures ends { Ends result (IsSourceRefused error) (K.written out.old) (K.written out.new) (K.pieces out.old) (K.pieces out.new) (K.failures out.old) (K.failures out.new) ⊥ }
+    ensures ends { Ends result (IsSourceRefused error) (sink_log K.Sink out.old) (sink_log K.Sink out.new) ⊥ }
     ensures failures { result ≢ Ending.WriteFailed → K.failures out.new ≡ K.failures out.old }
 {
     if let SourceError::NoMemory = error {
@@ -197,22 +206,9 @@ pub(crate) fn refuse_source<K: Sink>(error: SourceError, out: &mut K) -> Ending
     }
 }
 
-/// Ends a command that has no source, with the line of the refusal where it is too long.
-pub(crate) fn refuse_long_source<K: Sink>(fault: SourceFault, out: &mut K) -> Ending
-    ensures ends { Ends result (IsTooLongBy fault) (K.written out.old) (K.written out.new) (K.pieces out.old) (K.pieces out.new) (K.failures out.old) (K.failures out.new) (fault ≡ SourceFault.Failed) }
-    ensures failures { result ≢ Ending.WriteFailed → K.failures out.new ≡ K.failures out.old }
-    ensures failed { result ≢ Ending.LoadFailed → fault ≢ SourceFault.Failed }
-{
-    match fault {
-        SourceFault::TooLong => refuse_source(SourceError::TooLong, out),
-        SourceFault::Failed => Ending::LoadFailed,
-        SourceFault::NoMemory => Ending::NoMemory,
-    }
-}
-
 /// Puts the line of an assembly text that is refused.
 fn put_text_line<K: Sink>(number: u64, told: u64, out: &mut K) -> Ending
-    ensures ends { Ends result (λ a. a ≡ one_piece (asm_line number told) 12) (K.written out.old) (K.written out.new) (K.pieces out.old) (K.pieces out.new) (K.failures out.old) (K.failures out.new) ⊥ }
+    ensures ends { Ends result (λ a. a ≡ one_piece (asm_line number told) 12) (sink_log K.Sink out.old) (sink_log K.Sink out.new) ⊥ }
     ensures failures { result ≢ Ending.WriteFailed → K.failures out.new ≡ K.failures out.old }
 {
     match put_piece(asm_line(number, told).as_bytes(), out) {
@@ -223,27 +219,14 @@ fn put_text_line<K: Sink>(number: u64, told: u64, out: &mut K) -> Ending
 
 /// Ends a command whose assembly text is refused, with the line of the refusal.
 pub(crate) fn refuse_text<K: Sink>(error: AsmError, out: &mut K) -> Ending
-    ensures ends { Ends result (IsTextRefused error) (K.written out.old) (K.written out.new) (K.pieces out.old) (K.pieces out.new) (K.failures out.old) (K.failures out.new) ⊥ }
+    ensures ends { Ends result (IsTextRefused error) (sink_log K.Sink out.old) (sink_log K.Sink out.new) ⊥ }
     ensures failures { result ≢ Ending.WriteFailed → K.failures out.new ≡ K.failures out.old }
 {
     match error {
         AsmError::Text { line } => put_text_line(1, line as u64, out),
         AsmError::Order { line } => put_text_line(2, line as u64, out),
         AsmError::TooLong => put_text_line(3, 134_217_728, out),
-        AsmError::Object(error) => refuse_object(ObjectFault::Refused(error), out),
+        AsmError::Object(error) => refuse_bytes(error, out),
         AsmError::NoMemory => Ending::NoMemory,
-    }
-}
-
-/// Ends a command that has no assembly text, with the line of the refusal where it is too long.
-pub(crate) fn refuse_long_text<K: Sink>(fault: SourceFault, out: &mut K) -> Ending
-    ensures ends { Ends result (IsLongTextBy fault) (K.written out.old) (K.written out.new) (K.pieces out.old) (K.pieces out.new) (K.failures out.old) (K.failures out.new) (fault ≡ SourceFault.Failed) }
-    ensures failures { result ≢ Ending.WriteFailed → K.failures out.new ≡ K.failures out.old }
-    ensures failed { result ≢ Ending.LoadFailed → fault ≢ SourceFault.Failed }
-{
-    match fault {
-        SourceFault::TooLong => refuse_text(AsmError::TooLong, out),
-        SourceFault::Failed => Ending::LoadFailed,
-        SourceFault::NoMemory => Ending::NoMemory,
     }
 }

@@ -4,6 +4,7 @@ ghost use Rattle.ft_edge.specs.Causes.{Rose};
 ghost use Rattle.ft_command.specs.Commands.{Links};
 ghost use Rattle.ft_types.specs.Spellable.{IsSpellable};
 ghost use Rattle.ft_link_map.specs.Sound.{IsSound};
+ghost use Rattle.ft_tool.specs.Logs.{sink_log};
 ghost use Rattle.ft_tool.specs.Answers.{FailsIn};
 ghost use Rattle.ft_tool.specs.Calls.{HasMade, LoadsLink, object_load};
 ghost use Rattle.ft_tool.specs.Endings.{Ends, ends_early};
@@ -13,9 +14,9 @@ ghost use Rattle.ft_tool.specs.Told.{OfFiles};
 
 use crate::check::check;
 use crate::ending::{Ending, put_object, refuse_check, refuse_object};
-use crate::load::{load_map, load_object};
-use crate::unlinked::{refuse_long_map, refuse_map, refuse_modules};
-use ft_edge::{Shelf, Sink};
+use crate::load::{MAP_LIMIT, load_bytes, load_object};
+use crate::unlinked::{put_link_line, refuse_map, refuse_modules};
+use ft_edge::{Load, LoadFault, Shelf, Sink};
 use ft_link_map::{LinkMap, read_map};
 use ft_linker::Linker;
 use ft_types::{Program, Table};
@@ -43,7 +44,7 @@ fn add_object<P: Program, K: Sink>(
     ensures ok { OnOk result (AddsObject linker.old (P.object program.now) linker.new) }
     ensures untouched { OnOk result (out.new ≡ out.old) }
     ensures ends { IfErr result (λ e. Ends e (EndsAtObject linker.old (P.object program.now))
-        (K.written out.old) (K.written out.new) (K.pieces out.old) (K.pieces out.new) (K.failures out.old) (K.failures out.new) ⊥) }
+        (sink_log K.Sink out.old) (sink_log K.Sink out.new) ⊥) }
     ensures failures { IfErr result (λ e. e ≢ Ending.WriteFailed → K.failures out.new ≡ K.failures out.old) }
 {
     match check(alloc, program) {
@@ -66,7 +67,7 @@ fn add_file<F: Shelf, K: Sink>(
     ensures ok { OnOk result (AddsFile (F.files shelf.old) name.now linker.old linker.new) }
     ensures untouched { OnOk result (out.new ≡ out.old) }
     ensures ends { IfErr result (λ e. Ends e (EndsWithFile (F.files shelf.old) linker.old name.now)
-        (K.written out.old) (K.written out.new) (K.pieces out.old) (K.pieces out.new) (K.failures out.old) (K.failures out.new)
+        (sink_log K.Sink out.old) (sink_log K.Sink out.new)
         (Rose (F.failures shelf.old) (F.failures shelf.new) × (F.failed_name shelf.new ≡ Some name.now))) }
     ensures failures { IfErr result (λ e. e ≢ Ending.WriteFailed → K.failures out.new ≡ K.failures out.old) }
     ensures files { F.files shelf.new ≡ F.files shelf.old }
@@ -93,7 +94,7 @@ fn add_files<F: Shelf, K: Sink>(
     ensures ok { OnOk result (HasAdded (F.files shelf.old) linkage.now linker.new [] (F.asked shelf.old) (F.asked shelf.new)) }
     ensures untouched { OnOk result (out.new ≡ out.old) }
     ensures ends { IfErr result (λ e. Ends e (LinksFiles (F.files shelf.old) linkage.now [] linkage.now.files)
-        (K.written out.old) (K.written out.new) (K.pieces out.old) (K.pieces out.new) (K.failures out.old) (K.failures out.new)
+        (sink_log K.Sink out.old) (sink_log K.Sink out.new)
         (FailsInTurn (F.files shelf.old) linkage.now (F.failures shelf.old) (F.failures shelf.new) (F.failed_name shelf.new))) }
     ensures failures { IfErr result (λ e. e ≢ Ending.WriteFailed → K.failures out.new ≡ K.failures out.old) }
     ensures load_failures { result ≢ Err Ending.LoadFailed → (F.failures shelf.new ≡ F.failures shelf.old) × (F.failed_name shelf.new ≡ F.failed_name shelf.old) }
@@ -114,7 +115,7 @@ fn put_linked<K: Sink>(alloc: Global, linker: Linker, linkage: &LinkMap, out: &m
     requires sound { IsSound linkage.now }
     requires modules { length linker ≡ length linkage.now.files }
     ensures ends { Ends result (LinksAdded linkage.now linker)
-        (K.written out.old) (K.written out.new) (K.pieces out.old) (K.pieces out.new) (K.failures out.old) (K.failures out.new) ⊥ }
+        (sink_log K.Sink out.old) (sink_log K.Sink out.new) ⊥ }
     ensures failures { result ≢ Ending.WriteFailed → K.failures out.new ≡ K.failures out.old }
 {
     match linker.finish(linkage) {
@@ -133,7 +134,7 @@ fn link_files<F: Shelf, K: Sink>(
     requires sound { IsSound linkage.now }
     requires names { All IsAscii linkage.now.files }
     ensures ends { Ends result (LinksFiles (F.files shelf.old) linkage.now [] linkage.now.files)
-        (K.written out.old) (K.written out.new) (K.pieces out.old) (K.pieces out.new) (K.failures out.old) (K.failures out.new)
+        (sink_log K.Sink out.old) (sink_log K.Sink out.new)
         (FailsInTurn (F.files shelf.old) linkage.now (F.failures shelf.old) (F.failures shelf.new) (F.failed_name shelf.new)) }
     ensures failures { result ≢ Ending.WriteFailed → K.failures out.new ≡ K.failures out.old }
     ensures load_failures { result ≢ Ending.LoadFailed → (F.failures shelf.new ≡ F.failures shelf.old) × (F.failed_name shelf.new ≡ F.failed_name shelf.old) }
@@ -152,7 +153,7 @@ fn link_files<F: Shelf, K: Sink>(
 fn link_text<F: Shelf, K: Sink>(alloc: Global, text: &[u8], shelf: &mut F, out: &mut K) -> Ending
     requires { length text.now ≤ 65536 }
     ensures ends { Ends result (LinksText (F.files shelf.old) text.now)
-        (K.written out.old) (K.written out.new) (K.pieces out.old) (K.pieces out.new) (K.failures out.old) (K.failures out.new)
+        (sink_log K.Sink out.old) (sink_log K.Sink out.new)
         ((linkage : LinkMap) × (IsMap text.now linkage × FailsInTurn (F.files shelf.old) linkage (F.failures shelf.old) (F.failures shelf.new) (F.failed_name shelf.new))) }
     ensures failures { result ≢ Ending.WriteFailed → K.failures out.new ≡ K.failures out.old }
     ensures load_failures { result ≢ Ending.LoadFailed → (F.failures shelf.new ≡ F.failures shelf.old) × (F.failed_name shelf.new ≡ F.failed_name shelf.old) }
@@ -172,14 +173,17 @@ pub(crate) fn link_file<F: Shelf, K: Sink>(
     out: &mut K,
 ) -> Ending
     ensures ends { Ends result (LinksFile (F.files shelf.old) name.now)
-        (K.written out.old) (K.written out.new) (K.pieces out.old) (K.pieces out.new) (K.failures out.old) (K.failures out.new)
+        (sink_log K.Sink out.old) (sink_log K.Sink out.new)
         (OfFiles (F.files shelf.old) (λ files. FailsIn (Links name.now) (F.files shelf.old) files (F.failures shelf.old) (F.failures shelf.new) (F.failed_name shelf.new))) }
     ensures failures { result ≢ Ending.WriteFailed → K.failures out.new ≡ K.failures out.old }
     ensures load_failures { result ≢ Ending.LoadFailed → (F.failures shelf.new ≡ F.failures shelf.old) × (F.failed_name shelf.new ≡ F.failed_name shelf.old) }
     ensures made { LoadsLink (F.files shelf.old) name.now (IsTrue (ends_early result)) (F.asked shelf.old) (F.asked shelf.new) }
 {
-    match load_map(alloc, name, shelf) {
-        Ok(text) => link_text(alloc, text.as_slice(), shelf, out),
-        Err(fault) => refuse_long_map(fault, out),
+    let mut text = Vec::new(alloc);
+    match load_bytes(name, MAP_LIMIT, shelf, &mut text) {
+        Ok(Load::Whole) => link_text(alloc, text.as_slice(), shelf, out),
+        Ok(Load::TooLong) => put_link_line(11, 65_536, out),
+        Err(LoadFault::Failed) => Ending::LoadFailed,
+        Err(LoadFault::NoMemory) => Ending::NoMemory,
     }
 }

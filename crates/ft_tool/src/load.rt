@@ -2,10 +2,10 @@
 ghost use Rattle.std.specs.Prelude.{◌≡◌, [], ◌∷◌};
 ghost use Rattle.ft_edge.specs.Loads.{LoadCause as EdgeCause};
 ghost use Rattle.ft_command.specs.Asked.{campaign_view};
-ghost use Rattle.ft_tool.specs.Calls.{HasMade, object_load, list_load, source_load, text_load, map_load};
+ghost use Rattle.ft_tool.specs.Calls.{HasMade, object_load, list_load};
 ghost use Rattle.ft_tool.specs.Replies.{IsToldFile};
 ghost use Rattle.ft_tool.specs.Told.{IsListOf, LoadsOther};
-ghost use Rattle.ft_tool.specs.Files.{Gives, fault_of, LoadsBytes, LoadsObject, LoadCause, ReadsList, GetsList, ListCause, LoadsSource, SourceCause, LoadsText, LoadsMap};
+ghost use Rattle.ft_tool.specs.Files.{Gives, fault_of, LoadsBytes, LoadsObject, LoadCause, ReadsList, GetsList, ListCause};
 
 use ft_campaign::{ListError, read_faults};
 use ft_command::Campaign;
@@ -17,22 +17,22 @@ use std::alloc::Global;
 use thiserror::Error;
 
 /// The most bytes of a file that are read as an object.
-const OBJECT_LIMIT: usize = 67_108_864;
+pub(crate) const OBJECT_LIMIT: usize = 67_108_864;
 
 /// The most bytes of a file that are read as a source.
-const SOURCE_LIMIT: usize = 1_048_576;
+pub(crate) const SOURCE_LIMIT: usize = 1_048_576;
 
 /// The most bytes of a file that are read as an assembly text.
-const TEXT_LIMIT: usize = 134_217_728;
+pub(crate) const TEXT_LIMIT: usize = 134_217_728;
 
 /// The most bytes of a file that are read as a link map.
-const MAP_LIMIT: usize = 65_536;
+pub(crate) const MAP_LIMIT: usize = 65_536;
 
 /// The most bytes of a file that are read as a fault list.
 const LIST_LIMIT: usize = 4_194_304;
 
 /// Loads the file of a name into an empty vector, up to a limit.
-fn load_bytes<F: Shelf>(
+pub(crate) fn load_bytes<F: Shelf>(
     name: &str,
     limit: usize,
     shelf: &mut F,
@@ -175,77 +175,4 @@ pub(crate) fn list_of<F: Shelf>(
         return read_list(alloc, bytes);
     }
     load_list(alloc, asked.faults, shelf)
-}
-
-/// Why there is no source, no assembly text or no link map.
-#[derive(Clone, Copy, Debug, PartialEq, Eq, Error)]
-pub(crate) enum SourceFault {
-    /// The file has more than 1,048,576 bytes; for an assembly text more than 134,217,728, and for a link
-    /// map more than 65,536.
-    #[error("the text is too long")]
-    TooLong,
-    /// The file could not be read.
-    #[error("the file could not be read")]
-    Failed,
-    /// There was no memory left.
-    #[error("out of memory")]
-    NoMemory,
-}
-
-/// Loads the file of a name as a source.
-pub(crate) fn load_source<F: Shelf>(
-    alloc: Global,
-    name: &str,
-    shelf: &mut F,
-) -> Result<Vec<u8>, SourceFault>
-    ensures loads { LoadsSource (λ v. v.items) (F.files shelf.old) name.now result }
-    ensures cause { SourceCause (F.failures shelf.old) (F.failures shelf.new) (F.failed_name shelf.old) (F.failed_name shelf.new) name.now result }
-    ensures made { HasMade (source_load name.now ∷ []) (F.asked shelf.old) (F.asked shelf.new) }
-{
-    let mut bytes = Vec::new(alloc);
-    match load_bytes(name, SOURCE_LIMIT, shelf, &mut bytes) {
-        Ok(Load::Whole) => Ok(bytes),
-        Ok(Load::TooLong) => Err(SourceFault::TooLong),
-        Err(LoadFault::Failed) => Err(SourceFault::Failed),
-        Err(LoadFault::NoMemory) => Err(SourceFault::NoMemory),
-    }
-}
-
-/// Loads the file of a name as an assembly text.
-pub(crate) fn load_text<F: Shelf>(
-    alloc: Global,
-    name: &str,
-    shelf: &mut F,
-) -> Result<Vec<u8>, SourceFault>
-    ensures loads { LoadsText (λ v. v.items) (F.files shelf.old) name.now result }
-    ensures cause { SourceCause (F.failures shelf.old) (F.failures shelf.new) (F.failed_name shelf.old) (F.failed_name shelf.new) name.now result }
-    ensures made { HasMade (text_load name.now ∷ []) (F.asked shelf.old) (F.asked shelf.new) }
-{
-    let mut bytes = Vec::new(alloc);
-    match load_bytes(name, TEXT_LIMIT, shelf, &mut bytes) {
-        Ok(Load::Whole) => Ok(bytes),
-        Ok(Load::TooLong) => Err(SourceFault::TooLong),
-        Err(LoadFault::Failed) => Err(SourceFault::Failed),
-        Err(LoadFault::NoMemory) => Err(SourceFault::NoMemory),
-    }
-}
-
-/// Loads the file of a name as a link map.
-pub(crate) fn load_map<F: Shelf>(
-    alloc: Global,
-    name: &str,
-    shelf: &mut F,
-) -> Result<Vec<u8>, SourceFault>
-    ensures loads { LoadsMap (λ v. v.items) (F.files shelf.old) name.now result }
-    ensures files { F.files shelf.new ≡ F.files shelf.old }
-    ensures cause { SourceCause (F.failures shelf.old) (F.failures shelf.new) (F.failed_name shelf.old) (F.failed_name shelf.new) name.now result }
-    ensures made { HasMade (map_load name.now ∷ []) (F.asked shelf.old) (F.asked shelf.new) }
-{
-    let mut bytes = Vec::new(alloc);
-    match load_bytes(name, MAP_LIMIT, shelf, &mut bytes) {
-        Ok(Load::Whole) => Ok(bytes),
-        Ok(Load::TooLong) => Err(SourceFault::TooLong),
-        Err(LoadFault::Failed) => Err(SourceFault::Failed),
-        Err(LoadFault::NoMemory) => Err(SourceFault::NoMemory),
-    }
 }

@@ -1,26 +1,23 @@
 //! The command `mean`.
-ghost use Rattle.std.specs.Prelude.{◌≡◌, ◌≢◌, [], ◌∷◌};
-ghost use Rattle.ft_command.specs.Commands.{Means};
-ghost use Rattle.ft_command.specs.Asked.{meaning_view};
-ghost use Rattle.ft_tool.specs.Answers.{OverSource, FailsIn};
-ghost use Rattle.ft_tool.specs.Calls.{HasMade, source_load};
-ghost use Rattle.ft_tool.specs.Told.{OfFiles};
+ghost use Rattle.std.specs.Prelude.{◌≡◌, ◌≢◌};
+ghost use Rattle.ft_tool.specs.Logs.{sink_log};
 ghost use Rattle.ft_tool.specs.Endings.{Ends};
 ghost use Rattle.ft_tool.specs.Sources.{OverText, MeansProgram};
 
-use crate::ending::{Ending, refuse_long_source, refuse_source};
-use crate::load::load_source;
+use crate::ending::{Ending, refuse_source};
+use crate::load::SOURCE_LIMIT;
+use crate::over_file::FileCommand;
 use ft_command::Meaning;
-use ft_edge::{Shelf, Sink};
+use ft_edge::Sink;
 use ft_meaning::{MeanEnd, mean};
 use ft_scope::resolve;
-use ft_syntax::parse;
+use ft_syntax::{SourceError, parse};
 use std::alloc::Global;
 
 /// Gives the meaning of a source.
 fn mean_text<K: Sink>(alloc: Global, text: &[u8], turns: u64, out: &mut K) -> Ending
     ensures ends { Ends result (OverText (MeansProgram turns) text.now)
-        (K.written out.old) (K.written out.new) (K.pieces out.old) (K.pieces out.new) (K.failures out.old) (K.failures out.new) ⊥ }
+        (sink_log K.Sink out.old) (sink_log K.Sink out.new) ⊥ }
     ensures failures { result ≢ Ending.WriteFailed → K.failures out.new ≡ K.failures out.old }
 {
     let tree = match parse(alloc, text) {
@@ -39,22 +36,41 @@ fn mean_text<K: Sink>(alloc: Global, text: &[u8], turns: u64, out: &mut K) -> En
     }
 }
 
-/// Loads a source and gives its meaning.
-pub(crate) fn mean_file<F: Shelf, K: Sink>(
-    alloc: Global,
-    asked: &Meaning,
-    shelf: &mut F,
-    out: &mut K,
-) -> Ending
-    ensures ends { Ends result (λ a. OfFiles (F.files shelf.old) (λ files. OverSource (MeansProgram asked.now.turns) asked.now.source.now files a))
-        (K.written out.old) (K.written out.new) (K.pieces out.old) (K.pieces out.new) (K.failures out.old) (K.failures out.new)
-        (OfFiles (F.files shelf.old) (λ files. FailsIn (Means (meaning_view asked.now)) (F.files shelf.old) files (F.failures shelf.old) (F.failures shelf.new) (F.failed_name shelf.new))) }
-    ensures failures { result ≢ Ending.WriteFailed → K.failures out.new ≡ K.failures out.old }
-    ensures load_failures { result ≢ Ending.LoadFailed → (F.failures shelf.new ≡ F.failures shelf.old) × (F.failed_name shelf.new ≡ F.failed_name shelf.old) }
-    ensures made { HasMade (source_load asked.now.source.now ∷ []) (F.asked shelf.old) (F.asked shelf.new) }
-{
-    match load_source(alloc, asked.source, shelf) {
-        Ok(text) => mean_text(alloc, text.as_slice(), asked.turns, out),
-        Err(fault) => refuse_long_source(fault, out),
+/// The meaning of the source of a file.
+#[derive(Drop)]
+pub(crate) struct MeanCommand<'w> {
+    pub asked: Meaning<'w>,
+}
+
+impl<'w> FileCommand for MeanCommand<'w> {
+    ghost use Rattle.std.specs.Prelude.{refl};
+    ghost use Rattle.ft_command.specs.Commands.{Means};
+    ghost use Rattle.ft_command.specs.Asked.{meaning_view};
+    ghost use Rattle.ft_tool.specs.Sources.{OverText, MeansProgram};
+
+    ghost request = { λ c. Means (meaning_view c.asked) };
+
+    ghost file = { λ c. c.asked.source.now };
+
+    ghost limit = { λ c. 1048576 };
+
+    ghost answer = { λ c. OverText (MeansProgram c.asked.turns) };
+
+    ghost is_over_file = { λ c. record { answers = λ told files script bytes a is h. (bytes, (is, h)); comes = λ told files. refl; loads = λ told files early asked asked' made. made } };
+
+    fn file(&self) -> &str {
+        self.asked.source
+    }
+
+    fn limit(&self) -> usize {
+        SOURCE_LIMIT
+    }
+
+    fn over_bytes<K: Sink>(&self, alloc: Global, bytes: &[u8], out: &mut K) -> Ending {
+        mean_text(alloc, bytes, self.asked.turns, out)
+    }
+
+    fn refuse_long<K: Sink>(&self, out: &mut K) -> Ending {
+        refuse_source(SourceError::TooLong, out)
     }
 }

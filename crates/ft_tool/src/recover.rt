@@ -1,23 +1,21 @@
 //! The command `recover`.
-ghost use Rattle.std.specs.Prelude.{◌≡◌, ◌≢◌, [], ◌∷◌, None, OnOk, OnErr};
+ghost use Rattle.std.specs.Prelude.{◌≡◌, ◌≢◌, None, OnOk, OnErr};
 ghost use Rattle.ft_command.specs.Asked.{run_view};
-ghost use Rattle.ft_command.specs.Commands.{Recovers};
 ghost use Rattle.ft_edge.specs.Causes.{Rose};
 ghost use Rattle.ft_edge.specs.Puts.{PutsLines, BreaksOff};
 ghost use Rattle.ft_types.specs.Spellable.{IsSpellable};
 ghost use Rattle.ft_typing.specs.Accepted.{refusal};
-ghost use Rattle.ft_tool.specs.Answers.{RecoversObject, OverFile, FailsIn, again_lines};
-ghost use Rattle.ft_tool.specs.Calls.{HasMade, object_load};
+ghost use Rattle.ft_tool.specs.Logs.{sink_log};
+ghost use Rattle.ft_tool.specs.Answers.{RecoversObject, again_lines};
 ghost use Rattle.ft_tool.specs.Endings.{Ends, again_of, ending_of_recovery};
 ghost use Rattle.ft_tool.specs.Texts.{again_line};
-ghost use Rattle.ft_tool.specs.Told.{OfFiles};
 
 use crate::check::check;
-use crate::ending::{Ending, put_piece, refuse_check, refuse_object};
-use crate::load::load_object;
+use crate::ending::{Ending, put_piece, refuse_check};
+use crate::over_object::ObjectCommand;
 use ft_checker::Checked;
 use ft_command::Run;
-use ft_edge::{Failed, Shelf, Sink};
+use ft_edge::{Failed, Sink};
 use ft_isa::Plan;
 use ft_recover::RecoverEnd;
 use ft_text::Line;
@@ -82,7 +80,7 @@ fn recover_checked<P: Program, K: Sink>(
     requires spellable { IsSpellable (P.object checked.now) }
     requires accepted { refusal (P.object checked.now) ≡ None }
     ensures ends { Ends result (RecoversObject (run_view run.now) (P.object checked.now))
-        (K.written out.old) (K.written out.new) (K.pieces out.old) (K.pieces out.new) (K.failures out.old) (K.failures out.new) ⊥ }
+        (sink_log K.Sink out.old) (sink_log K.Sink out.new) ⊥ }
     ensures failures { result ≢ Ending.WriteFailed → K.failures out.new ≡ K.failures out.old }
 {
     let plan = Plan {
@@ -100,7 +98,7 @@ fn recover_checked<P: Program, K: Sink>(
 fn recover_object<P: Program, K: Sink>(alloc: Global, program: &P, run: &Run, out: &mut K) -> Ending
     requires { IsSpellable (P.object program.now) }
     ensures ends { Ends result (RecoversObject (run_view run.now) (P.object program.now))
-        (K.written out.old) (K.written out.new) (K.pieces out.old) (K.pieces out.new) (K.failures out.old) (K.failures out.new) ⊥ }
+        (sink_log K.Sink out.old) (sink_log K.Sink out.new) ⊥ }
     ensures failures { result ≢ Ending.WriteFailed → K.failures out.new ≡ K.failures out.old }
 {
     let checked = match check(alloc, program) {
@@ -110,23 +108,31 @@ fn recover_object<P: Program, K: Sink>(alloc: Global, program: &P, run: &Run, ou
     recover_checked(alloc, &checked, run, out)
 }
 
-/// Loads an object and runs it, if it is accepted, and again where a fault is detected.
-pub(crate) fn recover_file<F: Shelf, K: Sink>(
-    alloc: Global,
-    run: &Run,
-    shelf: &mut F,
-    out: &mut K,
-) -> Ending
-    ensures ends { Ends result (λ a. OfFiles (F.files shelf.old) (λ files. OverFile (RecoversObject (run_view run.now)) run.now.object.now files a))
-        (K.written out.old) (K.written out.new) (K.pieces out.old) (K.pieces out.new) (K.failures out.old) (K.failures out.new)
-        (OfFiles (F.files shelf.old) (λ files. FailsIn (Recovers (run_view run.now)) (F.files shelf.old) files (F.failures shelf.old) (F.failures shelf.new) (F.failed_name shelf.new))) }
-    ensures failures { result ≢ Ending.WriteFailed → K.failures out.new ≡ K.failures out.old }
-    ensures load_failures { result ≢ Ending.LoadFailed → (F.failures shelf.new ≡ F.failures shelf.old) × (F.failed_name shelf.new ≡ F.failed_name shelf.old) }
-    ensures made { HasMade (object_load run.now.object.now ∷ []) (F.asked shelf.old) (F.asked shelf.new) }
-{
-    let mut bytes = Vec::new(alloc);
-    match load_object(run.object, shelf, &mut bytes) {
-        Ok(view) => recover_object(alloc, &view, run, out),
-        Err(fault) => refuse_object(fault, out),
+/// The run of the object of a file, if it is accepted, and again where a fault is detected.
+#[derive(Drop)]
+pub(crate) struct RecoverCommand<'w> {
+    pub run: Run<'w>,
+}
+
+impl<'w> ObjectCommand for RecoverCommand<'w> {
+    ghost use Rattle.std.specs.Prelude.{refl};
+    ghost use Rattle.ft_command.specs.Asked.{run_view};
+    ghost use Rattle.ft_command.specs.Commands.{Recovers};
+    ghost use Rattle.ft_tool.specs.Answers.{RecoversObject};
+
+    ghost request = { λ c. Recovers (run_view c.run) };
+
+    ghost file = { λ c. c.run.object.now };
+
+    ghost answer = { λ c. RecoversObject (run_view c.run) };
+
+    ghost is_over_file = { λ c. record { answers = λ told files script bytes a is h. (bytes, (is, h)); comes = λ told files. refl; loads = λ told files early asked asked' made. made } };
+
+    fn file(&self) -> &str {
+        self.run.object
+    }
+
+    fn over_object<P: Program, K: Sink>(&self, alloc: Global, program: &P, out: &mut K) -> Ending {
+        recover_object(alloc, program, &self.run, out)
     }
 }

@@ -1,17 +1,15 @@
 //! The command `schedule`.
-ghost use Rattle.std.specs.Prelude.{◌≡◌, ◌≢◌, [], ◌∷◌};
+ghost use Rattle.std.specs.Prelude.{◌≡◌, ◌≢◌};
 ghost use Rattle.ft_types.specs.Spellable.{IsSpellable};
-ghost use Rattle.ft_command.specs.Commands.{Schedules};
-ghost use Rattle.ft_tool.specs.Answers.{SchedulesAccepted, SchedulesObject, OverFile, FailsIn};
-ghost use Rattle.ft_tool.specs.Calls.{HasMade, object_load};
+ghost use Rattle.ft_tool.specs.Logs.{sink_log};
+ghost use Rattle.ft_tool.specs.Answers.{SchedulesAccepted, SchedulesObject};
 ghost use Rattle.ft_tool.specs.Endings.{Ends};
-ghost use Rattle.ft_tool.specs.Told.{OfFiles};
 
 use crate::check::check;
-use crate::ending::{Ending, put_object, refuse_check, refuse_object};
-use crate::load::load_object;
+use crate::ending::{Ending, put_object, refuse_check};
+use crate::over_object::ObjectCommand;
 use ft_checker::Checked;
-use ft_edge::{Shelf, Sink};
+use ft_edge::Sink;
 use ft_sched::schedule;
 use ft_types::Program;
 use std::alloc::Global;
@@ -24,7 +22,7 @@ fn put_schedule<'a, P: Program, K: Sink>(
 ) -> Ending
     requires { IsSpellable (P.object checked.now) }
     ensures ends { Ends result (SchedulesAccepted (P.object checked.now))
-        (K.written out.old) (K.written out.new) (K.pieces out.old) (K.pieces out.new) (K.failures out.old) (K.failures out.new) ⊥ }
+        (sink_log K.Sink out.old) (sink_log K.Sink out.new) ⊥ }
     ensures failures { result ≢ Ending.WriteFailed → K.failures out.new ≡ K.failures out.old }
 {
     match schedule(alloc, checked) {
@@ -37,7 +35,7 @@ fn put_schedule<'a, P: Program, K: Sink>(
 fn schedule_object<P: Program, K: Sink>(alloc: Global, program: &P, out: &mut K) -> Ending
     requires { IsSpellable (P.object program.now) }
     ensures ends { Ends result (SchedulesObject (P.object program.now))
-        (K.written out.old) (K.written out.new) (K.pieces out.old) (K.pieces out.new) (K.failures out.old) (K.failures out.new) ⊥ }
+        (sink_log K.Sink out.old) (sink_log K.Sink out.new) ⊥ }
     ensures failures { result ≢ Ending.WriteFailed → K.failures out.new ≡ K.failures out.old }
 {
     match check(alloc, program) {
@@ -46,23 +44,30 @@ fn schedule_object<P: Program, K: Sink>(alloc: Global, program: &P, out: &mut K)
     }
 }
 
-/// Loads an object and puts its schedule in version 2 of the format, if it is accepted.
-pub(crate) fn schedule_file<F: Shelf, K: Sink>(
-    alloc: Global,
-    name: &str,
-    shelf: &mut F,
-    out: &mut K,
-) -> Ending
-    ensures ends { Ends result (λ a. OfFiles (F.files shelf.old) (λ files. OverFile SchedulesObject name.now files a))
-        (K.written out.old) (K.written out.new) (K.pieces out.old) (K.pieces out.new) (K.failures out.old) (K.failures out.new)
-        (OfFiles (F.files shelf.old) (λ files. FailsIn (Schedules name.now) (F.files shelf.old) files (F.failures shelf.old) (F.failures shelf.new) (F.failed_name shelf.new))) }
-    ensures failures { result ≢ Ending.WriteFailed → K.failures out.new ≡ K.failures out.old }
-    ensures load_failures { result ≢ Ending.LoadFailed → (F.failures shelf.new ≡ F.failures shelf.old) × (F.failed_name shelf.new ≡ F.failed_name shelf.old) }
-    ensures made { HasMade (object_load name.now ∷ []) (F.asked shelf.old) (F.asked shelf.new) }
-{
-    let mut bytes = Vec::new(alloc);
-    match load_object(name, shelf, &mut bytes) {
-        Ok(view) => schedule_object(alloc, &view, out),
-        Err(fault) => refuse_object(fault, out),
+/// The schedule of the object of a file, if it is accepted.
+#[derive(Drop)]
+pub(crate) struct ScheduleCommand<'w> {
+    pub object: &'w str,
+}
+
+impl<'w> ObjectCommand for ScheduleCommand<'w> {
+    ghost use Rattle.std.specs.Prelude.{refl};
+    ghost use Rattle.ft_command.specs.Commands.{Schedules};
+    ghost use Rattle.ft_tool.specs.Answers.{SchedulesObject};
+
+    ghost request = { λ c. Schedules c.object.now };
+
+    ghost file = { λ c. c.object.now };
+
+    ghost answer = { λ c. SchedulesObject };
+
+    ghost is_over_file = { λ c. record { answers = λ told files script bytes a is h. (bytes, (is, h)); comes = λ told files. refl; loads = λ told files early asked asked' made. made } };
+
+    fn file(&self) -> &str {
+        self.object
+    }
+
+    fn over_object<P: Program, K: Sink>(&self, alloc: Global, program: &P, out: &mut K) -> Ending {
+        schedule_object(alloc, program, out)
     }
 }

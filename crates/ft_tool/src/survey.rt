@@ -4,6 +4,7 @@ ghost use Rattle.ft_edge.specs.Causes.{Rose};
 ghost use Rattle.ft_command.specs.Asked.{campaign_view};
 ghost use Rattle.ft_types.specs.Spellable.{IsSpellable};
 ghost use Rattle.ft_campaign.specs.Campaigns.{EndsAs as CampaignEnds, IsExcused};
+ghost use Rattle.ft_tool.specs.Logs.{sink_log};
 ghost use Rattle.ft_tool.specs.Answers.{SurveysObject, OverFile, FailsIn};
 ghost use Rattle.ft_tool.specs.Calls.{LoadsFor};
 ghost use Rattle.ft_tool.specs.Replies.{IsToldFile};
@@ -12,8 +13,9 @@ ghost use Rattle.ft_tool.specs.Lists.{AnyVerdicts, OverFaults};
 ghost use Rattle.ft_tool.specs.Endings.{Ends, ends_early};
 ghost use Rattle.ft_command.specs.Commands.{Surveys};
 
-use crate::ending::{Ending, put_list_line, refuse_list, refuse_object};
-use crate::load::{list_of, load_object};
+use crate::ending::{Ending, put_list_line, refuse_object};
+use crate::load::load_object;
+use crate::over_list::{Target, over_list};
 use ft_campaign::{CampaignEnd, survey};
 use ft_command::Campaign;
 use ft_edge::{Shelf, Sink};
@@ -67,7 +69,7 @@ fn survey_faults<P: Program, K: Sink>(
     requires faults { length faults.now ≤ 65536 }
     requires steps { asked.now.steps ≤ 1000000 }
     ensures ends { Ends result (OverFaults AnyVerdicts (campaign_view asked.now) (P.object program.now) faults.now)
-        (K.written out.old) (K.written out.new) (K.pieces out.old) (K.pieces out.new) (K.failures out.old) (K.failures out.new) ⊥ }
+        (sink_log K.Sink out.old) (sink_log K.Sink out.new) ⊥ }
     ensures failures { result ≢ Ending.WriteFailed → K.failures out.new ≡ K.failures out.old }
 {
     match survey_counted::<P, K, Brand>(alloc, program, faults, asked, out, Blank::new(1)) {
@@ -84,28 +86,30 @@ fn survey_faults<P: Program, K: Sink>(
     }
 }
 
-/// Loads a fault list and tries it on an object that is not checked.
-fn survey_object<P: Program, F: Shelf, K: Sink>(
-    alloc: Global,
-    program: &P,
-    bytes: &[u8],
-    asked: &Campaign,
-    shelf: &mut F,
-    out: &mut K,
-) -> Ending
-    requires spellable { IsSpellable (P.object program.now) }
-    requires steps { asked.now.steps ≤ 1000000 }
-    requires own { IsToldFile (F.files shelf.old) asked.now.object.now bytes.now }
-    ensures ends { Ends result (OverListOf AnyVerdicts (campaign_view asked.now) (F.files shelf.old) bytes.now (P.object program.now))
-        (K.written out.old) (K.written out.new) (K.pieces out.old) (K.pieces out.new) (K.failures out.old) (K.failures out.new)
-        (Rose (F.failures shelf.old) (F.failures shelf.new) × (F.failed_name shelf.new ≡ Some asked.now.faults.now)) }
-    ensures failures { result ≢ Ending.WriteFailed → K.failures out.new ≡ K.failures out.old }
-    ensures load_failures { result ≢ Ending.LoadFailed → (F.failures shelf.new ≡ F.failures shelf.old) × (F.failed_name shelf.new ≡ F.failed_name shelf.old) }
-    ensures made { LoadsOther (campaign_view asked.now) (F.asked shelf.old) (F.asked shelf.new) }
-{
-    match list_of(alloc, asked, bytes, shelf) {
-        Ok(faults) => survey_faults(alloc, program, faults.as_slice(), asked, out),
-        Err(fault) => refuse_list(fault, out),
+/// An object that is not checked, on which faults are tried.
+#[derive(Drop)]
+struct UncheckedTarget<'a, P> {
+    program: &'a P,
+}
+
+impl<'a, P: Program> Target for UncheckedTarget<'a, P> {
+    ghost use Rattle.ft_types.specs.Spellable.{IsSpellable};
+    ghost use Rattle.ft_tool.specs.Lists.{AnyVerdicts};
+
+    ghost object = { λ t. P.object t.program.now };
+
+    ghost known = { λ t. IsSpellable (P.object t.program.now) };
+
+    ghost promised = { λ t. AnyVerdicts };
+
+    fn over_faults<K: Sink>(
+        &self,
+        alloc: Global,
+        faults: &[Strike],
+        asked: &Campaign,
+        out: &mut K,
+    ) -> Ending {
+        survey_faults(alloc, self.program, faults, asked, out)
     }
 }
 
@@ -118,7 +122,7 @@ pub(crate) fn survey_file<F: Shelf, K: Sink>(
 ) -> Ending
     requires { asked.now.steps ≤ 1000000 }
     ensures ends { Ends result (λ a. OfFiles (F.files shelf.old) (λ files. OverFile (SurveysObject (campaign_view asked.now) files) asked.now.object.now files a))
-        (K.written out.old) (K.written out.new) (K.pieces out.old) (K.pieces out.new) (K.failures out.old) (K.failures out.new)
+        (sink_log K.Sink out.old) (sink_log K.Sink out.new)
         (OfFiles (F.files shelf.old) (λ files. FailsIn (Surveys (campaign_view asked.now)) (F.files shelf.old) files (F.failures shelf.old) (F.failures shelf.new) (F.failed_name shelf.new))) }
     ensures failures { result ≢ Ending.WriteFailed → K.failures out.new ≡ K.failures out.old }
     ensures load_failures { result ≢ Ending.LoadFailed → (F.failures shelf.new ≡ F.failures shelf.old) × (F.failed_name shelf.new ≡ F.failed_name shelf.old) }
@@ -126,7 +130,10 @@ pub(crate) fn survey_file<F: Shelf, K: Sink>(
 {
     let mut bytes = Vec::new(alloc);
     match load_object(asked.object, shelf, &mut bytes) {
-        Ok(view) => survey_object(alloc, &view, view.bytes(), asked, shelf, out),
+        Ok(view) => {
+            let target = UncheckedTarget { program: &view };
+            over_list(alloc, &target, view.bytes(), asked, shelf, out)
+        }
         Err(fault) => refuse_object(fault, out),
     }
 }

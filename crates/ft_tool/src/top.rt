@@ -2,31 +2,76 @@
 ghost use Rattle.std.specs.Prelude.{◌≡◌, ◌≢◌, ◌⊎◌, [], map, string_bytes, IsTrue};
 ghost use Rattle.ft_edge.specs.Causes.{Rose};
 ghost use Rattle.ft_edge.specs.Puts.{PutsNothing};
+ghost use Rattle.ft_tool.specs.Logs.{sink_log};
 ghost use Rattle.ft_tool.specs.Calls.{HasMade, is_early, Loads, TakesFrom};
-ghost use Rattle.ft_command.specs.Commands.{Asks, Usage};
+ghost use Rattle.ft_tool.specs.Does.{Does, FailsTaking, TakesFor};
+ghost use Rattle.ft_command.specs.Asked.{asked};
+ghost use Rattle.ft_command.specs.Commands.{Asks, Usage, HasFewSteps, HasTurns};
 ghost use Rattle.ft_tool.specs.Answers.{IsAnswer, Concludes, BreaksOff, FailedToLoad, FailedToTake, is_status};
 ghost use Rattle.ft_tool.specs.Endings.{Ends, ends_early};
 
-use crate::assemble::assemble_file;
+use crate::assemble::AssembleCommand;
 use crate::campaign::campaign_file;
-use crate::check::check_file;
-use crate::compile::compile_file;
+use crate::check::CheckCommand;
+use crate::compile::CompileCommand;
 use crate::debug::debug_file;
 use crate::demo::demonstrate;
-use crate::disassemble::disassemble_file;
+use crate::disassemble::DisassembleCommand;
 use crate::ending::{Ending, put_usage};
-use crate::exec::exec_file;
+use crate::exec::ExecCommand;
 use crate::link::link_file;
-use crate::mean::mean_file;
-use crate::recover::recover_file;
-use crate::run::run_file;
-use crate::schedule::schedule_file;
+use crate::mean::MeanCommand;
+use crate::over_file::over_file;
+use crate::over_object::over_object;
+use crate::recover::RecoverCommand;
+use crate::run::RunCommand;
+use crate::schedule::ScheduleCommand;
 use crate::survey::survey_file;
-use crate::trial::trial_file;
-use crate::upgrade::upgrade_file;
+use crate::trial::TrialCommand;
+use crate::upgrade::UpgradeCommand;
 use ft_command::{Command, command_of};
 use ft_edge::{Shelf, Sink, Source};
 use std::alloc::Global;
+
+/// Does what a command is for. The script is taken by `debug` alone.
+fn obey<F: Shelf, I: Source, K: Sink>(
+    alloc: Global,
+    command: Command,
+    shelf: &mut F,
+    script: &mut I,
+    out: &mut K,
+) -> Ending
+    requires few_steps { HasFewSteps (asked command) }
+    requires turns { HasTurns (asked command) }
+    ensures does { Does (asked command.entry) result (F.files shelf.old) (I.left script.old)
+        (sink_log K.Sink out.old) (sink_log K.Sink out.new)
+        (F.failures shelf.old) (F.failures shelf.new) (F.failed_name shelf.old) (F.failed_name shelf.new) (F.asked shelf.old) (F.asked shelf.new)
+        (FailsTaking (asked command.entry) (F.files shelf.old) (I.failures script.old) (I.failures script.new)) }
+    ensures script { TakesFor (asked command.entry) (F.files shelf.old) (I.takes script.old) (I.takes script.new) (I.left script.old) (I.left script.new) ⊎ (script.new ≡ script.old) }
+    ensures script_failures { result ≢ Ending.LoadFailed → I.failures script.new ≡ I.failures script.old }
+{
+    match command {
+        Command::Usage => put_usage(out),
+        Command::Check(object) => over_object(alloc, CheckCommand { object }, shelf, out),
+        Command::Run(run) => over_object(alloc, RunCommand { run }, shelf, out),
+        Command::Trial(run) => over_object(alloc, TrialCommand { run }, shelf, out),
+        Command::Recover(run) => over_object(alloc, RecoverCommand { run }, shelf, out),
+        Command::Campaign(asked) => campaign_file(alloc, &asked, shelf, out),
+        Command::Survey(asked) => survey_file(alloc, &asked, shelf, out),
+        Command::Compile(source) => over_file(alloc, &CompileCommand { source }, shelf, out),
+        Command::Exec(asked) => over_file(alloc, &ExecCommand { asked }, shelf, out),
+        Command::Mean(asked) => over_file(alloc, &MeanCommand { asked }, shelf, out),
+        Command::Debug(asked) => debug_file(alloc, &asked, shelf, script, out),
+        Command::Demo(turns) => demonstrate(alloc, turns, out),
+        Command::Upgrade(object) => over_file(alloc, &UpgradeCommand { object }, shelf, out),
+        Command::Assemble(text) => over_file(alloc, &AssembleCommand { text }, shelf, out),
+        Command::Disassemble(object) => {
+            over_object(alloc, DisassembleCommand { object }, shelf, out)
+        }
+        Command::Schedule(object) => over_object(alloc, ScheduleCommand { object }, shelf, out),
+        Command::Link(name) => link_file(alloc, name, shelf, out),
+    }
+}
 
 /// Does what the words ask for.
 fn carry_out<F: Shelf, I: Source, K: Sink>(
@@ -37,7 +82,7 @@ fn carry_out<F: Shelf, I: Source, K: Sink>(
     out: &mut K,
 ) -> Ending
     ensures ends { Ends result (IsAnswer (map string_bytes words.now) (F.files shelf.old) (I.left script.old))
-        (K.written out.old) (K.written out.new) (K.pieces out.old) (K.pieces out.new) (K.failures out.old) (K.failures out.new)
+        (sink_log K.Sink out.old) (sink_log K.Sink out.new)
         (FailedToLoad (map string_bytes words.now) (F.files shelf.old) (F.failures shelf.old) (F.failures shelf.new) (F.failed_name shelf.new)
         ⊎ FailedToTake (map string_bytes words.now) (F.files shelf.old) (I.failures script.old) (I.failures script.new)) }
     ensures usage { result ≡ Ending.Usage → Asks (map string_bytes words.now) Usage }
@@ -49,23 +94,7 @@ fn carry_out<F: Shelf, I: Source, K: Sink>(
     ensures script_failures { result ≢ Ending.LoadFailed → I.failures script.new ≡ I.failures script.old }
 {
     match command_of(alloc, words) {
-        Ok(Command::Usage) => put_usage(out),
-        Ok(Command::Check(name)) => check_file(alloc, name, shelf, out),
-        Ok(Command::Run(run)) => run_file(alloc, &run, shelf, out),
-        Ok(Command::Trial(run)) => trial_file(alloc, &run, shelf, out),
-        Ok(Command::Recover(run)) => recover_file(alloc, &run, shelf, out),
-        Ok(Command::Campaign(asked)) => campaign_file(alloc, &asked, shelf, out),
-        Ok(Command::Survey(asked)) => survey_file(alloc, &asked, shelf, out),
-        Ok(Command::Compile(name)) => compile_file(alloc, name, shelf, out),
-        Ok(Command::Exec(asked)) => exec_file(alloc, &asked, shelf, out),
-        Ok(Command::Mean(asked)) => mean_file(alloc, &asked, shelf, out),
-        Ok(Command::Debug(asked)) => debug_file(alloc, &asked, shelf, script, out),
-        Ok(Command::Demo(turns)) => demonstrate(alloc, turns, out),
-        Ok(Command::Upgrade(name)) => upgrade_file(alloc, name, shelf, out),
-        Ok(Command::Assemble(name)) => assemble_file(alloc, name, shelf, out),
-        Ok(Command::Disassemble(name)) => disassemble_file(alloc, name, shelf, out),
-        Ok(Command::Schedule(name)) => schedule_file(alloc, name, shelf, out),
-        Ok(Command::Link(name)) => link_file(alloc, name, shelf, out),
+        Ok(command) => obey(alloc, command, shelf, script, out),
         Err(_) => Ending::NoMemory,
     }
 }

@@ -1,17 +1,15 @@
 //! The command `trial`.
-ghost use Rattle.std.specs.Prelude.{◌≡◌, ◌≢◌, [], ◌∷◌};
+ghost use Rattle.std.specs.Prelude.{◌≡◌, ◌≢◌};
 ghost use Rattle.ft_command.specs.Asked.{run_view};
 ghost use Rattle.ft_types.specs.Spellable.{IsSpellable};
-ghost use Rattle.ft_tool.specs.Answers.{TrialsObject, OverFile, FailsIn};
+ghost use Rattle.ft_tool.specs.Logs.{sink_log};
+ghost use Rattle.ft_tool.specs.Answers.{TrialsObject};
 ghost use Rattle.ft_tool.specs.Endings.{Ends};
-ghost use Rattle.ft_tool.specs.Calls.{HasMade, object_load};
-ghost use Rattle.ft_command.specs.Commands.{Trials};
-ghost use Rattle.ft_tool.specs.Told.{OfFiles};
 
-use crate::ending::{Ending, ending_of_run, refuse_object};
-use crate::load::load_object;
+use crate::ending::{Ending, ending_of_run};
+use crate::over_object::ObjectCommand;
 use ft_command::Run;
-use ft_edge::{Shelf, Sink};
+use ft_edge::Sink;
 use ft_isa::Plan;
 use ft_machine::{Machine, drive};
 use ft_types::Program;
@@ -26,7 +24,7 @@ pub(crate) fn trial_object<P: Program, K: Sink>(
 ) -> Ending
     requires { IsSpellable (P.object program.now) }
     ensures ends { Ends result (TrialsObject (run_view run.now) (P.object program.now))
-        (K.written out.old) (K.written out.new) (K.pieces out.old) (K.pieces out.new) (K.failures out.old) (K.failures out.new) ⊥ }
+        (sink_log K.Sink out.old) (sink_log K.Sink out.new) ⊥ }
     ensures failures { result ≢ Ending.WriteFailed → K.failures out.new ≡ K.failures out.old }
 {
     let mut machine = match Machine::new(alloc, program) {
@@ -40,23 +38,31 @@ pub(crate) fn trial_object<P: Program, K: Sink>(
     ending_of_run(drive(&mut machine, program, plan, run.steps, out))
 }
 
-/// Loads an object and runs it without checking it.
-pub(crate) fn trial_file<F: Shelf, K: Sink>(
-    alloc: Global,
-    run: &Run,
-    shelf: &mut F,
-    out: &mut K,
-) -> Ending
-    ensures ends { Ends result (λ a. OfFiles (F.files shelf.old) (λ files. OverFile (TrialsObject (run_view run.now)) run.now.object.now files a))
-        (K.written out.old) (K.written out.new) (K.pieces out.old) (K.pieces out.new) (K.failures out.old) (K.failures out.new)
-        (OfFiles (F.files shelf.old) (λ files. FailsIn (Trials (run_view run.now)) (F.files shelf.old) files (F.failures shelf.old) (F.failures shelf.new) (F.failed_name shelf.new))) }
-    ensures failures { result ≢ Ending.WriteFailed → K.failures out.new ≡ K.failures out.old }
-    ensures load_failures { result ≢ Ending.LoadFailed → (F.failures shelf.new ≡ F.failures shelf.old) × (F.failed_name shelf.new ≡ F.failed_name shelf.old) }
-    ensures made { HasMade (object_load run.now.object.now ∷ []) (F.asked shelf.old) (F.asked shelf.new) }
-{
-    let mut bytes = Vec::new(alloc);
-    match load_object(run.object, shelf, &mut bytes) {
-        Ok(view) => trial_object(alloc, &view, run, out),
-        Err(fault) => refuse_object(fault, out),
+/// The run of the object of a file, which is not checked.
+#[derive(Drop)]
+pub(crate) struct TrialCommand<'w> {
+    pub run: Run<'w>,
+}
+
+impl<'w> ObjectCommand for TrialCommand<'w> {
+    ghost use Rattle.std.specs.Prelude.{refl};
+    ghost use Rattle.ft_command.specs.Asked.{run_view};
+    ghost use Rattle.ft_command.specs.Commands.{Trials};
+    ghost use Rattle.ft_tool.specs.Answers.{TrialsObject};
+
+    ghost request = { λ c. Trials (run_view c.run) };
+
+    ghost file = { λ c. c.run.object.now };
+
+    ghost answer = { λ c. TrialsObject (run_view c.run) };
+
+    ghost is_over_file = { λ c. record { answers = λ told files script bytes a is h. (bytes, (is, h)); comes = λ told files. refl; loads = λ told files early asked asked' made. made } };
+
+    fn file(&self) -> &str {
+        self.run.object
+    }
+
+    fn over_object<P: Program, K: Sink>(&self, alloc: Global, program: &P, out: &mut K) -> Ending {
+        trial_object(alloc, program, &self.run, out)
     }
 }

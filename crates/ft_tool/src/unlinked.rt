@@ -1,20 +1,20 @@
 //! How links end that are refused.
 ghost use Rattle.std.specs.Prelude.{◌≡◌, ◌≢◌};
+ghost use Rattle.ft_tool.specs.Logs.{sink_log};
 ghost use Rattle.ft_tool.specs.Endings.{Ends};
-ghost use Rattle.ft_tool.specs.Files.{IsLongMapBy, IsMapRefused, IsUnlinkedBy};
+ghost use Rattle.ft_tool.specs.Files.{IsMapRefused, IsUnlinkedBy};
 ghost use Rattle.ft_tool.specs.Replies.{one_piece};
 ghost use Rattle.ft_tool.specs.Texts.{link_line, link_code_line};
 
 use crate::ending::{Ending, put_piece};
-use crate::load::SourceFault;
 use crate::refused::{link_code_line, link_line};
 use ft_edge::Sink;
 use ft_link_map::MapError;
 use ft_linker::LinkError;
 
 /// Puts the line of a link that is refused.
-fn put_link_line<K: Sink>(number: u64, told: u64, out: &mut K) -> Ending
-    ensures ends { Ends result (λ a. a ≡ one_piece (link_line number told) 13) (K.written out.old) (K.written out.new) (K.pieces out.old) (K.pieces out.new) (K.failures out.old) (K.failures out.new) ⊥ }
+pub(crate) fn put_link_line<K: Sink>(number: u64, told: u64, out: &mut K) -> Ending
+    ensures ends { Ends result (λ a. a ≡ one_piece (link_line number told) 13) (sink_log K.Sink out.old) (sink_log K.Sink out.new) ⊥ }
     ensures failures { result ≢ Ending.WriteFailed → K.failures out.new ≡ K.failures out.old }
 {
     match put_piece(link_line(number, told).as_bytes(), out) {
@@ -25,7 +25,7 @@ fn put_link_line<K: Sink>(number: u64, told: u64, out: &mut K) -> Ending
 
 /// Puts the line of a code address that is not only jumped to, by the number of its module.
 fn put_code_line<K: Sink>(number: u32, block: u32, index: u32, out: &mut K) -> Ending
-    ensures ends { Ends result (λ a. a ≡ one_piece (link_code_line number block index) 13) (K.written out.old) (K.written out.new) (K.pieces out.old) (K.pieces out.new) (K.failures out.old) (K.failures out.new) ⊥ }
+    ensures ends { Ends result (λ a. a ≡ one_piece (link_code_line number block index) 13) (sink_log K.Sink out.old) (sink_log K.Sink out.new) ⊥ }
     ensures failures { result ≢ Ending.WriteFailed → K.failures out.new ≡ K.failures out.old }
 {
     match put_piece(link_code_line(number, block, index).as_bytes(), out) {
@@ -36,7 +36,7 @@ fn put_code_line<K: Sink>(number: u32, block: u32, index: u32, out: &mut K) -> E
 
 /// Ends a link whose modules are refused, with the line of the refusal.
 pub(crate) fn refuse_modules<K: Sink>(error: LinkError, out: &mut K) -> Ending
-    ensures ends { Ends result (IsUnlinkedBy error) (K.written out.old) (K.written out.new) (K.pieces out.old) (K.pieces out.new) (K.failures out.old) (K.failures out.new) ⊥ }
+    ensures ends { Ends result (IsUnlinkedBy error) (sink_log K.Sink out.old) (sink_log K.Sink out.new) ⊥ }
     ensures failures { result ≢ Ending.WriteFailed → K.failures out.new ≡ K.failures out.old }
 {
     match error {
@@ -58,25 +58,12 @@ pub(crate) fn refuse_modules<K: Sink>(error: LinkError, out: &mut K) -> Ending
 
 /// Ends a link whose map is refused, with the line of the refusal.
 pub(crate) fn refuse_map<K: Sink>(error: MapError, out: &mut K) -> Ending
-    ensures ends { Ends result (IsMapRefused error) (K.written out.old) (K.written out.new) (K.pieces out.old) (K.pieces out.new) (K.failures out.old) (K.failures out.new) ⊥ }
+    ensures ends { Ends result (IsMapRefused error) (sink_log K.Sink out.old) (sink_log K.Sink out.new) ⊥ }
     ensures failures { result ≢ Ending.WriteFailed → K.failures out.new ≡ K.failures out.old }
 {
     match error {
         MapError::Line { line } => put_link_line(1, line as u64, out),
         MapError::Twice { line } => put_link_line(2, line as u64, out),
         MapError::NoMemory => Ending::NoMemory,
-    }
-}
-
-/// Ends a link that has no map, with the line of the refusal where it is too long.
-pub(crate) fn refuse_long_map<K: Sink>(fault: SourceFault, out: &mut K) -> Ending
-    ensures ends { Ends result (IsLongMapBy fault) (K.written out.old) (K.written out.new) (K.pieces out.old) (K.pieces out.new) (K.failures out.old) (K.failures out.new) (fault ≡ SourceFault.Failed) }
-    ensures failures { result ≢ Ending.WriteFailed → K.failures out.new ≡ K.failures out.old }
-    ensures failed { result ≢ Ending.LoadFailed → fault ≢ SourceFault.Failed }
-{
-    match fault {
-        SourceFault::TooLong => put_link_line(11, 65_536, out),
-        SourceFault::Failed => Ending::LoadFailed,
-        SourceFault::NoMemory => Ending::NoMemory,
     }
 }

@@ -1,22 +1,20 @@
 //! The command `upgrade`.
-ghost use Rattle.std.specs.Prelude.{◌≡◌, ◌≢◌, [], ◌∷◌};
-ghost use Rattle.ft_command.specs.Commands.{Upgrades};
+ghost use Rattle.std.specs.Prelude.{◌≡◌, ◌≢◌};
+ghost use Rattle.ft_tool.specs.Logs.{sink_log};
 ghost use Rattle.ft_tool.specs.Objects.{UpgradesObject, OverBytes};
-ghost use Rattle.ft_tool.specs.Answers.{OverFile, FailsIn};
-ghost use Rattle.ft_tool.specs.Calls.{HasMade, object_load};
 ghost use Rattle.ft_tool.specs.Endings.{Ends};
-ghost use Rattle.ft_tool.specs.Told.{OfFiles};
 
-use crate::ending::{Ending, put_object, refuse_object};
-use crate::load::{fault_of, load_object_bytes};
-use ft_edge::{Shelf, Sink};
-use ft_object::decode;
+use crate::ending::{Ending, put_object, refuse_bytes, refuse_object};
+use crate::load::{OBJECT_LIMIT, fault_of};
+use crate::over_file::FileCommand;
+use ft_edge::Sink;
+use ft_object::{ObjectError, decode};
 use std::alloc::Global;
 
 /// Decodes an object and puts it in version 2 of the format.
 fn upgrade_bytes<K: Sink>(alloc: Global, bytes: &[u8], out: &mut K) -> Ending
     ensures ends { Ends result (OverBytes UpgradesObject bytes.now)
-        (K.written out.old) (K.written out.new) (K.pieces out.old) (K.pieces out.new) (K.failures out.old) (K.failures out.new) ⊥ }
+        (sink_log K.Sink out.old) (sink_log K.Sink out.new) ⊥ }
     ensures failures { result ≢ Ending.WriteFailed → K.failures out.new ≡ K.failures out.old }
 {
     match decode(alloc, bytes) {
@@ -25,23 +23,40 @@ fn upgrade_bytes<K: Sink>(alloc: Global, bytes: &[u8], out: &mut K) -> Ending
     }
 }
 
-/// Loads an object and puts it in version 2 of the format.
-pub(crate) fn upgrade_file<F: Shelf, K: Sink>(
-    alloc: Global,
-    name: &str,
-    shelf: &mut F,
-    out: &mut K,
-) -> Ending
-    ensures ends { Ends result (λ a. OfFiles (F.files shelf.old) (λ files. OverFile UpgradesObject name.now files a))
-        (K.written out.old) (K.written out.new) (K.pieces out.old) (K.pieces out.new) (K.failures out.old) (K.failures out.new)
-        (OfFiles (F.files shelf.old) (λ files. FailsIn (Upgrades name.now) (F.files shelf.old) files (F.failures shelf.old) (F.failures shelf.new) (F.failed_name shelf.new))) }
-    ensures failures { result ≢ Ending.WriteFailed → K.failures out.new ≡ K.failures out.old }
-    ensures load_failures { result ≢ Ending.LoadFailed → (F.failures shelf.new ≡ F.failures shelf.old) × (F.failed_name shelf.new ≡ F.failed_name shelf.old) }
-    ensures made { HasMade (object_load name.now ∷ []) (F.asked shelf.old) (F.asked shelf.new) }
-{
-    let mut bytes = Vec::new(alloc);
-    match load_object_bytes(name, shelf, &mut bytes) {
-        Ok(()) => upgrade_bytes(alloc, bytes.as_slice(), out),
-        Err(fault) => refuse_object(fault, out),
+/// The object of a file, in version 2 of the format.
+#[derive(Drop)]
+pub(crate) struct UpgradeCommand<'w> {
+    pub object: &'w str,
+}
+
+impl<'w> FileCommand for UpgradeCommand<'w> {
+    ghost use Rattle.std.specs.Prelude.{refl};
+    ghost use Rattle.ft_command.specs.Commands.{Upgrades};
+    ghost use Rattle.ft_tool.specs.Objects.{UpgradesObject, OverBytes};
+
+    ghost request = { λ c. Upgrades c.object.now };
+
+    ghost file = { λ c. c.object.now };
+
+    ghost limit = { λ c. 67108864 };
+
+    ghost answer = { λ c. OverBytes UpgradesObject };
+
+    ghost is_over_file = { λ c. record { answers = λ told files script bytes a is h. (bytes, (is, h)); comes = λ told files. refl; loads = λ told files early asked asked' made. made } };
+
+    fn file(&self) -> &str {
+        self.object
+    }
+
+    fn limit(&self) -> usize {
+        OBJECT_LIMIT
+    }
+
+    fn over_bytes<K: Sink>(&self, alloc: Global, bytes: &[u8], out: &mut K) -> Ending {
+        upgrade_bytes(alloc, bytes, out)
+    }
+
+    fn refuse_long<K: Sink>(&self, out: &mut K) -> Ending {
+        refuse_bytes(ObjectError::Length { at: OBJECT_LIMIT }, out)
     }
 }

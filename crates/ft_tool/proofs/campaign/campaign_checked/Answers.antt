@@ -1,29 +1,16 @@
-use Rattle.std.proofs.Common.{◌≡◌, Some, Vec, Global, subst}
+use Rattle.std.proofs.Common.{◌≡◌, Some}
 use Rattle.ft_edge.specs.Causes.{Rose}
-use Rattle.ft_isa.specs.declared.plan.Strike.{Strike}
 use Rattle.ft_command.specs.Asked.{campaign_view}
-use Rattle.ft_tool.specs.declared.load.ListFault.TheVariants.{Failed}
-use Rattle.ft_tool.specs.Told.{CampaignsListOf}
-use Rattle.ft_tool.specs.Files.{IsListRefusedBy}
-use Rattle.ft_tool.specs.Lists.{NoneCorrupt, OverFaults}
+use Rattle.ft_tool.specs.Lists.{NoneCorrupt}
+use Rattle.ft_tool.specs.Told.{OverListOf, CampaignsListOf}
 use Rattle.ft_tool.proofs.Answered.{Ends-map, undetected}
-use Rattle.ft_tool.proofs.Tried.{over_listed, over_refused_list, list_failed}
 use Rattle.ft_tool.proofs.campaign.campaign_checked.Goals as goal
 
-pub returns-in-Ok-clause-ends : goal.returns-in-Ok-clause-ends
-returns-in-Ok-clause-ends g c =
+pub returns-clause-ends : goal.returns-clause-ends
+returns-clause-ends g c =
     let asked = campaign_view c.args.asked.now in
     let told = g.F.Shelf.files c.args.shelf.now in
-    Ends-map c.campaign_faults.result (OverFaults NoneCorrupt asked (g.P.Program.object c.args.checked.now) c.as_slice.result.now) (CampaignsListOf asked told c.args.bytes.now (g.P.Program.object c.args.checked.now)) _ _ _ _ _ _ ⊥
-    (Rose (g.F.Shelf.failures c.args.shelf.now) (g.F.Shelf.failures c.list_of.new.shelf) × (g.F.Shelf.failed_name c.list_of.new.shelf ≡ Some c.args.asked.now.faults.now))
-    (λ a is. (over_listed {V = Vec Strike Global} (λ v. v.items) NoneCorrupt asked told c.args.bytes.now (g.P.Program.object c.args.checked.now) c.in-Ok.faults c.in-Ok.ensures.gets a (subst (λ faults. OverFaults NoneCorrupt asked (g.P.Program.object c.args.checked.now) faults a) c.as_slice.ensures.value is), undetected (g.P.Program.object c.args.checked.now) asked.wild c.requires.spellable c.requires.accepted))
-    (λ x. absurd x) c.campaign_faults.ensures.ends
-
-pub returns-in-Err-clause-ends : goal.returns-in-Err-clause-ends
-returns-in-Err-clause-ends g c =
-    let asked = campaign_view c.args.asked.now in
-    let told = g.F.Shelf.files c.args.shelf.now in
-    Ends-map c.refuse_list.result (IsListRefusedBy c.in-Err.fault) (CampaignsListOf asked told c.args.bytes.now (g.P.Program.object c.args.checked.now)) _ _ _ _ _ _ (c.in-Err.fault ≡ Failed)
-    (Rose (g.F.Shelf.failures c.args.shelf.now) (g.F.Shelf.failures c.list_of.new.shelf) × (g.F.Shelf.failed_name c.list_of.new.shelf ≡ Some c.args.asked.now.faults.now))
-    (λ a is. (over_refused_list {V = Vec Strike Global} (λ v. v.items) NoneCorrupt asked told c.args.bytes.now (g.P.Program.object c.args.checked.now) c.in-Err.fault c.in-Err.ensures.gets a is, undetected (g.P.Program.object c.args.checked.now) asked.wild c.requires.spellable c.requires.accepted))
-    (λ e. list_failed (Vec Strike Global) _ _ _ _ _ c.in-Err.fault c.in-Err.ensures.cause e) c.refuse_list.ensures.ends
+    let o = g.P.Program.object c.args.checked.now in
+    let fails = Rose (g.F.Shelf.failures c.args.shelf.now) (g.F.Shelf.failures c.over_list.new.shelf) × (g.F.Shelf.failed_name c.over_list.new.shelf ≡ Some c.args.asked.now.faults.now) in
+    Ends-map c.over_list.result (OverListOf NoneCorrupt asked told c.args.bytes.now o) (CampaignsListOf asked told c.args.bytes.now o) _ _ fails fails
+    (λ a is. (is, undetected o asked.wild c.requires.spellable c.requires.accepted)) (λ x. x) c.over_list.ensures.ends

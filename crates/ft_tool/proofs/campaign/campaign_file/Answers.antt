@@ -23,7 +23,7 @@ returns-in-Ok-clause-ends g c =
     let asked = campaign_view c.args.asked.now in
     let told = g.F.Shelf.files c.args.shelf.now in
     let between = g.F.Shelf.files c.load_object.new.shelf in
-    Ends-map c.campaign_object.result (CampaignsUnless (refusal (object_of c.in-Ok.view)) (CampaignsListOf asked between c.bytes.result.now (object_of c.in-Ok.view))) (λ a. OfFiles told (λ files. OverFile (CampaignsObject asked files) asked.object files a)) _ _ _ _ _ _
+    Ends-map c.campaign_object.result (CampaignsUnless (refusal (object_of c.in-Ok.view)) (CampaignsListOf asked between c.bytes.result.now (object_of c.in-Ok.view))) (λ a. OfFiles told (λ files. OverFile (CampaignsObject asked files) asked.object files a)) _ _
     (Rose (g.F.Shelf.failures c.load_object.new.shelf) (g.F.Shelf.failures c.campaign_object.new.shelf) × (g.F.Shelf.failed_name c.campaign_object.new.shelf ≡ Some asked.faults) × (refusal (object_of c.in-Ok.view) ≡ None))
     (OfFiles told (λ files. FailsIn (Campaigns asked) told files (g.F.Shelf.failures c.args.shelf.now) (g.F.Shelf.failures c.campaign_object.new.shelf) (g.F.Shelf.failed_name c.campaign_object.new.shelf)))
     (λ a is. over_struck_between asked told between c.in-Ok.view c.bytes.result.now c.load_object.ensures.files c.bytes.ensures c.in-Ok.ensures.loads a is)
@@ -33,7 +33,7 @@ pub returns-clause-ends : goal.returns-clause-ends
 returns-clause-ends g c =
     let asked = campaign_view c.args.asked.now in
     let told = g.F.Shelf.files c.args.shelf.now in
-    Ends-map c.refuse_object.result (IsRefusedBy c.in-Err.fault) (λ a. OfFiles told (λ files. OverFile (CampaignsObject asked files) asked.object files a)) _ _ _ _ _ _ (c.in-Err.fault ≡ Failed)
+    Ends-map c.refuse_object.result (IsRefusedBy c.in-Err.fault) (λ a. OfFiles told (λ files. OverFile (CampaignsObject asked files) asked.object files a)) _ _ (c.in-Err.fault ≡ Failed)
     (OfFiles told (λ files. FailsIn (Campaigns asked) told files (g.F.Shelf.failures c.args.shelf.now) (g.F.Shelf.failures c.load_object.new.shelf) (g.F.Shelf.failed_name c.load_object.new.shelf)))
     (λ a is. over_unstruck (CampaignsObject asked) told asked.object c.in-Err.fault c.in-Err.ensures.loads a is)
     (λ e. failed_in (Campaigns asked) told _ _ _ asked.object (λ files. inl refl) (object_failed _ _ _ _ asked.object c.in-Err.fault c.in-Err.ensures.cause e)) c.refuse_object.ensures.ends
@@ -47,4 +47,4 @@ pub returns-clause-made : goal.returns-clause-made
 returns-clause-made g c =
     let told = g.F.Shelf.files c.args.shelf.now in
     campaign_unloaded (campaign_view c.args.asked.now) told (IsTrue (ends_early c.refuse_object.result)) (g.F.Shelf.asked c.args.shelf.now) (g.F.Shelf.asked c.load_object.new.shelf)
-    (unspelled told c.args.asked.now.object.now c.in-Err.fault c.refuse_object.result _ _ _ _ _ _ (c.in-Err.fault ≡ Failed) c.in-Err.ensures.loads c.refuse_object.ensures.ends) c.load_object.ensures.made
+    (unspelled told c.args.asked.now.object.now c.in-Err.fault c.refuse_object.result _ _ (c.in-Err.fault ≡ Failed) c.in-Err.ensures.loads c.refuse_object.ensures.ends) c.load_object.ensures.made

@@ -6,10 +6,10 @@ use Rattle.ft_tool.proofs.compile.compile_text.Goals as goal
 
 pub returns-in-Ok-clause-ends : goal.returns-in-Ok-clause-ends
 returns-in-Ok-clause-ends g c =
-    Ends-map c.put_object.result (UpgradesObject c.in-Ok.object) (OverText CompilesProgram c.args.text.now) _ _ _ _ _ _ ⊥ ⊥
+    Ends-map c.put_object.result (UpgradesObject c.in-Ok.object) (OverText CompilesProgram c.args.text.now) _ _ ⊥ ⊥
     (object_compiled c.args.text.now c.in-Ok.object c.in-Ok.ensures.ok) (λ x. x) c.put_object.ensures.ends
 
 pub returns-in-Err-clause-ends : goal.returns-in-Err-clause-ends
 returns-in-Err-clause-ends g c =
-    Ends-map c.refuse_source.result (IsSourceRefused c.in-Err.error) (OverText CompilesProgram c.args.text.now) _ _ _ _ _ _ ⊥ ⊥
+    Ends-map c.refuse_source.result (IsSourceRefused c.in-Err.error) (OverText CompilesProgram c.args.text.now) _ _ ⊥ ⊥
     (source_refused CompilesProgram c.args.text.now c.in-Err.error c.in-Err.ensures.err) (λ x. x) c.refuse_source.ensures.ends

@@ -19,7 +19,7 @@ returns-in-Ok-clause-ends g c =
     let d = debugging_view c.args.asked.now in
     let told = g.F.Shelf.files c.args.shelf.now in
     let left = g.I.Source.left c.args.script.now in
-    Ends-map c.debug_object.result (λ a. OfScript left (λ text. DebugsObject d text (object_of c.in-Ok.view) a)) (λ a. OfFiles told (λ files. OfScript left (λ text. OverFile (DebugsObject d text) d.object files a))) _ _ _ _ _ _
+    Ends-map c.debug_object.result (λ a. OfScript left (λ text. DebugsObject d text (object_of c.in-Ok.view) a)) (λ a. OfFiles told (λ files. OfScript left (λ text. OverFile (DebugsObject d text) d.object files a))) _ _
     (Rose (g.I.Source.failures c.args.script.now) (g.I.Source.failures c.debug_object.new.script))
     (OfFiles told (λ files. FailsIn (Debugs d) told files (g.F.Shelf.failures c.args.shelf.now) (g.F.Shelf.failures c.load_object.new.shelf) (g.F.Shelf.failed_name c.load_object.new.shelf) ⊎ FailsAtScript d files (g.I.Source.failures c.args.script.now) (g.I.Source.failures c.debug_object.new.script)))
     (λ a is. over_debugged d told left c.in-Ok.view c.in-Ok.ensures.loads a is)
@@ -30,7 +30,7 @@ returns-clause-ends g c =
     let d = debugging_view c.args.asked.now in
     let told = g.F.Shelf.files c.args.shelf.now in
     let left = g.I.Source.left c.args.script.now in
-    Ends-map c.refuse_object.result (IsRefusedBy c.in-Err.fault) (λ a. OfFiles told (λ files. OfScript left (λ text. OverFile (DebugsObject d text) d.object files a))) _ _ _ _ _ _ (c.in-Err.fault ≡ Failed)
+    Ends-map c.refuse_object.result (IsRefusedBy c.in-Err.fault) (λ a. OfFiles told (λ files. OfScript left (λ text. OverFile (DebugsObject d text) d.object files a))) _ _ (c.in-Err.fault ≡ Failed)
     (OfFiles told (λ files. FailsIn (Debugs d) told files (g.F.Shelf.failures c.args.shelf.now) (g.F.Shelf.failures c.load_object.new.shelf) (g.F.Shelf.failed_name c.load_object.new.shelf) ⊎ FailsAtScript d files (g.I.Source.failures c.args.script.now) (g.I.Source.failures c.args.script.now)))
     (λ a is. over_undebugged d told left c.in-Err.fault c.in-Err.ensures.loads a is)
     (λ e. session_failed d told _ _ _ _ _ (object_failed _ _ _ _ d.object c.in-Err.fault c.in-Err.ensures.cause e)) c.refuse_object.ensures.ends

@@ -5,7 +5,7 @@ use Rattle.ft_tool.proofs.exec.exec_text.Goals as goal
 
 pub returns-in-Err-clause-ends : goal.returns-in-Err-clause-ends
 returns-in-Err-clause-ends g c =
-    Ends-map c.refuse_source.result (IsSourceRefused c.in-Err.error) (OverText (ExecutesProgram c.args.steps) c.args.text.now) _ _ _ _ _ _ ⊥ ⊥
+    Ends-map c.refuse_source.result (IsSourceRefused c.in-Err.error) (OverText (ExecutesProgram c.args.steps) c.args.text.now) _ _ ⊥ ⊥
     (source_refused (ExecutesProgram c.args.steps) c.args.text.now c.in-Err.error c.in-Err.ensures.err) (λ x. x) c.refuse_source.ensures.ends
 
 pub run_accepted-requires-clause-accepted : goal.run_accepted-requires-clause-accepted

@@ -4,6 +4,7 @@ use Rattle.ft_tool.specs.declared.ending.Ending.TheVariants.{LoadFailed}
 use Rattle.ft_tool.specs.Endings.{Ends, ends_early}
 use Rattle.ft_tool.specs.Links.{LinksFiles}
 use Rattle.ft_tool.specs.LinkTurns.{EndsWithFile, FailsInTurn}
+use Rattle.ft_tool.specs.Logs.{sink_log}
 use Rattle.ft_tool.proofs.Answered.{Ends-map}
 use Rattle.ft_tool.proofs.Linking.{answered_or_early, added_next, ends_next, fails_next, makes_next, ok_no_err}
 use Rattle.ft_tool.proofs.link.add_files.Goals as goal
@@ -18,7 +19,7 @@ returns-in-Err-clause-ends g c =
     let modules = c.loop-file.linker in
     let inv = c.loop-file.invariant in
     Ends-map c.in-Err.ending (EndsWithFile again modules name) (LinksFiles told c.args.linkage.now [] c.args.linkage.now.files)
-    (g.K.Sink.written c.args.out.now) (g.K.Sink.written c.add_file.new.out) (g.K.Sink.pieces c.args.out.now) (g.K.Sink.pieces c.add_file.new.out) (g.K.Sink.failures c.args.out.now) (g.K.Sink.failures c.add_file.new.out)
+    (sink_log g.K.Sink c.args.out.now) (sink_log g.K.Sink c.add_file.new.out)
     (Rose (g.F.Shelf.failures c.loop-file.shelf) (g.F.Shelf.failures c.add_file.new.shelf) × (g.F.Shelf.failed_name c.add_file.new.shelf ≡ Some name))
     (FailsInTurn told c.args.linkage.now (g.F.Shelf.failures c.args.shelf.now) (g.F.Shelf.failures c.add_file.new.shelf) (g.F.Shelf.failed_name c.add_file.new.shelf))
     (λ a is. ends_next told again c.args.linkage.now modules c.as_slice-files.result.now c.loop-file.file-index c.file-item.result name asked between inv.told c.name_of.ensures c.loop-file-test.true c.file-item.is inv.added a is)
@@ -26,7 +27,7 @@ returns-in-Err-clause-ends g c =
     (g.F.Shelf.failures c.args.shelf.now) (g.F.Shelf.failures c.loop-file.shelf) (g.F.Shelf.failures c.add_file.new.shelf) (g.F.Shelf.failed_name c.add_file.new.shelf)
     c.name_of.ensures c.loop-file-test.true c.file-item.is inv.added inv.failures x)
     (subst
-    (λ out. Ends c.in-Err.ending (EndsWithFile again modules name) (g.K.Sink.written out) (g.K.Sink.written c.add_file.new.out) (g.K.Sink.pieces out) (g.K.Sink.pieces c.add_file.new.out) (g.K.Sink.failures out) (g.K.Sink.failures c.add_file.new.out)
+    (λ out. Ends c.in-Err.ending (EndsWithFile again modules name) (sink_log g.K.Sink out) (sink_log g.K.Sink c.add_file.new.out)
     (Rose (g.F.Shelf.failures c.loop-file.shelf) (g.F.Shelf.failures c.add_file.new.shelf) × (g.F.Shelf.failed_name c.add_file.new.shelf ≡ Some name)))
     inv.out c.in-Err.ensures.ends)
 
@@ -39,7 +40,7 @@ returns-in-Err-clause-made g c =
     makes_next (g.F.Shelf.files c.args.shelf.now) again c.args.linkage.now modules c.as_slice-files.result.now c.loop-file.file-index c.file-item.result name
     (g.F.Shelf.asked c.args.shelf.now) (g.F.Shelf.asked c.loop-file.shelf) (g.F.Shelf.asked c.add_file.new.shelf) (ends_early c.in-Err.ending) inv.told c.name_of.ensures c.loop-file-test.true c.file-item.is inv.added
     (answered_or_early c.in-Err.ending (EndsWithFile again modules name)
-    (g.K.Sink.written c.loop-file.out) (g.K.Sink.written c.add_file.new.out) (g.K.Sink.pieces c.loop-file.out) (g.K.Sink.pieces c.add_file.new.out) (g.K.Sink.failures c.loop-file.out) (g.K.Sink.failures c.add_file.new.out)
+    (sink_log g.K.Sink c.loop-file.out) (sink_log g.K.Sink c.add_file.new.out)
     (Rose (g.F.Shelf.failures c.loop-file.shelf) (g.F.Shelf.failures c.add_file.new.shelf) × (g.F.Shelf.failed_name c.add_file.new.shelf ≡ Some name))
     c.in-Err.ensures.ends)
     c.add_file.ensures.made

@@ -3,6 +3,7 @@ use Rattle.ft_syntax.specs.TreeOf.{tree_of}
 use Rattle.ft_scope.specs.ProgramOf.{program_of}
 use Rattle.ft_meaning.specs.Meaning.{meaning}
 use Rattle.ft_tool.specs.Sources.{OverText, MeansProgram, IsSourceRefused}
+use Rattle.ft_tool.specs.Logs.{sink_log}
 use Rattle.ft_tool.proofs.Answered.{Ends-map}
 use Rattle.ft_tool.proofs.Meant.{tree_refused, meaning_ended, meaning_cut, meaning_broken}
 use Rattle.ft_tool.proofs.mean.mean_text.Goals as goal
@@ -12,7 +13,7 @@ returns-in-Err-resolve-clause-ends g c =
     let t = tree_of c.in-Ok.tree in
     let e = c.in-Err-resolve.error in
     Ends-map c.refuse_source-in-Err-resolve.result (IsSourceRefused e) (OverText (MeansProgram c.args.turns) c.args.text.now)
-    (g.K.Sink.written c.args.out.now) (g.K.Sink.written c.refuse_source-in-Err-resolve.new.out) (g.K.Sink.pieces c.args.out.now) (g.K.Sink.pieces c.refuse_source-in-Err-resolve.new.out) (g.K.Sink.failures c.args.out.now) (g.K.Sink.failures c.refuse_source-in-Err-resolve.new.out) ⊥ ⊥
+    (sink_log g.K.Sink c.args.out.now) (sink_log g.K.Sink c.refuse_source-in-Err-resolve.new.out) ⊥ ⊥
     (tree_refused c.args.turns c.args.text.now t e c.in-Ok.ensures.ok c.in-Err-resolve.ensures.err) (λ x. x)
     c.refuse_source-in-Err-resolve.ensures.ends
 

@@ -5,25 +5,29 @@ use Rattle.ft_command.specs.Asked.{campaign_view}
 use Rattle.ft_tool.specs.declared.load.ListFault.TheVariants.{Failed}
 use Rattle.ft_tool.specs.Told.{OverListOf}
 use Rattle.ft_tool.specs.Files.{IsListRefusedBy}
-use Rattle.ft_tool.specs.Lists.{AnyVerdicts, OverFaults}
+use Rattle.ft_tool.specs.Lists.{OverFaults}
 use Rattle.ft_tool.proofs.Answered.{Ends-map}
 use Rattle.ft_tool.proofs.Tried.{over_listed, over_refused_list, list_failed}
-use Rattle.ft_tool.proofs.survey.survey_object.Goals as goal
+use Rattle.ft_tool.proofs.over_list.over_list.Goals as goal
 
 pub returns-in-Ok-clause-ends : goal.returns-in-Ok-clause-ends
 returns-in-Ok-clause-ends g c =
     let asked = campaign_view c.args.asked.now in
     let told = g.F.Shelf.files c.args.shelf.now in
-    Ends-map c.survey_faults.result (OverFaults AnyVerdicts asked (g.P.Program.object c.args.program.now) c.as_slice.result.now) (OverListOf AnyVerdicts asked told c.args.bytes.now (g.P.Program.object c.args.program.now)) _ _ _ _ _ _ ⊥
+    let object = g.T.Target.object c.args.target.now in
+    let Promised = g.T.Target.promised c.args.target.now in
+    Ends-map c.over_faults.result (OverFaults Promised asked object c.as_slice.result.now) (OverListOf Promised asked told c.args.bytes.now object) _ _ ⊥
     (Rose (g.F.Shelf.failures c.args.shelf.now) (g.F.Shelf.failures c.list_of.new.shelf) × (g.F.Shelf.failed_name c.list_of.new.shelf ≡ Some c.args.asked.now.faults.now))
-    (λ a is. over_listed {V = Vec Strike Global} (λ v. v.items) AnyVerdicts asked told c.args.bytes.now (g.P.Program.object c.args.program.now) c.in-Ok.faults c.in-Ok.ensures.gets a (subst (λ faults. OverFaults AnyVerdicts asked (g.P.Program.object c.args.program.now) faults a) c.as_slice.ensures.value is))
-    (λ x. absurd x) c.survey_faults.ensures.ends
+    (λ a is. over_listed {V = Vec Strike Global} (λ v. v.items) Promised asked told c.args.bytes.now object c.in-Ok.faults c.in-Ok.ensures.gets a (subst (λ faults. OverFaults Promised asked object faults a) c.as_slice.ensures.value is))
+    (λ x. absurd x) c.over_faults.ensures.ends
 
 pub returns-in-Err-clause-ends : goal.returns-in-Err-clause-ends
 returns-in-Err-clause-ends g c =
     let asked = campaign_view c.args.asked.now in
     let told = g.F.Shelf.files c.args.shelf.now in
-    Ends-map c.refuse_list.result (IsListRefusedBy c.in-Err.fault) (OverListOf AnyVerdicts asked told c.args.bytes.now (g.P.Program.object c.args.program.now)) _ _ _ _ _ _ (c.in-Err.fault ≡ Failed)
+    let object = g.T.Target.object c.args.target.now in
+    let Promised = g.T.Target.promised c.args.target.now in
+    Ends-map c.refuse_list.result (IsListRefusedBy c.in-Err.fault) (OverListOf Promised asked told c.args.bytes.now object) _ _ (c.in-Err.fault ≡ Failed)
     (Rose (g.F.Shelf.failures c.args.shelf.now) (g.F.Shelf.failures c.list_of.new.shelf) × (g.F.Shelf.failed_name c.list_of.new.shelf ≡ Some c.args.asked.now.faults.now))
-    (λ a is. over_refused_list {V = Vec Strike Global} (λ v. v.items) AnyVerdicts asked told c.args.bytes.now (g.P.Program.object c.args.program.now) c.in-Err.fault c.in-Err.ensures.gets a is)
+    (λ a is. over_refused_list {V = Vec Strike Global} (λ v. v.items) Promised asked told c.args.bytes.now object c.in-Err.fault c.in-Err.ensures.gets a is)
     (λ e. list_failed (Vec Strike Global) _ _ _ _ _ c.in-Err.fault c.in-Err.ensures.cause e) c.refuse_list.ensures.ends

@@ -1,0 +1,75 @@
+//! Commands over one file.
+ghost use Rattle.std.specs.Prelude.{◌≡◌, ◌≢◌, ◌<◌, List, ℕ, Option, length};
+ghost use Rattle.ft_tool.specs.Logs.{sink_log};
+ghost use Rattle.ft_tool.specs.Does.{Does};
+
+use crate::ending::Ending;
+use crate::load::load_bytes;
+use ft_edge::{Load, LoadFault, Shelf, Sink};
+use std::alloc::Global;
+
+/// A command over one file.
+pub(crate) trait FileCommand {
+    ghost use Rattle.std.specs.Prelude.{◌≡◌, ◌≢◌, ◌<◌, ℕ, List, length};
+    ghost use Rattle.ft_command.specs.Options.{Word};
+    ghost use Rattle.ft_command.specs.Commands.{Request};
+    ghost use Rattle.ft_tool.specs.Replies.{Answer};
+    ghost use Rattle.ft_tool.specs.Logs.{sink_log};
+    ghost use Rattle.ft_tool.specs.Endings.{Ends};
+    ghost use Rattle.ft_tool.specs.Does.{IsOverFile};
+
+    // The request that it carries out.
+    ghost request: { Self → Request };
+
+    // The name of its file.
+    ghost file: { Self → Word };
+
+    // The most bytes that are read of its file.
+    ghost limit: { Self → ℕ };
+
+    // The answer over the file's bytes.
+    ghost answer: { Self → List ℕ → Answer → Type 0 };
+
+    /// The name of its file.
+    fn file(&self) -> &str
+        ensures { result.now ≡ file self.now };
+
+    /// The most bytes that are read of its file.
+    fn limit(&self) -> usize
+        ensures { result ≡ limit self.now };
+
+    /// Answers over the file's bytes.
+    fn over_bytes<K: Sink>(&self, alloc: Global, bytes: &[u8], out: &mut K) -> Ending
+        ensures ends { Ends result (answer self.now bytes.now)
+            (sink_log K.Sink out.old) (sink_log K.Sink out.new) ⊥ }
+        ensures failures { result ≢ Ending.WriteFailed → K.failures out.new ≡ K.failures out.old };
+
+    /// Answers over a file that has more bytes than the limit.
+    fn refuse_long<K: Sink>(&self, out: &mut K) -> Ending
+        ensures ends { Ends result (λ a. (bytes : List ℕ) → limit self.now < length bytes → answer self.now bytes a)
+            (sink_log K.Sink out.old) (sink_log K.Sink out.new) ⊥ }
+        ensures failures { result ≢ Ending.WriteFailed → K.failures out.new ≡ K.failures out.old };
+
+    // The answer over the bytes of this file is one to the request, which comes to load no other.
+    ghost is_over_file: { (c : Self) → IsOverFile (request c) (file c) (limit c) (answer c) };
+}
+
+/// Loads the file of a command and answers over it.
+pub(crate) fn over_file<C: FileCommand, F: Shelf, K: Sink>(
+    alloc: Global,
+    command: &C,
+    shelf: &mut F,
+    out: &mut K,
+) -> Ending
+    ensures { (left : Option (List ℕ)) → Does (C.request command.now) result (F.files shelf.old) left
+        (sink_log K.Sink out.old) (sink_log K.Sink out.new)
+        (F.failures shelf.old) (F.failures shelf.new) (F.failed_name shelf.old) (F.failed_name shelf.new) (F.asked shelf.old) (F.asked shelf.new) ⊥ }
+{
+    let mut bytes = Vec::new(alloc);
+    match load_bytes(command.file(), command.limit(), shelf, &mut bytes) {
+        Ok(Load::Whole) => command.over_bytes(alloc, bytes.as_slice(), out),
+        Ok(Load::TooLong) => command.refuse_long(out),
+        Err(LoadFault::Failed) => Ending::LoadFailed,
+        Err(LoadFault::NoMemory) => Ending::NoMemory,
+    }
+}

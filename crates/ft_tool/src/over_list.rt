@@ -1,0 +1,75 @@
+//! Fault lists that are tried on an object.
+ghost use Rattle.std.specs.Prelude.{◌≡◌, ◌≢◌, ◌≤◌, Some};
+ghost use Rattle.ft_edge.specs.Causes.{Rose};
+ghost use Rattle.ft_command.specs.Asked.{campaign_view};
+ghost use Rattle.ft_tool.specs.Logs.{sink_log};
+ghost use Rattle.ft_tool.specs.Replies.{IsToldFile};
+ghost use Rattle.ft_tool.specs.Told.{OverListOf, LoadsOther};
+ghost use Rattle.ft_tool.specs.Endings.{Ends};
+
+use crate::ending::{Ending, refuse_list};
+use crate::load::list_of;
+use ft_command::Campaign;
+use ft_edge::{Shelf, Sink};
+use ft_isa::Strike;
+use std::alloc::Global;
+
+/// What faults are tried on.
+pub(crate) trait Target {
+    ghost use Rattle.std.specs.Prelude.{◌≡◌, ◌≢◌, ◌≤◌, List, length};
+    ghost use Rattle.ft_command.specs.Asked.{campaign_view};
+    ghost use Rattle.ft_types.specs.declared.object.Object.{Object};
+    ghost use Rattle.ft_campaign.specs.declared.verdict.Verdict.{Verdict};
+    ghost use Rattle.ft_tool.specs.Lists.{OverFaults};
+    ghost use Rattle.ft_tool.specs.Logs.{sink_log};
+    ghost use Rattle.ft_tool.specs.Endings.{Ends};
+
+    // The object.
+    ghost object: { Self → Object };
+
+    // What is known of the object.
+    ghost known: { Self → Type 0 };
+
+    // What is promised of the verdicts.
+    ghost promised: { Self → List Verdict → Type 0 };
+
+    /// Tries faults on it.
+    fn over_faults<K: Sink>(
+        &self,
+        alloc: Global,
+        faults: &[Strike],
+        asked: &Campaign,
+        out: &mut K,
+    ) -> Ending
+        requires known { known self.now }
+        requires faults { length faults.now ≤ 65536 }
+        requires steps { asked.now.steps ≤ 1000000 }
+        ensures ends { Ends result (OverFaults (promised self.now) (campaign_view asked.now) (object self.now) faults.now)
+            (sink_log K.Sink out.old) (sink_log K.Sink out.new) ⊥ }
+        ensures failures { result ≢ Ending.WriteFailed → K.failures out.new ≡ K.failures out.old };
+}
+
+/// Loads the fault list of a campaign, whose object's file has these bytes, and tries it.
+pub(crate) fn over_list<T: Target, F: Shelf, K: Sink>(
+    alloc: Global,
+    target: &T,
+    bytes: &[u8],
+    asked: &Campaign,
+    shelf: &mut F,
+    out: &mut K,
+) -> Ending
+    requires known { T.known target.now }
+    requires steps { asked.now.steps ≤ 1000000 }
+    requires own { IsToldFile (F.files shelf.old) asked.now.object.now bytes.now }
+    ensures ends { Ends result (OverListOf (T.promised target.now) (campaign_view asked.now) (F.files shelf.old) bytes.now (T.object target.now))
+        (sink_log K.Sink out.old) (sink_log K.Sink out.new)
+        (Rose (F.failures shelf.old) (F.failures shelf.new) × (F.failed_name shelf.new ≡ Some asked.now.faults.now)) }
+    ensures failures { result ≢ Ending.WriteFailed → K.failures out.new ≡ K.failures out.old }
+    ensures load_failures { result ≢ Ending.LoadFailed → (F.failures shelf.new ≡ F.failures shelf.old) × (F.failed_name shelf.new ≡ F.failed_name shelf.old) }
+    ensures made { LoadsOther (campaign_view asked.now) (F.asked shelf.old) (F.asked shelf.new) }
+{
+    match list_of(alloc, asked, bytes, shelf) {
+        Ok(faults) => target.over_faults(alloc, faults.as_slice(), asked, out),
+        Err(fault) => refuse_list(fault, out),
+    }
+}
