@@ -17,8 +17,8 @@ FILENAME != "-" {
 }
 { begun[$1] = $2 }
 
-# The seconds that a crate takes, by the table: about half of its minutes there are those of its proof.
-function whole(name) { return 30 * (name in minutes ? minutes[name] : 3) }
+# The seconds that a crate takes, by the minutes of its proof in the table.
+function whole(name) { return 60 * (name in minutes ? minutes[name] : 1.5) }
 function left(name, seconds) {
   if (name in done) return 0
   seconds = whole(name) - (name in begun ? now - begun[name] : 0)

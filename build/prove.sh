@@ -9,7 +9,8 @@ if [ "${1-}" != --anew ] && is_built; then
   echo "talft: $program is proved and built"
   exit 0
 fi
-command -v rt >/dev/null || { echo 'talft: no `rt` is on PATH: it is in bin/ of the kit' >&2; exit 2; }
+. "$top/build/kit.sh" || exit 2
+need_kit || exit 2
 
 # Copies that killed runs left.
 for left in "${TMPDIR:-/tmp}"/talft-prove-*; do

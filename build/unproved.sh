@@ -14,7 +14,31 @@ cannot() {
   exit 70
 }
 
-command -v rt >/dev/null || cannot "no \`rt\` is on PATH, so its sources cannot be tried"
+# Help needs no program: its texts are read from the sources.
+help() {
+  if [ "${TALFT_EXPLAIN-}" != 0 ]; then
+    awk -v of="$1" -v version="$(cat "$top/VERSION")" -f "$top/build/help.awk" "$top/crates/ft_explain/src/forms.rt" >&2
+  fi
+  echo usage 2>/dev/null || exit 4
+  exit 2
+}
+case ${1-} in
+  '')
+    if [ $# -eq 0 ]; then
+      [ "${TALFT_EXPLAIN-}" = 0 ] || echo 'talft: error: missing command' >&2
+      help ''
+    fi
+    ;;
+  help | --help | -h) help "${2-}" ;;
+  --version | -V)
+    [ "${TALFT_EXPLAIN-}" = 0 ] || echo "talft $(cat "$top/VERSION")" >&2
+    echo usage 2>/dev/null || exit 4
+    exit 2
+    ;;
+esac
+
+. "$top/build/kit.sh" || exit 70
+need_kit || exit 70
 echo 'talft: not proved yet, slow: `make` proves and builds it' >&2
 work=$(mktemp -d) || exit 70
 trap 'rm -rf "$work"' EXIT
@@ -64,12 +88,21 @@ if [ "${#words[@]}" -gt 1 ] && [ "${words[0]}" != demo ]; then
 fi
 
 cd "$top/crates/talft" || exit 70
+# In a process group of its own, so that a signal ends what it starts, too.
+set -m
 rt try --steps 1 --seconds "$most_seconds" ${data[@]+"${data[@]}"} -- ${words[@]+"${words[@]}"} \
   <"$script" >"$work/out" 2>"$work/said" &
 tried=$!
+set +m
 stopped() {
-  kill "$tried" 2>/dev/null
-  wait "$tried"
+  trap '' HUP INT TERM
+  kill -TERM -- "-$tried" 2>/dev/null
+  for ((turn = 0; turn < 30; turn++)); do
+    kill -0 -- "-$tried" 2>/dev/null || break
+    sleep 0.1
+  done
+  kill -KILL -- "-$tried" 2>/dev/null
+  wait "$tried" 2>/dev/null
   exit "$1"
 }
 trap 'stopped 129' HUP

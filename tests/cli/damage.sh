@@ -5,7 +5,7 @@ size=$(wc -c <"$object")
 wrong=0
 for ((n = 0; n < size; n++)); do
   head -c "$n" "$object" >prefix
-  got=$("$top/crates/talft/out/talft" trial prefix; printf '/%d' $?)
+  got=$(TALFT_EXPLAIN=0 "$top/crates/talft/out/talft" trial prefix; printf '/%d' $?)
   [ "$got" = "$(printf 'object 2 %d\n/7' "$n")" ] || wrong=$((wrong + 1))
 done
 report "each of $size prefixes is refused at its end" 0 "$wrong"
@@ -15,7 +15,7 @@ wrong=0
 for ((n = 0; n < size; n++)); do
   cp "$object" turned
   printf "$(printf '\\%03o' $((bytes[n] ^ 1)))" | dd of=turned bs=1 seek="$n" conv=notrunc status=none
-  "$top/crates/talft/out/talft" trial turned --steps 1000 >out 2>errors
+  TALFT_EXPLAIN=0 "$top/crates/talft/out/talft" trial turned --steps 1000 >out 2>errors
   case $? in
     0 | 1 | 7 | 9) [ ! -s errors ] || wrong=$((wrong + 1)) ;;
     *) wrong=$((wrong + 1)) ;;

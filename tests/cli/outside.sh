@@ -37,7 +37,7 @@ got=$("$top/talft" debug "$top/examples/five.obj" <&- 2>errors; printf '/%d' $?)
 report 'standard input that is closed' "$(printf '/3')" "$got"
 got=$("$top/talft" debug "$top/examples/five.obj" <"$work" 2>errors; printf '/%d' $?)
 report 'a folder as standard input' "$(printf '/3')" "$got"
-report 'no message of a crash' '' "$(cat errors)"
+report 'what is said of a folder as standard input' 'standard input: error: cannot be read' "$(cat errors)"
 
 # A reader that goes away after the first line.
 "$top/talft" compile "$top/examples/endless.src" >endless.obj

@@ -1,15 +1,25 @@
 //! Assembly texts that are refused.
 use crate::excerpt::Place;
+use crate::objects::begins_as_object;
+use crate::operands::{Operand, rule, word_at, word_start, wrong_operand, wrong_operation};
 use crate::page::Page;
 use ft_isa::NoMemory;
+
+/// The words after `node`.
+const NODE: &str =
+    "SCOPE and `word W`, `var I`, `OP A B`, `sel M A`, `memory`, `upd M A V` or `rem A LENGTH`";
+
+/// The words after an operation.
+const OPERATION: &str = "R R R, or R R C W";
+
+/// What is said of a line that may not stand where it does.
+const ORDER: &str =
+    "this line may not stand here: cells, nodes, code types with `reg` and then `pend`, blocks with their instructions, and `entry` follow each other\n";
 
 /// The first word of each line but those of operations, with the words after it.
 const FORMS: &[(&str, &str)] = &[
     ("cell", "NAME BASIC INIT"),
-    (
-        "node",
-        "SCOPE and `word W`, `var I`, `OP A B`, `sel M A`, `memory`, `upd M A V` or `rem A LENGTH`",
-    ),
+    ("node", NODE),
     ("type", "INTS MEMORY"),
     ("reg", "R C BASIC NODE"),
     ("pend", "A V"),
@@ -33,23 +43,6 @@ const OPERATIONS: &[&str] = &[
     "add", "sub", "mul", "ltu", "eq", "and", "or", "xor", "shl", "shr",
 ];
 
-/// Whether a byte stands between words.
-fn is_blank(byte: u8) -> bool {
-    byte == b' ' || byte == b'\t'
-}
-
-/// How many blanks a line begins with.
-fn blanks(line: &[u8]) -> usize {
-    line.iter().take_while(|byte| is_blank(**byte)).count()
-}
-
-/// The first word of a line, after its blanks.
-fn first_word(line: &[u8]) -> &[u8] {
-    let rest = line.get(blanks(line)..).unwrap_or(&[]);
-    let length = rest.iter().take_while(|byte| !is_blank(**byte)).count();
-    rest.get(..length).unwrap_or(&[])
-}
-
 /// The words that follow the first word of a line.
 fn form_of(word: &[u8]) -> Option<&'static str> {
     for (first, rest) in FORMS {
@@ -59,32 +52,111 @@ fn form_of(word: &[u8]) -> Option<&'static str> {
     }
     for operation in OPERATIONS {
         if operation.as_bytes() == word {
-            return Some("R R R, or R R C W");
+            return Some(OPERATION);
         }
     }
     None
 }
 
-/// What is wrong with a line that is none of the forms.
-fn say_form(page: &mut Page, line: &[u8]) -> Result<(), NoMemory> {
-    let word = first_word(line);
-    page.say("`")?;
-    page.show(word.get(..word.len().min(40)).unwrap_or(&[]))?;
-    match form_of(word) {
-        Some(rest) => page.say(format_args!("` is followed by {rest}")),
-        None => page.say("` begins no line of an assembly text"),
+/// The operand of a line that is not what the forms say; `None` where the forms have other words.
+fn operand_of<'t>(line: &'t [u8], forms: &'static str) -> Option<Operand<'t>> {
+    if forms == OPERATION {
+        return wrong_operation(line);
     }
+    if forms == NODE {
+        return None;
+    }
+    wrong_operand(line, forms)
 }
 
-/// What is wrong with the line of a number.
-fn say_line(page: &mut Page, number: u64, line: &[u8]) -> Result<(), NoMemory> {
-    if number == 1 {
-        return say_form(page, line);
+/// Says a word between back quotes.
+fn say_word(page: &mut Page, word: &[u8]) -> Result<(), NoMemory> {
+    page.say("`")?;
+    page.show(word.get(..word.len().min(40)).unwrap_or(&[]))?;
+    page.say("`")
+}
+
+/// Says by what a first word is followed.
+fn say_forms(page: &mut Page, word: &[u8], forms: &str) -> Result<(), NoMemory> {
+    say_word(page, word)?;
+    page.say(format_args!(" is followed by {forms}"))
+}
+
+/// Says what is wrong with an operand of a line that begins with this word.
+fn say_operand(
+    page: &mut Page,
+    operand: Operand<'_>,
+    word: &[u8],
+    forms: &str,
+) -> Result<(), NoMemory> {
+    if operand.text.is_empty() {
+        let form = operand.form;
+        page.say(format_args!("missing {form}: "))?;
+        return say_forms(page, word, forms);
     }
-    page.say(
-        "this line may not stand here: cells, nodes, code types with `reg` and then `pend`, ",
-    )?;
-    page.say("blocks with their instructions, and `entry` follow each other")
+    page.say("invalid ")?;
+    say_word(page, operand.text)?;
+    page.say(": ")?;
+    page.say(rule(operand))
+}
+
+/// Explains why a line is refused that begins with a known word.
+fn explain_operands(
+    page: &mut Page,
+    name: &str,
+    start: Place<'_>,
+    word: &[u8],
+    forms: &'static str,
+) -> Result<(), NoMemory> {
+    let line = start.line();
+    let Some(operand) = operand_of(line, forms) else {
+        let place = start.after(word_start(line, 0));
+        page.head_at(name, &place)?;
+        say_forms(page, word, forms)?;
+        page.say("\n")?;
+        return place.show(page, word.len());
+    };
+    let place = start.after(operand.at);
+    page.head_at(name, &place)?;
+    say_operand(page, operand, word, forms)?;
+    page.say("\n")?;
+    place.show(page, operand.text.len())
+}
+
+/// Explains why a line ends with a carriage return.
+fn explain_return(page: &mut Page, name: &str, start: Place<'_>) -> Result<(), NoMemory> {
+    let place = start.after(start.line().len().saturating_sub(1));
+    page.head_at(name, &place)?;
+    page.say("a line ends with a line feed alone, without a carriage return before it\n")?;
+    place.show(page, 1)
+}
+
+/// Explains why a line is refused.
+fn explain_line(
+    page: &mut Page,
+    name: &str,
+    number: u64,
+    start: Place<'_>,
+) -> Result<(), NoMemory> {
+    let line = start.line();
+    let place = start.after(word_start(line, 0));
+    let word = word_at(line, word_start(line, 0));
+    if number == 1 {
+        if line.ends_with(b"\r") {
+            return explain_return(page, name, start);
+        }
+        if let Some(forms) = form_of(word) {
+            return explain_operands(page, name, start, word, forms);
+        }
+    }
+    page.head_at(name, &place)?;
+    if number == 1 {
+        say_word(page, word)?;
+        page.say(" begins no line of an assembly text\n")?;
+    } else {
+        page.say(ORDER)?;
+    }
+    place.show(page, word.len())
 }
 
 /// What is wrong with a text as a whole.
@@ -107,13 +179,15 @@ pub(crate) fn explain_text(
     text: Option<&[u8]>,
 ) -> Result<(), NoMemory> {
     if let Some(text) = text
+        && begins_as_object(text)
+    {
+        page.head(name)?;
+        return page.say("it is an object, not an assembly text: `talft dis` writes its text\n");
+    }
+    if let Some(text) = text
         && let Some(start) = Place::of_line(text, told as usize)
     {
-        let place = start.after(blanks(start.line()));
-        page.head_at(name, &place)?;
-        say_line(page, number, start.line())?;
-        page.say("\n")?;
-        return place.show(page, first_word(start.line()).len());
+        return explain_line(page, name, number, start);
     }
     page.head(name)?;
     say_whole(page, number, told)?;

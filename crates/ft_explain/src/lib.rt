@@ -1,28 +1,40 @@
-//! Refusals, explained for people.
+//! Calls, explained for people.
 //!
-//! `explain` gives what the program says on standard error after a call that is refused: the place in the
-//! file, the line there, and what is wrong with it. The crate promises no text. Each call is safe and ends,
-//! and `LastLine`, through which the program hears the refusal, is a sink as the one below it. The tests
-//! show the words of each refusal.
+//! `explain` gives what the program says on standard error: after a refused call the place in the file, the line
+//! there and what is wrong with it; after a run that was detected or cut what it met; and help. The crate
+//! promises no text. Each call is safe and ends, and `LastLine`, through which the program hears the refusal, is
+//! a sink as the one below it. The tests show the words of each refusal.
 #![tactic(auto)]
 
 mod assembly;
 mod checks;
+mod detections;
 mod excerpt;
+mod expected;
 mod fields;
+mod forms;
+mod help;
 mod known;
 mod last_line;
 mod links;
 mod lists;
+mod loads;
+mod look;
 mod objects;
+mod operands;
+mod outcomes;
 mod page;
 mod premises;
 mod reads;
 mod refusal;
+mod reruns;
 mod sources;
+mod strikes;
 mod telling;
 mod unread;
 mod usage;
+mod version;
 
 pub use last_line::LastLine;
+pub use look::{Found, Look};
 pub use telling::explain;

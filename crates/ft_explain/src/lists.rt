@@ -1,6 +1,7 @@
 //! Fault lists, campaigns and scripts that are refused.
 use crate::excerpt::Place;
 use crate::page::Page;
+use crate::strikes::say_wrong_part;
 use ft_isa::{NoMemory, read_strike};
 
 /// How many bytes of a line begin a fault.
@@ -36,7 +37,9 @@ pub(crate) fn explain_list(
     {
         let place = start.after(begun(start.line()));
         page.head_at(name, &place)?;
-        page.say("this is no fault: `K:SITE:V` is the word V at SITE before step K\n")?;
+        page.say("invalid fault: expected STEP:SITE:WORD; ")?;
+        say_wrong_part(page, str::from_utf8(start.line()).unwrap_or(""))?;
+        page.say("\n")?;
         return place.show(page, 1);
     }
     page.head(name)?;

@@ -7,6 +7,13 @@ use crate::page::Page;
 use ft_format::Header;
 use ft_isa::NoMemory;
 
+/// What is said of a text in the place of an object.
+const TEXT: &str =
+    "it is a text, not an object: `talft compile` makes one of a source, `talft asm` of an assembly text\n";
+
+/// What objects begin with.
+const BEGINNING: &[u8] = b"TALFT";
+
 /// How many bytes the header has.
 const HEADER_SIZE: usize = 48;
 
@@ -115,6 +122,23 @@ fn record_at(header: Header, at: usize) -> Option<Record> {
     None
 }
 
+/// Whether bytes begin as those of an object.
+pub(crate) fn begins_as_object(bytes: &[u8]) -> bool {
+    bytes.starts_with(BEGINNING)
+}
+
+/// Whether a byte stands in texts.
+fn is_of_text(byte: u8) -> bool {
+    matches!(byte, b'\t' | b'\n' | b'\r' | b' '..=b'~')
+}
+
+/// Whether bytes are a text, and no part of an object.
+fn is_text(bytes: &[u8]) -> bool {
+    let count = bytes.iter().take_while(|byte| is_of_text(**byte)).count();
+    let may_begin_object = begins_as_object(bytes) || BEGINNING.starts_with(bytes);
+    count == bytes.len() && !may_begin_object
+}
+
 /// The number that bytes spell, the highest first.
 fn value_of(bytes: &[u8]) -> u64 {
     let mut value: u64 = 0;
@@ -195,6 +219,9 @@ pub(crate) fn explain_object(
         page.say(rule(number))?;
         return page.say(format_args!(", at byte {at}\n"));
     };
+    if is_text(bytes) {
+        return page.say(TEXT);
+    }
     if number == 2 {
         return say_length(page, bytes);
     }

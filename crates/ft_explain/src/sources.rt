@@ -1,5 +1,7 @@
 //! Sources that are refused.
 use crate::excerpt::{Place, part};
+use crate::expected::{Lack, habit, instead_of, lack_at};
+use crate::objects::begins_as_object;
 use crate::page::Page;
 use ft_isa::NoMemory;
 use ft_lexer::{Kind, Lexer};
@@ -64,7 +66,23 @@ fn say_of(page: &mut Page, token: &[u8], words: &str) -> Result<(), NoMemory> {
 fn say_byte(page: &mut Page, token: &[u8]) -> Result<(), NoMemory> {
     match token {
         [byte, ..] if is_in_name(*byte) => page.say("a name has at most 32 bytes"),
-        _ => say_of(page, token, " begins no token"),
+        [byte, ..] => {
+            say_of(page, token, " begins no token")?;
+            page.say(instead_of(*byte))
+        }
+        [] => page.say("no token begins here"),
+    }
+}
+
+/// Says that a token is not expected, and what to write for a habit from C.
+fn say_unexpected(page: &mut Page, source: &[u8], at: usize, token: &[u8]) -> Result<(), NoMemory> {
+    if token.is_empty() {
+        return page.say("the source ends too early");
+    }
+    say_of(page, token, " is not expected here")?;
+    match habit(source, at) {
+        Some(words) => page.say(format_args!(": {words}")),
+        None => Ok(()),
     }
 }
 
@@ -86,8 +104,7 @@ fn say_at(page: &mut Page, number: u64, source: &[u8], at: usize) -> Result<(), 
     match number {
         2 => say_byte(page, token),
         3 => say_of(page, token, " is too large: a number is below 2^64"),
-        4 if token.is_empty() => page.say("the source ends too early"),
-        4 => say_of(page, token, " is not expected here"),
+        4 => say_unexpected(page, source, at, token),
         5 => say_depth(page, token),
         6 => say_of(page, token, " is declared twice"),
         7 => say_of(page, token, " is not declared"),
@@ -131,6 +148,41 @@ fn point_to_first(page: &mut Page, name: &str, source: &[u8], at: usize) -> Resu
     place.show(page, token.len())
 }
 
+/// Explains what a source lacks, at the end of the token after which it is lacking.
+fn explain_lack(
+    page: &mut Page,
+    name: &str,
+    source: &[u8],
+    lack: Lack<'_>,
+) -> Result<(), NoMemory> {
+    let place = Place::of(source, lack.end);
+    page.head_at(name, &place)?;
+    let what = lack.what;
+    page.say(format_args!("expected `{what}` after "))?;
+    say_of(page, lack.text, "\n")?;
+    place.show(page, 1)
+}
+
+/// Explains what is wrong at a place of a source.
+fn explain_at(
+    page: &mut Page,
+    name: &str,
+    number: u64,
+    at: usize,
+    source: &[u8],
+) -> Result<(), NoMemory> {
+    // What is lacking at the end is lacking after the last token.
+    let place = Place::of(source, at.min(source.trim_ascii_end().len()));
+    page.head_at(name, &place)?;
+    say_at(page, number, source, at)?;
+    page.say("\n")?;
+    place.show(page, token_at(source, at).len())?;
+    if number == 6 {
+        point_to_first(page, name, source, at)?;
+    }
+    Ok(())
+}
+
 /// Explains why a source is refused. The source is there where the refusal has a place.
 pub(crate) fn explain_source(
     page: &mut Page,
@@ -144,15 +196,15 @@ pub(crate) fn explain_source(
         say_whole(page, number, told)?;
         return page.say("\n");
     };
-    let at = told as usize;
-    // What is lacking at the end is lacking after the last token.
-    let place = Place::of(source, at.min(source.trim_ascii_end().len()));
-    page.head_at(name, &place)?;
-    say_at(page, number, source, at)?;
-    page.say("\n")?;
-    place.show(page, token_at(source, at).len())?;
-    if number == 6 {
-        point_to_first(page, name, source, at)?;
+    if begins_as_object(source) {
+        page.head(name)?;
+        return page.say("it is an object, not a source\n");
     }
-    Ok(())
+    let at = told as usize;
+    if number == 4
+        && let Some(lack) = lack_at(source, at)
+    {
+        return explain_lack(page, name, source, lack);
+    }
+    explain_at(page, name, number, at, source)
 }

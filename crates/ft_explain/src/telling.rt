@@ -7,21 +7,21 @@ use crate::links::{
     explain_code, explain_line, explain_long_map, explain_module, explain_unmoved, file_of,
 };
 use crate::lists::explain_list;
+use crate::loads::{OBJECT_LIMIT, load, slice};
+use crate::look::Look;
 use crate::objects::{explain_long, explain_object, explain_some_object, explain_tables};
+use crate::outcomes::explain_outcome;
 use crate::page::Page;
 use crate::refusal::Refusal;
 use crate::sources::{explain_source, has_place};
 use crate::unread::{explain_unread, explain_unread_module};
 use crate::usage::explain_usage;
 use ft_command::{Command, command_of};
-use ft_edge::{Load, LoadFault, Shelf};
+use ft_edge::Shelf;
 use ft_isa::NoMemory;
 use ft_types::Program;
 use ft_view::View;
 use std::alloc::Global;
-
-/// The most bytes of an object.
-const OBJECT_LIMIT: usize = 67_108_864;
 
 /// The most bytes of a source.
 const SOURCE_LIMIT: usize = 1_048_576;
@@ -93,29 +93,6 @@ fn files_of<'w>(command: &Command<'w>) -> Option<Named<'w>> {
         },
     };
     Some(named)
-}
-
-/// The bytes of a file of at most so many; `None` where it cannot be read or has more.
-fn load<S: Shelf>(
-    alloc: Global,
-    name: &str,
-    limit: usize,
-    shelf: &mut S,
-) -> Result<Option<Vec<u8>>, NoMemory> {
-    let mut bytes = Vec::new(alloc);
-    match shelf.load(name, limit, &mut bytes) {
-        Ok(Load::Whole) => Ok(Some(bytes)),
-        Ok(Load::TooLong) | Err(LoadFault::Failed) => Ok(None),
-        Err(LoadFault::NoMemory) => Err(NoMemory),
-    }
-}
-
-/// The bytes of a file that was loaded.
-fn slice(bytes: &Option<Vec<u8>>) -> Option<&[u8]> {
-    match bytes {
-        Some(bytes) => Some(bytes.as_slice()),
-        None => None,
-    }
 }
 
 /// Explains why an object, the tables of an assembly text, or a module are refused.
@@ -290,28 +267,40 @@ fn refused<S: Shelf>(
 }
 
 /// Explains that a file of a call could not be read.
-fn unread<S: Shelf>(page: &mut Page, named: Named<'_>, shelf: &mut S) -> Result<(), NoMemory> {
+fn unread<S: Shelf, L: Look>(
+    page: &mut Page,
+    named: Named<'_>,
+    shelf: &mut S,
+    look: &L,
+) -> Result<(), NoMemory> {
     if named.holds != Holds::Map {
-        return explain_unread(page, named.file, named.list, named.takes_script, shelf);
+        return explain_unread(
+            page,
+            (named.file, named.list),
+            named.takes_script,
+            shelf,
+            look,
+        );
     }
     let map = load(page.alloc(), named.file, MAP_LIMIT, shelf)?;
-    explain_unread_module(page, named.file, slice(&map), shelf)
+    explain_unread_module(page, named.file, slice(&map), shelf, look)
 }
 
 /// Explains a call by its command, its status and the line that it put last.
-fn by_command<S: Shelf>(
+fn by_command<S: Shelf, L: Look>(
     page: &mut Page,
     words: &[String],
     status: u8,
     line: &[u8],
     shelf: &mut S,
+    look: &L,
 ) -> Result<(), NoMemory> {
     let command = command_of(page.alloc(), words)?;
     let Some(named) = files_of(&command) else {
         return Ok(());
     };
     if status == 3 {
-        return unread(page, named, shelf);
+        return unread(page, named, shelf, look);
     }
     match Refusal::read(line) {
         Some(refusal) if refusal.status() == status => refused(page, named, refusal, shelf),
@@ -319,21 +308,34 @@ fn by_command<S: Shelf>(
     }
 }
 
+/// Explains what happened in a call that was not refused.
+fn by_outcome<S: Shelf>(
+    page: &mut Page,
+    words: &[String],
+    status: u8,
+    shelf: &mut S,
+) -> Result<(), NoMemory> {
+    let command = command_of(page.alloc(), words)?;
+    explain_outcome(page, &command, status, shelf)
+}
+
 /// What a person is told of a call with these words that ended with this status, where `line` was put last.
-/// It is empty for a call that was not refused, and that read and wrote all that it was to. The shelf gives
-/// the files again: what is said of a file speaks of the bytes that it has now. Each line of the text has its
-/// line feed.
-pub fn explain<S: Shelf>(
+/// It is empty for a call that did what it was to, and was not cut. The shelf gives the files again: what is said
+/// of a file speaks of the bytes that it has now. `look` tells what stands under the name of a file that could not
+/// be read. Each line of the text has its line feed.
+pub fn explain<S: Shelf, L: Look>(
     alloc: Global,
     words: &[String],
     status: u8,
     line: &[u8],
     shelf: &mut S,
+    look: &L,
 ) -> Result<String, NoMemory> {
     let mut page = Page::new(alloc);
     match status {
+        0 | 1 | 9 => by_outcome(&mut page, words, status, shelf)?,
         2 => explain_usage(&mut page, words)?,
-        3 | 6 | 7 | 8 | 11 | 12 | 13 => by_command(&mut page, words, status, line, shelf)?,
+        3 | 6 | 7 | 8 | 11 | 12 | 13 => by_command(&mut page, words, status, line, shelf, look)?,
         4 => page.say("talft: error: the output could not be written\n")?,
         5 => page.say("talft: error: memory ran out\n")?,
         _ => {}

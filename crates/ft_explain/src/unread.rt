@@ -1,4 +1,5 @@
 //! Files that could not be read.
+use crate::look::Look;
 use crate::page::Page;
 use ft_edge::{LoadFault, Shelf};
 use ft_isa::NoMemory;
@@ -24,48 +25,66 @@ fn first_unread<'m, S: Shelf>(page: &Page, map: &'m [u8], shelf: &mut S) -> Opti
     None
 }
 
-/// Explains that a file could not be read: the one of the two that cannot be read now, or both. Where both can
-/// be read, it was the script, or it is there again.
-pub(crate) fn explain_unread<S: Shelf>(
+/// Says why a file cannot be read.
+fn say_why<L: Look>(page: &mut Page, name: &str, look: &L) -> Result<(), NoMemory> {
+    page.head(name)?;
+    page.say(look.look(name).words())?;
+    page.say("\n")
+}
+
+/// Says why a file cannot be read, where this is so; false where it can be read.
+fn say_if_unread<S: Shelf, L: Look>(
     page: &mut Page,
-    first: &str,
-    second: Option<&str>,
+    name: &str,
+    shelf: &mut S,
+    look: &L,
+) -> Result<bool, NoMemory> {
+    if can_be_read(page, name, shelf) {
+        return Ok(false);
+    }
+    say_why(page, name, look)?;
+    Ok(true)
+}
+
+/// Explains that a file could not be read: each of the two that cannot be read now. Where both can be read, it was
+/// the script, or it is there again.
+pub(crate) fn explain_unread<S: Shelf, L: Look>(
+    page: &mut Page,
+    names: (&str, Option<&str>),
     takes_script: bool,
     shelf: &mut S,
+    look: &L,
 ) -> Result<(), NoMemory> {
-    let first_is = can_be_read(page, first, shelf);
-    let second_is = match second {
-        Some(second) => can_be_read(page, second, shelf),
-        None => true,
+    let (first, second) = names;
+    let first_is_said = say_if_unread(page, first, shelf, look)?;
+    let second_is_said = match second {
+        Some(second) => say_if_unread(page, second, shelf, look)?,
+        None => false,
     };
-    match (first_is, second_is, second) {
-        (false, true, _) => page.head(first)?,
-        (true, false, Some(second)) => page.head(second)?,
-        (false, false, Some(second)) => {
-            page.show(first.as_bytes())?;
-            page.say(" or ")?;
-            page.head(second)?;
-        }
-        _ if takes_script => page.head("standard input")?,
-        _ => page.say("talft: error: a file ")?,
+    if first_is_said || second_is_said {
+        return Ok(());
     }
-    page.say("cannot be read\n")
+    page.say(if takes_script {
+        "standard input: error: cannot be read\n"
+    } else {
+        "talft: error: a file cannot be read\n"
+    })
 }
 
 /// Explains that a link map or one of its modules could not be read: the map, or the first module that cannot
 /// be read now.
-pub(crate) fn explain_unread_module<S: Shelf>(
+pub(crate) fn explain_unread_module<S: Shelf, L: Look>(
     page: &mut Page,
     name: &str,
     map: Option<&[u8]>,
     shelf: &mut S,
+    look: &L,
 ) -> Result<(), NoMemory> {
     match map {
         Some(map) => match first_unread(page, map, shelf) {
-            Some(file) => page.head(file)?,
-            None => page.say("talft: error: a file ")?,
+            Some(file) => say_why(page, file, look),
+            None => page.say("talft: error: a file cannot be read\n"),
         },
-        None => page.head(name)?,
+        None => say_why(page, name, look),
     }
-    page.say("cannot be read\n")
 }

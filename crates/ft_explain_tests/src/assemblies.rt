@@ -10,11 +10,39 @@ const TEXTS: &[(&str, &str)] = &[
     ),
     (
         "node 0 memory\ntype 0 0\nblock 0\n\tmov r0 G 7\nhalt\nentry 0\n",
-        "file:4:2: error: `mov` is followed by R C W BASIC\n \tmov r0 G 7\n \t^~~\n",
+        "file:4:12: error: missing BASIC: `mov` is followed by R C W BASIC\n \tmov r0 G 7\n \t          ^\n",
     ),
     (
         "node 0 memory\ntype 0 0\nblock 0\nadd r0 r1\nhalt\nentry 0\n",
-        "file:4:1: error: `add` is followed by R R R, or R R C W\n add r0 r1\n ^~~\n",
+        "file:4:10: error: missing R: `add` is followed by R R R, or R R C W\n add r0 r1\n          ^\n",
+    ),
+    (
+        "mov r64 G 5 int\n",
+        "file:1:5: error: invalid `r64`: a register is r0 to r63\n mov r64 G 5 int\n     ^~~\n",
+    ),
+    (
+        "add r1 r2 G 0x5\n",
+        "file:1:13: error: invalid `0x5`: a number is decimal, without a sign and without zeros before it\n add r1 r2 G 0x5\n             ^~~\n",
+    ),
+    (
+        "halt # the end\n",
+        "file:1:6: error: invalid `#`: a comment stands on a line of its own\n halt # the end\n      ^\n",
+    ),
+    (
+        "st_G r0 r1 r2\n",
+        "file:1:12: error: invalid `r2`: nothing more stands in this line\n st_G r0 r1 r2\n            ^~\n",
+    ),
+    (
+        "block 0\r\n",
+        "file:1:8: error: a line ends with a line feed alone, without a carriage return before it\n block 0?\n        ^\n",
+    ),
+    (
+        "node 0 word\n",
+        "file:1:1: error: `node` is followed by SCOPE and `word W`, `var I`, `OP A B`, `sel M A`, `memory`, `upd M A V` or `rem A LENGTH`\n node 0 word\n ^~~~\n",
+    ),
+    (
+        "TALFT",
+        "file: error: it is an object, not an assembly text: `talft dis` writes its text\n",
     ),
     (
         "entry 0\nhalt\n",

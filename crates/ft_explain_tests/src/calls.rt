@@ -1,10 +1,24 @@
 //! Calls of the tool over files in memory, with what is said of them.
 use ft_edge::{MemShelf, MemSink, SureSource};
-use ft_explain::{LastLine, explain};
+use ft_explain::{Found, LastLine, Look, explain};
 use std::test::Fail;
 
 /// A file: its name and its bytes.
 pub(crate) type File<'a> = (&'a str, &'a [u8]);
+
+/// Whoever knows that some names are those of folders, and nothing of others.
+struct Folders;
+
+impl Look for Folders {
+    fn look(&self, name: &str) -> Found {
+        match name.as_bytes() {
+            b"folder" => Found::Folder,
+            b"nowhere" => Found::Missing,
+            b"secret" => Found::Forbidden,
+            _ => Found::Unknown,
+        }
+    }
+}
 
 /// The words of a text.
 fn split_words(rt: &impl AllocGlobal, text: &str) -> Result<Vec<String>, Fail> {
@@ -57,6 +71,7 @@ pub(crate) fn check_said(
         status,
         line.as_bytes(),
         &mut shelf,
+        &Folders,
     )?;
     compare(words, text, found.as_str())
 }
@@ -78,6 +93,7 @@ pub(crate) fn check_told(
         status,
         line.as_bytes(),
         &mut shelf,
+        &Folders,
     )?;
     compare(words, text, found.as_str())
 }

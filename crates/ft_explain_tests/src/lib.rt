@@ -18,6 +18,8 @@ mod lists;
 #[cfg(test)]
 mod objects;
 #[cfg(test)]
+mod outcomes;
+#[cfg(test)]
 mod sources;
 #[cfg(test)]
 mod usage;

@@ -8,7 +8,7 @@ use std::test::Fail;
 fn a_line_that_is_no_fault_is_shown(rt: HostRuntime) -> Result<(), Fail> {
     let list = b"4:r1:6\n4:r99:6\n4:r1:6\n";
     let text =
-        "list:2:5: error: this is no fault: `K:SITE:V` is the word V at SITE before step K\n 4:r99:6\n     ^\n";
+        "list:2:5: error: invalid fault: expected STEP:SITE:WORD; the site `r99` is none of r0 to r63, d, pcg, pcb, qa0 to qa7 and qv0 to qv7\n 4:r99:6\n     ^\n";
     check_said(
         &rt,
         "survey file --faults list",
@@ -51,6 +51,14 @@ const TOLD: &[(&str, u8, &str, &str)] = &[
         "standard input: error: a script has at most 1048576 bytes\n",
     ),
     ("check missing", 3, "", "missing: error: cannot be read\n"),
+    (
+        "check nowhere",
+        3,
+        "",
+        "nowhere: error: there is no such file\n",
+    ),
+    ("check folder", 3, "", "folder: error: it is a folder\n"),
+    ("check secret", 3, "", "secret: error: permission denied\n"),
     ("check file", 3, "", "talft: error: a file cannot be read\n"),
     (
         "debug file",
@@ -68,7 +76,7 @@ const TOLD: &[(&str, u8, &str, &str)] = &[
         "survey missing --faults list",
         3,
         "",
-        "missing or list: error: cannot be read\n",
+        "missing: error: cannot be read\nlist: error: cannot be read\n",
     ),
     (
         "run file",
@@ -78,8 +86,12 @@ const TOLD: &[(&str, u8, &str, &str)] = &[
     ),
     ("run file", 5, "", "talft: error: memory ran out\n"),
     ("run file", 0, "out 5\n", ""),
-    ("run file --fault 1:r0:1", 1, "out 5\n", ""),
-    ("run file", 9, "source 7 0\n", ""),
+    (
+        "run file",
+        9,
+        "source 7 0\n",
+        "file: cut after 1000000 steps (`--steps`)\n",
+    ),
     ("survey file --faults file", 10, "faults 1\n", ""),
     ("check file", 8, "accepted\n", ""),
 ];

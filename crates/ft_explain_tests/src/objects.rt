@@ -64,3 +64,10 @@ fn lengths_are_explained(rt: HostRuntime) -> Result<(), Fail> {
     let text = "file: error: an object has at most 67108864 bytes\n";
     check_told(&rt, "dis file", 7, "object 2 67108864\n", &[], text)
 }
+
+#[test]
+fn a_text_is_no_object(rt: HostRuntime) -> Result<(), Fail> {
+    let text =
+        "file: error: it is a text, not an object: `talft compile` makes one of a source, `talft asm` of an assembly text\n";
+    check_said(&rt, "check file", &[("file", b"cell out = 0;\n")], text)
+}

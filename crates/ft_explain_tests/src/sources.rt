@@ -7,7 +7,7 @@ use std::test::Fail;
 const SOURCES: &[(&str, &str)] = &[
     (
         "x = 1 % 2;",
-        "file:1:7: error: `%` begins no token\n x = 1 % 2;\n       ^\n",
+        "file:1:7: error: `%` begins no token: there is no division\n x = 1 % 2;\n       ^\n",
     ),
     (
         "var abcdefghijklmnopqrstuvwxyzabcdefg;",
@@ -19,16 +19,73 @@ const SOURCES: &[(&str, &str)] = &[
     ),
     (
         "cell out = 0; out = 7",
-        "file:1:22: error: the source ends too early\n cell out = 0; out = 7\n                      ^\n",
+        "file:1:22: error: expected `;` after `7`\n cell out = 0; out = 7\n                      ^\n",
     ),
     (
         "cell out = 0;\nout = 7 # no more\n\n",
-        "file:2:18: error: the source ends too early\n out = 7 # no more\n                  ^\n",
+        "file:2:8: error: expected `;` after `7`\n out = 7 # no more\n        ^\n",
     ),
     (
         "cell out = 0 out = 7;",
-        "file:1:14: error: `out` is not expected here\n cell out = 0 out = 7;\n              ^~~\n",
+        "file:1:13: error: expected `;` after `0`\n cell out = 0 out = 7;\n             ^\n",
     ),
+    (
+        "cell a = 0;\na = 1\nif (a == (1) { a = 2; }",
+        "file:2:6: error: expected `;` after `1`\n a = 1\n      ^\n",
+    ),
+    (
+        "cell a = 0; if (a == (1) { a = 2; }",
+        "file:1:25: error: expected `)` after `)`\n cell a = 0; if (a == (1) { a = 2; }\n                         ^\n",
+    ),
+    (
+        "cell a = 0; while (1) a = 2;",
+        "file:1:22: error: expected `{` after `)`\n cell a = 0; while (1) a = 2;\n                      ^\n",
+    ),
+    (
+        "cell a = 0; while 1 { a = 2; }",
+        "file:1:18: error: expected `(` after `while`\n cell a = 0; while 1 { a = 2; }\n                  ^\n",
+    ),
+    (
+        "cell a = 0; if (1) { a = 2;",
+        "file:1:28: error: the source ends too early\n cell a = 0; if (1) { a = 2;\n                            ^\n",
+    ),
+    (
+        "cell a = 0; if (1) { } else if (2) { }",
+        "file:1:29: error: `if` is not expected here: write `else { if (..) { .. } }`\n cell a = 0; if (1) { } else if (2) { }\n                             ^~\n",
+    ),
+    (
+        "var a = 3;",
+        "file:1:7: error: `=` is not expected here: a variable gets its value by a statement: `var a; a = 3;`\n var a = 3;\n       ^\n",
+    ),
+    (
+        "var a; a++;",
+        "file:1:9: error: `+` is not expected here: an assignment is written whole, as in `a = a + 1;`\n var a; a++;\n         ^\n",
+    ),
+    (
+        "int a;",
+        "file:1:5: error: `a` is not expected here: a declaration is `var a;` or `cell a = 0;`, without a type\n int a;\n     ^\n",
+    ),
+    (
+        "cell a = -1;",
+        "file:1:10: error: `-` is not expected here: a number has no sign: write `0 - 1`\n cell a = -1;\n          ^\n",
+    ),
+    (
+        "cell a = 0x10;",
+        "file:1:11: error: `x10` is not expected here: a number is decimal\n cell a = 0x10;\n           ^~~\n",
+    ),
+    (
+        "var a; a = 1 <= 2;",
+        "file:1:15: error: `=` is not expected here: write `(b < a) == 0` for `a <= b`\n var a; a = 1 <= 2;\n               ^\n",
+    ),
+    (
+        "var a; a = 1 != 2;",
+        "file:1:14: error: `!` begins no token: write `(a == b) == 0` for `a != b`\n var a; a = 1 != 2;\n              ^\n",
+    ),
+    (
+        "// a",
+        "file:1:1: error: `/` begins no token: a comment begins with `#`, and there is no division\n // a\n ^\n",
+    ),
+    ("TALFT", "file: error: it is an object, not a source\n"),
     (
         "var x; cell x = 1;",
         "file:1:13: error: `x` is declared twice\n var x; cell x = 1;\n             ^\nfile:1:5: note: the first declaration\n var x; cell x = 1;\n     ^\n",

@@ -2,20 +2,19 @@
 use crate::calls::check_said;
 use std::test::Fail;
 
-/// How all commands are written.
-const COMMANDS: &str =
-    "talft: error: `frobnicate` is no command\nusage:\n  talft compile SOURCE\n  talft check OBJECT\n  talft run OBJECT [--steps N] [--fault K:SITE:V] [--wild LIST]\n  talft recover OBJECT [--steps N] [--fault K:SITE:V] [--wild LIST]\n  talft exec SOURCE [--steps N]\n  talft trial OBJECT [--steps N] [--fault K:SITE:V] [--wild LIST]\n  talft campaign OBJECT --faults FILE [--steps N] [--wild LIST]\n  talft survey OBJECT --faults FILE [--steps N] [--wild LIST]\n  talft mean SOURCE [--turns N]\n  talft debug OBJECT [--wild LIST]\n  talft demo N\n  talft upgrade OBJECT\n  talft asm TEXT\n  talft dis OBJECT\n  talft schedule OBJECT\n  talft link MAP\n";
-
 /// Words, each with what is said of them.
 const WORDS: &[(&str, &str)] = &[
-    ("frobnicate x", COMMANDS),
     (
         "check",
-        "talft: error: `check` lacks its OBJECT\nusage: talft check OBJECT\n",
+        "talft: error: missing OBJECT after `check`\nusage: talft check OBJECT\n",
     ),
     (
         "check a --steps 3",
-        "talft: error: `check` takes no `--steps`\nusage: talft check OBJECT\n",
+        "talft: error: `check` takes no option `--steps`\nusage: talft check OBJECT\n",
+    ),
+    (
+        "check a b",
+        "talft: error: unexpected word `b` after the OBJECT\nusage: talft check OBJECT\n",
     ),
     (
         "exec a --steps 3 --steps 4",
@@ -23,31 +22,56 @@ const WORDS: &[(&str, &str)] = &[
     ),
     (
         "exec a --steps",
-        "talft: error: `--steps` lacks its N\nusage: talft exec SOURCE [--steps N]\n",
+        "talft: error: missing N after `--steps`\nusage: talft exec SOURCE [--steps N]\n",
+    ),
+    (
+        "exec a --steps=3",
+        "talft: error: `--steps=3` is one word: write `--steps N`\nusage: talft exec SOURCE [--steps N]\n",
+    ),
+    (
+        "exec --steps 3 a",
+        "talft: error: the SOURCE comes before the options, and `--steps` stands in its place\nusage: talft exec SOURCE [--steps N]\n",
     ),
     (
         "mean a --turns 1000000001",
-        "talft: error: `1000000001` is no N for `--turns`, a number of at most 1000000000\nusage: talft mean SOURCE [--turns N]\n",
+        "talft: error: invalid number `1000000001` for `--turns`: expected 0 to 1000000000\nusage: talft mean SOURCE [--turns N]\n",
     ),
     (
         "run a --steps 5 --fault 1:r0",
-        "talft: error: `1:r0` is no K:SITE:V for `--fault`\nusage: talft run OBJECT [--steps N] [--fault K:SITE:V] [--wild LIST]\n",
+        "talft: error: invalid fault `1:r0`: expected STEP:SITE:WORD; the word is missing\nusage: talft run OBJECT [--steps N] [--fault STEP:SITE:WORD] [--wild LIST]\n",
+    ),
+    (
+        "trial a --fault 4:r64:6",
+        "talft: error: invalid fault `4:r64:6`: expected STEP:SITE:WORD; the site `r64` is none of r0 to r63, d, pcg, pcb, qa0 to qa7 and qv0 to qv7\nusage: talft trial OBJECT [--steps N] [--fault STEP:SITE:WORD] [--wild LIST]\n",
+    ),
+    (
+        "trial a --fault 4:r1:0x6",
+        "talft: error: invalid fault `4:r1:0x6`: expected STEP:SITE:WORD; the word `0x6` is not a decimal number below 2^64\nusage: talft trial OBJECT [--steps N] [--fault STEP:SITE:WORD] [--wild LIST]\n",
     ),
     (
         "debug a --wild go",
-        "talft: error: `go` is no LIST for `--wild`\nusage: talft debug OBJECT [--wild LIST]\n",
+        "talft: error: invalid answers `go` for `--wild`: expected at most 4096 parts separated by commas, each a number or `stop`\nusage: talft debug OBJECT [--wild LIST]\n",
     ),
     (
         "survey a --steps 5",
-        "talft: error: `survey` lacks `--faults FILE`\nusage: talft survey OBJECT --faults FILE [--steps N] [--wild LIST]\n",
+        "talft: error: missing `--faults FILE`\nusage: talft survey OBJECT --faults FILE [--steps N] [--wild LIST]\n",
     ),
     (
         "link map --steps 3",
-        "talft: error: `link` takes no `--steps`\nusage: talft link MAP\n",
+        "talft: error: `link` takes no option `--steps`\nusage: talft link MAP\n",
     ),
     (
         "demo 10922",
         "talft: error: `demo` takes a number N from 1 to 10921\nusage: talft demo N\n",
+    ),
+    ("--version", "talft 0.9.0\n"),
+    (
+        "help exec",
+        "talft 0.9.0\nusage: talft exec SOURCE [--steps N]\n  compile a source and run its object\n\noptions:\n  --steps N                 run at most N steps: 0 to 1000000000, for campaign and survey 0 to 1000000 (default 1000000)\n\nexample:\n  talft exec fibonacci.src --steps 5000\n\nmore: `man talft`\n",
+    ),
+    (
+        "help dis",
+        "talft 0.9.0\nusage: talft dis OBJECT\n  write the assembly text of an object\n\nexample:\n  talft dis five.obj\n\nmore: `man talft`\n",
     ),
 ];
 

@@ -1,5 +1,7 @@
-//! Calls that are explained on standard error, where a person reads it.
-use crate::{answer, ended};
+//! Calls that are explained on standard error.
+use crate::looks::Folders;
+use crate::streams::{is_object_on_terminal, is_pipe};
+use crate::{NOT_WRITTEN, answer, ended};
 use ft_edge::{FolderShelf, GatheringSink, MemShelf, Shelf};
 use ft_explain::{LastLine, explain};
 use ft_isa::NoMemory;
@@ -8,37 +10,24 @@ use std::io::Write;
 use std::rt::{Env, Files};
 use std::{env, fs, io};
 
-/// The variable of the environment that asks for explanations (1) or forbids them (0).
+/// The variable of the environment that forbids explanations, by the value 0.
 const VARIABLE: &str = "TALFT_EXPLAIN";
 
-/// Where the system tells what standard error is.
-const STANDARD_ERROR: &str = "/proc/self/fd/2";
+/// What is said after an object went to a terminal.
+const BINARY: &str =
+    "talft: note: an object is no text: write it to a file, as in `talft compile SOURCE >FILE.obj`\n";
 
-/// What the names of terminals begin with.
-const TERMINALS: &[&str] = &["/dev/pts/", "/dev/tty", "/dev/console", "/dev/hvc"];
+/// What is said of arguments that are no text.
+const NO_TEXT: &str = "talft: error: an argument is not UTF-8 text\n";
 
 /// The most bytes of a link map.
 const MAP_LIMIT: usize = 65_536;
 
-/// Whether standard error is a terminal, by its name.
-fn is_terminal<R: Files + AllocGlobal>(rt: &R) -> bool {
-    let Ok(name) = fs::read_link(rt, STANDARD_ERROR) else {
-        return false;
-    };
-    for terminal in TERMINALS {
-        if name.as_str().starts_with(*terminal) {
-            return true;
-        }
-    }
-    false
-}
-
-/// Whether calls are to be explained: as the environment says, and else where standard error is a terminal.
-pub(crate) fn is_wanted<R: Env + Files + AllocGlobal>(rt: &R) -> bool {
+/// Whether calls are to be explained: unless the environment forbids it.
+pub(crate) fn is_wanted<R: Env + AllocGlobal>(rt: &R) -> bool {
     match env::var(rt, VARIABLE) {
-        Ok(value) if value.as_str() == "1" => true,
-        Ok(value) if value.as_str() == "0" => false,
-        _ => is_terminal(rt),
+        Ok(value) => value.as_str() != "0",
+        Err(_) => true,
     }
 }
 
@@ -92,6 +81,14 @@ fn are_read_again<R: Files, S: Shelf>(
     true
 }
 
+/// Whether an argument of the program is no text: then the call has no words.
+fn is_some_argument_no_text<R: Env + AllocGlobal>(rt: &R) -> bool {
+    match env::args(rt) {
+        Ok(_) => false,
+        Err(error) => error.kind() == io::ErrorKind::InvalidData,
+    }
+}
+
 /// What is said of a call.
 fn explanation<R: Files + AllocGlobal + Clone + Drop>(
     rt: &R,
@@ -104,15 +101,45 @@ fn explanation<R: Files + AllocGlobal + Clone + Drop>(
     };
     let mut shelf = FolderShelf::new(files, rt.alloc());
     if are_read_again(rt, rt.alloc(), words, &mut shelf) {
-        return explain(rt.alloc(), words, status, line, &mut shelf);
+        return explain(rt.alloc(), words, status, line, &mut shelf, &Folders { rt });
     }
     let mut nothing = MemShelf::new(rt.alloc());
-    explain(rt.alloc(), words, status, line, &mut nothing)
+    explain(
+        rt.alloc(),
+        words,
+        status,
+        line,
+        &mut nothing,
+        &Folders { rt },
+    )
+}
+
+/// Says on standard error what a person is told of a call. The status is what the call is about: what cannot be
+/// written there changes nothing. Nothing is said where the reader of a pipe has enough.
+fn say<R: Env + Files + Eprint + AllocGlobal + Clone + Drop>(
+    rt: &R,
+    words: &[String],
+    status: u8,
+    line: &[u8],
+) {
+    if status == NOT_WRITTEN && is_pipe(rt) {
+        return;
+    }
+    if words.is_empty() && is_some_argument_no_text(rt) {
+        let _ = rt.eprint(NO_TEXT);
+        return;
+    }
+    if is_object_on_terminal(rt, words, status) {
+        let _ = rt.eprint(BINARY);
+    }
+    if let Ok(text) = explanation(rt, words, status, line) {
+        let _ = rt.eprint(text.as_str());
+    }
 }
 
 /// Does what the words ask for, and says on standard error what a person is told of it. What is written to
 /// standard output and the status are as without.
-pub(crate) fn run<R: Files + Eprint + Input + AllocGlobal + Clone + Drop, W: Write + Drop>(
+pub(crate) fn run<R: Env + Files + Eprint + Input + AllocGlobal + Clone + Drop, W: Write + Drop>(
     rt: &R,
     words: &[String],
     out: GatheringSink<W>,
@@ -121,9 +148,6 @@ pub(crate) fn run<R: Files + Eprint + Input + AllocGlobal + Clone + Drop, W: Wri
     let status = answer(rt, words, &mut out)?;
     let (out, line) = out.into_parts();
     let status = ended(out, status);
-    if let Ok(text) = explanation(rt, words, status, line.as_bytes()) {
-        // The status is what the call is about: an explanation that cannot be written changes nothing.
-        let _ = rt.eprint(text.as_str());
-    }
+    say(rt, words, status, line.as_bytes());
     Ok(status)
 }

@@ -3,11 +3,13 @@
 //! The program's words are its arguments, and `ft_tool::tool` does what they ask for: its contract says
 //! what it writes and answers. Arguments that are no text are no command, so they are handed over as no
 //! words at all. Lines are gathered and written in large pieces. What is gathered at the end is written
-//! before the program ends; the status is that of `tool`, or 4 when this last write fails. Where a person
-//! reads standard error, a call that is refused is explained there.
+//! before the program ends; the status is that of `tool`, or 4 when this last write fails. A call that is
+//! refused, detected or cut is explained on standard error.
 #![tactic(auto)]
 
 mod explained;
+mod looks;
+mod streams;
 
 use ft_edge::{FolderShelf, GatheringSink, Sink, StdinSource};
 use std::io::Write;

@@ -1,0 +1,16 @@
+# What is said where the Rattle kit is missing, or is not that of the proofs. The caller sets `top`.
+
+# The kit that the proofs were made with, as `rt version` names it.
+kit_of_proofs() { sed -n 's/.*`rt version`: \([^)]*\)).*/\1/p' "$top/docs/PROMISES.md"; }
+
+# Fails where there is no kit.
+need_kit() {
+  local found
+  if ! command -v rt >/dev/null; then
+    echo "talft: error: the Rattle kit is missing: no \`rt\` is on PATH. It is in bin/ of the kit; the proofs need $(kit_of_proofs)" >&2
+    return 1
+  fi
+  found=$(rt version 2>/dev/null)
+  [ "$found" = "$(kit_of_proofs)" ] ||
+    echo "talft: note: this is ${found:-no kit}, and the proofs were made with $(kit_of_proofs): they may fail" >&2
+}

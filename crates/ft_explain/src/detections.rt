@@ -1,0 +1,151 @@
+//! What a machine that has stopped at a fault found.
+ghost use Rattle.std.specs.Prelude.{◌≡◌, ◌<◌, length};
+ghost use Rattle.ft_types.specs.Spellable.{IsSpellable};
+
+use crate::page::Page;
+use ft_asm::put_codes;
+use ft_isa::{Colour, Instr, NoMemory, Reg};
+use ft_machine::Machine;
+use ft_types::Program;
+
+/// Says the instruction at a code address, if it is this one; false where it is not.
+#[tactic(auto, using(ft_types::proofs::Counted::spellable_counted))]
+fn say_code_at<P: Program>(
+    page: &mut Page,
+    program: &P,
+    address: u64,
+    instr: Instr,
+) -> Result<bool, NoMemory>
+    requires { IsSpellable (P.object program.now) }
+{
+    let Ok(i) = u32::try_from(address.saturating_sub(1)) else {
+        return Ok(false);
+    };
+    if i >= program.counts().instrs {
+        return Ok(false);
+    }
+    if program.instr(i) != instr {
+        return Ok(false);
+    }
+    let mut text = Vec::new(page.alloc());
+    put_codes(&mut text, program, i, i + 1)?;
+    page.say("`")?;
+    page.show(text.as_slice().trim_ascii_end())?;
+    page.say("`: ")?;
+    Ok(true)
+}
+
+/// Says the instruction that is being carried out. One of the counters may have been struck since it was fetched.
+fn say_code<P: Program>(
+    page: &mut Page,
+    program: &P,
+    machine: &Machine,
+    instr: Instr,
+) -> Result<(), NoMemory>
+    requires { IsSpellable (P.object program.now) }
+{
+    if !say_code_at(page, program, machine.pc(Colour::Green), instr)? {
+        say_code_at(page, program, machine.pc(Colour::Blue), instr)?;
+    }
+    Ok(())
+}
+
+/// Says what a fetch found.
+fn say_counters(page: &mut Page, machine: &Machine) -> Result<(), NoMemory> {
+    let green = machine.pc(Colour::Green);
+    let blue = machine.pc(Colour::Blue);
+    if green == blue {
+        return page.say(format_args!("both program counters are {green}, where no instruction is"));
+    }
+    page.say(format_args!("the green program counter is {green}, the blue one is {blue}"))
+}
+
+/// Says what a blue store found.
+fn say_store(page: &mut Page, machine: &Machine, rd: Reg, rs: Reg) -> Result<(), NoMemory> {
+    let Some((address, value)) = machine.queue().get(0) else {
+        return page.say("the queue is empty");
+    };
+    let to = machine.reg(rd).word;
+    let word = machine.reg(rs).word;
+    if to != address {
+        let number = rd.number();
+        return page.say(format_args!(
+            "r{number} is {to}, and the oldest store in the queue has the address {address}"
+        ));
+    }
+    if word != value {
+        let number = rs.number();
+        return page.say(format_args!(
+            "r{number} is {word}, and the oldest store in the queue has the value {value}"
+        ));
+    }
+    page.say(format_args!("no cell has the address {to}"))
+}
+
+/// Says what a blue jump, or a blue branch that is taken, found.
+fn say_target(page: &mut Page, machine: &Machine, rd: Reg) -> Result<(), NoMemory> {
+    let d = machine.d();
+    if d == 0 {
+        return page.say("its green half set no target (d is 0)");
+    }
+    let number = rd.number();
+    let target = machine.reg(rd).word;
+    page.say(format_args!("r{number} is {target}, and the target of its green half, d, is {d}"))
+}
+
+/// Says what a blue branch found.
+fn say_branch(page: &mut Page, machine: &Machine, rz: Reg, rd: Reg) -> Result<(), NoMemory> {
+    let word = machine.reg(rz).word;
+    if word == 0 {
+        return say_target(page, machine, rd);
+    }
+    let number = rz.number();
+    let d = machine.d();
+    page.say(format_args!("r{number} is {word}, and its green half was taken (d is {d})"))
+}
+
+/// Says what an instruction found.
+fn say_found(page: &mut Page, machine: &Machine, instr: Instr) -> Result<(), NoMemory> {
+    match instr {
+        Instr::Ld { rs, .. } => {
+            let number = rs.number();
+            let address = machine.reg(rs).word;
+            page.say(format_args!(
+                "no cell has the address {address} in r{number}, and no answer is left (`--wild`)"
+            ))
+        }
+        Instr::St {
+            colour: Colour::Green,
+            ..
+        } => page.say("the queue has eight stores already"),
+        Instr::St {
+            colour: Colour::Blue,
+            rd,
+            rs,
+        } => say_store(page, machine, rd, rs),
+        Instr::JmpG { .. } | Instr::BzG { .. } => {
+            let d = machine.d();
+            page.say(format_args!("d is {d} already, and not 0"))
+        }
+        Instr::JmpB { rd, .. } => say_target(page, machine, rd),
+        Instr::BzB { rz, rd, .. } => say_branch(page, machine, rz, rd),
+        _ => Ok(()),
+    }
+}
+
+/// Says at which instruction a machine has stopped, and what it found there.
+pub(crate) fn say_detection<P: Program>(
+    page: &mut Page,
+    program: &P,
+    machine: &Machine,
+) -> Result<(), NoMemory>
+    requires { IsSpellable (P.object program.now) }
+{
+    match machine.fetched() {
+        None => say_counters(page, machine),
+        Some(instr) => {
+            say_code(page, program, machine, instr)?;
+            say_found(page, machine, instr)
+        }
+    }
+}

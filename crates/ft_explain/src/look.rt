@@ -1,0 +1,32 @@
+//! What stands under the name of a file that could not be read.
+
+/// What stands under the name of a file that could not be read.
+#[derive(Clone, Copy, Debug, PartialEq, Eq)]
+pub enum Found {
+    /// Nothing.
+    Missing,
+    /// A folder.
+    Folder,
+    /// A file that this user may not read.
+    Forbidden,
+    /// Something else, or it is not known.
+    Unknown,
+}
+
+impl Found {
+    /// Why the file cannot be read.
+    pub(crate) fn words(self) -> &'static str {
+        match self {
+            Found::Missing => "there is no such file",
+            Found::Folder => "it is a folder",
+            Found::Forbidden => "permission denied",
+            Found::Unknown => "cannot be read",
+        }
+    }
+}
+
+/// Whoever can tell what stands under a name.
+pub trait Look {
+    /// What stands under a name.
+    fn look(&self, name: &str) -> Found;
+}

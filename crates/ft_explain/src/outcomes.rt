@@ -1,0 +1,154 @@
+//! What happened in runs that are no plain success.
+ghost use Rattle.ft_types.specs.Spellable.{IsSpellable};
+
+use crate::detections::say_detection;
+use crate::loads::{OBJECT_LIMIT, load};
+use crate::page::Page;
+use crate::reruns::{Met, rerun};
+use ft_command::{Command, Run};
+use ft_edge::Shelf;
+use ft_isa::{NoMemory, Plan, Site, Strike};
+use ft_machine::{Machine, Status};
+use ft_types::Program;
+use ft_view::View;
+
+/// How many steps are taken again to see what a run met.
+const AGAIN: u64 = 1_000_000;
+
+/// Begins a line on a file.
+fn begin(page: &mut Page, name: &str) -> Result<(), NoMemory> {
+    page.show(name.as_bytes())?;
+    page.say(": ")
+}
+
+/// Says that a run or a meaning was cut.
+fn say_cut(page: &mut Page, name: &str, count: u64, what: &str) -> Result<(), NoMemory> {
+    begin(page, name)?;
+    page.say(format_args!("cut after {count} {what} (`--{what}`)\n"))
+}
+
+/// Says why a strike found nothing to strike.
+fn say_missed(page: &mut Page, strike: Strike, met: Met) -> Result<(), NoMemory> {
+    let step = strike.step;
+    match (met.stood, strike.site) {
+        (Status::Running, Site::QAddr(i) | Site::QVal(i)) => page.say(format_args!(
+            "at step {step} the queue has no entry {i}"
+        )),
+        _ => {
+            let taken = met.taken;
+            page.say(format_args!("at step {step} the run had ended, after {taken} steps"))
+        }
+    }
+}
+
+/// Says that nothing was struck, where this is so.
+fn say_unstruck(page: &mut Page, run: &Run, met: Met) -> Result<(), NoMemory> {
+    let Some(strike) = run.strike else {
+        return Ok(());
+    };
+    let steps = run.steps;
+    if strike.step >= steps {
+        begin(page, run.object)?;
+        let step = strike.step;
+        return page.say(format_args!(
+            "nothing was struck: the fault comes at step {step}, and the run takes at most {steps} steps (`--steps`)\n"
+        ));
+    }
+    if met.struck != Some(false) {
+        return Ok(());
+    }
+    begin(page, run.object)?;
+    page.say("nothing was struck: ")?;
+    say_missed(page, strike, met)?;
+    page.say("\n")
+}
+
+/// Says where a fault was detected, where the run was.
+fn say_detected<P: Program>(
+    page: &mut Page,
+    program: &P,
+    machine: &Machine,
+    run: &Run,
+    met: Met,
+) -> Result<(), NoMemory>
+    requires { IsSpellable (P.object program.now) }
+{
+    begin(page, run.object)?;
+    let at = met.taken.saturating_sub(1);
+    page.say(format_args!("detected at step {at}: "))?;
+    say_detection(page, program, machine)?;
+    page.say("\n")
+}
+
+/// Says that a fault was detected, where the place is not known.
+fn say_detected_late(page: &mut Page, run: &Run) -> Result<(), NoMemory> {
+    begin(page, run.object)?;
+    page.say("detected; `talft campaign` or `talft debug` tells at which step\n")
+}
+
+/// Runs an object again, and says what the run met.
+fn say_met<P: Program>(page: &mut Page, program: &P, run: &Run, status: u8) -> Result<(), NoMemory>
+    requires { IsSpellable (P.object program.now) }
+{
+    let mut machine = Machine::new(page.alloc(), program)?;
+    let plan = Plan {
+        strike: run.strike,
+        wild: run.wild.as_slice(),
+    };
+    let met = rerun(&mut machine, program, plan, run.steps.min(AGAIN));
+    say_unstruck(page, run, met)?;
+    match machine.status() {
+        Status::Detected => say_detected(page, program, &machine, run, met),
+        Status::Running if status == 1 => say_detected_late(page, run),
+        _ => Ok(()),
+    }
+}
+
+/// Says what a run of an object met, where its file can be read again.
+fn say_again<S: Shelf>(
+    page: &mut Page,
+    run: &Run,
+    status: u8,
+    shelf: &mut S,
+) -> Result<(), NoMemory> {
+    let Some(bytes) = load(page.alloc(), run.object, OBJECT_LIMIT, shelf)? else {
+        return Ok(());
+    };
+    match View::over(bytes.as_slice()) {
+        Ok(view) => say_met(page, &view, run, status),
+        Err(_) => Ok(()),
+    }
+}
+
+/// Explains a run of an object, where something can have happened.
+fn explain_run<S: Shelf>(
+    page: &mut Page,
+    run: &Run,
+    status: u8,
+    shelf: &mut S,
+) -> Result<(), NoMemory> {
+    if status == 1 || run.strike.is_some() {
+        say_again(page, run, status, shelf)?;
+    }
+    if status == 9 {
+        say_cut(page, run.object, run.steps, "steps")?;
+    }
+    Ok(())
+}
+
+/// Explains what happened in a call that ended with status 0, 1 or 9; nothing is said of plain success.
+pub(crate) fn explain_outcome<S: Shelf>(
+    page: &mut Page,
+    command: &Command<'_>,
+    status: u8,
+    shelf: &mut S,
+) -> Result<(), NoMemory> {
+    match command {
+        Command::Run(run) | Command::Trial(run) | Command::Recover(run) => {
+            explain_run(page, run, status, shelf)
+        }
+        Command::Exec(asked) if status == 9 => say_cut(page, asked.source, asked.steps, "steps"),
+        Command::Mean(asked) if status == 9 => say_cut(page, asked.source, asked.turns, "turns"),
+        _ => Ok(()),
+    }
+}

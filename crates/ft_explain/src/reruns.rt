@@ -1,0 +1,85 @@
+//! Runs that are run again to see what they met.
+ghost use Rattle.std.specs.Prelude.{◌≡◌, ◌≤◌};
+ghost use Rattle.ft_types.specs.Spellable.{IsSpellable};
+
+use ft_isa::{Plan, Strike};
+use ft_machine::{Machine, Status, WildLeft};
+use ft_types::Program;
+
+/// Takes some steps of a machine, at most `most`, and tells how many; none of one that has stopped.
+fn advance<P: Program>(machine: &mut Machine, program: &P, wild: &mut WildLeft, most: u64) -> u64
+    requires { IsSpellable (P.object program.now) }
+    ensures few { result ≤ most }
+{
+    match machine.status() {
+        Status::Running => machine.advance(program, wild, most).taken,
+        Status::Done | Status::Detected => 0,
+    }
+}
+
+/// Takes `most` steps of a machine, or fewer where it stops, and tells how many.
+pub(crate) fn go<P: Program>(
+    machine: &mut Machine,
+    program: &P,
+    wild: &mut WildLeft,
+    most: u64,
+) -> u64
+    requires { IsSpellable (P.object program.now) }
+{
+    let mut left = most;
+    for _ in 0..most {
+        let taken = advance(machine, program, wild, left);
+        if taken == 0 {
+            break;
+        }
+        left -= taken;
+    }
+    most.saturating_sub(left)
+}
+
+/// What a run met.
+#[derive(Clone, Copy)]
+pub(crate) struct Met {
+    /// How many steps it took, up to its stop.
+    pub taken: u64,
+    /// Whether the strike found its site; `None` where the run did not come to its step.
+    pub struck: Option<bool>,
+    /// How the machine stood when the strike came.
+    pub stood: Status,
+}
+
+/// Strikes a machine after so many steps of it, and goes on.
+fn strike<P: Program>(
+    machine: &mut Machine,
+    program: &P,
+    wild: &mut WildLeft,
+    strike: Strike,
+    steps: u64,
+) -> Met
+    requires { IsSpellable (P.object program.now) }
+{
+    let before = go(machine, program, wild, strike.step);
+    let stood = machine.status();
+    let struck = machine.strike(strike.site, strike.value);
+    let after = go(machine, program, wild, steps.saturating_sub(strike.step));
+    Met {
+        taken: before.saturating_add(after),
+        struck: Some(struck),
+        stood,
+    }
+}
+
+/// Runs a machine from its start under a plan, for at most `steps` steps.
+pub(crate) fn rerun<P: Program>(machine: &mut Machine, program: &P, plan: Plan, steps: u64) -> Met
+    requires { IsSpellable (P.object program.now) }
+{
+    let mut wild = WildLeft::new(plan.wild);
+    match plan.strike {
+        Some(at) if at.step < steps => strike(machine, program, &mut wild, at, steps),
+        _ => Met {
+            taken: go(machine, program, &mut wild, steps),
+            struck: None,
+            stood: Status::Running,
+        },
+    }
+}

@@ -1,0 +1,41 @@
+//! What stands under names in the folders of the system.
+use ft_explain::{Found, Look};
+use std::fs;
+use std::fs::File;
+use std::io::ErrorKind;
+use std::rt::Files;
+
+/// The folders of the system.
+#[derive(Drop)]
+pub(crate) struct Folders<'r, R: Files> {
+    pub rt: &'r R,
+}
+
+/// Whether a file may not be read.
+fn is_forbidden<R: Files>(rt: &R, name: &str) -> bool {
+    match File::open(rt, name) {
+        Ok(_) => false,
+        Err(error) => error.kind() == ErrorKind::PermissionDenied,
+    }
+}
+
+/// What stands under a name.
+fn found<R: Files>(rt: &R, name: &str) -> Found {
+    match fs::metadata(rt, name) {
+        Ok(found) if found.is_dir() => Found::Folder,
+        // A pipe that nobody writes to would be waited for.
+        Ok(found) if found.is_file() && is_forbidden(rt, name) => Found::Forbidden,
+        Ok(_) => Found::Unknown,
+        Err(error) => match error.kind() {
+            ErrorKind::NotFound => Found::Missing,
+            ErrorKind::PermissionDenied => Found::Forbidden,
+            _ => Found::Unknown,
+        },
+    }
+}
+
+impl<R: Files> Look for Folders<'_, R> {
+    fn look(&self, name: &str) -> Found {
+        found(self.rt, name)
+    }
+}

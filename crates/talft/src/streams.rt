@@ -1,0 +1,50 @@
+//! What standard output is.
+use std::fs;
+use std::rt::Files;
+
+/// Where the system tells what standard output is.
+const STANDARD_OUTPUT: &str = "/proc/self/fd/1";
+
+/// What the names of terminals begin with.
+const TERMINALS: &[&str] = &["/dev/pts/", "/dev/tty", "/dev/console", "/dev/hvc"];
+
+/// Whether standard output is a terminal, by its name.
+fn is_terminal<R: Files + AllocGlobal>(rt: &R) -> bool {
+    let Ok(name) = fs::read_link(rt, STANDARD_OUTPUT) else {
+        return false;
+    };
+    for terminal in TERMINALS {
+        if name.as_str().starts_with(*terminal) {
+            return true;
+        }
+    }
+    false
+}
+
+/// Whether standard output is a pipe, by its name. A pipe refuses bytes where nobody reads it any more.
+pub(crate) fn is_pipe<R: Files + AllocGlobal>(rt: &R) -> bool {
+    match fs::read_link(rt, STANDARD_OUTPUT) {
+        Ok(name) => name.as_str().starts_with("pipe:"),
+        Err(_) => false,
+    }
+}
+
+/// Whether the words ask for an object.
+fn ask_for_object(words: &[String]) -> bool {
+    let [command, ..] = words else {
+        return false;
+    };
+    matches!(
+        command.as_str().as_bytes(),
+        b"compile" | b"asm" | b"upgrade" | b"schedule" | b"link"
+    )
+}
+
+/// Whether a call with these words that ended with this status has written an object to a terminal.
+pub(crate) fn is_object_on_terminal<R: Files + AllocGlobal>(
+    rt: &R,
+    words: &[String],
+    status: u8,
+) -> bool {
+    status == 0 && ask_for_object(words) && is_terminal(rt)
+}
