@@ -19,6 +19,7 @@ use Rattle.ft_encode.specs.Fits.{Is8, Is32, FitsShape}
 use Rattle.ft_asm.specs.Lines.{reg_word, colour_word, op_word, ld_word, st_word, code_words, line_words, FitsLine, FitsCode, IsForm, IsAnyWord}
 use Rattle.ft_asm.specs.Forms.{below, reg_in, op_in, any_word, taken, ended, field, rows_in, cell_in, node_line, node_in, shape_in, op_shape_in, type_in, reg_row_in, pend_in, block_in, entry_in, mov_in, idx_in, two_regs_in, jmp_green_in, jmp_blue_in, bz_blue_in, op_word_in, operand_in, op_code_in, op_line_in, transfer_in, code_in, line_with, line_in}
 use Rattle.ft_asm.proofs.FieldLaws.{IsField, number_field, colour_field, op_field, reg_field, basic_field, rows_sound, rows_complete, chosen}
+use Rattle.ft_asm.proofs.Texts.{AreWords}
 
 -- CHAINS
 
@@ -85,11 +86,7 @@ block_sound = through _ n32 _ (λ t ht. at_end _ (lines.Block t) (ht, refl))
 entry_sound : (ws : List (List ℕ)) (l : Line) → entry_in ws ≡ Some l → IsForm (codes "entry" ∷ ws) l
 entry_sound = through _ n32 _ (λ b hb. at_end _ (lines.Entry b) (hb, refl))
 
--- the words of a line are parts of it: of words that have no blank and no line feed
-abbrev ArePlain : List (List ℕ) → Type 0
-ArePlain ws = AllByRecursion IsAnyWord ws
-
-cell_sound : (ws : List (List ℕ)) (l : Line) → ArePlain ws → cell_in ws ≡ Some l → IsForm (codes "cell" ∷ ws) l
+cell_sound : (ws : List (List ℕ)) (l : Line) → AreWords ws → cell_in ws ≡ Some l → IsForm (codes "cell" ∷ ws) l
 cell_sound [] l h e = absurd cc
 cell_sound (name ∷ ws) l h e =
     through (λ vs m. IsForm (codes "cell" ∷ name ∷ vs) m) basic_field (λ basic vs. field (below (2 ^ 64)) (λ init us. ended (lines.Cell (record { name = name; basic = basic; init = init })) us) vs) (λ basic hb.
@@ -208,7 +205,7 @@ code_sound w ws =
     (chosen P (codes "st_B") w _ _ (λ l. st_sound Blue ws l)
     (λ l. transfer_sound w ws l))))))
 
-line_with_sound : (w : List ℕ) (ws : List (List ℕ)) → ArePlain ws → (l : Line) → line_with w ws ≡ Some l → IsForm (w ∷ ws) l
+line_with_sound : (w : List ℕ) (ws : List (List ℕ)) → AreWords ws → (l : Line) → line_with w ws ≡ Some l → IsForm (w ∷ ws) l
 line_with_sound w ws h =
     let P : List ℕ → Line → Type 0 = λ v l. IsForm (v ∷ ws) l in
     chosen P (codes "cell") w _ _ (λ l. cell_sound ws l h)

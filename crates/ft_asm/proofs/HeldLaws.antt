@@ -238,10 +238,6 @@ type_held o t i m d b held h =
 
 -- ENDS
 
-pub empty_of : {A : Type 0} (xs : List A) → length xs ≡ 0 → xs ≡ []
-empty_of [] e = refl
-empty_of (x ∷ xs) e = absurd (omega arith)
-
 pub closes_start : (t : tables.Draft) → t.place ≡ places.Start → (d : Draft) → Holds t d → Closes true t d
 closes_start t s (Start cs ns) h = (record { cells = cs; nodes = ns; types = []; parts = []; entry = 0 }, refl, h.1, h.2)
 closes_start t s (InType cs ns ts v) h = absurd (start_type t.place v.ints v.memory s h.0)

@@ -1,11 +1,12 @@
 -- An object that obeys the rules is what its text says.
-use Rattle.std.proofs.Common.{◌≡◌, ◌⊎◌, inl, inr, ℕ, zero, suc, ◌+◌, ◌-◌, ◌<◌, ◌≤◌, ◌==◌, nat_le, Bool, true, false, ◌&&◌, ◌||◌, List, [], ◌∷◌, ◌++◌, length, map, take, drop, Some, refl, ap, sym, ◌∙◌, subst, append-nil, arith}
+use Rattle.std.proofs.Common.{◌≡◌, inl, inr, ℕ, zero, suc, ◌+◌, ◌-◌, ◌≤◌, ◌==◌, nat_le, Bool, true, false, ◌&&◌, ◌||◌, List, [], ◌∷◌, ◌++◌, length, map, take, drop, Some, refl, ap, sym, ◌∙◌, subst, append-nil, arith}
 use Rattle.std.specs.Prelude.{slice_get, slice_range}
 use Rattle.std.specs.List.{AllByRecursion, flat_map, list_all}
-use Rattle.std.proofs.lemmas.Bool.{and_parts, leb-true, eqb-true}
+use Rattle.std.proofs.lemmas.Bool.{and_parts, leb-true, eqb-true, or_cases}
 use Rattle.std.proofs.lemmas.List.{length-take-le, length-drop, take_rest, drop_all, length-map, map-append}
 use Rattle.std.proofs.lemmas.List.Folds.{drop_split}
 use Rattle.std.proofs.lemmas.List.Elements.{recursion_from_All}
+use Rattle.std.proofs.lemmas.Option.{slice_get_within}
 use Rattle.ft_isa.specs.declared.basic.Base.{Base}
 use Rattle.ft_isa.specs.declared.basic.Base.TheVariants.{Int}
 use Rattle.ft_isa.specs.declared.basic.Base.TheVariants as bases
@@ -13,6 +14,7 @@ use Rattle.ft_isa.specs.declared.basic.Basic.{Basic}
 use Rattle.ft_isa.specs.declared.instr.Instr.{Instr}
 use Rattle.ft_isa.specs.declared.instr.Instr.TheVariants as instrs
 use Rattle.ft_isa.specs.declared.instr.Subst.{Subst}
+use Rattle.ft_isa.proofs.Lists.{all_append}
 use Rattle.ft_static.specs.declared.node.Node.{Node}
 use Rattle.ft_static.specs.declared.node.Shape.{Shape}
 use Rattle.ft_static.specs.declared.node.Shape.TheVariants as shapes
@@ -32,17 +34,13 @@ use Rattle.ft_asm.proofs.Texts.{part_from, text_says}
 
 -- LISTS
 
-all_on : {A : Type 0} (P : A → Type 0) (xs ys : List A) → AllByRecursion P xs → AllByRecursion P ys → AllByRecursion P (xs ++ ys)
-all_on P [] ys h i = i
-all_on P (x ∷ xs) ys h i = (h.0, all_on P xs ys h.1 i)
-
 all_map : {A B : Type 0} (P : B → Type 0) (f : A → B) (Q : A → Type 0) → ((x : A) → Q x → P (f x)) → (xs : List A) → AllByRecursion Q xs → AllByRecursion P (map f xs)
 all_map P f Q g [] h = tt
 all_map P f Q g (x ∷ xs) h = (g x h.0, all_map P f Q g xs h.1)
 
 all_flat : {A B : Type 0} (P : B → Type 0) (f : A → List B) (Q : A → Type 0) → ((x : A) → Q x → AllByRecursion P (f x)) → (xs : List A) → AllByRecursion Q xs → AllByRecursion P (flat_map f xs)
 all_flat P f Q g [] h = tt
-all_flat P f Q g (x ∷ xs) h = all_on P (f x) (flat_map f xs) (g x h.0) (all_flat P f Q g xs h.1)
+all_flat P f Q g (x ∷ xs) h = all_append P (f x) (flat_map f xs) (g x h.0) (all_flat P f Q g xs h.1)
 
 all_got : {A : Type 0} (P : A → Type 0) (xs : List A) → ((i : ℕ) (x : A) → slice_get xs i ≡ Some x → P x) → AllByRecursion P xs
 all_got P [] h = tt
@@ -66,16 +64,12 @@ range_rest xs a = take_rest xs a
 
 -- WHAT FITS
 
-either : (a b : Bool) → (a || b) ≡ true → (a ≡ true) ⊎ (b ≡ true)
-either true b e = inl refl
-either false b e = inr e
-
 range_high : (low high b : ℕ) → 48 ≤ low → (nat_le low b && nat_le b high) ≡ true → 48 ≤ b
 range_high low high b h e = let below = leb-true low b (and_parts (nat_le low b) (nat_le b high) e).0 in omega arith
 
 letter_high : (b : ℕ) → is_letter b ≡ true → 48 ≤ b
-letter_high b e = elim (either ((nat_le 65 b && nat_le b 90) || (nat_le 97 b && nat_le b 122)) (b == 95) e) [
-  | inl letter ↦ elim (either (nat_le 65 b && nat_le b 90) (nat_le 97 b && nat_le b 122) letter) [
+letter_high b e = elim (or_cases ((nat_le 65 b && nat_le b 90) || (nat_le 97 b && nat_le b 122)) (b == 95) e) [
+  | inl letter ↦ elim (or_cases (nat_le 65 b && nat_le b 90) (nat_le 97 b && nat_le b 122) letter) [
     | inl upper ↦ range_high 65 90 b (omega arith) upper
     | inr lower ↦ range_high 97 122 b (omega arith) lower
   ]
@@ -83,12 +77,12 @@ letter_high b e = elim (either ((nat_le 65 b && nat_le b 90) || (nat_le 97 b && 
 ]
 
 name_byte_high : (b : ℕ) → is_name_byte b ≡ true → 48 ≤ b
-name_byte_high b e = elim (either (is_letter b || is_digit b) (is_bracket b) e) [
-  | inl plain ↦ elim (either (is_letter b) (is_digit b) plain) [
+name_byte_high b e = elim (or_cases (is_letter b || is_digit b) (is_bracket b) e) [
+  | inl plain ↦ elim (or_cases (is_letter b) (is_digit b) plain) [
     | inl letter ↦ letter_high b letter
     | inr digit ↦ range_high 48 57 b (omega arith) digit
   ]
-  | inr bracket ↦ elim (either (b == 91) (b == 93) bracket) [
+  | inr bracket ↦ elim (or_cases (b == 91) (b == 93) bracket) [
     | inl begins ↦ let is = eqb-true b 91 begins in omega arith
     | inr ends ↦ let is = eqb-true b 93 ends in omega arith
   ]
@@ -127,11 +121,6 @@ shape_fits nodes n scope shapes.Memory le few h = tt
 shape_fits nodes n scope (shapes.Upd m a v) le few h = (named nodes n scope true m le h.0, named nodes n scope false a le h.1, named nodes n scope false v le h.2)
 shape_fits nodes n scope (shapes.Rem a m) le few h = (named nodes n scope false a le h.0, (let short = h.1.1 in omega arith))
 
-got_below : {A : Type 0} (xs : List A) (i : ℕ) (x : A) → slice_get xs i ≡ Some x → i < length xs
-got_below [] i x e = absurd cc
-got_below (y ∷ ys) zero x e = omega arith
-got_below (y ∷ ys) (suc i) x e = let low = got_below ys i x e in omega arith
-
 nodes_fit : (nodes : List Node) → AreNodes nodes → AllByRecursion FitsLine (map lines.Node nodes)
 nodes_fit nodes h =
     all_map FitsLine lines.Node (λ n. FitsLine (lines.Node n)) (λ n f. f) nodes
@@ -140,7 +129,7 @@ nodes_fit nodes h =
     let is = h.each i n e in
     let few = h.few in
     let small = is.scope in
-    let low = got_below nodes i n e in
+    let low = slice_get_within nodes i n e in
     (omega arith, shape_fits nodes i n.scope n.shape (omega arith) is.scope is.shape)))
 
 module _ (types : ℕ) (nodes : List Node) (few_types : types ≤ 4096) (few_nodes : length nodes ≤ 1048576) where
@@ -157,7 +146,7 @@ module _ (types : ℕ) (nodes : List Node) (few_types : types ≤ 4096) (few_nod
   type_fits t h =
       let few = h.ints in (
         (omega arith, named nodes (length nodes) t.ints true t.memory few_nodes h.memory),
-        all_on FitsLine (map lines.Reg t.regs) (map pend_line t.queue)
+        all_append FitsLine (map lines.Reg t.regs) (map pend_line t.queue)
             (all_map FitsLine lines.Reg (IsRegRow types nodes t.ints) (reg_fits t.ints) t.regs (recursion_from_All (IsRegRow types nodes t.ints) t.regs h.regs))
             (all_map FitsLine pend_line (IsQueueRow nodes t.ints) (pend_fits t.ints) t.queue (recursion_from_All (IsQueueRow nodes t.ints) t.queue h.queue)),
       )
@@ -284,7 +273,7 @@ module _ (is : List Instr) (substs : List ℕ) where
       let cut = slice_range is b.start (begins_at (length is) bs) in
       let low = g.0 in (
         omega arith,
-        all_on FitsLine (map lines.Code (map (code_of substs) cut)) (flat_map part_lines (parts_of is substs bs))
+        all_append FitsLine (map lines.Code (map (code_of substs) cut)) (flat_map part_lines (parts_of is substs bs))
             (all_map FitsLine lines.Code FitsCode (λ c f. f) (map (code_of substs) cut)
             (all_map FitsCode (code_of substs) (λ i. FitsCode (code_of substs i)) (λ i f. f) cut
             (all_taken (λ i. FitsCode (code_of substs i)) (begins_at (length is) bs - b.start) (drop b.start is) (all_dropped (λ i. FitsCode (code_of substs i)) b.start is h))))
@@ -332,12 +321,12 @@ listing_fits o h =
     let small = h.nodes.few in
     let last = h.entry in
     let blocks = h.few_blocks in
-    all_on FitsLine (map lines.Cell o.cells) _
+    all_append FitsLine (map lines.Cell o.cells) _
     (all_map FitsLine lines.Cell (IsCell types) (cell_fits types o.nodes few small) o.cells (recursion_from_All (IsCell types) o.cells h.cells))
-    (all_on FitsLine (map lines.Node o.nodes) _ (nodes_fit o.nodes h.nodes)
-    (all_on FitsLine (flat_map type_lines o.types) _
+    (all_append FitsLine (map lines.Node o.nodes) _ (nodes_fit o.nodes h.nodes)
+    (all_append FitsLine (flat_map type_lines o.types) _
     (all_flat FitsLine type_lines (IsCodeType types o.nodes) (type_fits types o.nodes few small) o.types (recursion_from_All (IsCodeType types o.nodes) o.types h.types))
-    (all_on FitsLine (flat_map part_lines (parts_of o.instrs o.substs o.blocks)) _
+    (all_append FitsLine (flat_map part_lines (parts_of o.instrs o.substs o.blocks)) _
     (parts_fit o.instrs o.substs types few (shown_of o h).fits o.blocks (recursion_from_All (HasCodeType types) o.blocks h.block_types))
     (omega arith, tt))))
 

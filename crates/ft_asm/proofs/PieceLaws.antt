@@ -7,6 +7,7 @@ use Rattle.ft_isa.specs.declared.instr.Instr.{Instr}
 use Rattle.ft_isa.specs.declared.instr.Instr.TheVariants as instrs
 use Rattle.ft_isa.specs.declared.reg.Reg.{Reg}
 use Rattle.ft_isa.specs.declared.instr.Subst.{Subst}
+use Rattle.ft_isa.proofs.Lists.{there_below, drop_there}
 use Rattle.ft_static.specs.declared.node.Node.{Node}
 use Rattle.ft_types.specs.declared.object.Object.{Object}
 use Rattle.ft_types.specs.declared.object.Cell.{Cell}
@@ -22,7 +23,6 @@ use Rattle.ft_asm.specs.Lines.{reg_word, code_words}
 use Rattle.ft_asm.specs.Listings.{pend_line, type_lines, part_lines, code_of, begins_at, parts_of}
 use Rattle.ft_asm.specs.Reads.{spaced, line_text, text_of}
 use Rattle.ft_asm.specs.Pieces.{cell_text, node_text, reg_text, pend_text, type_text, instr_text, row_text, part_of, part_text, HasRows}
-use Rattle.ft_asm.proofs.WriteLaws.{dropped}
 
 -- LISTS
 
@@ -34,17 +34,11 @@ flat_of_flat : {A : Type 0} (f : A → List Line) (xs : List A) → flat_map lin
 flat_of_flat f [] = refl
 flat_of_flat f (x ∷ xs) = flat_map-append line_text (f x) (flat_map f xs) ∙ ap (λ l. flat_map line_text (f x) ++ l) (flat_of_flat f xs)
 
--- a value that is there
-pub got : {A : Type 0} (xs : List A) (i : ℕ) → i < length xs → (x : A) × (slice_get xs i ≡ Some x)
-got [] i lt = absurd (omega arith)
-got (x ∷ xs) zero lt = (x, refl)
-got (x ∷ xs) (suc i) lt = got xs i (omega arith)
-
 -- one value more of a range
 range_step : {A : Type 0} (xs : List A) (i end : ℕ) (x : A) → i < end → slice_get xs i ≡ Some x → slice_range xs i end ≡ x ∷ slice_range xs (suc i) end
 range_step xs i end x lt e =
     let some : end - i ≡ suc (end - suc i) = omega arith in
-    ap (take (end - i)) (dropped xs i x e) ∙ ap (λ n. take n (x ∷ drop (suc i) xs)) some
+    ap (take (end - i)) (drop_there xs i x e) ∙ ap (λ n. take n (x ∷ drop (suc i) xs)) some
 
 -- one piece more of a range was put
 pub range_goes : {A : Type 0} (text : A → List ℕ) (xs : List A) (i end : ℕ) (x : A) (old new all : List ℕ) → i < end → slice_get xs i ≡ Some x → new ≡ old ++ text x → old ++ flat_map text (slice_range xs i end) ≡ all → new ++ flat_map text (slice_range xs (i + 1) end) ≡ all
@@ -147,12 +141,12 @@ type_pieces u =
 -- how many there are
 pub regs_count : (o : Object) (t : ℕ) (head : TypeHead) → t < length o.types → option_map type_head_of (slice_get o.types t) ≡ Some head → head.regs ≡ length (reg_rows o t)
 regs_count o t head lt e =
-    let u = got o.types t lt in
+    let u = there_below o.types t lt in
     ap (λ (h : TypeHead). h.regs) (head_at o t u.0 head u.1 e) ∙ ap length (sym (regs_at o t u.0 u.1))
 
 pub queue_count : (o : Object) (t : ℕ) (head : TypeHead) → t < length o.types → option_map type_head_of (slice_get o.types t) ≡ Some head → head.queue ≡ length (queue_rows o t)
 queue_count o t head lt e =
-    let u = got o.types t lt in
+    let u = there_below o.types t lt in
     ap (λ (h : TypeHead). h.queue) (head_at o t u.0 head u.1 e) ∙ ap length (sym (queue_at o t u.0 u.1))
 
 -- its lines were put
@@ -184,7 +178,7 @@ block_ends o h b x e =
 
 -- where a block begins, or the end
 pub begins_next : (end : ℕ) (bs : List Block) (n : ℕ) (x : Block) → slice_get bs n ≡ Some x → x.start ≡ begins_at end (drop n bs)
-begins_next end bs n x e = ap (begins_at end) (sym (dropped bs n x e))
+begins_next end bs n x e = ap (begins_at end) (sym (drop_there bs n x e))
 
 pub begins_last : (end : ℕ) (bs : List Block) (n : ℕ) → length bs ≤ n → end ≡ begins_at end (drop n bs)
 begins_last end [] zero le = refl
@@ -217,7 +211,7 @@ pub part_goes : (o : Object) (b : ℕ) (x : Block) (old new all : List ℕ) → 
     → old ++ flat_map part_text (parts_of o.instrs o.substs (drop b o.blocks)) ≡ all → new ++ flat_map part_text (parts_of o.instrs o.substs (drop (b + 1) o.blocks)) ≡ all
 part_goes o b x old new all is e h =
     let next : suc b ≡ b + 1 = omega arith in
-    let first : drop b o.blocks ≡ x ∷ drop (b + 1) o.blocks = dropped o.blocks b x is ∙ ap (λ n. x ∷ drop n o.blocks) next in
+    let first : drop b o.blocks ≡ x ∷ drop (b + 1) o.blocks = drop_there o.blocks b x is ∙ ap (λ n. x ∷ drop n o.blocks) next in
     let rest = flat_map part_text (parts_of o.instrs o.substs (drop (b + 1) o.blocks)) in
     ap (λ l. l ++ rest) e ∙ append_assoc old (part_text (part_of o x (drop (b + 1) o.blocks))) rest
     ∙ ap (λ bs. old ++ flat_map part_text (parts_of o.instrs o.substs bs)) (sym first) ∙ h

@@ -10,6 +10,7 @@ use Rattle.ft_isa.specs.declared.op.Op.{Op}
 use Rattle.ft_isa.specs.declared.op.Op.TheVariants.{Add, Sub, Mul, Ltu, Eq, And, Or, Xor, Shl, Shr}
 use Rattle.ft_isa.specs.declared.colour.Colour.{Colour}
 use Rattle.ft_isa.specs.declared.colour.Colour.TheVariants.{Green, Blue}
+use Rattle.ft_isa.proofs.Lists.{all_append}
 use Rattle.ft_types.specs.declared.object.Object.{Object}
 use Rattle.ft_types.specs.declared.object.Cell.{Cell}
 use Rattle.ft_types.specs.declared.object.CodeType.{CodeType}
@@ -261,10 +262,6 @@ mapped : {A : Type 0} (f : A → Line) (Q : A → Type 0) → ((x : A) → FitsL
 mapped f Q g [] h = tt
 mapped f Q g (x ∷ xs) h = (g x h.0, mapped f Q g xs h.1)
 
-all_on : {A : Type 0} (P : A → Type 0) (xs ys : List A) → AllByRecursion P xs → AllByRecursion P ys → AllByRecursion P (xs ++ ys)
-all_on P [] ys h i = i
-all_on P (x ∷ xs) ys h i = (h.0, all_on P xs ys h.1 i)
-
 types_fit : (ts : List CodeType) → AllByRecursion FitsLine (flat_map type_lines ts) → AllByRecursion FitsType ts
 types_fit [] h = tt
 types_fit (t ∷ ts) h =
@@ -283,7 +280,7 @@ codes_fit : (ps : List Part) → AllByRecursion FitsLine (flat_map part_lines ps
 codes_fit [] h = tt
 codes_fit (p ∷ ps) h =
     let own = all_apart (map lines.Code p.codes) (flat_map part_lines ps) h.1 in
-    all_on FitsCode p.codes (flat_map codes_of ps) (mapped lines.Code FitsCode (λ c f. f) p.codes own.0) (codes_fit ps own.1)
+    all_append FitsCode p.codes (flat_map codes_of ps) (mapped lines.Code FitsCode (λ c f. f) p.codes own.0) (codes_fit ps own.1)
 
 blocks_fit : (start : ℕ) (ps : List Part) → start + length (flat_map codes_of ps) < 2 ^ 32 → AllByRecursion FitsLine (flat_map part_lines ps) → AllByRecursion FitsBlock (blocks_from start ps)
 blocks_fit start [] few h = tt
@@ -330,7 +327,7 @@ code_rows (Idx rd rs x m) h = tt
 
 rows_fit : (cs : List Code) → AllByRecursion FitsCode cs → AllByRecursion Is32 (flat_map rows_of cs)
 rows_fit [] h = tt
-rows_fit (c ∷ cs) h = all_on Is32 (rows_of c) (flat_map rows_of cs) (code_rows c h.0) (rows_fit cs h.1)
+rows_fit (c ∷ cs) h = all_append Is32 (rows_of c) (flat_map rows_of cs) (code_rows c h.0) (rows_fit cs h.1)
 
 listing_fits : (l : Listing) (n : ℕ) → n < 2 ^ 32 → AreCounted l n → AllByRecursion FitsLine (listing_lines l) → Fits (object_of l)
 listing_fits l n few a h =

@@ -2,7 +2,7 @@
 use Rattle.std.proofs.Common.{◌≡◌, ℕ, zero, suc, ◌+◌, ◌%◌, ◌^◌, ◌<◌, ◌≤◌, ◌==◌, Bool, true, false, ◌||◌, not, List, [], ◌∷◌, ◌++◌, length, map, decimal, codes, refl, ap, sym, ◌∙◌, subst, append_assoc, arith}
 use Rattle.std.specs.Prelude.{if◌then◌else◌}
 use Rattle.std.specs.List.{AllByRecursion, AllZip, flat_map}
-use Rattle.std.proofs.lemmas.Bool.{and_parts, and_from, not-true, ne_eqb}
+use Rattle.std.proofs.lemmas.Bool.{and_parts, and_from, not-true, ne_eqb, or_from}
 use Rattle.std.proofs.lemmas.Fmt.{decimal_by_steps, decimal_nonempty}
 use Rattle.ft_isa.specs.declared.basic.Base.{Base}
 use Rattle.ft_isa.specs.declared.basic.Base.TheVariants.{Int}
@@ -37,14 +37,10 @@ no_blank b e = not-true (is_blank b) (and_parts (not (is_blank b)) (not (b == 10
 no_feed : (b : ℕ) → is_part b ≡ true → (b == 10) ≡ false
 no_feed b e = not-true (b == 10) (and_parts (not (is_blank b)) (not (b == 10)) e).1
 
-or_false : (a b : Bool) → a ≡ false → b ≡ false → (a || b) ≡ false
-or_false true b e f = absurd cc
-or_false false b e f = f
-
 pub part_from : (b : ℕ) → 33 ≤ b → is_part b ≡ true
 part_from b h =
     and_from (not (is_blank b)) (not (b == 10))
-    (ap not (or_false (b == 32) (b == 9) (ne_eqb b 32 (λ e. omega arith)) (ne_eqb b 9 (λ e. omega arith))))
+    (ap not (or_from (b == 32) (b == 9) (ne_eqb b 32 (λ e. omega arith)) (ne_eqb b 9 (λ e. omega arith))))
     (ap not (ne_eqb b 10 (λ e. omega arith)))
 
 parts_on : (xs ys : List ℕ) → HasParts xs → HasParts ys → HasParts (xs ++ ys)

@@ -5,8 +5,10 @@ use Rattle.std.specs.List.{position_or_len}
 use Rattle.std.proofs.lemmas.Bool.{ltb-true, ltb-false, not-true}
 use Rattle.std.proofs.lemmas.List.{take_rest, drop_all, length-take-le}
 use Rattle.std.proofs.lemmas.List.Quantifiers.{position-Some}
+use Rattle.std.proofs.lemmas.Option.{cond_some}
 use Rattle.ft_isa.specs.PlanText.{IsNumberText}
 use Rattle.ft_text.specs.Lines.{with_byte}
+use Rattle.ft_text.proofs.Texts.{missing}
 use Rattle.ft_asm.specs.Words.{is_blank, pieces_of, with_bytes, words_of}
 use Rattle.ft_asm.specs.Forms.{number_of}
 use Rattle.ft_asm.proofs.Texts.{kept_word}
@@ -46,14 +48,6 @@ only_piece : (text : List ℕ) → length text ≤ position_or_len is_blank text
 only_piece [] le = refl
 only_piece (b ∷ bs) le = only_step (is_blank b) b bs (position_or_len is_blank bs) (only_piece bs) le
 
-found : (t : Bool) (p at : ℕ) → cond t (Some p) None ≡ Some at → (t ≡ true) × (p ≡ at)
-found true p at e = (refl, cc)
-found false p at e = cc
-
-missing : (t : Bool) (p : ℕ) → cond t (Some p) None ≡ None → t ≡ false
-missing true p e = cc
-missing false p e = refl
-
 -- a text of blanks has no word
 pub no_word : (text : List ℕ) → position is_part text ≡ None → words_of text ≡ []
 no_word text e =
@@ -62,7 +56,7 @@ no_word text e =
 
 -- the words from the first byte of a word on
 pub from_word : (text : List ℕ) (start : ℕ) → position is_part text ≡ Some start → words_of text ≡ words_of (drop start text)
-from_word text start e = skip text ∙ ap (λ n. words_of (drop n text)) (found (nat_lt (position_or_len is_part text) (length text)) (position_or_len is_part text) start e).1
+from_word text start e = skip text ∙ ap (λ n. words_of (drop n text)) (cond_some (nat_lt (position_or_len is_part text) (length text)) (position_or_len is_part text) start e).1
 
 -- which is there
 pub begins_word : (text : List ℕ) (start : ℕ) → position is_part text ≡ Some start → (x : ℕ) × (xs : List ℕ) × (drop start text ≡ x ∷ xs) × (is_blank x ≡ false)
@@ -77,7 +71,7 @@ some_step false p e = omega arith
 -- a word up to a blank
 pub word_ends : (text : List ℕ) (x : ℕ) (xs : List ℕ) (at : ℕ) → text ≡ x ∷ xs → is_blank x ≡ false → position is_blank text ≡ Some at → words_of text ≡ take at text ∷ words_of (take (length text - (at + 1)) (drop (at + 1) text))
 word_ends text x xs at e f g =
-    let h = found (nat_lt (position_or_len is_blank text) (length text)) (position_or_len is_blank text) at g in
+    let h = cond_some (nat_lt (position_or_len is_blank text) (length text)) (position_or_len is_blank text) at g in
     let below : position_or_len is_blank text < length text = ltb-true (position_or_len is_blank text) (length text) h.0 in
     let some : 0 < position_or_len is_blank text = subst (λ (ts : List ℕ). 0 < position_or_len is_blank ts) (sym e) (some_step (is_blank x) (position_or_len is_blank xs) f) in
     let long = length-take-le at text (let same = h.1 in omega arith) in

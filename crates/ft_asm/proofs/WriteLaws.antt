@@ -1,8 +1,9 @@
 -- Lines that are written one after the other.
-use Rattle.std.proofs.Common.{◌≡◌, ℕ, zero, suc, ◌+◌, ◌-◌, ◌<◌, ◌≤◌, List, [], ◌∷◌, ◌++◌, length, drop, Some, codes, ap, sym, ◌∙◌, append_assoc, append-nil, slice_get, arith}
+use Rattle.std.proofs.Common.{◌≡◌, ℕ, suc, ◌+◌, ◌-◌, ◌<◌, ◌≤◌, List, ◌++◌, length, drop, Some, codes, ap, sym, ◌∙◌, append_assoc, append-nil, slice_get, arith}
 use Rattle.std.specs.List.{flat_map}
 use Rattle.std.proofs.lemmas.List.{drop_all}
 use Rattle.ft_isa.specs.declared.basic.Base.{Base}
+use Rattle.ft_isa.proofs.Lists.{drop_there}
 use Rattle.ft_asm.specs.Lines.{refs_word, base_word}
 
 refs_step : (n m : ℕ) (base : Base) → n ≡ suc m → refs_word n base ≡ codes "ref:" ++ refs_word m base
@@ -18,17 +19,12 @@ refs_goes refs n base old new all lt e h =
 pub refs_end : (refs n : ℕ) (base : Base) (old new all : List ℕ) → refs ≤ n → new ≡ old ++ base_word base → old ++ refs_word (refs - n) base ≡ all → new ≡ all
 refs_end refs n base old new all le e h = let none : 0 ≡ refs - n = omega arith in e ∙ ap (λ k. old ++ refs_word k base) none ∙ h
 
-pub dropped : {A : Type 0} (xs : List A) (n : ℕ) (x : A) → slice_get xs n ≡ Some x → drop n xs ≡ x ∷ drop (suc n) xs
-dropped [] n x e = absurd cc
-dropped (y ∷ ys) zero x e = let same : y ≡ x = cc in ap (λ z. z ∷ ys) same
-dropped (y ∷ ys) (suc n) x e = dropped ys n x e
-
 -- one more line was put
 pub line_goes : {A : Type 0} (text : A → List ℕ) (xs : List A) (n : ℕ) (x : A) (old new all : List ℕ) → slice_get xs n ≡ Some x → new ≡ old ++ text x → old ++ flat_map text (drop n xs) ≡ all → new ++ flat_map text (drop (n + 1) xs) ≡ all
 line_goes text xs n x old new all is e h =
     let next : n + 1 ≡ suc n = omega arith in
     ap (λ l. l ++ flat_map text (drop (n + 1) xs)) e ∙ append_assoc old (text x) (flat_map text (drop (n + 1) xs))
-    ∙ ap (λ k. old ++ (text x ++ flat_map text (drop k xs))) next ∙ ap (λ l. old ++ flat_map text l) (sym (dropped xs n x is)) ∙ h
+    ∙ ap (λ k. old ++ (text x ++ flat_map text (drop k xs))) next ∙ ap (λ l. old ++ flat_map text l) (sym (drop_there xs n x is)) ∙ h
 
 -- all lines were put
 pub line_ends : {A : Type 0} (text : A → List ℕ) (xs : List A) (n : ℕ) (old all : List ℕ) → length xs ≤ n → old ++ flat_map text (drop n xs) ≡ all → old ≡ all

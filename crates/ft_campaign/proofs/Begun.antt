@@ -1,9 +1,9 @@
 -- A struck run from its snapshot to its strike.
-use Rattle.std.proofs.Common.{◌≡◌, ℕ, ◌+◌, ◌-◌, ◌*◌, ◌/◌, ◌%◌, ◌<◌, ◌≤◌, ◌&&◌, List, ◌++◌, length, take, Some, None, Bool, true, false, slice_get, inl, inr, refl, ap, sym, ◌∙◌, ⊎_elim, arith, eq-eqb}
+use Rattle.std.proofs.Common.{◌≡◌, ℕ, ◌+◌, ◌-◌, ◌*◌, ◌/◌, ◌%◌, ◌<◌, ◌≤◌, ◌&&◌, List, ◌++◌, length, take, Some, None, true, false, slice_get, inl, inr, refl, ap, sym, ◌∙◌, ⊎_elim, arith, eq-eqb}
 use Rattle.std.specs.Prelude.{nat_lt, if◌then◌else◌}
 use Rattle.std.proofs.Math.Seq.{take-append_seam}
 use Rattle.std.proofs.lemmas.List.{length-append}
-use Rattle.std.proofs.lemmas.Bool.{lt-ltb, le-ltb, ltb-true, cases_lt, and_right}
+use Rattle.std.proofs.lemmas.Bool.{lt-ltb, le-ltb, ltb-true, cases_lt, and_right, and_parts}
 use Rattle.std.proofs.lemmas.Option.{slice_get_cases, slice_get_within}
 use Rattle.ft_isa.specs.declared.plan.Wild.{Wild}
 use Rattle.ft_isa.specs.declared.plan.Strike.{Strike}
@@ -23,15 +23,6 @@ use Rattle.ft_campaign.specs.Snapshots.{IsSnapshot, IsClean, IsRacing}
 use Rattle.ft_campaign.proofs.Meetings.{run_free, unstruck}
 use Rattle.ft_campaign.proofs.Racing.{count_fits}
 
--- what a strike that strikes needs
-both_left : (a b : Bool) → (a && b) ≡ true → a ≡ true
-both_left true b h = refl
-both_left false b h = absurd (cc)
-
-both_right : (a b : Bool) → (a && b) ≡ true → b ≡ true
-both_right true b h = h
-both_right false b h = absurd (cc)
-
 is_running_so : (v : Status) → is_running v ≡ true → v ≡ Running
 is_running_so status.Running h = refl
 is_running_so status.Done h = absurd (cc)
@@ -43,7 +34,7 @@ not_running_so status.Done h = refl
 not_running_so status.Detected h = refl
 
 pub struck_early : (o : Object) (x : Strike) (w : List Wild) (n : ℕ) → is_struck o (Some x) w n ≡ true → x.step < n
-struck_early o x w n h = ltb-true x.step n (both_left (nat_lt x.step n) (is_there (state_after o (Some x) w x.step) x.site) h)
+struck_early o x w n h = ltb-true x.step n (and_parts (nat_lt x.step n) (is_there (state_after o (Some x) w x.step) x.site) h).0
 
 same_at_strike : (o : Object) (x : Strike) (w : List Wild) → run o (Some x) w x.step ≡ run o None w x.step
 same_at_strike o x w = unstruck o x w x.step (omega arith)
@@ -51,7 +42,7 @@ same_at_strike o x w = unstruck o x w x.step (omega arith)
 pub struck_running : (o : Object) (x : Strike) (w : List Wild) (n : ℕ) → is_struck o (Some x) w n ≡ true → status_after o (Some x) w x.step ≡ Running
 struck_running o x w n h =
     is_running_so (status_after o (Some x) w x.step)
-    (both_left (is_running (status_after o (Some x) w x.step)) (is_site x.site (length (state_after o (Some x) w x.step).queue)) (both_right (nat_lt x.step n) (is_there (state_after o (Some x) w x.step) x.site) h))
+    (and_parts (is_running (status_after o (Some x) w x.step)) (is_site x.site (length (state_after o (Some x) w x.step).queue)) (and_parts (nat_lt x.step n) (is_there (state_after o (Some x) w x.step) x.site) h).1).0
 
 -- the byte of a step tells what is struck
 pub struck_by_byte : (o : Object) (x : Strike) (w : List Wild) (n : ℕ) (c : Clean) (b : ℕ) → IsClean o w n c → slice_get c.lengths.items x.step ≡ Some b → is_site x.site b ≡ is_struck o (Some x) w n

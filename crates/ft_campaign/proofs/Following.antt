@@ -14,8 +14,9 @@ use Rattle.ft_semantics.specs.Run.{Ran}
 use Rattle.ft_machine.specs.declared.stepped.Stepped.{Stepped}
 use Rattle.ft_machine.specs.Advances.{output_told, Advances}
 use Rattle.ft_machine.specs.Spans.{span, span-zero}
-use Rattle.ft_machine.proofs.Spanned.{joined, span_join}
+use Rattle.ft_machine.proofs.Spanned.{joined, span_join, rest_of}
 use Rattle.ft_machine.proofs.Runs.{HasStopped}
+use Rattle.ft_machine.proofs.Advancing.{rest_below, some_more}
 use Rattle.ft_campaign.specs.declared.follow.How.TheVariants.{On, Stopped, Apart}
 use Rattle.ft_campaign.specs.Follows.{Continues, Heeds, Follows}
 
@@ -47,15 +48,6 @@ not_running v h e = subst HasStopped e h
 
 sooner : (j i : ℕ) → j < i → j ≤ i
 sooner j i h = omega arith
-
-rest_of : (n j : ℕ) → n ≤ j → n + (j - n) ≡ j
-rest_of n j le = omega arith
-
-rest_below : (n m j : ℕ) → n ≤ j → j < n + m → j - n < m
-rest_below n m j le below = omega arith
-
-some_more : (i n : ℕ) → 0 < n → 0 < i + n
-some_more i n some = omega arith
 
 -- the steps that a call takes after others
 module _ (o : Object) (s : State) (w : List Wild) (i : ℕ) (si : State) (wi : List Wild) (state : si ≡ (span o i s w).state) (wild : wi ≡ (span o i s w).wild)

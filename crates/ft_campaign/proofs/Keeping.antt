@@ -1,7 +1,8 @@
 -- What the run without a fault keeps.
-use Rattle.std.proofs.Common.{◌≡◌, ℕ, zero, suc, ◌+◌, ◌*◌, ◌/◌, ◌<◌, ◌≤◌, ◌⊎◌, List, [], ◌∷◌, ◌++◌, length, Some, None, inl, inr, slice_get, refl, ap, sym, subst, ◌∙◌, ⊎_elim, arith}
+use Rattle.std.proofs.Common.{◌≡◌, ℕ, ◌+◌, ◌*◌, ◌/◌, ◌<◌, ◌≤◌, List, [], ◌∷◌, ◌++◌, length, Some, None, slice_get, refl, ap, sym, subst, ◌∙◌, ⊎_elim, arith}
 use Rattle.std.proofs.lemmas.List.{length-append}
 use Rattle.ft_isa.specs.declared.plan.Wild.{Wild}
+use Rattle.ft_isa.proofs.Lists.{there_pushed}
 use Rattle.ft_types.specs.declared.object.Object.{Object}
 use Rattle.ft_semantics.specs.declared.status.Status.TheVariants.{Running}
 use Rattle.ft_semantics.specs.Run.{Ran, state_after, outputs_after, status_after}
@@ -11,16 +12,6 @@ use Rattle.ft_campaign.specs.declared.clean.Snapshot.{Snapshot}
 use Rattle.ft_campaign.specs.Snapshots.{IsSnapshot, IsClean, Kept, AreSnapshots, AreLengths}
 use Rattle.ft_campaign.proofs.Ends.{stays}
 use Rattle.ft_campaign.proofs.Following.{not_running}
-
--- an element of a list with one more
-pushed_get : {X : Type 0} (xs : List X) (x : X) (j : ℕ) (y : X) → slice_get (xs ++ x ∷ []) j ≡ Some y → (slice_get xs j ≡ Some y) ⊎ ((j ≡ length xs) × (x ≡ y))
-pushed_get [] x zero y e = inr (refl, some_is e)
-  where
-    some_is : {X : Type 0} {a b : X} → Some a ≡ Some b → a ≡ b
-    some_is e = cc
-pushed_get [] x (suc j) y e = absurd (cc)
-pushed_get (z ∷ xs) x zero y e = inl e
-pushed_get (z ∷ xs) x (suc j) y e = ⊎_elim (λ h. inl h) (λ h. inr (ap suc h.0, h.1)) (pushed_get xs x j y e)
 
 pub snapshots_none : (o : Object) (w : List Wild) → AreSnapshots o w 0 []
 snapshots_none o w = record { row = omega arith; snapshots_are = λ j s e. absurd (cc) }
@@ -38,7 +29,7 @@ snapshots_more o w k xs s h le is =
       snapshots_are = λ j t e.
           ⊎_elim (λ (old : slice_get xs j ≡ Some t). h.snapshots_are j t old)
           (λ (new : (j ≡ length xs) × (s ≡ t)). subst (λ i. IsSnapshot o w (1024 * i) t) (sym new.0) (subst (λ i. IsSnapshot o w i t) here (subst (λ u. IsSnapshot o w k u) new.1 is)))
-          (pushed_get xs s j t e);
+          (there_pushed xs s j t e);
     }
 
 pub lengths_more : (o : Object) (w : List Wild) (k : ℕ) (xs : List ℕ) (b : ℕ) → AreLengths o w k xs → status_after o None w k ≡ Running → b ≡ length (state_after o None w k).queue → AreLengths o w (k + 1) (xs ++ b ∷ [])
@@ -51,7 +42,7 @@ lengths_more o w k xs b h running is =
           ⊎_elim (λ (old : slice_get xs i ≡ Some c). h.queues i c old)
           (λ (new : (i ≡ length xs) × (b ≡ c)).
           let at : i ≡ k = new.0 ∙ long in (ap (status_after o None w) at ∙ running, sym new.1 ∙ is ∙ ap (λ j. length (state_after o None w j).queue) (sym at)))
-          (pushed_get xs b i c e);
+          (there_pushed xs b i c e);
     }
 
 kept_by : (o : Object) (w : List Wild) (k : ℕ) (ls : List ℕ) (xs : List Snapshot) → AreLengths o w k ls → AreSnapshots o w k xs → Kept o w k ls xs

@@ -1,5 +1,5 @@
 -- Runs from a step on, and runs that meet.
-use Rattle.std.proofs.Common.{◌≡◌, ℕ, zero, suc, ◌+◌, ◌-◌, ◌<◌, ◌≤◌, List, [], Some, None, refl, ap, sym, subst, ◌∙◌, arith}
+use Rattle.std.proofs.Common.{◌≡◌, ℕ, zero, suc, ◌+◌, ◌-◌, ◌<◌, ◌≤◌, List, [], Some, None, refl, ap, sym, subst, ◌∙◌, arith, add-zero}
 use Rattle.std.proofs.lemmas.List.{append-nil}
 use Rattle.ft_isa.specs.declared.plan.Wild.{Wild}
 use Rattle.ft_isa.specs.declared.plan.Strike.{Strike}
@@ -11,12 +11,6 @@ use Rattle.ft_machine.specs.Spans.{span, span-zero}
 use Rattle.ft_machine.proofs.Spanned.{joined, run_start, run_on, spared}
 use Rattle.ft_campaign.specs.Snapshots.{Meets, HasMet}
 
-one_more : (m : ℕ) → m + 1 ≡ suc m
-one_more m = omega arith
-
-plus_zero : (m : ℕ) → m + 0 ≡ m
-plus_zero m = omega arith
-
 -- after its strike a run goes as a span from the state that was struck, also over no step, up to that state
 pub run_past : (o : Object) (x : Strike) (w : List Wild) (s t : ℕ) → x.step ≤ s → 0 < t
     → run o (Some x) w (s + t) ≡ joined (outputs_after o (Some x) w s) (span o t (struck_before (Some x) s (state_after o (Some x) w s)) (wild_after o (Some x) w s))
@@ -26,7 +20,7 @@ run_past o x w s (suc t) le some = run_on o (Some x) w s t (λ j above. spared x
 -- a run with no strike goes as a span from any of its states
 pub run_free : (o : Object) (w : List Wild) (m j : ℕ) → run o None w (m + j) ≡ joined (outputs_after o None w m) (span o j (state_after o None w m) (wild_after o None w m))
 run_free o w m zero =
-    ap (run o None w) (plus_zero m)
+    ap (run o None w) (add-zero m)
     ∙ ap (λ xs. record { state = state_after o None w m; wild = wild_after o None w m; outputs = xs }) (sym (append-nil (outputs_after o None w m)))
     ∙ ap (joined (outputs_after o None w m)) (sym (span-zero o (state_after o None w m) (wild_after o None w m)))
 run_free o w m (suc j) = run_on o None w m j (λ i above s. refl)
@@ -51,9 +45,9 @@ past_meeting o x w m j h some =
 met_by : (o : Object) (x : Strike) (w : List Wild) (m j : ℕ) → Meets o x w m → HasMet o x w m (m + j)
 met_by o x w m zero h = record {
   rest = [];
-  struck = ap (outputs_after o (Some x) w) (plus_zero m) ∙ sym (append-nil (outputs_after o (Some x) w m));
-  other = ap (outputs_after o None w) (plus_zero m) ∙ sym (append-nil (outputs_after o None w m));
-  state = ap (state_after o (Some x) w) (plus_zero m) ∙ h.state ∙ sym (ap (state_after o None w) (plus_zero m));
+  struck = ap (outputs_after o (Some x) w) (add-zero m) ∙ sym (append-nil (outputs_after o (Some x) w m));
+  other = ap (outputs_after o None w) (add-zero m) ∙ sym (append-nil (outputs_after o None w m));
+  state = ap (state_after o (Some x) w) (add-zero m) ∙ h.state ∙ sym (ap (state_after o None w) (add-zero m));
 }
 met_by o x w m (suc j) h =
     let p = past_meeting o x w m (suc j) h (omega arith) in

@@ -1,7 +1,6 @@
 -- Lines of verdicts that were put, one after the other.
 use Rattle.std.proofs.Common.{◌≡◌, ℕ, suc, ◌+◌, ◌<◌, ◌≤◌, List, [], ◌∷◌, ◌++◌, length, take, drop, get_or, Option, ap, sym, ◌∙◌, subst, arith}
 use Rattle.std.specs.List.{zip}
-use Rattle.std.specs.Prelude.{Result, Ok, Err, OnErr}
 use Rattle.std.proofs.Math.Seq.{split_at}
 use Rattle.std.proofs.lemmas.List.{take_more, take_all, length-map, get_or-map}
 use Rattle.std.proofs.lemmas.Slice.Zip.{length-zip, get_or-zip}
@@ -50,8 +49,3 @@ line_next xs vs i x v d lt long ex ev =
 -- all lines
 pub all_lines : (xs : List Strike) (vs : List Verdict) (i : ℕ) → length vs ≡ length xs → length xs ≤ i → take i (verdict_lines xs vs) ≡ verdict_lines xs vs
 all_lines xs vs i long le = take_all i (verdict_lines xs vs) (let h = lines_long xs vs long in omega arith)
-
--- what holds of an error holds where there is none
-pub on_err : {T E P : Type 0} (r : Result T E) → P → OnErr r P
-on_err (Ok x) p = tt
-on_err (Err e) p = p

@@ -19,12 +19,14 @@ use Rattle.ft_checker.specs.declared.blocks.Start.{Start}
 use Rattle.ft_checker.specs.Judges.{IsRefusalOf, IsStart, Judges}
 use Rattle.std.specs.Prelude.{IfSome}
 use Rattle.std.specs.Result.{IsErrAnd}
+use Rattle.std.proofs.lemmas.List.{drop_all}
+use Rattle.ft_isa.proofs.Lists.{drop_next, range_past}
 use Rattle.ft_types.specs.Objects.{cell_head_of, start_of, code_type_of, block_type, block_end, block_start, block_instrs}
 use Rattle.ft_typing.specs.Premise.{Premise}
 use Rattle.ft_typing.specs.declared.why.Why.TheVariants.{BlockEnd}
 use Rattle.ft_types.specs.Spellable.{AreBlocks, IsSpellable}
 use Rattle.ft_typing.specs.TypingRow.{Outcome, Goes, Ends, Fails, row}
-use Rattle.ft_contexts.proofs.Lists.{drop_there, drop_all, range_there, range_past}
+use Rattle.ft_contexts.proofs.Lists.{range_there}
 
 -- after a row that goes on
 pub on_last : (x : Outcome) (d : Context) (k : ℕ) (others : List Instr) (next : Context → Option (ℕ × Premise)) → x ≡ Goes d → has_none others ≡ true → after_row x k others next ≡ Some (k, BlockEnd)
@@ -66,12 +68,12 @@ walk_none o c k is e = rw e refl
 -- a turn of a first refusal
 pub first_turn : {X : Type 0} (refuse : ℕ → X → Option Refusal) (k : ℕ) (xs : List X) (x : X) → slice_get xs k ≡ Some x → first_refusal refuse k (drop k xs) ≡ option_or (refuse k x) (first_refusal refuse (k + 1) (drop (k + 1) xs))
 unfolding first_refusal
-first_turn refuse k xs x e = let n : k + 1 ≡ suc k = omega arith in rw (drop_there xs k x e, n) refl
+first_turn refuse k xs x e = let n : k + 1 ≡ suc k = omega arith in rw (drop_next xs k x e, n) refl
 
 -- nothing is left to refuse
 pub first_end : {X : Type 0} (refuse : ℕ → X → Option Refusal) (k : ℕ) (xs : List X) → length xs ≤ k → first_refusal refuse k (drop k xs) ≡ None
 unfolding first_refusal
-first_end refuse k xs l = rw (drop_all xs k l) refl
+first_end refuse k xs l = rw (drop_all k xs l) refl
 
 -- CELLS
 

@@ -140,11 +140,13 @@ fn renew<P: Program, L: Ledger>(
     Ok(())
 }
 
-/// Types the instructions of block `b` in turn, from the start of its code type.
+/// Types the instructions of block `b` in turn, from the start of its code type. The context is the one that is changed
+/// for this block, whatever it was.
 fn check_block<P: Program, L: Ledger>(
     program: &P,
     b: u32,
     start: &Start,
+    context: &mut Context,
     shared: &mut Shared,
     forms: &mut Interner,
     steps: &mut Steps<L>,
@@ -161,11 +163,11 @@ fn check_block<P: Program, L: Ledger>(
 {
     let block = program.block(b);
     let past = end_of(program, b);
-    let mut context = start.context.copied()?;
+    context.copy_from(&start.context)?;
     for i in block.start..past {
         let instr = program.instr(i);
         let last = i + 1 == past;
-        let ended = match turn(&mut context, shared, forms, program, &instr, last, steps) {
+        let ended = match turn(context, shared, forms, program, &instr, last, steps) {
             Ok(ended) => ended,
             Err(error) => return Err(refused(b, i - block.start, error)),
         };
@@ -190,6 +192,7 @@ pub fn check_blocks<P: Program, L: Ledger>(
     let (first, second) = keys_of(program);
     let mut forms = Interner::keyed(alloc, first, second)?;
     let mut shared = Shared::new(alloc, &mut forms)?;
+    let mut context = Context::empty(alloc, &shared.own)?;
     let mut last = None;
     for b in 0..blocks {
         let t = program.block(b).code_type;
@@ -197,7 +200,15 @@ pub fn check_blocks<P: Program, L: Ledger>(
         let Some(start) = &last else {
             unreachable!();
         };
-        check_block(program, b, start, &mut shared, &mut forms, steps)?;
+        check_block(
+            program,
+            b,
+            start,
+            &mut context,
+            &mut shared,
+            &mut forms,
+            steps,
+        )?;
     }
     Ok(())
 }

@@ -5,6 +5,7 @@ use Rattle.std.proofs.lemmas.Bool.{ne_eqb, eq-eqb}
 use Rattle.std.proofs.lemmas.List.{length-take}
 use Rattle.ft_isa.specs.Words.{code_address, cell_address}
 use Rattle.ft_isa.specs.declared.op.Op.TheVariants.{Add}
+use Rattle.ft_isa.proofs.Lists.{length_pushed}
 use Rattle.ft_static.specs.declared.node.Node.{Node}
 use Rattle.ft_static.specs.declared.node.Shape.TheVariants as shape
 use Rattle.ft_types.specs.declared.object.Block.{Block}
@@ -16,27 +17,26 @@ use Rattle.ft_lower.specs.Size.{size, row_size, blocks_size}
 use Rattle.ft_lower.specs.Well.{IsBlock}
 use Rattle.ft_dup.specs.Images.{starts_from, start_of}
 use Rattle.ft_compile.specs.Emitted.{Noted, node, pair_node, with_node, with_address_nodes, with_jump, step_noted, row_noted, begun, scope_of_block, blocks_noted, block_from, blocks_at}
-use Rattle.ft_compile.proofs.Lists.{length_more}
 use Rattle.ft_compile.proofs.Walked.{block_noted, RowsAreFine}
 
 -- NODES AND ROWS
 
 -- one node more is within any bound of one or more
 pushes_one : (ns : List Node) (x : Node) (n : ℕ) → 1 ≤ n → length (ns ++ x ∷ []) ≤ length ns + n
-pushes_one ns x n h = let l = length_more ns x in omega arith
+pushes_one ns x n h = let l = length_pushed ns x in omega arith
 
 -- two nodes more are within any bound of two or more
 pushes_two : (ns : List Node) (x y : Node) (n : ℕ) → 2 ≤ n → length ((ns ++ x ∷ []) ++ y ∷ []) ≤ length ns + n
-pushes_two ns x y n h = let l = length_more ns x in let m = length_more (ns ++ x ∷ []) y in omega arith
+pushes_two ns x y n h = let l = length_pushed ns x in let m = length_pushed (ns ++ x ∷ []) y in omega arith
 
 -- the nodes of an address are three
 address_length : (scope begin many q : ℕ) (w : Noted) → length (with_address_nodes scope begin many q w).nodes ≡ length w.nodes + 3
 address_length scope begin many q w =
     let w1 = with_node scope (shape.Word (cell_address begin)) w in
     let w2 = with_node scope (shape.Rem (pair_node w q) many) w1 in
-    let a = length_more w.nodes (node scope (shape.Word (cell_address begin))) in
-    let b = length_more w1.nodes (node scope (shape.Rem (pair_node w q) many)) in
-    let c = length_more w2.nodes (node scope (shape.Op Add (length w.nodes) (length w.nodes + 1))) in
+    let a = length_pushed w.nodes (node scope (shape.Word (cell_address begin))) in
+    let b = length_pushed w1.nodes (node scope (shape.Rem (pair_node w q) many)) in
+    let c = length_pushed w2.nodes (node scope (shape.Op Add (length w.nodes) (length w.nodes + 1))) in
     omega arith
 
 -- each instruction gives a node at most

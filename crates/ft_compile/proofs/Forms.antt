@@ -1,5 +1,5 @@
 -- The forms of nodes, and the numbers of registers.
-use Rattle.std.proofs.Common.{◌≡◌, ℕ, ◌+◌, ◌<◌, Bool, true, false, Some, refl, ap, arith, slice_get}
+use Rattle.std.proofs.Common.{◌≡◌, ℕ, ◌<◌, Bool, true, false, Some, refl, ap, slice_get}
 use Rattle.std.specs.Prelude.{slice_index_or, nat_lt}
 use Rattle.std.specs.Option.{unwrap_or}
 use Rattle.std.proofs.lemmas.Bool.{lt-ltb}
@@ -14,7 +14,7 @@ use Rattle.ft_static.specs.NodeTree.{integer_part, memory_part}
 use Rattle.ft_static.proofs.NodeTrees.{tree_at-row}
 use Rattle.ft_types.specs.declared.object.Object.{Object}
 use Rattle.ft_typing.specs.Context.{Replacement, integer_form_of, memory_form_of, integer_form_after, memory_form_after}
-use Rattle.ft_dup.specs.Images.{register_zero, green, blue}
+use Rattle.ft_dup.specs.Images.{register_zero, green}
 use Rattle.ft_compile.specs.Emitted.{node}
 
 -- REGISTERS
@@ -27,10 +27,6 @@ reg_number n false e h = cc
 -- the green register of a pair has the pair's number, and the blue one the number 32 above
 pub green_number : (p : ℕ) → p < 64 → (green p).number ≡ p
 green_number p lt = reg_number p (nat_lt p 64) refl (lt-ltb p 64 lt)
-
--- the blue register of a pair has the number 32 above
-pub blue_number : (p : ℕ) → p < 32 → (blue p).number ≡ 32 + p
-blue_number p lt = reg_number (32 + p) (nat_lt (32 + p) 64) refl (lt-ltb (32 + p) 64 (omega arith))
 
 -- FORMS
 

@@ -1,6 +1,7 @@
 -- Lists: beginnings, and what stands where.
-use Rattle.std.proofs.Common.{◌≡◌, ℕ, zero, suc, ◌≤◌, List, [], ◌∷◌, ◌++◌, length, ◌⊎◌, inl, inr, Some, refl, sym, ap, ◌∙◌, subst, arith, append_assoc, length-append, slice_get}
+use Rattle.std.proofs.Common.{◌≡◌, ℕ, ◌≤◌, List, [], ◌∷◌, ◌++◌, length, Some, refl, sym, ap, ◌∙◌, subst, arith, append_assoc, length-append, slice_get}
 use Rattle.std.proofs.lemmas.List.{append-nil}
+use Rattle.ft_isa.proofs.Lists.{there_front}
 
 -- the one list begins the other
 abbrev pub Starts : {X : Type 0} → List X → List X → Type 0
@@ -18,15 +19,9 @@ starts_trans xs ys zs p q = (p.0 ++ q.0, sym (append_assoc xs p.0 q.0) ∙ ap (�
 pub starts_length : {X : Type 0} (xs ys : List X) → Starts xs ys → length xs ≤ length ys
 starts_length xs ys p = let e = length-append xs p.0 in let f = ap length p.1 in omega arith
 
--- what stands in a list stands there with others after it
-get_front : {X : Type 0} (xs rest : List X) (k : ℕ) (x : X) → slice_get xs k ≡ Some x → slice_get (xs ++ rest) k ≡ Some x
-get_front [] rest k x e = cc
-get_front (y ∷ ys) rest zero x e = e
-get_front (y ∷ ys) rest (suc k) x e = get_front ys rest k x e
-
 -- what stands in a beginning stands in the whole
 pub get_starts : {X : Type 0} (xs ys : List X) (k : ℕ) (x : X) → Starts xs ys → slice_get xs k ≡ Some x → slice_get ys k ≡ Some x
-get_starts xs ys k x p e = subst (λ l. slice_get l k ≡ Some x) p.1 (get_front xs p.0 k x e)
+get_starts xs ys k x p e = subst (λ l. slice_get l k ≡ Some x) p.1 (there_front xs p.0 k x e)
 
 -- what begins with one more begins
 pub starts_less : {X : Type 0} (xs ys : List X) (x : X) → Starts (xs ++ x ∷ []) ys → Starts xs ys
@@ -44,14 +39,3 @@ get_last (y ∷ ys) x = get_last ys x
 -- where a list with one more begins another, that one stands in the other
 pub get_newest : {X : Type 0} (xs ys : List X) (x : X) → Starts (xs ++ x ∷ []) ys → slice_get ys (length xs) ≡ Some x
 get_newest xs ys x s = get_starts (xs ++ x ∷ []) ys (length xs) x s (get_last xs x)
-
--- what stands in a list with one more stood there before, or is that one
-pub get_push : {X : Type 0} (xs : List X) (y : X) (k : ℕ) (x : X) → slice_get (xs ++ y ∷ []) k ≡ Some x → (slice_get xs k ≡ Some x) ⊎ ((k ≡ length xs) × (y ≡ x))
-get_push [] y zero x e = inr (refl, (let f : y ≡ x = cc in f))
-get_push [] y (suc k) x e = cc
-get_push (z ∷ zs) y zero x e = inl e
-get_push (z ∷ zs) y (suc k) x e = elim (get_push zs y k x e) [ inl f ↦ inl f | inr f ↦ inr (ap suc f.0, f.1) ]
-
--- the length with one more
-pub length_more : {X : Type 0} (xs : List X) (y : X) → length (xs ++ y ∷ []) ≡ suc (length xs)
-length_more xs y = length-append xs (y ∷ []) ∙ omega arith

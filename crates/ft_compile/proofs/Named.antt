@@ -1,7 +1,7 @@
 -- The nodes that are noted obey the rules, and each known pair has one.
-use Rattle.std.proofs.Common.{◌≡◌, ◌≢◌, ℕ, ◌+◌, ◌<◌, ◌≤◌, Bool, true, false, cond, List, [], ◌∷◌, ◌++◌, length, inl, inr, Some, refl, sym, ap, ◌∙◌, subst, arith, slice_get}
+use Rattle.std.proofs.Common.{◌≡◌, ℕ, ◌+◌, ◌<◌, ◌≤◌, Bool, true, false, List, [], ◌∷◌, ◌++◌, length, inl, inr, Some, refl, sym, ap, ◌∙◌, subst, arith, slice_get}
 use Rattle.std.specs.Prelude.{All, slice_index, slice_set}
-use Rattle.std.proofs.lemmas.Bool.{ne_eqb, eq-eqb, cases_eq}
+use Rattle.std.proofs.lemmas.Bool.{cases_eq}
 use Rattle.std.proofs.lemmas.List.{get_or-set_same, get_or-set_other, length-set}
 use Rattle.ft_static.specs.declared.node.Node.{Node}
 use Rattle.ft_static.specs.declared.node.Shape.{Shape}
@@ -9,23 +9,14 @@ use Rattle.ft_static.specs.declared.node.Shape.TheVariants as shape
 use Rattle.ft_static.specs.NodeRules.{is_memory, MayName, IsLength, IsShape, IsNode}
 use Rattle.ft_isa.specs.Words.{IsWord, cell_address}
 use Rattle.ft_isa.specs.declared.op.Op.TheVariants.{Add}
+use Rattle.ft_isa.proofs.Lists.{there_pushed, length_pushed}
 use Rattle.ft_lower.specs.declared.step3.Step3.{Step3}
 use Rattle.ft_lower.specs.declared.step3.Step3.TheVariants.{Put, Copy, Op, Load, Store, LoadAt, StoreAt, Exit, Go, Stop}
 use Rattle.ft_lower.specs.Size.{pairs_of}
 use Rattle.ft_lower.specs.Well.{Known, learn, forget, known_after, StepFits, ReadsKnown}
+use Rattle.ft_dup.proofs.Pairs.{learned, forgotten}
 use Rattle.ft_compile.specs.Emitted.{Noted, node, pair_node, with_node, with_pair_node, with_memory_node, with_address_nodes, step_noted}
-use Rattle.ft_compile.proofs.Lists.{Starts, starts_less, get_newest, get_push, length_more}
-
--- what a step keeps of what is known
-pub learned : (k : Known) (p q : ℕ) → q ≢ p → learn p k q ≡ true → k q ≡ true
-learned k p q ne h = sym (ap (λ b. cond b true (k q)) (ne_eqb q p ne)) ∙ h
-
--- what is known without a pair is another, and was known
-pub kept : (k : Known) (p q : ℕ) → forget p k q ≡ true → (q ≢ p) × (k q ≡ true)
-kept k p q h = elim (cases_eq q p) [ inl e ↦ absurd (no (sym (ap (λ b. cond b false (k q)) (eq-eqb q p e)) ∙ h)) | inr ne ↦ (ne, sym (ap (λ b. cond b false (k q)) (ne_eqb q p ne)) ∙ h) ]
-  where
-    no : false ≡ true → ⊥
-    no e = cc
+use Rattle.ft_compile.proofs.Lists.{Starts, starts_less, get_newest}
 
 module _ (F : List Node) where
   -- each of these nodes, which are the first ones, obeys the rules among all
@@ -34,7 +25,7 @@ module _ (F : List Node) where
 
   -- one more lawful node leaves them lawful
   pub fine_push : (ns : List Node) (x : Node) → AreFine ns → IsNode F (length ns) x → AreFine (ns ++ x ∷ [])
-  fine_push ns x h new n y e = elim (get_push ns x n y e) [ inl f ↦ h n y f | inr f ↦ subst (λ z. IsNode F n z) f.1 (subst (λ m. IsNode F m x) (sym f.0) new) ]
+  fine_push ns x h new n y e = elim (there_pushed ns x n y e) [ inl f ↦ h n y f | inr f ↦ subst (λ z. IsNode F n z) f.1 (subst (λ m. IsNode F m x) (sym f.0) new) ]
 
   -- a name that is lawful here is lawful later
   pub named_later : (n m scope : ℕ) (memory : Bool) (k : ℕ) → n ≤ m → MayName F n scope memory k → MayName F m scope memory k
@@ -43,7 +34,7 @@ module _ (F : List Node) where
   -- the newest node may be named
   pub new_named : (ns : List Node) (scope : ℕ) (x : Shape) (memory : Bool) → Starts (ns ++ node scope x ∷ []) F → is_memory x ≡ memory → MayName F (length (ns ++ node scope x ∷ [])) scope memory (length ns)
   new_named ns scope x memory s e = record {
-    lower = let l = length_more ns (node scope x) in omega arith;
+    lower = let l = length_pushed ns (node scope x) in omega arith;
     node = node scope x;
     found = get_newest ns F (node scope x) s;
     sort = e;
@@ -72,10 +63,10 @@ module _ (F : List Node) where
   -- a pair is no longer known
   named_spare : (scope : ℕ) (k : Known) (n m : ℕ) (pairs : List ℕ) (memory spare new : ℕ) → n ≤ m → IsNamed scope k n pairs memory → MayName F m scope true new → IsNamed scope (forget spare k) m pairs new
   named_spare scope k n m pairs memory spare new le h x = record {
-    pair = λ q known. named_later n m scope false (slice_index pairs q) le (h.pair q (kept k spare q known).1);
+    pair = λ q known. named_later n m scope false (slice_index pairs q) le (h.pair q (forgotten k spare q known).1);
     memory_node = x;
     many = h.many;
-    small = λ q known. h.small q (kept k spare q known).1;
+    small = λ q known. h.small q (forgotten k spare q known).1;
   }
 
   -- what is so of a walk so far
@@ -86,7 +77,7 @@ module _ (F : List Node) where
   -- one node, for a pair
   one_node : (scope : ℕ) (k : Known) (w : Noted) (p : ℕ) (x : Shape) → scope ≤ 128 → p < 32 → Starts (with_pair_node scope p x w).nodes F → is_memory x ≡ false → IsShape F (length w.nodes) scope x → IsLawful scope k w → IsLawful scope (learn p k) (with_pair_node scope p x w)
   one_node scope k w p x le lt s e ok h =
-      let l = length_more w.nodes (node scope x) in
+      let l = length_pushed w.nodes (node scope x) in
       record {
         named = named_pair scope k (length w.nodes) (length (w.nodes ++ node scope x ∷ [])) w.pairs w.memory p (length w.nodes) (omega arith) lt h.named (new_named w.nodes scope x false s e);
         fine = fine_push w.nodes (node scope x) h.fine (record { scope = le; shape = ok });
@@ -95,7 +86,7 @@ module _ (F : List Node) where
   -- one node, for a part of another one
   part_node : (scope : ℕ) (k : Known) (w : Noted) (x : Shape) → scope ≤ 128 → IsShape F (length w.nodes) scope x → IsLawful scope k w → IsLawful scope k (with_node scope x w)
   part_node scope k w x le ok h =
-      let l = length_more w.nodes (node scope x) in
+      let l = length_pushed w.nodes (node scope x) in
       record {
         named = record {
           pair = λ q known. named_later _ _ scope false (slice_index w.pairs q) (omega arith) (h.named.pair q known);
@@ -109,7 +100,7 @@ module _ (F : List Node) where
   -- one node, for the memory, after a store that leaves no spare
   memory_node : (scope : ℕ) (k : Known) (w : Noted) (spare : ℕ) (x : Shape) → scope ≤ 128 → Starts (with_memory_node scope x w).nodes F → is_memory x ≡ true → IsShape F (length w.nodes) scope x → IsLawful scope k w → IsLawful scope (forget spare k) (with_memory_node scope x w)
   memory_node scope k w spare x le s e ok h =
-      let l = length_more w.nodes (node scope x) in
+      let l = length_pushed w.nodes (node scope x) in
       record {
         named = named_spare scope k (length w.nodes) (length (w.nodes ++ node scope x ∷ [])) w.pairs w.memory spare (length w.nodes) (omega arith) h.named (new_named w.nodes scope x true s e);
         fine = fine_push w.nodes (node scope x) h.fine (record { scope = le; shape = ok });
@@ -134,8 +125,8 @@ module _ (F : List Node) where
       let w2 = with_node scope r w1 in
       let s2 : Starts w2.nodes F = starts_less w2.nodes F (node scope t) s in
       let s1 : Starts w1.nodes F = starts_less w1.nodes F (node scope r) s2 in
-      let l1 = length_more w.nodes (node scope a) in
-      let l2 = length_more w1.nodes (node scope r) in
+      let l1 = length_pushed w.nodes (node scope a) in
+      let l2 = length_pushed w1.nodes (node scope r) in
       let n1 : length w1.nodes ≡ length w.nodes + 1 = omega arith in
       let n2 : length w2.nodes ≡ length w.nodes + 2 = omega arith in
       let h1 = part_node scope k w a le word h in

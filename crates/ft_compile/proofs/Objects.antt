@@ -1,5 +1,5 @@
 -- The object of well formed blocks carries them, and is spellable and accepted.
-use Rattle.std.proofs.Common.{◌≡◌, ◌≢◌, ℕ, zero, suc, ◌+◌, ◌*◌, ◌<◌, ◌≤◌, Bool, true, false, cond, ◌==◌, List, [], ◌∷◌, ◌++◌, length, Option, Some, refl, sym, ap, ◌∙◌, subst, arith, slice_get, map}
+use Rattle.std.proofs.Common.{◌≡◌, ◌≢◌, ℕ, zero, suc, ◌+◌, ◌<◌, ◌≤◌, true, false, ◌==◌, List, [], ◌∷◌, length, Some, refl, sym, ap, ◌∙◌, subst, arith, slice_get, map}
 use Rattle.std.specs.Prelude.{All, slice_range}
 use Rattle.std.specs.List.{AllPairs, find, zip}
 use Rattle.std.specs.Option.{option_map, unwrap_or}
@@ -28,7 +28,7 @@ use Rattle.ft_lower.specs.Flow.{Blocks}
 use Rattle.ft_lower.specs.Size.{blocks_size}
 use Rattle.ft_lower.specs.Well.{IsTarget, IsWell, known_first}
 use Rattle.ft_dup.specs.Doubles.{bare, init_of_cell, words_of}
-use Rattle.ft_dup.proofs.Places.{starts_length}
+use Rattle.ft_dup.proofs.WellFormedBlocks.{starts_length}
 use Rattle.ft_dup.specs.Images.{starts, start_of, doubled}
 use Rattle.ft_compile.specs.StandsFor.{IsIntCell}
 use Rattle.ft_compile.specs.Cells.{IsCellName, AreCells}
@@ -39,9 +39,10 @@ use Rattle.ft_compile.proofs.Walked.{block_noted, block_grows, blocks_grow, Rows
 use Rattle.ft_compile.proofs.Coded.{row_coded, rows_coded, joined, added_blocks, placed_blocks, joined_length, offsets, offsets_are_starts, cut_out}
 use Rattle.ft_compile.proofs.Counted.{nodes_blocks, rows_blocks, HaveSome, fine_have_some, blocks_few, start_within, places_of_blocks, find_block}
 use Rattle.ft_compile.proofs.Spelled.{instrs_blocks, substs_blocks, types_lawful, reg_rows_few, queue_rows_few, blocks_in_order, blocks_begin, blocks_typed, blocks_many}
-use Rattle.ft_compile.proofs.Leading.{HasTypes, row_applies, type_of_block, begins_good}
+use Rattle.ft_compile.proofs.Leading.{row_applies, type_of_block, begins_good}
 use Rattle.std.proofs.lemmas.List.FromFn.{length-map-range_with_len}
 use Rattle.ft_compile.specs.Emitted.{node, variable_node}
+use Rattle.ft_compile.proofs.BlockTypes.{HasTypes}
 
 -- CELLS
 

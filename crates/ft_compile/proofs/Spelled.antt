@@ -19,13 +19,14 @@ use Rattle.ft_lower.specs.Flow.{Blocks}
 use Rattle.ft_lower.specs.Size.{row_size, blocks_size}
 use Rattle.ft_lower.specs.Well.{Known, known_after, StepFits, RowIsWell}
 use Rattle.ft_dup.specs.Images.{green, blue, starts_from}
+use Rattle.ft_dup.proofs.Pairs.{blue_number}
 use Rattle.ft_compile.specs.Emitted.{Noted, node, jump_subst, step_noted, begun, scope_of_block, variable_node, at_first, green_row, blue_row, entry_type, variables_type, block_from, blocks_at}
 use Rattle.ft_compile.proofs.Lists.{Starts, starts_length, get_starts}
 use Rattle.ft_compile.proofs.Named.{address_is_word}
 use Rattle.ft_compile.proofs.Walked.{block_noted, variable_there, RowsAreFine}
 use Rattle.ft_compile.proofs.Coded.{coded_step, step_added, row_coded, row_added, rows_coded, blocks_added, joined}
 use Rattle.ft_compile.proofs.Counted.{HaveSome}
-use Rattle.ft_compile.proofs.Forms.{green_number, blue_number}
+use Rattle.ft_compile.proofs.Forms.{green_number}
 
 -- INSTRUCTIONS
 

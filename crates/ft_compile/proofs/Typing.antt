@@ -1,31 +1,26 @@
 -- The rows of a step's instructions apply, where the known pairs have the forms of their nodes.
-use Rattle.std.proofs.Common.{◌≡◌, ◌≢◌, ℕ, ◌+◌, ◌<◌, true, cond, ◌==◌, List, [], ◌∷◌, ◌++◌, length, inl, inr, Some, refl, sym, ap, ◌∙◌, subst, arith}
+use Rattle.std.proofs.Common.{◌≡◌, ◌≢◌, ℕ, ◌+◌, ◌<◌, true, List, [], ◌∷◌, ◌++◌, length, inl, inr, Some, refl, sym, ap, ◌∙◌, subst, arith}
 use Rattle.std.specs.Prelude.{All, slice_index, slice_set}
-use Rattle.std.proofs.lemmas.Bool.{ne_eqb, eq-eqb, cases_eq}
+use Rattle.std.proofs.lemmas.Bool.{cases_eq}
 use Rattle.std.proofs.lemmas.List.{get_or-set_same, get_or-set_other, length-set}
 use Rattle.ft_isa.specs.Words.{cell_address}
-use Rattle.ft_isa.specs.declared.colour.Colour.{Colour}
 use Rattle.ft_isa.specs.declared.colour.Colour.TheVariants.{Green, Blue}
 use Rattle.ft_isa.specs.declared.basic.Basic.{Basic}
 use Rattle.ft_isa.specs.declared.instr.Subst.{Subst}
 use Rattle.ft_isa.specs.declared.instr.Instr.{Instr}
 use Rattle.ft_isa.specs.declared.instr.Instr.TheVariants as instr
-use Rattle.ft_isa.specs.declared.op.Op.{Op as Operator}
 use Rattle.ft_isa.specs.declared.op.Op.TheVariants.{Add}
-use Rattle.ft_isa.specs.declared.reg.Reg.{Reg}
 use Rattle.ft_static.specs.declared.node.Shape.{Shape}
 use Rattle.ft_static.specs.declared.node.Shape.TheVariants as shape
 use Rattle.ft_static.specs.Form.{Polynomial}
-use Rattle.ft_static.specs.FormOrder.{same_polynomial}
 use Rattle.ft_static.specs.NormalForm.{constant, norm_op, norm_sel, norm_upd}
 use Rattle.ft_static.specs.NodeRules.{AreNodes}
-use Rattle.ft_static.proofs.Equal.{equal_polynomials}
 use Rattle.ft_types.specs.declared.object.Object.{Object}
-use Rattle.ft_typing.specs.Context.{Typed, d_zero, Context, typed, with_type, integer_form_of, memory_form_of}
+use Rattle.ft_typing.specs.Context.{d_zero, Context, typed, with_type, integer_form_of, memory_form_of}
 use Rattle.ft_isa.specs.BasicTypes.{int, ref}
-use Rattle.ft_typing.specs.TypedWord.{has_type, is_seen_as, same_basic, run_type}
-use Rattle.ft_typing.specs.TypingRow.{Goes, same_colour, need, for_typed, for_ref_over, for_oldest, for_run, pending_memory, run_form, row}
-use Rattle.ft_types.proofs.Maps.{get-insert}
+use Rattle.ft_isa.proofs.Lists.{length_pushed}
+use Rattle.ft_typing.specs.TypedWord.{has_type, run_type}
+use Rattle.ft_typing.specs.TypingRow.{Goes, run_form, row}
 use Rattle.ft_scope.specs.declared.slot.Slot.TheVariants.{Run}
 use Rattle.ft_scope.specs.Size.{RunFits}
 use Rattle.ft_lower.specs.declared.step3.Step3.{Step3}
@@ -33,99 +28,18 @@ use Rattle.ft_lower.specs.declared.step3.Step3.TheVariants.{Put, Copy, Op, Load,
 use Rattle.ft_lower.specs.Size.{pairs_of}
 use Rattle.ft_lower.specs.Well.{Known, learn, forget, known_after, StepFits, ReadsKnown}
 use Rattle.ft_dup.specs.Images.{green, blue, loads, stores}
+use Rattle.ft_dup.proofs.Pairs.{blue_number, learned, forgotten, greens_differ, blues_differ}
 use Rattle.ft_compile.specs.Emitted.{Noted, node, pair_node, with_node, with_pair_node, with_memory_node, with_address_nodes, step_noted}
-use Rattle.ft_compile.proofs.Lists.{Starts, starts_less, get_newest, length_more}
-use Rattle.ft_compile.proofs.Named.{learned, kept}
+use Rattle.ft_compile.proofs.Lists.{Starts, starts_less, get_newest}
 use Rattle.ft_compile.proofs.Coded.{coded_step}
-use Rattle.ft_compile.proofs.Forms.{green_number, blue_number, word_form, operation_form, rem_form, sel_form, upd_form}
-
--- what is known of a register
-abbrev pub ty : Colour → Basic → Polynomial → Typed
-ty k b x = record { colour = k; basic = b; form = x }
-
--- what is known of a register after one is set
-typed_with : (c : Context) (r : ℕ) (t : Typed) (q : ℕ) → typed (with_type r t c) q ≡ cond (q == r) (Some t) (typed c q)
-typed_with c r t q = get-insert c.registers r t q
-
--- of this one
-pub typed_same : (c : Context) (r : ℕ) (t : Typed) → typed (with_type r t c) r ≡ Some t
-typed_same c r t = typed_with c r t r ∙ ap (λ b. cond b (Some t) (typed c r)) (eq-eqb r r refl)
-
--- of another one
-pub typed_other : (c : Context) (r : ℕ) (t : Typed) (q : ℕ) → q ≢ r → typed (with_type r t c) q ≡ typed c q
-typed_other c r t q ne = typed_with c r t q ∙ ap (λ b. cond b (Some t) (typed c q)) (ne_eqb q r ne)
-
--- a colour is the same as itself
-pub same_colours : (k : Colour) → same_colour k k ≡ true
-unfolding same_colour
-same_colours Green = refl
-same_colours Blue = refl
-
--- a form is the same as itself
-pub same_itself : (p : Polynomial) → same_polynomial p p ≡ true
-same_itself p = (equal_polynomials p p).1 refl
-
--- each word has the type `int`
-has_int : (o : Object) (v : ℕ) → has_type o v int ≡ true
-unfolding has_type
-has_int o v = refl
-
--- ROWS, WHERE THEIR PREMISES HOLD
-
-module _ (o : Object) where
-  -- a move
-  pub mov_row : (c : Context) (rd : Reg) (v : ℕ) (k : Colour) (b : Basic) → has_type o v b ≡ true → row o c (instr.Mov rd (record { colour = k; word = v }) b) ≡ Goes (with_type rd.number (ty k b (constant v)) c)
-  unfolding need
-  mov_row c rd v k b h = rw h refl
-
-  -- an operation on two registers
-  op_row : (c : Context) (p : Operator) (rd rs rt : Reg) (k : Colour) (a b : Basic) (x y : Polynomial) → typed c rs.number ≡ Some (ty k a x) → typed c rt.number ≡ Some (ty k b y) → row o c (instr.OpReg p rd rs rt) ≡ Goes (with_type rd.number (ty k int (norm_op p x y)) c)
-  unfolding need for_typed
-  op_row c p rd rs rt k a b x y hs ht = rw (hs, ht, same_colours k) refl
-
-  -- an operation with a word
-  op_word_row : (c : Context) (p : Operator) (rd rs : Reg) (v : ℕ) (k : Colour) (a : Basic) (x : Polynomial) → typed c rs.number ≡ Some (ty k a x) → row o c (instr.OpWord p rd rs (record { colour = k; word = v })) ≡ Goes (with_type rd.number (ty k int (norm_op p x (constant v))) c)
-  unfolding need for_typed
-  op_word_row c p rd rs v k a x hs = rw (hs, same_colours k) refl
-
-  -- a green load, where nothing waits
-  load_green_row : (c : Context) (rd rs : Reg) (x : Polynomial) → c.queue ≡ [] → typed c rs.number ≡ Some (ty Green (ref int) x) → row o c (instr.Ld Green rd rs) ≡ Goes (with_type rd.number (ty Green int (norm_sel c.memory x)) c)
-  unfolding need for_typed for_ref_over same_colour pending_memory
-  load_green_row c rd rs x q hs = rw (hs, q) refl
-
-  -- a blue load
-  load_blue_row : (c : Context) (rd rs : Reg) (x : Polynomial) → typed c rs.number ≡ Some (ty Blue (ref int) x) → row o c (instr.Ld Blue rd rs) ≡ Goes (with_type rd.number (ty Blue int (norm_sel c.memory x)) c)
-  unfolding need for_typed for_ref_over same_colour
-  load_blue_row c rd rs x hs = rw hs refl
-
-  -- a green store, where nothing waits
-  store_green_row : (c : Context) (rd rs : Reg) (a x : Polynomial) → c.queue ≡ [] → typed c rd.number ≡ Some (ty Green (ref int) a) → typed c rs.number ≡ Some (ty Green int x) → row o c (instr.St Green rd rs) ≡ Goes (record c { queue = (a, x) ∷ [] })
-  unfolding need for_typed for_ref_over is_seen_as same_basic same_colour
-  store_green_row c rd rs a x q hd hs = rw (hd, hs, q) refl
-
-  -- a blue store, where the same waits
-  store_blue_row : (c : Context) (rd rs : Reg) (a x : Polynomial) → c.queue ≡ (a, x) ∷ [] → typed c rd.number ≡ Some (ty Blue (ref int) a) → typed c rs.number ≡ Some (ty Blue int x) → row o c (instr.St Blue rd rs) ≡ Goes (record c { queue = []; memory = norm_upd c.memory a x })
-  unfolding need for_typed for_ref_over is_seen_as same_basic same_colour for_oldest
-  store_blue_row c rd rs a x q hd hs = rw (hd, hs, q) (rw (same_itself a) (rw (same_itself x) refl))
-
-  -- the address of the cell of an array of type `int`
-  index_row : (c : Context) (rd rs : Reg) (k : Colour) (b : Basic) (begin many : ℕ) (x : Polynomial) → run_type o begin many ≡ Some int → typed c rs.number ≡ Some (ty k b x) → row o c (instr.Idx rd rs begin many) ≡ Goes (with_type rd.number (ty k (ref int) (run_form begin many x)) c)
-  unfolding for_typed for_run
-  index_row c rd rs k b begin many x h hs = rw (hs, h) refl
+use Rattle.ft_compile.proofs.Forms.{green_number, word_form, operation_form, rem_form, sel_form, upd_form}
+use Rattle.ft_compile.proofs.PremiseRows.{ty, typed_same, typed_other, has_int, mov_row, op_row, op_word_row, load_green_row, load_blue_row, store_green_row, store_blue_row, index_row}
 
 -- PAIRS
 
 -- the two registers of a pair are typed
 abbrev pub both : ℕ → Basic → Polynomial → Context → Context
 both p b x c = with_type (blue p).number (ty Blue b x) (with_type (green p).number (ty Green b x) c)
-
--- registers of pairs differ
-pub greens_differ : (p q : ℕ) → p < 32 → q < 32 → q ≢ p → (green q).number ≢ (green p).number
-greens_differ p q lp lq ne e = ne (sym (green_number q (omega arith)) ∙ e ∙ green_number p (omega arith))
-
--- blue ones too
-pub blues_differ : (p q : ℕ) → p < 32 → q < 32 → q ≢ p → (blue q).number ≢ (blue p).number
-blues_differ p q lp lq ne e = let f = sym (blue_number q lq) ∙ e ∙ blue_number p lp in ne (omega arith)
 
 -- a green one is no blue one
 pub green_is_not_blue : (p q : ℕ) → p < 32 → q < 32 → (green q).number ≢ (blue p).number
@@ -200,9 +114,9 @@ good_learn o scope k pairs memory c p new x lt many f old z qu mem ints = record
 -- pair p is set and then forgotten
 pub good_forget : (o : Object) (scope : ℕ) (k : Known) (pairs : List ℕ) (memory : ℕ) (c : Context) (p : ℕ) (b : Basic) (x : Polynomial) → p < 32 → IsGood o scope k pairs memory c → IsGood o scope (forget p k) pairs memory (both p b x c)
 good_forget o scope k pairs memory c p b x lt G = record {
-  green_pair = λ q h. let u = kept k p q h in other_green p q b x c lt (G.small q u.1) u.0 ∙ G.green_pair q u.1;
-  blue_pair = λ q h. let u = kept k p q h in other_blue p q b x c lt (G.small q u.1) u.0 ∙ G.blue_pair q u.1;
-  small = λ q h. G.small q (kept k p q h).1;
+  green_pair = λ q h. let u = forgotten k p q h in other_green p q b x c lt (G.small q u.1) u.0 ∙ G.green_pair q u.1;
+  blue_pair = λ q h. let u = forgotten k p q h in other_blue p q b x c lt (G.small q u.1) u.0 ∙ G.blue_pair q u.1;
+  small = λ q h. G.small q (forgotten k p q h).1;
   many = G.many;
   zero = G.zero;
   queue = G.queue;
@@ -250,8 +164,8 @@ module _ (o : Object) (N : AreNodes o.nodes) (cells : ℕ)
       let w2 = with_node scope r w1 in
       let s2 : Starts w2.nodes o.nodes = starts_less w2.nodes o.nodes (node scope t) s in
       let s1 : Starts w1.nodes o.nodes = starts_less w1.nodes o.nodes (node scope r) s2 in
-      let l1 = length_more w.nodes (node scope a) in
-      let l2 = length_more w1.nodes (node scope r) in
+      let l1 = length_pushed w.nodes (node scope a) in
+      let l2 = length_pushed w1.nodes (node scope r) in
       let n1 : length w.nodes + 1 ≡ length w1.nodes = omega arith in
       let n2 : length w.nodes + 2 ≡ length w2.nodes = omega arith in
       ap (integer_form_of o) n2

@@ -25,7 +25,7 @@ fn compile_program(alloc: Global, prog: &Prog<'_>) -> Result<Object, NoMemory>
 {
     let flow = lower(alloc, prog)?;
     let code = duplicate(alloc, &flow)?;
-    let object = emit(alloc, prog, &flow, &code)?;
+    let object = emit(alloc, prog, &flow, code)?;
     Ok(object)
 }
 

@@ -19,13 +19,13 @@ use ft_types::{Object, Table};
 use std::alloc::Global;
 
 /// The object of a program's flow and its doubled code.
-pub fn emit(alloc: Global, prog: &Prog<'_>, flow: &Flow, code: &Doubled) -> Result<Object, NoMemory>
+pub fn emit(alloc: Global, prog: &Prog<'_>, flow: &Flow, code: Doubled) -> Result<Object, NoMemory>
     requires names { length (program_of prog.now).names ≡ length prog.now.inits.items }
     requires vars { flow.now.vars ≤ 32 }
     requires pairs { PairsBelow 32 (blocks_of flow.now) }
     requires short { blocks_size (blocks_of flow.now) ≤ 65536 }
-    requires instrs { code.now.instrs.items ≡ doubled (blocks_of flow.now) }
-    requires starts { code.now.starts.items ≡ starts (blocks_of flow.now) }
+    requires instrs { code.instrs.items ≡ doubled (blocks_of flow.now) }
+    requires starts { code.starts.items ≡ starts (blocks_of flow.now) }
     ensures { IfOk result (λ o. o ≡ emitted (program_of prog.now).names prog.now.inits.items flow.now.vars (blocks_of flow.now)) }
 {
     let names = prog.cell_names(alloc)?;
@@ -33,8 +33,14 @@ pub fn emit(alloc: Global, prog: &Prog<'_>, flow: &Flow, code: &Doubled) -> Resu
     let notes = note_flow(alloc, flow)?;
     let types = types_of(alloc, flow.vars)?;
     let blocks = blocks_from(alloc, &code.starts)?;
-    let instrs = place(alloc, &code.instrs, &notes.substs)?;
-    let Notes { nodes, rows, .. } = notes;
+    let Doubled { mut instrs, .. } = code;
+    let Notes {
+        nodes,
+        rows,
+        substs,
+        ..
+    } = notes;
+    place(instrs.as_mut_slice(), substs.as_slice());
     Ok(Object {
         cells: Table::from_vec(cells),
         nodes: Table::from_vec(nodes),

@@ -6,45 +6,30 @@ use ft_isa::{Instr, Subst};
 use ft_types::Block;
 use std::alloc::{AllocError, Global};
 
-/// An instruction with the first of these substitutions, where it is a blue jump or branch.
-fn place_one(instr: Instr, left: &[Subst]) -> Instr
-    ensures { result ≡ with_subst instr left.now }
+/// Gives a blue jump or branch the first of these substitutions, and returns those that are left.
+fn place_next<'a>(instr: &mut Instr, left: &'a [Subst]) -> &'a [Subst]
+    ensures placed { instr.new ≡ with_subst instr.old left.now }
+    ensures left { result.now ≡ substs_left instr.old left.now }
 {
-    let Some(subst) = left.first() else {
-        return instr;
+    let Some(first) = left.first() else {
+        return left;
     };
     match instr {
-        Instr::JmpB { rd, .. } => Instr::JmpB { rd, subst: *subst },
-        Instr::BzB { rz, rd, .. } => Instr::BzB {
-            rz,
-            rd,
-            subst: *subst,
-        },
-        _ => instr,
+        Instr::JmpB { subst, .. } => *subst = *first,
+        Instr::BzB { subst, .. } => *subst = *first,
+        _ => return left,
     }
+    &left[1..]
 }
 
-/// The substitutions that are left after an instruction.
-fn left_after<'a>(instr: Instr, left: &'a [Subst]) -> &'a [Subst]
-    ensures { result.now ≡ substs_left instr left.now }
+/// Gives the instructions these substitutions in turn.
+pub fn place(instrs: &mut [Instr], substs: &[Subst])
+    ensures { instrs.new ≡ placed substs.now instrs.old }
 {
-    match instr {
-        Instr::JmpB { .. } | Instr::BzB { .. } if !left.is_empty() => &left[1..],
-        _ => left,
-    }
-}
-
-/// The instructions with these substitutions in turn.
-pub fn place(alloc: Global, instrs: &[Instr], substs: &[Subst]) -> Result<Vec<Instr>, AllocError>
-    ensures { IfOk result (λ v. v.items ≡ placed substs.now instrs.now) }
-{
-    let mut all = Vec::with_capacity(alloc, instrs.len())?;
     let mut left = substs;
-    for instr in instrs {
-        all.push(place_one(*instr, left))?;
-        left = left_after(*instr, left);
+    for instr in instrs.iter_mut() {
+        left = place_next(instr, left);
     }
-    Ok(all)
 }
 
 /// The blocks at these places: the first is of code type 0, and the others of code type 1.

@@ -2,6 +2,7 @@
 use Rattle.std.proofs.Common.{ℕ, suc, ◌≡◌, ◌+◌, ◌*◌, ◌<◌, ◌≤◌, List, [], ◌∷◌, length, Option, ap, arith}
 use Rattle.std.specs.Option.{option_map, unwrap_or}
 use Rattle.std.proofs.Math.Nat.{mul-le-mul_left, mul-le-mul_right}
+use Rattle.ft_isa.proofs.Lists.{all_there}
 use Rattle.ft_static.specs.Form.{Form as Normal, unchanged, updates}
 use Rattle.ft_norm.specs.Held.{Keeps, updates_held}
 use Rattle.ft_types.specs.declared.object.Object.{Object}
@@ -13,7 +14,7 @@ use Rattle.ft_contexts.specs.Costs.{tree_cost}
 use Rattle.ft_contexts.specs.declared.variables.Variables.{Variables}
 use Rattle.ft_contexts.specs.Contexts.{AreOwn, HoldsVariables}
 use Rattle.ft_contexts.proofs.Kept.{memory_stays, updates_found}
-use Rattle.ft_contexts.proofs.Spelled.{all_at, type_there}
+use Rattle.ft_contexts.proofs.Spelled.{type_there}
 
 -- the steps of one node's tree
 pub tree_steps : (o : Object) (n u s t : ℕ) → n < length o.nodes → t ≤ s + (n + 1) * (1 + u + n) → t ≤ s + tree_cost o u
@@ -45,7 +46,7 @@ rows_few least (r ∷ rs) h l = let b = r.reg.in_range in let k = rows_few (suc 
 pub few_reg_rows : (o : Object) (t : ℕ) → IsSpellable o → t < length o.types → length (reg_rows o t) ≤ 64
 few_reg_rows o t h l =
     let x = type_there o t l in
-    let k = all_at (IsCodeType (length o.types) o.nodes) o.types t x.0 h.types x.1 in
+    let k = all_there (IsCodeType (length o.types) o.nodes) o.types t x.0 h.types x.1 in
     let rows : reg_rows o t ≡ x.0.regs = ap (λ (y : Option CodeType). unwrap_or (option_map regs_of y) []) x.1 in
     rw rows (let w = rows_few 0 x.0.regs k.rising (omega arith) in omega (arith, w))
 
@@ -53,7 +54,7 @@ few_reg_rows o t h l =
 pub few_queue_rows : (o : Object) (t : ℕ) → IsSpellable o → t < length o.types → length (queue_rows o t) ≤ 8
 few_queue_rows o t h l =
     let x = type_there o t l in
-    let k = all_at (IsCodeType (length o.types) o.nodes) o.types t x.0 h.types x.1 in
+    let k = all_there (IsCodeType (length o.types) o.nodes) o.types t x.0 h.types x.1 in
     let rows : queue_rows o t ≡ x.0.queue = ap (λ (y : Option CodeType). unwrap_or (option_map queue_of y) []) x.1 in
     rw rows k.queue_length
 

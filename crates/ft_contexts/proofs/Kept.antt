@@ -1,11 +1,12 @@
 -- What is held stays, and says the same, where the list of forms grows.
-use Rattle.std.proofs.Common.{◌≡◌, ℕ, suc, List, [], ◌∷◌, map, Option, None, Some, refl, sym, ap, ◌∙◌}
+use Rattle.std.proofs.Common.{◌≡◌, ℕ, suc, List, [], ◌∷◌, map, Option, None, Some, refl, ap}
 use Rattle.std.specs.Option.{unwrap_or}
 use Rattle.ft_static.specs.Form.{Form as Normal, integer_form, memory_form, polynomial_of, updates_of, Polynomial, Updates, nought}
 use Rattle.ft_norm.specs.declared.form.Form.{Form}
-use Rattle.ft_norm.specs.Held.{held, polynomial, polynomials, updates_held, IsInteger, IsMemory, AreIntegers, Keeps}
+use Rattle.ft_norm.specs.Held.{held, polynomial, updates_held, IsInteger, IsMemory, AreIntegers, Keeps}
 use Rattle.ft_norm.specs.declared.substitution.Memo.{Memo}
 use Rattle.ft_norm.proofs.Memos.{remembers_kept}
+use Rattle.ft_norm.proofs.HeldForms.{integer_from, memory_from, polynomials_kept}
 use Rattle.ft_types.specs.declared.object.Object.{Object}
 use Rattle.ft_contexts.specs.declared.register.RegForm.{RegForm}
 use Rattle.ft_contexts.specs.declared.destination.StateD.{StateD}
@@ -22,14 +23,6 @@ polynomial_found fs f p h = ap (λ (x : Option Normal). polynomial_of (unwrap_or
 -- the updates of a form that is held as these
 pub updates_found : (fs : List Normal) (f : Form) (u : Updates) → held fs f ≡ Some (memory_form u) → updates_held fs f ≡ u
 updates_found fs f u h = ap (λ (x : Option Normal). updates_of (unwrap_or x (integer_form nought))) h
-
--- a form that is held as a polynomial is an integer's
-pub integer_found : (fs : List Normal) (f : Form) (p : Polynomial) → held fs f ≡ Some (integer_form p) → IsInteger fs f
-integer_found fs f p h = record { found = h ∙ ap (λ (x : Polynomial). Some (integer_form x)) (sym (polynomial_found fs f p h)) }
-
--- one that is held as updates is a memory's
-pub memory_found : (fs : List Normal) (f : Form) (u : Updates) → held fs f ≡ Some (memory_form u) → IsMemory fs f
-memory_found fs f u h = record { found = h ∙ ap (λ (x : Updates). Some (memory_form x)) (sym (updates_found fs f u h)) }
 
 -- an integer's form stays the same polynomial
 pub integer_stays : (fs gs : List Normal) (f : Form) → Keeps fs gs → IsInteger fs f → polynomial gs f ≡ polynomial fs f
@@ -51,16 +44,6 @@ memory_kept fs gs f k h = k.memories_stay f h
 pub keeps_itself : (fs : List Normal) → Keeps fs fs
 keeps_itself fs = record { forms_stay = λ f x h. h; integers_stay = λ f h. h; memories_stay = λ f h. h; polynomials_stay = λ f h. refl; updates_stay = λ f h. refl }
 
--- what is kept twice is kept
-pub keeps_on : (fs gs hs : List Normal) → Keeps fs gs → Keeps gs hs → Keeps fs hs
-keeps_on fs gs hs k l = record {
-  forms_stay = λ f x h. l.forms_stay f x (k.forms_stay f x h);
-  integers_stay = λ f h. l.integers_stay f (k.integers_stay f h);
-  memories_stay = λ f h. l.memories_stay f (k.memories_stay f h);
-  polynomials_stay = λ f h. l.polynomials_stay f (k.integers_stay f h) ∙ k.polynomials_stay f h;
-  updates_stay = λ f h. l.updates_stay f (k.memories_stay f h) ∙ k.updates_stay f h;
-}
-
 -- VARIABLES
 
 -- no form is held wrong
@@ -72,15 +55,10 @@ none_held fs (x ∷ xs) e i f h = cc
 pub variables_kept : (fs gs : List Normal) (v : Variables) → Keeps fs gs → HoldsVariables fs v → HoldsVariables gs v
 variables_kept fs gs v k h = record { integers = λ i f e. integer_kept fs gs f k (h.integers i f e); memory = memory_kept fs gs v.memory k h.memory }
 
--- the polynomials of integers stay
-pub polynomials_stay : (fs gs : List Normal) (xs : List Form) → Keeps fs gs → AreIntegers fs xs → polynomials gs xs ≡ polynomials fs xs
-polynomials_stay fs gs [] k h = refl
-polynomials_stay fs gs (x ∷ xs) k h = rw (integer_stays fs gs x k (h 0 x refl), polynomials_stay fs gs xs k (λ i f e. h (suc i) f e)) refl
-
 -- what is put for variables stays
 pub replacement_stays : (fs gs : List Normal) (v : Variables) → Keeps fs gs → HoldsVariables fs v → replacement_in gs v ≡ replacement_in fs v
 replacement_stays fs gs v k h =
-    let p = polynomials_stay fs gs v.integers k h.integers in
+    let p = polynomials_kept fs gs v.integers k h.integers in
     let u = memory_stays fs gs v.memory k h.memory in
     λ i. record { integers = p i; memory = u i }
 
@@ -90,7 +68,7 @@ own_kept fs gs n v k h = record { count = h.count; integers = λ i f e. k.forms_
 
 -- and they are held
 pub own_held : (fs : List Normal) (n : ℕ) (v : Variables) → AreOwn fs n v → HoldsVariables fs v
-own_held fs n v h = record { integers = λ i f e. integer_found fs f _ (h.integers i f e); memory = memory_found fs v.memory _ h.memory }
+own_held fs n v h = record { integers = λ i f e. integer_from fs f _ (h.integers i f e); memory = memory_from fs v.memory _ h.memory }
 
 -- what is remembered under variables stays right
 pub under_kept : (o : Object) (fs gs : List Normal) (v : Variables) (m : Memo) → Keeps fs gs → HoldsVariables fs v → RemembersUnder o fs v m → RemembersUnder o gs v m

@@ -1,19 +1,15 @@
 -- What a spellable object says of its rows and of its instructions.
-use Rattle.std.proofs.Common.{◌≡◌, ℕ, zero, suc, Bool, true, ◌<◌, List, [], ◌∷◌, length, slice_get, Option, None, Some, All, refl, sym, ap, ◌∙◌, subst, arith}
+use Rattle.std.proofs.Common.{◌≡◌, ℕ, zero, suc, Bool, true, ◌<◌, List, [], ◌∷◌, length, slice_get, Option, None, Some, refl, sym, ap, ◌∙◌, subst, arith}
 use Rattle.std.specs.Option.{option_map, unwrap_or}
-use Rattle.std.proofs.lemmas.Option.{slice_get_within, get_or_from_slice_get}
 use Rattle.ft_isa.specs.declared.instr.Subst.{Subst}
 use Rattle.ft_isa.specs.declared.instr.Instr.{Instr}
+use Rattle.ft_isa.proofs.Lists.{all_there}
 use Rattle.ft_static.specs.declared.node.Node.{Node}
 use Rattle.ft_types.specs.declared.object.Object.{Object}
 use Rattle.ft_types.specs.declared.object.CodeType.{CodeType}
 use Rattle.ft_types.specs.declared.object.RegType.{RegType}
 use Rattle.ft_types.specs.Objects.{reg_rows, queue_rows, ints_of, memory_of, regs_of, queue_of, ints_of_type, memory_of_type}
 use Rattle.ft_types.specs.Spellable.{IsSpellable, IsCodeType, IsRegRow, IsQueueRow, IsNodeIn, IsInstr, IsSubst, Cover, before, subst_of, substs_of}
-
--- what holds of each holds of the one in a place
-pub all_at : {X : Type 0} (P : X → Type 0) (xs : List X) (k : ℕ) (x : X) → All P xs → slice_get xs k ≡ Some x → P x
-all_at P xs k x h e = subst P (get_or_from_slice_get xs k x x e) (h k x (slice_get_within xs k x e))
 
 -- a code type that is there
 pub type_there : (o : Object) (t : ℕ) → t < length o.types → (x : CodeType) × (slice_get o.types t ≡ Some x)
@@ -28,34 +24,34 @@ type_there o t h = there o.types t h
 pub reg_row_spelled : (o : Object) (t j : ℕ) (r : RegType) → IsSpellable o → t < length o.types → slice_get (reg_rows o t) j ≡ Some r → IsRegRow (length o.types) o.nodes (ints_of o t) r
 reg_row_spelled o t j r h l e =
     let x = type_there o t l in
-    let k = all_at (IsCodeType (length o.types) o.nodes) o.types t x.0 h.types x.1 in
+    let k = all_there (IsCodeType (length o.types) o.nodes) o.types t x.0 h.types x.1 in
     let rows : reg_rows o t ≡ x.0.regs = ap (λ (y : Option CodeType). unwrap_or (option_map regs_of y) []) x.1 in
     let ints : ints_of o t ≡ x.0.ints = ap (λ (y : Option CodeType). unwrap_or (option_map ints_of_type y) 0) x.1 in
     let found : slice_get x.0.regs j ≡ Some r = subst (λ rs. slice_get rs j ≡ Some r) rows e in
-    rw ints (all_at (IsRegRow (length o.types) o.nodes x.0.ints) x.0.regs j r k.regs found)
+    rw ints (all_there (IsRegRow (length o.types) o.nodes x.0.ints) x.0.regs j r k.regs found)
 
 -- so are the queue rows
 pub queue_row_spelled : (o : Object) (t j : ℕ) (q : ℕ × ℕ) → IsSpellable o → t < length o.types → slice_get (queue_rows o t) j ≡ Some q → IsQueueRow o.nodes (ints_of o t) q
 queue_row_spelled o t j q h l e =
     let x = type_there o t l in
-    let k = all_at (IsCodeType (length o.types) o.nodes) o.types t x.0 h.types x.1 in
+    let k = all_there (IsCodeType (length o.types) o.nodes) o.types t x.0 h.types x.1 in
     let rows : queue_rows o t ≡ x.0.queue = ap (λ (y : Option CodeType). unwrap_or (option_map queue_of y) []) x.1 in
     let ints : ints_of o t ≡ x.0.ints = ap (λ (y : Option CodeType). unwrap_or (option_map ints_of_type y) 0) x.1 in
     let found : slice_get x.0.queue j ≡ Some q = subst (λ rs. slice_get rs j ≡ Some q) rows e in
-    rw ints (all_at (IsQueueRow o.nodes x.0.ints) x.0.queue j q k.queue found)
+    rw ints (all_there (IsQueueRow o.nodes x.0.ints) x.0.queue j q k.queue found)
 
 -- and the memory
 pub memory_spelled : (o : Object) (t : ℕ) → IsSpellable o → t < length o.types → IsNodeIn o.nodes (ints_of o t) true (memory_of o t)
 memory_spelled o t h l =
     let x = type_there o t l in
-    let k = all_at (IsCodeType (length o.types) o.nodes) o.types t x.0 h.types x.1 in
+    let k = all_there (IsCodeType (length o.types) o.nodes) o.types t x.0 h.types x.1 in
     let memory : memory_of o t ≡ x.0.memory = ap (λ (y : Option CodeType). unwrap_or (option_map memory_of_type y) 0) x.1 in
     let ints : ints_of o t ≡ x.0.ints = ap (λ (y : Option CodeType). unwrap_or (option_map ints_of_type y) 0) x.1 in
     rw (ints, memory) k.memory
 
 -- an instruction is so
 pub instr_spelled : (o : Object) (k : ℕ) (i : Instr) → IsSpellable o → slice_get o.instrs k ≡ Some i → IsInstr (length o.types) (length o.cells) i
-instr_spelled o k i h e = all_at (IsInstr (length o.types) (length o.cells)) o.instrs k i h.instrs e
+instr_spelled o k i h e = all_there (IsInstr (length o.types) (length o.cells)) o.instrs k i h.instrs e
 
 -- the substitutions that follow are covered
 cover_rest : (nodes : List Node) (rows first : ℕ) (x : Option Subst) (ss : List Subst) → Cover nodes rows first (before x ss) → (f : ℕ) × Cover nodes rows f ss
@@ -82,6 +78,6 @@ subst_spelled o k i u h e s = covered o.nodes (length o.substs) 0 o.instrs k i u
 pub most_scope : (o : Object) (t n : ℕ) (b : Bool) → IsSpellable o → t < length o.types → IsNodeIn o.nodes (ints_of o t) b n → IsNodeIn o.nodes 128 b n
 most_scope o t n b h l k =
     let x = type_there o t l in
-    let m = all_at (IsCodeType (length o.types) o.nodes) o.types t x.0 h.types x.1 in
+    let m = all_there (IsCodeType (length o.types) o.nodes) o.types t x.0 h.types x.1 in
     let ints : ints_of o t ≡ x.0.ints = ap (λ (y : Option CodeType). unwrap_or (option_map ints_of_type y) 0) x.1 in
     record { lower = k.lower; node = k.node; found = k.found; sort = k.sort; scope_within = omega (arith, k.scope_within, ints, m.ints) }

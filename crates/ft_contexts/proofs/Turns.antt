@@ -3,7 +3,8 @@ use Rattle.std.proofs.Common.{◌≡◌, ◌≢◌, ◌+◌, ◌<◌, ◌≤◌,
 use Rattle.std.specs.Option.{option_map, unwrap_or}
 use Rattle.std.specs.FinMap as finite
 use Rattle.std.proofs.Math.ListN.{set, replicate}
-use Rattle.std.proofs.lemmas.List.{length-map}
+use Rattle.std.proofs.lemmas.List.{length-map, drop_all}
+use Rattle.ft_isa.proofs.Lists.{drop_next, there_mapped}
 use Rattle.ft_static.specs.Form.{Form as Normal, integer_form, Updates}
 use Rattle.ft_static.specs.FormOrder.{same_polynomial}
 use Rattle.ft_static.specs.NormalForm.{norm_upd}
@@ -19,7 +20,6 @@ use Rattle.ft_typing.specs.TypingRow.{pending_memory, same_colour, is_like, is_q
 use Rattle.ft_typing.specs.TypedWord.{is_seen_as}
 use Rattle.ft_contexts.specs.declared.register.RegForm.{RegForm}
 use Rattle.ft_contexts.specs.Contexts.{typed_in, pair_in, registers_in, HoldsRegisters}
-use Rattle.ft_contexts.proofs.Lists.{drop_there, drop_all, map_there}
 use Rattle.ft_contexts.proofs.Kept.{polynomial_found, registers_stay}
 use Rattle.ft_contexts.proofs.Registers.{registers_set}
 
@@ -27,13 +27,13 @@ use Rattle.ft_contexts.proofs.Registers.{registers_set}
 
 pub pending_turn : (fs : List Normal) (m : Updates) (q : List (Form × Form)) (j : ℕ) (p : Form × Form) → slice_get q j ≡ Some p → pending_memory m (drop j (map (pair_in fs) q)) ≡ pending_memory (norm_upd m (polynomial fs p.0) (polynomial fs p.1)) (drop (j + 1) (map (pair_in fs) q))
 unfolding pending_memory
-pending_turn fs m q j p e = rw (drop_there (map (pair_in fs) q) j (pair_in fs p) (map_there (pair_in fs) q j p e)) refl
+pending_turn fs m q j p e = rw (drop_next (map (pair_in fs) q) j (pair_in fs p) (there_mapped (pair_in fs) q j p e)) refl
 
 pub pending_end : (fs : List Normal) (m : Updates) (q : List (Form × Form)) (j : ℕ) → length q ≤ j → pending_memory m (drop j (map (pair_in fs) q)) ≡ m
 unfolding pending_memory
 pending_end fs m q j l =
     let n = length-map q (pair_in fs) in
-    rw (drop_all (map (pair_in fs) q) j (omega arith)) refl
+    rw (drop_all j (map (pair_in fs) q) (omega arith)) refl
 
 -- THE START OF A BLOCK
 
@@ -52,12 +52,12 @@ none_there (suc k) (suc r) x P e = none_there k r x P e
 -- a register row
 pub registers_turn : (o : Object) (m : TypedRegisters) (rows : List RegType) (j : ℕ) (r : RegType) → slice_get rows j ≡ Some r → registers_after o m (drop j rows) ≡ registers_after o (finite.insert m r.reg.number (typed_row o r)) (drop (j + 1) rows)
 unfolding registers_after
-registers_turn o m rows j r e = rw (drop_there rows j r e) refl
+registers_turn o m rows j r e = rw (drop_next rows j r e) refl
 
 -- no row is left
 pub registers_end : (o : Object) (m : TypedRegisters) (rows : List RegType) (j : ℕ) → length rows ≤ j → registers_after o m (drop j rows) ≡ m
 unfolding registers_after
-registers_end o m rows j l = rw (drop_all rows j l) refl
+registers_end o m rows j l = rw (drop_all j rows l) refl
 
 -- the registers with a row's
 pub registers_noted : (o : Object) (fs gs : List Normal) (xs : List (Option RegForm)) (n : ℕ) (row : RegType) (f : Form) → Keeps fs gs → HoldsRegisters fs xs → n < length xs → n ≡ row.reg.number → held gs f ≡ Some (integer_form (integer_form_of o row.expr))
@@ -102,11 +102,11 @@ unlike_lengths o x (e ∷ q) (r ∷ rs) h = rw (unlike_lengths o x q rs (λ s. h
 pub queue_turn : (o : Object) (x : Replacement) (q : List FormPair) (rows : List (ℕ × ℕ)) (j : ℕ) (e : FormPair) (r : ℕ × ℕ) (b : Bool) → slice_get q j ≡ Some e → slice_get rows j ≡ Some r → b ≡ (same_polynomial e.0 (integer_form_after o x r.0) && same_polynomial e.1 (integer_form_after o x r.1))
     → is_queue_like o x (drop j q) (drop j rows) ≡ (b && is_queue_like o x (drop (j + 1) q) (drop (j + 1) rows))
 unfolding is_queue_like
-queue_turn o x q rows j e r b f g h = rw (drop_there q j e f, drop_there rows j r g, h) refl
+queue_turn o x q rows j e r b f g h = rw (drop_next q j e f, drop_next rows j r g, h) refl
 
 -- no pair is left
 pub queue_end : (o : Object) (x : Replacement) (q : List FormPair) (rows : List (ℕ × ℕ)) (j : ℕ) → length q ≤ j → length rows ≤ j → is_queue_like o x (drop j q) (drop j rows) ≡ true
 unfolding is_queue_like
-queue_end o x q rows j l m = rw (drop_all q j l, drop_all rows j m) refl
+queue_end o x q rows j l m = rw (drop_all j q l, drop_all j rows m) refl
 
 -- SCOPES

@@ -95,18 +95,29 @@ impl Context {
         })
     }
 
-    /// The same context once more.
-    pub fn copied(&self) -> Result<Context, NoMemory>
-        ensures { IfOk result (λ c. c ≡ self.now) }
-    {
+    /// A context in which nothing is known of any register, and nothing is pending.
+    pub fn empty(alloc: Global, own: &OwnVariables) -> Result<Context, NoMemory> {
         Ok(Context {
-            alloc: self.alloc,
-            ints: self.ints,
-            registers: self.registers,
-            d: self.d,
-            queue: self.queue.copied(self.alloc, QUEUE_ROOM)?,
-            memory: self.memory,
+            alloc,
+            ints: 0,
+            registers: [None; 64],
+            d: StateD::Zero,
+            queue: Sequence::with_room(alloc, QUEUE_ROOM)?,
+            memory: own.memory_variable(),
         })
+    }
+
+    /// Becomes the same as another context, in the memory that it has. When out of memory, it may be a mixture.
+    pub fn copy_from(&mut self, other: &Context) -> Result<(), NoMemory>
+        ensures { OnOk result (self.new ≡ other.now) }
+    {
+        self.queue.copy_from(&other.queue)?;
+        self.alloc = other.alloc;
+        self.ints = other.ints;
+        self.registers = other.registers;
+        self.d = other.d;
+        self.memory = other.memory;
+        Ok(())
     }
 
     /// The allocator of the context.

@@ -41,13 +41,13 @@ impl<T: Copy> Sequence<T> {
         })
     }
 
-    /// The same values once more, with room for at least so many.
-    pub fn copied(&self, alloc: Global, room: usize) -> Result<Sequence<T>, NoMemory>
-        ensures { IfOk result (λ s. s ≡ self.now) }
+    /// Becomes the same values as those of another, in the room that it has.
+    pub fn copy_from(&mut self, other: &Sequence<T>) -> Result<(), NoMemory>
+        ensures { OnOk result (self.new ≡ other.now) }
     {
-        let mut values = Vec::with_capacity(alloc, room)?;
-        values.extend_from_slice(self.values.as_slice())?;
-        Ok(Sequence { values })
+        self.values.clear();
+        self.values.extend_from_slice(other.values.as_slice())?;
+        Ok(())
     }
 
     /// Takes all values away, and keeps the room.

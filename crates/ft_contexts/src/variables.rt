@@ -107,6 +107,11 @@ impl OwnVariables {
         })
     }
 
+    /// The form of the memory variable.
+    pub(crate) fn memory_variable(&self) -> Form {
+        self.variables.memory
+    }
+
     /// The form of the integer of node `n`, with the variables as they are.
     pub fn integer<P: Program, L: Ledger>(
         &mut self,

@@ -5,7 +5,7 @@ use Rattle.std.specs.List.{AllByRecursion}
 use Rattle.std.proofs.lemmas.Bool.{cases_lt}
 use Rattle.std.proofs.lemmas.List.{length-drop}
 use Rattle.std.proofs.lemmas.List.Elements.{All-weaker, All-same, All-cons, All-take, All-get_or}
-use Rattle.std.proofs.lemmas.Option.{get_or_from_slice_get, slice_get_within}
+use Rattle.std.proofs.lemmas.Option.{get_or_from_slice_get, slice_get_within, same_Some}
 use Rattle.circular_buffer.proofs.Places.{slice_get-last, slice_get-append_left, slice_get-drop, slice_get-take}
 use Rattle.ft_isa.specs.declared.plan.Site.{Site}
 use Rattle.ft_isa.specs.declared.plan.Strike.{Strike}
@@ -98,9 +98,6 @@ rewound_none o w s d h =
       breaks = h.breaks;
     }
 
-some_same : {X : Type 0} (x y : X) → Some x ≡ Some y → x ≡ y
-some_same x y e = cc
-
 -- one more step back
 pub rewound_more : (o : Object) (w : List Wild) (s : Session) (k : ℕ) (d e : Debugger) → IsFull d.history → 0 < d.history.count → Rewound o w s k d
     → slice_get d.history.moments.items 4095 ≡ Some e.present → e.history.moments.items ≡ d.present ∷ take 4095 d.history.moments.items → e.history.count + 1 ≡ d.history.count → e.breaks ≡ d.breaks → Rewound o w s (k + 1) e
@@ -109,7 +106,7 @@ rewound_more o w s k d e full some h newest items counted eb =
     let few = full.few in
     record {
       present =
-          some_same _ _ (sym newest ∙ h.past 4095 (omega arith) (omega arith))
+          same_Some _ _ (sym newest ∙ h.past 4095 (omega arith) (omega arith))
           ∙ ap (moment_at o w s.strikes) (last s.position k s.low d.history.count kept some);
       kept = omega arith;
       past = λ i l lt.

@@ -3,7 +3,7 @@ use Rattle.std.proofs.Common.{◌≡◌, ℕ, zero, suc, ◌+◌, ◌<◌, ◌�
 use Rattle.std.specs.Prelude.{filter, if◌then◌else◌}
 use Rattle.std.specs.List.{AllByRecursion}
 use Rattle.std.proofs.lemmas.Bool.{ne_eqb, leb-true}
-use Rattle.std.proofs.lemmas.Bool.Decides.{leb_tells, eqb_tells}
+use Rattle.std.proofs.lemmas.Bool.Decides.{leb_tells}
 use Rattle.ft_isa.specs.declared.plan.Site.{Site}
 use Rattle.ft_isa.specs.declared.plan.Strike.{Strike}
 use Rattle.ft_isa.specs.declared.plan.Wild.{Wild}
@@ -11,6 +11,7 @@ use Rattle.ft_types.specs.declared.object.Object.{Object}
 use Rattle.ft_semantics.specs.State.{State, start}
 use Rattle.ft_semantics.specs.Step.{Stepping, quiet, step}
 use Rattle.ft_semantics.specs.Strike.{struck_state, struck_before}
+use Rattle.ft_semantics.proofs.Struck.{struck_there}
 use Rattle.ft_debug.specs.Sessions.{Shown, shown, led_to, struck_at}
 use Rattle.ft_debug.specs.Inside.{IsMadeBy}
 
@@ -25,12 +26,6 @@ shown-add_one o w xs p = rw add-one refl
 -- a strike at another position changes nothing here
 before-other : (x : Strike) (q : ℕ) (s : State) → (x.step == q) ≡ false → struck_before (Some x) q s ≡ s
 before-other x q s e = ap (λ t. if t then struck_state s x.site x.value else s) e
-
-before-here : (x : Strike) (s : State) → struck_before (Some x) x.step s ≡ struck_state s x.site x.value
-before-here x s = ap (λ t. if t then struck_state s x.site x.value else s) (same x.step)
-  where
-    same : (n : ℕ) → (n == n) ≡ true
-    same n = grind (arith, eqb_tells n n)
 
 -- strikes that were made before change nothing later
 pub struck_later : (p q : ℕ) (xs : List Strike) (s : State) → p < q → AllByRecursion (IsMadeBy p) xs → struck_at q xs s ≡ s
@@ -63,7 +58,7 @@ pub shown_before : (o : Object) (w : List Wild) (xs : List Strike) (x : Strike) 
 shown_before o w xs x q l = same_shown o w (xs ++ x ∷ []) xs q (λ r le s. struck-push r xs x s ∙ before-other x r (struck_at r xs s) (ne_eqb x.step r (λ e. absurd (omega arith))))
 
 struck_now : (o : Object) (w : List Wild) (xs : List Strike) (x : Strike) (t : Stepping) → led_to x.step (xs ++ x ∷ []) t ≡ record { state = struck_state (led_to x.step xs t).state x.site x.value; wild = (led_to x.step xs t).wild }
-struck_now o w xs x t = ap (λ (s : State). record { state = s; wild = t.wild }) (struck-push x.step xs x t.state ∙ before-here x (struck_at x.step xs t.state))
+struck_now o w xs x t = ap (λ (s : State). record { state = s; wild = t.wild }) (struck-push x.step xs x t.state ∙ struck_there x (struck_at x.step xs t.state))
 
 -- what is shown at a strike is struck
 pub shown_struck : (o : Object) (w : List Wild) (xs : List Strike) (p : ℕ) (site : Site) (value : ℕ)

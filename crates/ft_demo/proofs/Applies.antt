@@ -1,16 +1,16 @@
 -- The object of a number of turns is accepted.
-use Rattle.std.proofs.Common.{◌≡◌, ℕ, zero, suc, true, List, [], ◌∷◌, ◌++◌, length, Some, refl, sym, subst, arith, slice_get}
+use Rattle.std.proofs.Common.{◌≡◌, ℕ, zero, suc, List, [], ◌∷◌, ◌++◌, length, Some, refl, sym, subst, arith, slice_get}
 use Rattle.std.proofs.lemmas.Grind.{common_steps}
 use Rattle.std.specs.Prelude.{slice_range}
+use Rattle.std.proofs.lemmas.Option.{same_Some}
 use Rattle.ft_isa.specs.declared.colour.Colour.{Colour}
 use Rattle.ft_isa.specs.declared.colour.Colour.TheVariants.{Green, Blue}
 use Rattle.ft_isa.specs.declared.basic.Basic.{Basic}
 use Rattle.ft_isa.specs.declared.instr.Instr.{Instr}
 use Rattle.ft_isa.specs.declared.op.Op.TheVariants.{Add, Mul}
 use Rattle.ft_static.specs.Form.{Polynomial}
-use Rattle.ft_static.specs.FormOrder.{same_polynomial}
 use Rattle.ft_static.specs.NormalForm.{constant, norm_op, norm_upd}
-use Rattle.ft_static.proofs.Equal.{equal_polynomials}
+use Rattle.ft_static.proofs.Equal.{same_itself}
 use Rattle.ft_types.specs.declared.object.Object.{Object}
 use Rattle.ft_types.specs.declared.object.Block.{Block}
 use Rattle.ft_types.specs.declared.object.Cell.{Cell}
@@ -22,10 +22,6 @@ use Rattle.ft_typing.specs.TypingRow.{same_colour, need, for_typed, for_ref_over
 use Rattle.ft_typing.specs.Accepted.{Applies, IsAccepted, last_row, next_row}
 use Rattle.ft_types.proofs.Maps.{get-insert}
 use Rattle.ft_demo.specs.Sample.{opening, turn, turns_from, sample_object}
-
--- the one value of a list
-get_one : {X : Type 0} {x y : X} → Some x ≡ Some y → x ≡ y
-get_one e = cc
 
 -- what is known of a register
 abbrev known : Colour → Basic → Polynomial → Typed
@@ -51,10 +47,6 @@ tripled f = norm_op Mul f (constant 3)
 -- the value after turn i
 abbrev raised : ℕ → Polynomial → Polynomial
 raised i f = norm_op Add (tripled f) (constant i)
-
--- a form is the same as itself
-same_itself : (p : Polynomial) → same_polynomial p p ≡ true
-same_itself p = (equal_polynomials p p).1 refl
 
 -- the context after both values were raised
 abbrev with_values : ℕ → Polynomial → Context → Context
@@ -127,7 +119,7 @@ block_applies : (n : ℕ) (b : ℕ) (x : Block) → slice_get (sample_object n).
 unfolding registers_after memory_form_of
 block_applies n zero x e =
     let c = start_context (sample_object n) 0 in
-    subst (λ y. Applies (sample_object n) (start_context (sample_object n) y.code_type) (block_instrs (sample_object n) 0)) (get_one e)
+    subst (λ y. Applies (sample_object n) (start_context (sample_object n) y.code_type) (block_instrs (sample_object n) 0)) (same_Some _ _ e)
     (subst (Applies (sample_object n) c) (sym (whole_range (sample_object n).instrs))
     (opening_applies n c (turns_from 1 n)
     (turns_apply (sample_object n) n 1 (opened c) (constant 0) (record {
@@ -142,7 +134,7 @@ block_applies n (suc b) x e = absurd cc
 
 -- the one cell's word is an integer's
 cell_is_typed : (n : ℕ) (k : ℕ) (x : Cell) → slice_get (sample_object n).cells k ≡ Some x → HasType (sample_object n) x.init x.basic
-cell_is_typed n zero x e = subst (λ y. HasType (sample_object n) y.init y.basic) (get_one e) tt
+cell_is_typed n zero x e = subst (λ y. HasType (sample_object n) y.init y.basic) (same_Some _ _ e) tt
 cell_is_typed n (suc k) x e = absurd cc
 
 -- the whole object is accepted

@@ -3,6 +3,7 @@ use Rattle.std.proofs.Common.{◌≡◌, ℕ, zero, suc, ◌+◌, ◌*◌, ◌�
 use Rattle.std.specs.Prelude.{All, Some, codes, false, slice_get}
 use Rattle.std.specs.List.{AllByRecursion}
 use Rattle.std.proofs.lemmas.List.Elements.{All-nil, All-cons}
+use Rattle.std.proofs.lemmas.Option.{same_Some}
 use Rattle.ft_isa.specs.Words.{IsWord}
 use Rattle.ft_isa.specs.declared.instr.Instr.{Instr}
 use Rattle.ft_static.specs.declared.node.Node.{Node}
@@ -12,15 +13,12 @@ use Rattle.ft_types.specs.declared.object.Object.{Object}
 use Rattle.ft_typing.specs.Examples.{int_cell, nothing_known}
 use Rattle.ft_types.specs.Spellable.{IsSpellable, IsBasic, IsCell, IsCodeType, IsInstr, HasCodeType, Cover, IsRegRow, IsQueueRow, IsNodeIn, substs_of}
 use Rattle.ft_isa.specs.BasicTypes.{int, ref}
+use Rattle.ft_isa.proofs.Lists.{all_of_one}
 use Rattle.ft_demo.specs.Sample.{opening, turns_from, sample_object}
 
 -- the one node
 abbrev one_node : List Node
 one_node = record { scope = 0; shape = shape.Memory } ∷ []
-
--- the one value of a list
-get_one : {X : Type 0} {x y : X} → Some x ≡ Some y → x ≡ y
-get_one e = cc
 
 -- six instructions a turn, and the end
 turns_many : (n i : ℕ) → length (turns_from i n) ≡ 6 * n + 1
@@ -58,13 +56,9 @@ opening_fits is more =
     let plain : IsBasic 1 int = record { refs = omega arith; base = tt } in
     all_in_turn (IsInstr 1 1) (opening ++ is) ((out, ref_int), ((out, ref_int), ((none, plain), ((none, plain), more))))
 
--- what holds of the one value of a list
-all_of_one : {X : Type 0} (P : X → Type 0) (x : X) → P x → All P (x ∷ [])
-all_of_one P x h = All-cons P x [] h (All-nil P)
-
 -- the one node obeys its rules
 node_is_lawful : (n : ℕ) (x : Node) → slice_get (one_node) n ≡ Some x → IsNode one_node n x
-node_is_lawful zero x e = subst (IsNode one_node 0) (get_one e) (record { scope = omega arith; shape = tt })
+node_is_lawful zero x e = subst (IsNode one_node 0) (same_Some _ _ e) (record { scope = omega arith; shape = tt })
 node_is_lawful (suc n) x e = absurd cc
 
 -- it obeys every rule of its tables

@@ -5,7 +5,7 @@ use Rattle.std.specs.Option.{option_map, unwrap_or}
 use Rattle.std.specs.FinMap as finite
 use Rattle.std.specs.Ordering.{nat_cmp}
 use Rattle.std.proofs.lemmas.Bool.{ne_eqb, eq-eqb, cases_eq, ltb-true}
-use Rattle.std.proofs.lemmas.List.{length-set, append-nil}
+use Rattle.std.proofs.lemmas.List.{length-set, append-nil, length-map}
 use Rattle.std.proofs.lemmas.List.Elements.{All-head, All-tail, All-set}
 use Rattle.std.proofs.lemmas.Option.{slice_get-get_or, slice_get-map, slice_get_cases, slice_get_within}
 use Rattle.std.proofs.Math.Nat.{mod-lt}
@@ -25,13 +25,15 @@ use Rattle.ft_lower.specs.declared.step3.Step3.TheVariants.{Put, Copy, Op, Load,
 use Rattle.ft_lower.specs.Flow.{Blocks, Place, FlowState, on, first, goes_on, goes_to, with_pair, with_cell, block_of, act, act_if, step_at, flow_step, steps, flow_start}
 use Rattle.ft_lower.specs.Size.{size, row_size, pairs_of}
 use Rattle.ft_lower.specs.Well.{IsBlock, IsTarget, Known, no_pair, pairs_below, forget, known_after, KeepsVariables, RowIsWell, known_first, row_known, known_at, IsWell}
+use Rattle.ft_lower.proofs.Runs.{done_stays}
+use Rattle.ft_lower.proofs.Sizes.{row_size-append}
 use Rattle.ft_dup.specs.Images.{starts, start_of, doubled}
 use Rattle.ft_dup.specs.Doubles.{bare, init_of_cell, words_of, Carries, cost, cost_if, Holds, RunsAs}
-use Rattle.ft_dup.proofs.Places.{mapped_length, first_start, block_is}
+use Rattle.ft_dup.proofs.WellFormedBlocks.{first_start, block_is}
 use Rattle.ft_dup.proofs.Stretches.{machine_steps, run_is, Leads, spot, stands, ran, fetched_state, two_any}
 use Rattle.ft_dup.proofs.Pairs.{PairsHeld, CellsHold}
-use Rattle.ft_dup.proofs.Rows.{Below, Row, put_row, copy_row, op_row, load_row, store_row, load_at_row, store_at_row, go_row, exit_zero_row, exit_other_row}
-use Rattle.ft_dup.proofs.Laying.{row_size-append, blocks_length, Laid, laid}
+use Rattle.ft_dup.proofs.FlowSteps.{Below, Row, put_row, copy_row, op_row, load_row, store_row, load_at_row, store_at_row, go_row, exit_zero_row, exit_other_row}
+use Rattle.ft_dup.proofs.Laying.{blocks_length, Laid, laid}
 
 -- WHAT IS KNOWN
 
@@ -95,11 +97,6 @@ done_costs bs (suc k) f d =
     let a : cost_if f.done (step_at bs f.place) ≡ 0 = ap (λ b. cost_if b (step_at bs f.place)) d in
     let b : cost bs k (flow_step bs f) ≡ 0 = ap (cost bs k) g ∙ done_costs bs k f d in
     omega arith
-
--- a flow that is done stays as it is
-done_stays : (bs : Blocks) (k : ℕ) (f : FlowState) → f.done ≡ true → steps bs k f ≡ f
-done_stays bs zero f d = refl
-done_stays bs (suc k) f d = ap (steps bs k) (ap (λ b. act_if b (step_at bs f.place) f) d) ∙ done_stays bs k f d
 
 -- a run that is over stays as it is
 shows_done : (o : Object) (vars : ℕ) (bs : Blocks) (k : ℕ) (f : FlowState) (r : Ran) → f.done ≡ true → Agrees vars bs f r → Shows o vars bs k f r
@@ -265,7 +262,7 @@ module _ (o : Object) (vars cells : ℕ) (bs : Blocks) (W : IsWell vars cells bs
 
   -- the code is short
   code_short : length (map bare o.instrs) ≤ 65536
-  code_short = let x = W.short in omega (arith, ap length C.instrs, mapped_length bare (doubled bs), blocks_length (start_of bs) bs)
+  code_short = let x = W.short in omega (arith, ap length C.instrs, length-map (doubled bs) bare, blocks_length (start_of bs) bs)
 
   -- a running flow has a step to take
   by_rest : (k : ℕ) (f : FlowState) (i : ℕ) (m : Registers) (c : Cells) (front rest : List Step3) (known : Known) → Next k → At f i m c front rest known → Shows o vars bs (suc k) f (from f i m c)
@@ -353,7 +350,7 @@ runs_as vars cells bs W o C wild =
       number = omega (arith, first_start bs);
       holds = λ q e. absurd (no_known e);
       memory = start_cells o;
-      many = mapped_length init_of_cell o.cells ∙ C.many;
+      many = length-map o.cells init_of_cell ∙ C.many;
       words = C.words;
       running = refl;
     } in

@@ -2,6 +2,7 @@
 use Rattle.std.proofs.Common.{◌≡◌, ℕ, zero, suc, ◌+◌, ◌<◌, ◌≤◌, List, [], ◌∷◌, ◌++◌, length, map, Some, refl, sym, ap, ◌∙◌, subst, arith, append_assoc, length-append}
 use Rattle.std.proofs.Math.Seq.{get_or-append_seam}
 use Rattle.std.proofs.lemmas.Option.{slice_get-get_or}
+use Rattle.std.proofs.lemmas.List.{length-map}
 use Rattle.ft_isa.specs.declared.instr.Instr.{Instr}
 use Rattle.ft_lower.specs.declared.step3.Step3.{Step3}
 use Rattle.ft_lower.specs.declared.step3.Step3.TheVariants.{Put, Copy, Op, Load, Store, LoadAt, StoreAt, Exit, Go, Stop}
@@ -9,13 +10,7 @@ use Rattle.ft_lower.specs.Flow.{Blocks, block_of}
 use Rattle.ft_lower.specs.Size.{size, row_size, blocks_size}
 use Rattle.ft_dup.specs.Images.{image, row_images, blocks_images, start_of, doubled}
 use Rattle.ft_dup.specs.Doubles.{bare}
-use Rattle.ft_dup.proofs.Places.{mapped_length}
-use Rattle.ft_dup.proofs.Rows.{HasInstrs}
-
--- the size of two rows
-pub row_size-append : (a b : List Step3) → row_size (a ++ b) ≡ row_size a + row_size b
-row_size-append [] b = omega arith
-row_size-append (i ∷ a) b = omega (arith, row_size-append a b)
+use Rattle.ft_dup.proofs.FlowSteps.{HasInstrs}
 
 -- the images of two rows
 row_images-append : (start : ℕ → ℕ) (a b : List Step3) → row_images start (a ++ b) ≡ row_images start a ++ row_images start b
@@ -110,8 +105,8 @@ laid bs code b front rest s c h e =
     let start = start_of bs in
     let A = among start bs b front rest s h e in
     let two = ap (map bare) A.is ∙ map_append A.before (image start s ++ A.behind) ∙ ap (λ l. map bare A.before ++ l) (map_append (image start s) A.behind) in
-    let n : length (map bare A.before) ≡ start_of bs b + row_size front = mapped_length bare A.before ∙ A.long in
-    let m : length code ≡ length A.before + (length (image start s) + length A.behind) = ap length c ∙ mapped_length bare (doubled bs) ∙ ap length A.is ∙ length-append A.before (image start s ++ A.behind) ∙ ap (λ x. length A.before + x) (length-append (image start s) A.behind) in
+    let n : length (map bare A.before) ≡ start_of bs b + row_size front = length-map A.before bare ∙ A.long in
+    let m : length code ≡ length A.before + (length (image start s) + length A.behind) = ap length c ∙ length-map (doubled bs) bare ∙ ap length A.is ∙ length-append A.before (image start s ++ A.behind) ∙ ap (λ x. length A.before + x) (length-append (image start s) A.behind) in
     record {
       has = subst (λ i. HasInstrs code i (image start s)) n (subst (λ l. HasInstrs l (length (map bare A.before)) (image start s)) (sym (c ∙ two)) (has_here (image start s) (map bare A.before) (map bare A.behind)));
       short = omega (arith, image_length start s, A.long);

@@ -1,6 +1,6 @@
-pub mod Places
+pub mod WellFormedBlocks
 pub mod Stretches
 pub mod Pairs
-pub mod Rows
+pub mod FlowSteps
 pub mod Laying
 pub mod Following

@@ -14,6 +14,7 @@ use Rattle.ft_semantics.specs.State.{Registers, Cells, held, with_held, cell_at,
 use Rattle.ft_types.proofs.Maps.{get-insert}
 use Rattle.ft_lower.specs.Flow.{FlowState, with_pair}
 use Rattle.ft_lower.specs.Well.{Known, learn, forget}
+use Rattle.ft_lower.proofs.Expressions.{same_pair, other_pair}
 use Rattle.ft_dup.specs.Images.{green, blue, register_zero}
 use Rattle.ft_dup.proofs.Stretches.{col, held_same, held_other}
 
@@ -26,7 +27,7 @@ green_number p h =
     ap (λ (r : Option Reg). (unwrap_or r register_zero).number) (sym (some_reg p (nat_lt p 64) refl l (lt-ltb p 64 l)))
 
 -- and the blue one 32 more
-blue_number : (p : ℕ) → p < 32 → (blue p).number ≡ 32 + p
+pub blue_number : (p : ℕ) → p < 32 → (blue p).number ≡ 32 + p
 blue_number p h =
     let l : 32 + p < 64 = omega arith in
     ap (λ (r : Option Reg). (unwrap_or r register_zero).number) (sym (some_reg (32 + p) (nat_lt (32 + p) 64) refl l (lt-ltb (32 + p) 64 l)))
@@ -36,12 +37,12 @@ green_no_blue : (p q : ℕ) → p < 32 → q < 32 → (green p).number ≢ (blue
 green_no_blue p q h k e = let f : p ≡ 32 + q = sym (green_number p h) ∙ e ∙ blue_number q k in omega arith
 
 -- other pairs have other green registers
-other_green : (p q : ℕ) → p < 32 → q < 32 → q ≢ p → (green q).number ≢ (green p).number
-other_green p q h k ne e = ne (sym (green_number q k) ∙ e ∙ green_number p h)
+pub greens_differ : (p q : ℕ) → p < 32 → q < 32 → q ≢ p → (green q).number ≢ (green p).number
+greens_differ p q h k ne e = ne (sym (green_number q k) ∙ e ∙ green_number p h)
 
 -- and other blue ones
-other_blue : (p q : ℕ) → p < 32 → q < 32 → q ≢ p → (blue q).number ≢ (blue p).number
-other_blue p q h k ne e = ne (let f : 32 + q ≡ 32 + p = sym (blue_number q k) ∙ e ∙ blue_number p h in omega arith)
+pub blues_differ : (p q : ℕ) → p < 32 → q < 32 → q ≢ p → (blue q).number ≢ (blue p).number
+blues_differ p q h k ne e = ne (let f : 32 + q ≡ 32 + p = sym (blue_number q k) ∙ e ∙ blue_number p h in omega arith)
 
 -- WORDS
 
@@ -86,8 +87,8 @@ pair_kept m ps qs p q x y lt ne e h =
     record {
       below = b;
       word = subst IsWord (sym e) h.word;
-      green = held_other (with_held m (green p).number x) (blue p).number y (green q).number (green_no_blue q p b lt) ∙ held_other m (green p).number x (green q).number (other_green p q lt b ne) ∙ h.green ∙ ap (col Green) (sym e);
-      blue = held_other (with_held m (green p).number x) (blue p).number y (blue q).number (other_blue p q lt b ne) ∙ blue_left m p q x lt b ∙ h.blue ∙ ap (col Blue) (sym e);
+      green = held_other (with_held m (green p).number x) (blue p).number y (green q).number (green_no_blue q p b lt) ∙ held_other m (green p).number x (green q).number (greens_differ p q lt b ne) ∙ h.green ∙ ap (col Green) (sym e);
+      blue = held_other (with_held m (green p).number x) (blue p).number y (blue q).number (blues_differ p q lt b ne) ∙ blue_left m p q x lt b ∙ h.blue ∙ ap (col Blue) (sym e);
     }
 
 -- and so is the pair that got one word in both colours
@@ -99,20 +100,12 @@ pair_put m qs p v lt h e = record {
   blue = blue_read m p (col Green v) (col Blue v) ∙ ap (col Blue) (sym e);
 }
 
--- the pair that a flow state sets
-same_pair : (p v : ℕ) (f : FlowState) → (with_pair p v f).pairs p ≡ v
-same_pair p v f = ap (λ b. cond b v (f.pairs p)) (eq-eqb p p refl)
-
--- another pair stays
-other_pair : (p v : ℕ) (f : FlowState) (q : ℕ) → q ≢ p → (with_pair p v f).pairs q ≡ f.pairs q
-other_pair p v f q ne = ap (λ b. cond b v (f.pairs q)) (ne_eqb q p ne)
-
 -- another pair that is known after learning was known before
-learned : (k : Known) (p q : ℕ) → q ≢ p → learn p k q ≡ true → k q ≡ true
+pub learned : (k : Known) (p q : ℕ) → q ≢ p → learn p k q ≡ true → k q ≡ true
 learned k p q ne h = sym (ap (λ b. cond b true (k q)) (ne_eqb q p ne)) ∙ h
 
 -- a pair that is known after forgetting is another one, and was known before
-forgotten : (k : Known) (p q : ℕ) → forget p k q ≡ true → (q ≢ p) × (k q ≡ true)
+pub forgotten : (k : Known) (p q : ℕ) → forget p k q ≡ true → (q ≢ p) × (k q ≡ true)
 forgotten k p q h = elim (cases_eq q p) [ inl e ↦ absurd (not_false (sym (ap (λ b. cond b false (k q)) (eq-eqb q p e)) ∙ h)) | inr ne ↦ (ne, sym (ap (λ b. cond b false (k q)) (ne_eqb q p ne)) ∙ h) ]
   where
     not_false : false ≡ true → ⊥

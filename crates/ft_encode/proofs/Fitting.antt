@@ -1,22 +1,20 @@
 -- An object whose numbers fit is read again from what is written for it, whether or not it obeys the rules.
-use Rattle.std.proofs.Common.{◌≡◌, ℕ, ◌+◌, ◌-◌, ◌/◌, ◌%◌, ◌^◌, ◌<◌, ◌≤◌, List, [], ◌∷◌, ◌++◌, length, take, drop, map, refl, sym, ap, ◌∙◌, arith}
+use Rattle.std.proofs.Common.{◌≡◌, ℕ, ◌+◌, ◌-◌, ◌^◌, ◌<◌, ◌≤◌, List, [], ◌∷◌, length, take, drop, map, refl, sym, ap, ◌∙◌, arith}
 use Rattle.std.specs.Int.{Width}
 use Rattle.std.specs.List.{AllByRecursion, flat_map}
 use Rattle.std.proofs.lemmas.List.{length-append, drop-drop, drop_at, take_at}
 use Rattle.std.proofs.lemmas.List.Concat.{length-flat_map}
 use Rattle.ft_isa.specs.declared.basic.Base.{Base}
-use Rattle.ft_isa.specs.declared.basic.Basic.{Basic}
 use Rattle.ft_isa.specs.declared.basic.Base.TheVariants.{Int, Code}
 use Rattle.ft_isa.specs.declared.instr.Instr.{Instr}
 use Rattle.ft_isa.specs.declared.instr.Instr.TheVariants.{OpReg, OpWord, Mov, Ld, St, JmpG, JmpB, BzG, BzB, Halt, Idx}
-use Rattle.ft_static.specs.declared.node.Node.{Node}
 use Rattle.ft_static.specs.declared.node.Shape.{Shape}
 use Rattle.ft_isa.specs.declared.op.Op.{Op}
 use Rattle.ft_isa.specs.declared.op.Op.TheVariants.{Add, Sub, Mul, Ltu, Eq, And, Or, Xor, Shl, Shr}
+use Rattle.ft_isa.proofs.Lists.{all_append}
 use Rattle.ft_static.specs.declared.node.Shape.TheVariants.{Word, Var, Op as OpNode, Sel, Memory, Upd, Rem}
 use Rattle.ft_types.specs.declared.object.Object.{Object}
 use Rattle.ft_types.specs.declared.object.Cell.{Cell}
-use Rattle.ft_types.specs.declared.object.Block.{Block}
 use Rattle.ft_types.specs.declared.object.CodeType.{CodeType}
 use Rattle.ft_types.specs.declared.object.RegType.{RegType}
 use Rattle.ft_types.specs.Objects.{name_of, regs_of, queue_of}
@@ -24,7 +22,7 @@ use Rattle.ft_types.specs.NodeRows.{op_code, high_half, low_half, shape_row, nod
 use Rattle.ft_format.specs.declared.version.Version.{Version}
 use Rattle.ft_format.specs.Versions.{version_of}
 use Rattle.ft_format.specs.Layout.{rows, cell_layout, code_layout, type_layout, reg_layout, pair_layout, subst_layout}
-use Rattle.ft_format.specs.Rows.{colour_code, base_code, base_type, basic_number, cell_rows, type_rows, reg_row, queue_row, block_row, instr_row, subst_row, all_regs, all_queue, all_names, spelling}
+use Rattle.ft_format.specs.Rows.{colour_code, base_type, basic_number, cell_rows, type_rows, reg_row, queue_row, block_row, instr_row, subst_row, all_regs, all_queue, all_names, spelling}
 use Rattle.ft_format.specs.Values.{cells_of, node_of, types_of, reg_type_of, pair_of, block_of, instr_of, subst_node_of}
 use Rattle.ft_format.specs.Broken.{cells_part, cells_read, nodes_read, regs_read, queue_read, types_read, blocks_read, instrs_read, substs_read, tables_read, version_at, object_of}
 use Rattle.ft_encode.specs.Fits.{Is8, Is32, FitsBase, FitsCell, FitsShape, FitsNode, FitsReg, FitsPair, FitsType, FitsBlock, FitsInstr, Fits}
@@ -34,13 +32,11 @@ use Rattle.ft_format.proofs.Versions.{magic_small, names_magic}
 use Rattle.ft_format.proofs.Nodes.{fit_seven}
 use Rattle.ft_format.proofs.Types.{types_back}
 use Rattle.ft_format.proofs.Write.{header_for}
+use Rattle.ft_format.proofs.SmallRows.{reg_back}
+use Rattle.ft_format.proofs.Instrs.{refs_back, code_back, own_back}
 use Rattle.ft_encode.proofs.Sections.{SectionsFit, Sections, sections_are}
 
 -- LISTS
-
-all_append : {X : Type 0} (P : X → Type 0) (xs ys : List X) → AllByRecursion P xs → AllByRecursion P ys → AllByRecursion P (xs ++ ys)
-all_append P [] ys h i = i
-all_append P (x ∷ xs) ys h i = (h.0, all_append P xs ys h.1 i)
 
 -- the fields of records can hold the numbers of all values, as they can those of one
 rows_fit : {X : Type 0} (ws : List Width) (row : X → List ℕ) (P : X → Type 0) → ((x : X) → P x → Fit ws (row x)) → (xs : List X) → AllByRecursion P xs → AllFit ws (map row xs)
@@ -126,9 +122,6 @@ reg_fits : (r : RegType) → FitsReg r → Fit reg_layout (reg_row r)
 reg_fits r h =
     (omega (arith, r.reg.in_range), (omega (arith, colour_small r.colour), (omega arith, (h.0.0, (omega (arith, base_small r.basic.base), (type_fits r.basic.base h.0.1, (h.1, tt)))))))
 
-reg_back : (r : RegType) → reg_type_of (reg_row r) ≡ r
-reg_back r = rw (register_back r.reg, colour_back r.colour, basic_back r.basic) refl
-
 all_regs_fit : (ts : List CodeType) → AllByRecursion FitsType ts → AllByRecursion FitsReg (flat_map regs_of ts)
 all_regs_fit [] h = tt
 all_regs_fit (t ∷ ts) h = all_append FitsReg t.regs (flat_map regs_of ts) h.0.regs (all_regs_fit ts h.1)
@@ -138,16 +131,6 @@ all_queue_fit [] h = tt
 all_queue_fit (t ∷ ts) h = all_append FitsPair t.queue (flat_map queue_of ts) h.0.queue (all_queue_fit ts h.1)
 
 -- INSTRUCTIONS
-
--- the parts of the number of a basic type
-refs_back : (b : Basic) → base_code b.base ≤ 1 → base_type b.base < 2 ^ 16 → basic_number b / 2 ^ 24 ≡ b.refs
-refs_back b p q = omega arith
-
-code_back : (b : Basic) → base_code b.base ≤ 1 → base_type b.base < 2 ^ 16 → basic_number b / 2 ^ 16 % 2 ^ 8 ≡ base_code b.base
-code_back b p q = omega arith
-
-own_back : (b : Basic) → base_code b.base ≤ 1 → base_type b.base < 2 ^ 16 → basic_number b % 2 ^ 16 ≡ base_type b.base
-own_back b p q = omega arith
 
 instr_fits : (i : Instr) → FitsInstr i → Fit code_layout (instr_row i)
 instr_fits (OpReg op rd rs rt) h = fit_seven 0 rd.number rs.number rt.number (op_code op) 0 0 (omega arith) (omega (arith, rd.in_range)) (omega (arith, rs.in_range)) (omega (arith, rt.in_range)) (omega (arith, op_small op)) (omega arith) (omega arith)

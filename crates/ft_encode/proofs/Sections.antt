@@ -1,18 +1,16 @@
 -- What stands in the sections of what is written for an object whose numbers their fields can hold.
-use Rattle.std.proofs.Common.{◌≡◌, ℕ, suc, ◌+◌, ◌*◌, List, [], ◌∷◌, ◌++◌, length, drop, map, refl, sym, ap, ◌∙◌, arith}
+use Rattle.std.proofs.Common.{◌≡◌, ℕ, ◌+◌, ◌*◌, List, ◌++◌, length, drop, map, ap, ◌∙◌, arith}
 use Rattle.std.specs.Int.{Width}
-use Rattle.std.proofs.lemmas.List.{length-append, length-map, drop-drop, drop_at}
+use Rattle.std.proofs.lemmas.List.{length-append, length-map, drop_at}
 use Rattle.ft_types.specs.declared.object.Object.{Object}
-use Rattle.ft_types.specs.declared.object.Cell.{Cell}
-use Rattle.ft_types.specs.declared.object.CodeType.{CodeType}
 use Rattle.ft_types.specs.NodeRows.{node_row}
 use Rattle.ft_format.specs.declared.version.Version.{Version}
 use Rattle.ft_format.specs.Layout.{size, numbers, written, rows, spelled, header_layout, cell_layout, code_layout, type_layout, reg_layout, pair_layout, subst_layout}
 use Rattle.ft_format.specs.Rows.{cell_rows, type_rows, reg_row, queue_row, block_row, instr_row, subst_row, all_regs, all_queue, all_names, header_row, spelling}
 use Rattle.ft_format.specs.Values.{header_of}
 use Rattle.ft_format.specs.Broken.{nodes_at, types_at, regs_at, queue_at, blocks_at, instrs_at, substs_at, names_at, total, header_at}
-use Rattle.ft_format.proofs.Write.{header_for}
-use Rattle.ft_format.proofs.Layouts.{Fit, AllFit, numbers_back, rows_back, length_written, length_spelled}
+use Rattle.ft_format.proofs.Write.{header_for, length_cell_rows, length_type_rows, after_section, section_rows}
+use Rattle.ft_format.proofs.Layouts.{Fit, AllFit, numbers_back, length_written, length_spelled}
 
 -- the bytes that are written after a section
 abbrev pub after_instrs : Object → List ℕ
@@ -38,24 +36,6 @@ after_cells o = spelled code_layout (map node_row o.nodes) ++ after_nodes o
 
 abbrev pub after_header : Object → List ℕ
 after_header o = spelled cell_layout (cell_rows 0 o.cells) ++ after_cells o
-
--- how many records there are
-length_cell_rows : (start : ℕ) (cs : List Cell) → length (cell_rows start cs) ≡ length cs
-length_cell_rows start [] = refl
-length_cell_rows start (c ∷ cs) = ap suc (length_cell_rows (start + length c.name) cs)
-
-length_type_rows : (start queue_start : ℕ) (ts : List CodeType) → length (type_rows start queue_start ts) ≡ length ts
-length_type_rows start queue_start [] = refl
-length_type_rows start queue_start (t ∷ ts) = ap suc (length_type_rows (start + length t.regs) (queue_start + length t.queue) ts)
-
--- the bytes after a section, its rows, and how many bytes there are from it on
-after_section : (ws : List Width) (rs : List (List ℕ)) (at n : ℕ) (bytes tail : List ℕ) → AllFit ws rs → length rs ≡ n → drop at bytes ≡ spelled ws rs ++ tail → drop (at + size ws * n) bytes ≡ tail
-after_section ws rs at n bytes tail fit count e =
-    sym (drop-drop (size ws * n) at bytes) ∙ ap (drop (size ws * n)) e ∙ drop_at (spelled ws rs) tail (size ws * n) (length_spelled ws rs fit ∙ ap (λ k. size ws * k) count)
-
-section_rows : (ws : List Width) (rs : List (List ℕ)) (at n : ℕ) (bytes tail : List ℕ) → AllFit ws rs → length rs ≡ n → drop at bytes ≡ spelled ws rs ++ tail → rows ws n (drop at bytes) ≡ rs
-section_rows ws rs at n bytes tail fit count e =
-    ap (rows ws n) e ∙ ap (λ k. rows ws k (spelled ws rs ++ tail)) (sym count) ∙ rows_back ws rs tail fit
 
 section_long : (ws : List Width) (rs : List (List ℕ)) (n : ℕ) (tail : List ℕ) → AllFit ws rs → length rs ≡ n → length (spelled ws rs ++ tail) ≡ size ws * n + length tail
 section_long ws rs n tail fit count =

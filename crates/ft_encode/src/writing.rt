@@ -15,7 +15,7 @@ ghost use Rattle.ft_format.specs.declared.version.Version.TheVariants.{Second};
 ghost use Rattle.ft_format.specs.Puts.{Puts};
 ghost use Rattle.ft_encode.specs.Written.{reg_bytes, pair_bytes};
 
-use crate::record::{base_code, base_type, write_all};
+use crate::record::{base_code, base_type, write_all, write_rows};
 use ft_format::{CellRow, Header, TypeRow, Version};
 use ft_isa::NoMemory;
 use ft_types::{Cell, CodeType, Object};
@@ -179,7 +179,7 @@ pub fn spell(alloc: Global, object: &Object) -> Result<Vec<u8>, NoMemory>
     write_queue(object.types.as_slice(), &mut out)?;
     write_all(object.blocks.as_slice(), &mut out)?;
     write_all(object.instrs.as_slice(), &mut out)?;
-    write_all(object.substs.as_slice(), &mut out)?;
+    write_rows(object.substs.as_slice(), &mut out)?;
     write_names(object.cells.as_slice(), &mut out)?;
     Ok(out)
 }

@@ -1,7 +1,8 @@
 -- An exchange keeps an object spellable and accepted.
-use Rattle.std.proofs.Common.{◌≡◌, ℕ, zero, suc, ◌+◌, true, false, List, [], ◌∷◌, length, map, take, Some, None, slice_get, refl, sym, ap, ◌∙◌, subst, arith, ⊎_elim}
+use Rattle.std.proofs.Common.{◌≡◌, ℕ, zero, suc, ◌+◌, true, false, List, [], length, take, Some, None, slice_get, refl, sym, ap, ◌∙◌, subst, arith, ⊎_elim}
 use Rattle.std.specs.Option.{option_map, unwrap_or}
 use Rattle.std.proofs.lemmas.Bool.{cases_eq}
+use Rattle.std.proofs.lemmas.List.{length-map}
 use Rattle.ft_isa.specs.declared.instr.Instr.{Instr}
 use Rattle.ft_isa.specs.declared.instr.Instr.TheVariants.{OpReg, OpWord, Mov, Ld, St, JmpG, JmpB, BzG, BzB, Halt, Idx}
 use Rattle.ft_types.specs.declared.object.Object.{Object}
@@ -84,15 +85,11 @@ applies_exchanged o c _ zero a b ea eb m (next_row {i = i} d e (next_row {i = j}
 applies_exchanged o c _ (suc k) a b ea eb m (next_row {i = i} {is = is} d e h) =
     next_row d e (applies_exchanged o d is k a b ea eb (subst (λ n. may_exchange n a b ≡ true) (counted o c d i e (take k is)) m) h)
 
-length_map : {X Y : Type 0} (f : X → Y) (xs : List X) → length (map f xs) ≡ length xs
-length_map f [] = refl
-length_map f (x ∷ xs) = ap suc (length_map f xs)
-
 block_exchanged : (o : Object) (b k : ℕ) (x : Block) → IsAccepted o → (p : IsPermitted o b k) → slice_get o.blocks b ≡ Some x → Applies (after_exchange o b k) (start_context (after_exchange o b k) x.code_type) (block_instrs (after_exchange o b k) b)
 block_exchanged o b k x acc p e =
     let s = after_exchange o b k in
     let t : block_type o b ≡ x.code_type = ap (λ u. unwrap_or (option_map code_type_of u) 0) e in
-    let q : length (queue_rows o (block_type o b)) ≡ length (start_context o x.code_type).queue = ap (λ t. length (queue_rows o t)) t ∙ sym (length_map (queue_pair o) (queue_rows o x.code_type)) in
+    let q : length (queue_rows o (block_type o b)) ≡ length (start_context o x.code_type).queue = ap (λ t. length (queue_rows o t)) t ∙ sym (length-map (queue_rows o x.code_type) (queue_pair o)) in
     let a = applies_exchanged o (start_context o x.code_type) (block_instrs o b) k p.first p.second p.first_there p.second_there (subst (λ n. may_exchange (queue_after n (take k (block_instrs o b))) p.first p.second ≡ true) q p.may) (acc.blocks b x e) in
     subst (λ (c : Context). Applies s c (block_instrs s b)) (sym (start_same o (exchanged o.instrs (block_start o b + k)) x.code_type))
     (subst (Applies s (start_context o x.code_type)) (sym (same_block o b k p)) (applies_same o (exchanged o.instrs (block_start o b + k)) _ _ a))

@@ -1,5 +1,5 @@
 -- Blocks of an object with two neighbours exchanged.
-use Rattle.std.proofs.Common.{◌≡◌, ℕ, zero, suc, ◌+◌, ◌<◌, ◌≤◌, List, [], ◌∷◌, length, Some, slice_get, refl, ap, ◌∙◌, subst, arith, inl, inr, ⊎_elim}
+use Rattle.std.proofs.Common.{◌≡◌, ℕ, suc, ◌+◌, ◌<◌, ◌≤◌, length, Some, slice_get, refl, ap, ◌∙◌, subst, arith, inl, inr, ⊎_elim}
 use Rattle.std.specs.Option.{option_map, unwrap_or}
 use Rattle.std.specs.List.{slice_range}
 use Rattle.std.proofs.lemmas.Bool.{cases_lt}
@@ -8,23 +8,12 @@ use Rattle.ft_isa.specs.declared.instr.Instr.{Instr}
 use Rattle.ft_types.specs.declared.object.Object.{Object}
 use Rattle.ft_types.specs.declared.object.Block.{Block}
 use Rattle.ft_types.specs.Objects.{start_of, block_start, block_end, block_instrs}
-use Rattle.ft_types.specs.Spellable.{AreBlocks, IsSpellable}
+use Rattle.ft_types.specs.Spellable.{IsSpellable}
+use Rattle.ft_types.proofs.BlockStarts.{rises}
 use Rattle.ft_exchange.specs.Exchange.{IsPermitted, exchanged, with_instrs, after_exchange}
 use Rattle.ft_exchange.proofs.Lists.{length-exchanged, range_around, range_before, range_after, get-range}
 
 -- WHERE BLOCKS BEGIN
-
-above_least : (end least : ℕ) (bs : List Block) (i : ℕ) (x : Block) → AreBlocks end least bs → slice_get bs i ≡ Some x → least ≤ x.start
-above_least end least [] i x h e = cc
-above_least end least (b ∷ bs) zero x h e = let same : b ≡ x = cc in subst (λ (y : Block). least ≤ y.start) same h.0
-above_least end least (b ∷ bs) (suc i) x h e = let l = above_least end (suc b.start) bs i x h.2 e in let m = h.0 in omega arith
-
--- a later block begins later
-rises : (end least : ℕ) (bs : List Block) (i j : ℕ) (x y : Block) → AreBlocks end least bs → slice_get bs i ≡ Some x → slice_get bs j ≡ Some y → i < j → x.start < y.start
-rises end least [] i j x y h ex ey l = cc
-rises end least (b ∷ bs) i zero x y h ex ey l = absurd (omega arith)
-rises end least (b ∷ bs) zero (suc j) x y h ex ey l = let same : b ≡ x = cc in subst (λ (z : Block). z.start < y.start) same (above_least end (suc b.start) bs j y h.2 ey)
-rises end least (b ∷ bs) (suc i) (suc j) x y h ex ey l = rises end (suc b.start) bs i j x y h.2 ex ey (omega arith)
 
 -- a block begins not before an earlier one
 pub starts_rise : (o : Object) (i j : ℕ) (x y : Block) → IsSpellable o → slice_get o.blocks i ≡ Some x → slice_get o.blocks j ≡ Some y → i ≤ j → x.start ≤ y.start

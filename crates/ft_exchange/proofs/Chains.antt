@@ -21,7 +21,7 @@ use Rattle.ft_typing.specs.Context.{Context}
 use Rattle.ft_typing.specs.TypingRow.{Outcome, Goes, row}
 use Rattle.ft_tolerance.specs.TypedState.{Place, instr_number, further, place_after, next_place, place, Fits, context_of, context_after, context_at, IsPlace}
 use Rattle.ft_tolerance.proofs.Whole.{accepted_fits}
-use Rattle.ft_tolerance.proofs.Places.{Here, here, Passes, ends, goes}
+use Rattle.ft_tolerance.proofs.AcceptedSteps.{Here, here, Passes, ends, goes}
 use Rattle.ft_tolerance.proofs.AnyAnswers.{any_answers}
 use Rattle.ft_exchange.specs.Exchange.{is_fixed, queue_before, IsPermitted, exchanged, after_exchange}
 use Rattle.ft_exchange.specs.Scheduled.{ComesFrom, itself, exchange}

@@ -178,7 +178,7 @@ or_oldest None c true v = refl
 or_oldest None c false v = refl
 or_oldest (Some y) c b v = refl
 
-turned : (a b : ℕ) → (a == b) ≡ (b == a)
+pub turned : (a b : ℕ) → (a == b) ≡ (b == a)
 turned a b = by_test (a == b) refl
   where
     by_test : (t : Bool) → (a == b) ≡ t → (a == b) ≡ (b == a)

@@ -4,6 +4,7 @@ use Rattle.std.specs.Prelude.{All}
 use Rattle.std.specs.List.{slice_range}
 use Rattle.std.proofs.lemmas.Option.{slice_get_within, slice_get-get_or, get_or_from_slice_get}
 use Rattle.ft_isa.specs.declared.instr.Instr.{Instr}
+use Rattle.ft_isa.proofs.Lists.{get_dropped}
 use Rattle.ft_types.specs.Spellable.{before, subst_of, substs_of}
 use Rattle.ft_exchange.specs.Exchange.{exchanged}
 
@@ -68,16 +69,11 @@ get-take (suc m) [] k i e = cc
 get-take (suc m) (x ∷ is) zero i e = (omega arith, e)
 get-take (suc m) (x ∷ is) (suc k) i e = let h = get-take m is k i e in (let l = h.0 in omega arith, h.1)
 
-get-drop : (a : ℕ) (is : List Instr) (k : ℕ) → slice_get (drop a is) k ≡ slice_get is (a + k)
-get-drop zero is k = ap (slice_get is) (omega arith)
-get-drop (suc a) [] k = refl
-get-drop (suc a) (i ∷ is) k = get-drop a is k ∙ (let e : suc (a + k) ≡ suc a + k = omega arith in ap (slice_get (i ∷ is)) e)
-
 -- an element of a part: its place in the list, which is before the part's end
 pub get-range : (is : List Instr) (a e k : ℕ) (i : Instr) → slice_get (slice_range is a e) k ≡ Some i → (a + k < e) × (slice_get is (a + k) ≡ Some i)
 get-range is a e k i f =
     let g = get-take (e - a) (drop a is) k i f in
-    (let l = g.0 in omega arith, sym (get-drop a is k) ∙ g.1)
+    (let l = g.0 in omega arith, sym (get_dropped a is k) ∙ g.1)
 
 -- each element of the new list stood in the old
 pub from_exchanged : (is : List Instr) (n k : ℕ) (x : Instr) → slice_get (exchanged is n) k ≡ Some x → (j : ℕ) × (slice_get is j ≡ Some x)

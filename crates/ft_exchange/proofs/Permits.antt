@@ -1,6 +1,6 @@
 -- What a permitted exchange says of its two instructions.
 use Rattle.std.proofs.Common.{◌≡◌, ℕ, Bool, true, false, not, ◌||◌, ◌==◌, Option, Some, refl, subst, eqb-true}
-use Rattle.std.proofs.lemmas.Bool.{and_parts}
+use Rattle.std.proofs.lemmas.Bool.{and_parts, not-true}
 use Rattle.ft_isa.specs.declared.colour.Colour.{Colour}
 use Rattle.ft_isa.specs.declared.colour.Colour.TheVariants.{Green, Blue}
 use Rattle.ft_isa.specs.declared.reg.Reg.{Reg}
@@ -60,10 +60,6 @@ pub record Permits (n : ℕ) (first second : Instr) : Type 0 where
   pub first_alone : leaves_alone first (written second) ≡ true
   pub room : has_room first second n ≡ true
 
-not_true : (b : Bool) → not b ≡ true → b ≡ false
-not_true true e = cc
-not_true false e = refl
-
 leading_free : (i : Instr) → is_leading i ≡ true → is_fixed i ≡ false
 leading_free (OpReg op rd rs rt) h = refl
 leading_free (OpWord op rd rs value) h = refl
@@ -89,7 +85,7 @@ permits n first second h =
       leads = leading second s.1;
       first_trails = s.0;
       second_leads = s.1;
-      first_free = not_true (is_fixed first) t.0;
+      first_free = not-true (is_fixed first) t.0;
       second_free = leading_free second s.1;
       second_alone = r.1;
       first_alone = q.1;
@@ -104,7 +100,7 @@ or_left_false false b e = refl
 
 or_right_false : (a b : Bool) → not (a || b) ≡ true → b ≡ false
 or_right_false true b e = cc
-or_right_false false b e = not_true b e
+or_right_false false b e = not-true b e
 
 -- an instruction that leaves a written register alone doesn't read it
 pub not_read : (i : Instr) (w : Option ℕ) (r : ℕ) → w ≡ Some r → leaves_alone i w ≡ true → reads i r ≡ false

@@ -1,20 +1,20 @@
 -- An object has one schedule at most.
-use Rattle.std.proofs.Common.{◌≡◌, ◌⊎◌, inl, inr, ⊎_elim, ℕ, zero, suc, ◌+◌, ◌-◌, ◌<◌, ◌≤◌, Bool, true, cond, not, ◌&&◌, false, List, [], ◌∷◌, length, take, Option, Some, None, slice_get, refl, sym, ap, ◌∙◌, subst, arith}
+use Rattle.std.proofs.Common.{◌≡◌, ◌⊎◌, inl, inr, ⊎_elim, ℕ, zero, suc, ◌+◌, ◌-◌, ◌<◌, ◌≤◌, Bool, true, cond, not, ◌&&◌, false, List, [], ◌∷◌, length, take, Some, slice_get, refl, sym, ap, ◌∙◌, subst, arith}
 use Rattle.std.specs.List.{count_by}
 use Rattle.std.proofs.lemmas.Bool.{cases_eq, cases_lt}
-use Rattle.std.proofs.lemmas.List.Sums.{sum_by-cons}
 use Rattle.std.proofs.lemmas.Option.{slice_get_cases}
 use Rattle.ft_isa.specs.declared.instr.Instr.{Instr}
 use Rattle.ft_types.specs.declared.object.Object.{Object}
 use Rattle.ft_types.specs.declared.object.Block.{Block}
-use Rattle.ft_types.specs.Objects.{queue_rows, block_type, block_start, block_end, block_instrs}
+use Rattle.ft_types.specs.Objects.{queue_rows, block_type, block_start, block_instrs}
 use Rattle.ft_types.specs.Spellable.{IsSpellable}
-use Rattle.ft_exchange.specs.Exchange.{is_fixed, is_leading, is_trailing, is_green_store, is_blue_store, queue_after, queue_before, may_exchange, IsPermitted, exchanged, with_instrs, after_exchange}
+use Rattle.ft_exchange.specs.Exchange.{is_fixed, is_leading, is_trailing, is_green_store, is_blue_store, queue_after, may_exchange, IsPermitted, exchanged, with_instrs, after_exchange}
 use Rattle.ft_exchange.specs.Scheduled.{ComesFrom, itself, exchange, IsScheduled}
 use Rattle.ft_exchange.proofs.Lists.{take_around, take_before, get_other}
 use Rattle.ft_exchange.proofs.BlockRanges.{placed, same_block, other_block, ends_before, start_is}
 use Rattle.ft_exchange.proofs.Permits.{permits}
 use Rattle.ft_exchange.proofs.Accepted.{spellable_exchanged}
+use Rattle.ft_exchange.proofs.QueueLengths.{count_cons}
 
 -- LISTS
 
@@ -26,9 +26,6 @@ exchanged_apart (i ∷ is) (suc n) (suc m) h = ap (λ z. i ∷ z) (exchanged_apa
 exchanged_apart (i ∷ []) zero (suc m) h = refl
 exchanged_apart (i ∷ j ∷ is) zero (suc zero) h = absurd (omega arith)
 exchanged_apart (i ∷ j ∷ is) zero (suc (suc m)) h = refl
-
-count_cons : (test : Instr → Bool) (i : Instr) (is : List Instr) → count_by test (i ∷ is) ≡ cond (test i) 1 0 + count_by test is
-count_cons test i is = sum_by-cons (λ x. cond (test x) 1 0) i is
 
 count_exchanged : (test : Instr → Bool) (is : List Instr) (n : ℕ) → count_by test (exchanged is n) ≡ count_by test is
 count_exchanged test [] n = refl
@@ -51,7 +48,7 @@ abbrev Apart : ℕ → ℕ → Type 0
 Apart n m = (n + 2 ≤ m) ⊎ (m + 2 ≤ n)
 
 -- no instruction both trails and leads
-not_both : (i : Instr) → is_trailing i ≡ true → is_leading i ≡ true → ⊥
+pub not_both : (i : Instr) → is_trailing i ≡ true → is_leading i ≡ true → ⊥
 not_both i t l = (let n : is_trailing i ≡ false = ap (λ b. not (is_fixed i) && not b) l ∙ and_false (not (is_fixed i)) in cc)
   where
     and_false : (b : Bool) → (b && false) ≡ false

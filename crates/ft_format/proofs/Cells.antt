@@ -1,9 +1,9 @@
 -- Cells and their records and names, both ways.
 use Rattle.std.proofs.Common.{◌≡◌, ℕ, zero, suc, ◌+◌, ◌-◌, ◌<◌, ◌≤◌, Bool, true, false, List, [], ◌∷◌, ◌++◌, length, take, drop, map, get_or, None, refl, sym, ap, ◌∙◌, subst, append_assoc, arith}
-use Rattle.std.specs.Prelude.{◌≢◌, ◌||◌, not, nat_le, nat_lt}
+use Rattle.std.specs.Prelude.{◌≢◌, not, nat_le, nat_lt}
 use Rattle.std.specs.List.{AllByRecursion, AllPairs, flat_map, list_all, list_any}
 use Rattle.std.specs.Str.{bytes_eq}
-use Rattle.std.proofs.lemmas.Bool.{true≢false}
+use Rattle.std.proofs.lemmas.Bool.{true≢false, not-true, or_parts, and_parts}
 use Rattle.std.proofs.lemmas.List.{append-nil, length-append, length-drop, length-take-le, take-append-drop, take_at, drop_at, drop-drop, map-append, get_or_at, get_or_append_left}
 use Rattle.std.proofs.lemmas.List.Quantifiers.{all_pairs_push}
 use Rattle.std.proofs.lemmas.Slice.Eq.{bytes_eq-Decides}
@@ -23,7 +23,7 @@ use Rattle.ft_format.specs.Broken.{cells_broken, name_rest_broken, name_bytes_br
 use Rattle.ft_format.proofs.Layouts.{Fit, AllFit}
 use Rattle.ft_format.proofs.Unbroken.{held, both}
 use Rattle.ft_format.proofs.Codes.{le_held, lt_held, eq_held, le_true, lt_true, eq_true, basic_again, basic_fine, basic_back, base_small, type_small}
-use Rattle.ft_format.proofs.Versions.{letter_follows, both_true, are_bytes_of_name}
+use Rattle.ft_format.proofs.Versions.{letter_follows, are_bytes_of_name}
 
 -- what is asked of a cell, but for the bytes of its name
 pub record IsCellBut (v : Version) (types : ℕ) (c : Cell) : Type 0 where
@@ -144,29 +144,20 @@ name_again v at (b ∷ bs) some n =
 rest_fine : (v : Version) (at : ℕ) (bs : List ℕ) → list_all (may_follow v) bs ≡ true → name_rest_broken v at bs ≡ None
 unfolding name_rest_broken
 rest_fine v at [] h = refl
-rest_fine v at (b ∷ bs) h = let two = both_true (may_follow v b) (list_all (may_follow v) bs) h in rw (two.0, rest_fine v (at + 1) bs two.1) refl
+rest_fine v at (b ∷ bs) h = let two = and_parts (may_follow v b) (list_all (may_follow v) bs) h in rw (two.0, rest_fine v (at + 1) bs two.1) refl
 
 name_fine : (v : Version) (at : ℕ) (name : List ℕ) → is_name name ≡ true → list_all (may_follow v) name ≡ true → name_bytes_broken v at name ≡ None
 unfolding name_bytes_broken
 name_fine v at [] h k = refl
 name_fine v at (b ∷ bs) h k =
-    let letter = both_true (is_letter b) (list_all is_name_byte bs) h in
-    let rest = both_true (may_follow v b) (list_all (may_follow v) bs) k in
+    let letter = and_parts (is_letter b) (list_all is_name_byte bs) h in
+    let rest = and_parts (may_follow v b) (list_all (may_follow v) bs) k in
     rw (letter.0, rest_fine v (at + 1) bs rest.1) refl
-
--- a name that none of the cells has
-not_not : (b : Bool) → not b ≡ true → b ≡ false
-not_not true h = absurd (cc)
-not_not false h = refl
-
-neither_true : (a b : Bool) → (a || b) ≡ false → (a ≡ false) × (b ≡ false)
-neither_true true b h = absurd (cc)
-neither_true false b h = (refl, h)
 
 none_has : (name : List ℕ) (cs : List Cell) → list_any (λ c. bytes_eq name c.name) cs ≡ false → (k : ℕ) (d : List ℕ) → k < length (map name_of cs) → get_or (map name_of cs) k d ≢ name
 none_has name [] h k d lt = absurd (omega arith)
-none_has name (c ∷ cs) h zero d lt = λ e. absurd (true≢false (sym ((bytes_eq-Decides name c.name).1 (sym e)) ∙ (neither_true (bytes_eq name c.name) (list_any (λ (x : Cell). bytes_eq name x.name) cs) h).0))
-none_has name (c ∷ cs) h (suc k) d lt = none_has name cs (neither_true (bytes_eq name c.name) (list_any (λ (x : Cell). bytes_eq name x.name) cs) h).1 k d (omega arith)
+none_has name (c ∷ cs) h zero d lt = λ e. absurd (true≢false (sym ((bytes_eq-Decides name c.name).1 (sym e)) ∙ (or_parts (bytes_eq name c.name) (list_any (λ (x : Cell). bytes_eq name x.name) cs) h).0))
+none_has name (c ∷ cs) h (suc k) d lt = none_has name cs (or_parts (bytes_eq name c.name) (list_any (λ (x : Cell). bytes_eq name x.name) cs) h).1 k d (omega arith)
 
 differs : (x y : List ℕ) (b : Bool) → bytes_eq x y ≡ b → (x ≡ y → ⊥) → b ≡ false
 differs x y true e h = absurd (h ((bytes_eq-Decides x y).0 e))
@@ -192,7 +183,7 @@ names_again v types end earlier at (c ∷ cs) i apart n =
     let rest = names_broken v end (earlier ++ c ∷ []) (at + length c.name) cs in
     let r0 = both (name_broken v earlier at c.name) rest n in
     let r1 = both (name_bytes_broken v at c.name) (must (not (list_any (λ (x : Cell). bytes_eq c.name x.name) earlier)) (errors.Name at)) r0.0 in
-    let fresh = not_not _ (held (not (list_any (λ (x : Cell). bytes_eq c.name x.name) earlier)) (errors.Name at) r1.1) in
+    let fresh = not-true _ (held (not (list_any (λ (x : Cell). bytes_eq c.name x.name) earlier)) (errors.Name at) r1.1) in
     let more : AllPairs (λ x y. x ≢ y) (map name_of (earlier ++ c ∷ [])) =
     subst (AllPairs (λ x y. x ≢ y)) (sym (map-append name_of earlier (c ∷ []))) (all_pairs_push (λ x y. x ≢ y) (map name_of earlier) c.name apart (none_has c.name earlier fresh)) in
     let own = name_again v at c.name i.0.some r1.0 in

@@ -261,13 +261,13 @@ instrs_again h nodes first at (r ∷ rs) narrow fit n taken =
     }
 
 -- the number of a basic type, by its parts
-refs_back : (b : Basic) → base_code b.base ≤ 1 → base_type b.base < 2 ^ 16 → basic_number b / 2 ^ 24 ≡ b.refs
+pub refs_back : (b : Basic) → base_code b.base ≤ 1 → base_type b.base < 2 ^ 16 → basic_number b / 2 ^ 24 ≡ b.refs
 refs_back b p q = omega arith
 
-code_back : (b : Basic) → base_code b.base ≤ 1 → base_type b.base < 2 ^ 16 → basic_number b / 2 ^ 16 % 2 ^ 8 ≡ base_code b.base
+pub code_back : (b : Basic) → base_code b.base ≤ 1 → base_type b.base < 2 ^ 16 → basic_number b / 2 ^ 16 % 2 ^ 8 ≡ base_code b.base
 code_back b p q = omega arith
 
-own_back : (b : Basic) → base_code b.base ≤ 1 → base_type b.base < 2 ^ 16 → basic_number b % 2 ^ 16 ≡ base_type b.base
+pub own_back : (b : Basic) → base_code b.base ≤ 1 → base_type b.base < 2 ^ 16 → basic_number b % 2 ^ 16 ≡ base_type b.base
 own_back b p q = omega arith
 
 -- what is written of an instruction breaks no rule, and stands for it

@@ -1,19 +1,14 @@
 -- Nodes that are named by number, both ways.
-use Rattle.std.proofs.Common.{◌≡◌, ℕ, zero, suc, ◌<◌, ◌≤◌, Bool, true, false, List, [], ◌∷◌, ◌++◌, length, Option, None, Some, refl, sym, ap, ◌∙◌, arith}
+use Rattle.std.proofs.Common.{◌≡◌, ℕ, ◌<◌, ◌≤◌, Bool, true, false, List, ◌++◌, length, Option, None, Some, refl, sym, ap, ◌∙◌, arith}
 use Rattle.std.specs.Prelude.{nat_lt, not, if◌then◌else◌, slice_get}
 use Rattle.std.proofs.lemmas.Bool.Decides.{nat_tests}
+use Rattle.ft_isa.proofs.Lists.{get_front}
 use Rattle.ft_static.specs.declared.node.Node.{Node}
 use Rattle.ft_static.specs.NodeRules.{is_memory, MayName}
 use Rattle.ft_format.specs.declared.object_error.ObjectError.TheVariants as errors
 use Rattle.ft_format.specs.Rules.{must, is_of_sort, is_within, node_number_broken, named_broken}
 use Rattle.ft_format.proofs.Unbroken.{held, both}
 use Rattle.ft_format.proofs.Codes.{lt_held, lt_true, le_true}
-
--- what stands in the first part of a list
-pub slice_get_front : {A : Type 0} (xs ys : List A) (m : ℕ) → m < length xs → slice_get (xs ++ ys) m ≡ slice_get xs m
-slice_get_front [] ys m h = absurd (omega arith)
-slice_get_front (x ∷ xs) ys zero h = refl
-slice_get_front (x ∷ xs) ys (suc m) h = slice_get_front xs ys m (omega arith)
 
 -- sorts
 sort_of : (memory b : Bool) → (if memory then b else not b) ≡ true → b ≡ memory
@@ -68,7 +63,7 @@ named_fine nodes scope memory at n h =
 
 -- a node that earlier ones hold is named among all, and the other way round
 pub named_after : (earlier rest : List Node) (scope : ℕ) (memory : Bool) (n : ℕ) → MayName earlier (length earlier) scope memory n → MayName (earlier ++ rest) (length earlier) scope memory n
-named_after earlier rest scope memory n h = record { lower = h.lower; node = h.node; found = slice_get_front earlier rest n h.lower ∙ h.found; sort = h.sort; scope_within = h.scope_within }
+named_after earlier rest scope memory n h = record { lower = h.lower; node = h.node; found = get_front earlier rest n h.lower ∙ h.found; sort = h.sort; scope_within = h.scope_within }
 
 pub named_before : (earlier rest : List Node) (scope : ℕ) (memory : Bool) (n : ℕ) → MayName (earlier ++ rest) (length earlier) scope memory n → MayName earlier (length earlier) scope memory n
-named_before earlier rest scope memory n h = record { lower = h.lower; node = h.node; found = sym (slice_get_front earlier rest n h.lower) ∙ h.found; sort = h.sort; scope_within = h.scope_within }
+named_before earlier rest scope memory n h = record { lower = h.lower; node = h.node; found = sym (get_front earlier rest n h.lower) ∙ h.found; sort = h.sort; scope_within = h.scope_within }

@@ -79,7 +79,7 @@ pub record RegsFine (types : ℕ) (nodes : List Node) (ints least at : ℕ) (rs 
   pub back : map reg_type_of (map reg_row rs) ≡ rs
   pub fit : AllFit reg_layout (map reg_row rs)
 
-reg_back : (r : RegType) → reg_type_of (reg_row r) ≡ r
+pub reg_back : (r : RegType) → reg_type_of (reg_row r) ≡ r
 reg_back r = rw (register_back r.reg, colour_back r.colour, basic_back r.basic) refl
 
 reg_fine : (types : ℕ) (nodes : List Node) (ints least at : ℕ) (r : RegType) → IsRegRow types nodes ints r → least ≤ r.reg.number → reg_broken types nodes ints least at (reg_row r) ≡ None

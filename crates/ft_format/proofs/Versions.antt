@@ -1,9 +1,10 @@
 -- What the two versions have in common, case by case.
 use Rattle.std.proofs.Common.{◌≡◌, ℕ, ◌^◌, ◌<◌, ◌≤◌, Bool, true, false, List, [], ◌∷◌, length, refl, arith}
-use Rattle.std.specs.Prelude.{◌==◌, ◌&&◌, ◌||◌, nat_le, if◌then◌else◌}
+use Rattle.std.specs.Prelude.{◌==◌, ◌||◌, nat_le, if◌then◌else◌}
 use Rattle.std.specs.List.{All, list_all, sum_by}
 use Rattle.std.proofs.lemmas.Bool.Decides.{nat_tests}
 use Rattle.std.proofs.lemmas.List.Sums.{sum_by-le}
+use Rattle.std.proofs.lemmas.Bool.{and_parts}
 use Rattle.ft_isa.specs.declared.op.Op.{Op}
 use Rattle.ft_isa.specs.declared.op.Op.TheVariants.{Add, Sub, Mul, Ltu, Eq, And, Or, Xor, Shl, Shr}
 use Rattle.ft_isa.specs.declared.instr.Instr.{Instr}
@@ -86,13 +87,9 @@ is_byte_of_name : (v : Version) (b : ℕ) → may_follow v b ≡ true → is_nam
 is_byte_of_name First b h = left_of (is_letter b) (is_digit b) (is_bracket b) h
 is_byte_of_name Second b h = h
 
-pub both_true : (a b : Bool) → (a && b) ≡ true → (a ≡ true) × (b ≡ true)
-both_true true b h = (refl, h)
-both_true false b h = absurd (cc)
-
 pub are_bytes_of_name : (v : Version) (bs : List ℕ) → list_all (may_follow v) bs ≡ true → list_all is_name_byte bs ≡ true
 are_bytes_of_name v [] h = refl
-are_bytes_of_name v (b ∷ bs) h = let two = both_true (may_follow v b) (list_all (may_follow v) bs) h in rw (is_byte_of_name v b two.0, are_bytes_of_name v bs two.1) refl
+are_bytes_of_name v (b ∷ bs) h = let two = and_parts (may_follow v b) (list_all (may_follow v) bs) h in rw (is_byte_of_name v b two.0, are_bytes_of_name v bs two.1) refl
 
 -- how many bytes the names of cells have
 pub few_names : (v : Version) (cs : List Cell) → length cs ≤ 1024 → All (SupportsName v) cs → sum_by (λ c. length (name_of c)) cs ≤ most_name_bytes v
@@ -136,7 +133,7 @@ has_instr (Idx rd rs first m) = omega arith
 
 bytes_of_name : (name : List ℕ) → is_name name ≡ true → list_all (may_follow Second) name ≡ true
 bytes_of_name [] h = refl
-bytes_of_name (b ∷ bs) h = let two = both_true (is_letter b) (list_all is_name_byte bs) h in rw (letter_follows Second b two.0, two.1) refl
+bytes_of_name (b ∷ bs) h = let two = and_parts (is_letter b) (list_all is_name_byte bs) h in rw (letter_follows Second b two.0, two.1) refl
 
 has_name : (types : ℕ) (c : Cell) → IsCell types c → SupportsName Second c
 has_name types c h = record { short = h.name_length; bytes = bytes_of_name c.name h.name }

@@ -64,20 +64,20 @@ named v types [] h has = tt
 named v types (c ∷ cs) h has = (record { name = h.0.name; bytes = has.0.bytes }, named v types cs h.1 has.1)
 
 -- how many records there are
-length_cell_rows : (start : ℕ) (cs : List Cell) → length (cell_rows start cs) ≡ length cs
+pub length_cell_rows : (start : ℕ) (cs : List Cell) → length (cell_rows start cs) ≡ length cs
 length_cell_rows start [] = refl
 length_cell_rows start (c ∷ cs) = ap suc (length_cell_rows (start + length c.name) cs)
 
-length_type_rows : (start queue_start : ℕ) (ts : List CodeType) → length (type_rows start queue_start ts) ≡ length ts
+pub length_type_rows : (start queue_start : ℕ) (ts : List CodeType) → length (type_rows start queue_start ts) ≡ length ts
 length_type_rows start queue_start [] = refl
 length_type_rows start queue_start (t ∷ ts) = ap suc (length_type_rows (start + length t.regs) (queue_start + length t.queue) ts)
 
 -- the bytes after a section, and its rows
-after_section : (ws : List Width) (rs : List (List ℕ)) (at n : ℕ) (bytes tail : List ℕ) → AllFit ws rs → length rs ≡ n → drop at bytes ≡ spelled ws rs ++ tail → drop (at + size ws * n) bytes ≡ tail
+pub after_section : (ws : List Width) (rs : List (List ℕ)) (at n : ℕ) (bytes tail : List ℕ) → AllFit ws rs → length rs ≡ n → drop at bytes ≡ spelled ws rs ++ tail → drop (at + size ws * n) bytes ≡ tail
 after_section ws rs at n bytes tail fit count e =
     sym (drop-drop (size ws * n) at bytes) ∙ ap (drop (size ws * n)) e ∙ drop_at (spelled ws rs) tail (size ws * n) (length_spelled ws rs fit ∙ ap (λ k. size ws * k) count)
 
-section_rows : (ws : List Width) (rs : List (List ℕ)) (at n : ℕ) (bytes tail : List ℕ) → AllFit ws rs → length rs ≡ n → drop at bytes ≡ spelled ws rs ++ tail → rows ws n (drop at bytes) ≡ rs
+pub section_rows : (ws : List Width) (rs : List (List ℕ)) (at n : ℕ) (bytes tail : List ℕ) → AllFit ws rs → length rs ≡ n → drop at bytes ≡ spelled ws rs ++ tail → rows ws n (drop at bytes) ≡ rs
 section_rows ws rs at n bytes tail fit count e =
     ap (rows ws n) e ∙ ap (λ k. rows ws k (spelled ws rs ++ tail)) (sym count) ∙ rows_back ws rs tail fit
 

@@ -63,7 +63,7 @@ pub(crate) fn read_u64(bytes: &[u8]) -> (u64, &[u8])
 
 /// Puts bytes at the end. It is compiled where it is called, since there the number of bytes is known.
 #[inline(always)]
-pub(crate) fn put(out: &mut Vec<u8>, bytes: &[u8]) -> Result<(), NoMemory>
+pub fn put(out: &mut Vec<u8>, bytes: &[u8]) -> Result<(), NoMemory>
     ensures { OnOk result (Puts out.old.items out.new.items (bytes.now)) }
 {
     out.extend_from_slice(bytes)?;

@@ -1,3 +1,4 @@
+pub mod Lists
 pub mod Branches
 pub mod Readers
 pub mod NumberRead
@@ -7,3 +8,5 @@ pub mod StrikeRead
 pub mod WildRead
 pub mod NumberText
 pub mod Operations
+pub mod Decided
+pub mod Results

@@ -1,3 +1,3 @@
 pub mod ByteRuns
-pub mod Places
+pub mod TokenPlaces
 pub mod FitLexemes

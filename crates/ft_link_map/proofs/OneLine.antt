@@ -1,19 +1,12 @@
 -- A line says one thing.
-use Rattle.std.proofs.Common.{◌≡◌, ◌⊎◌, inl, inr, ⊎_elim, ℕ, ◌^◌, ◌<◌, ◌==◌, true, List, [], ◌∷◌, ◌++◌, length, Some, decimal, codes, refl, ap, sym, ◌∙◌, append_assoc, arith}
-use Rattle.std.specs.Prelude.{if◌then◌else◌, position}
+use Rattle.std.proofs.Common.{◌≡◌, ◌⊎◌, inl, inr, ⊎_elim, ℕ, ◌^◌, ◌<◌, ◌==◌, true, List, [], ◌∷◌, ◌++◌, decimal, codes, refl, ap, sym, ◌∙◌, arith}
+use Rattle.std.specs.Prelude.{if◌then◌else◌}
 use Rattle.std.specs.List.{AllZip}
 use Rattle.std.proofs.lemmas.List.{append_cancel_left}
 use Rattle.std.proofs.lemmas.Fmt.{decimal_injective}
+use Rattle.ft_text.proofs.FirstWords.{one_split}
 use Rattle.ft_link_map.specs.MapLines.{MapLine, Module, Export, Import, Bad, is_block_name, IsWritten, Says}
-use Rattle.ft_link_map.proofs.Spaces.{HasNoSpace, first_space, split_only, name_no_space}
-
--- a text has one first word
-pub one_split : (text a b c d : List ℕ) → HasNoSpace a → HasNoSpace c → text ≡ a ++ codes " " ++ b → text ≡ c ++ codes " " ++ d → (a ≡ c) × (b ≡ d)
-one_split text a b c d ha hc e f =
-    let at : position (λ byte. byte == 32) text ≡ Some (length a) = ap (position (λ byte. byte == 32)) (e ∙ append_assoc a (32 ∷ []) b) ∙ first_space a b ha in
-    let x = split_only text (length a) a b at ha e in
-    let y = split_only text (length a) c d at hc f in
-    (sym x.0 ∙ y.0, sym x.1 ∙ y.1)
+use Rattle.ft_link_map.proofs.Spaces.{name_no_space}
 
 -- a name and a block are written in one way
 one_ask : (a b : List ℕ) (n m : ℕ) → is_block_name a ≡ true → is_block_name b ≡ true → n < 2 ^ 32 → m < 2 ^ 32 → a ++ codes " " ++ decimal n ≡ b ++ codes " " ++ decimal m → (a ≡ b) × (n ≡ m)

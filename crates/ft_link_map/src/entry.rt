@@ -3,7 +3,8 @@ ghost use Rattle.std.specs.Prelude.{◌≡◌, ◌≢◌, ℕ, ◌<◌, ◌^◌,
 ghost use Rattle.ft_link_map.specs.MapLines.{is_file, is_block_name, Says};
 ghost use Rattle.ft_link_map.specs.Reads.{line_of};
 
-use crate::words::{after, is_block_name, is_file, read_block, split_word};
+use crate::words::{is_block_name, is_file, read_block};
+use ft_text::{after, split_word};
 
 /// What a line says.
 #[derive(Clone, Copy)]

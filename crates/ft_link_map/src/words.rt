@@ -1,5 +1,5 @@
 //! The words of a line.
-ghost use Rattle.std.specs.Prelude.{◌≡◌, ◌≢◌, ℕ, ◌<◌, ◌^◌, List, ◌++◌, All, codes, decimal, position, ◌==◌, IfSome, IfNone, MatchOption};
+ghost use Rattle.std.specs.Prelude.{◌≡◌, ◌≢◌, ℕ, ◌<◌, ◌^◌, decimal, IfSome, IfNone};
 ghost use Rattle.std.specs.List.{list_all};
 ghost use Rattle.ft_types.specs.Spellable.{is_letter};
 ghost use Rattle.ft_link_map.specs.MapLines.{is_file_byte, is_file, is_word_byte, begins_name, is_block_name};
@@ -11,31 +11,6 @@ const FILE_LIMIT: usize = 255;
 
 /// The most bytes of a block's name.
 const NAME_LIMIT: usize = 32;
-
-/// What follows a piece at the start of a text; `None` where the text does not begin with it.
-pub(crate) fn after<'t>(text: &'t [u8], piece: &[u8]) -> Option<&'t [u8]>
-    ensures { MatchOption result ((rest : List ℕ) → text.now ≢ piece.now ++ rest) (λ rest. text.now ≡ piece.now ++ rest.now) }
-{
-    text.strip_prefix(piece)
-}
-
-/// The place of the first space.
-fn first_space(text: &[u8]) -> Option<usize>
-    ensures { result ≡ position (λ byte. byte == 32) text.now }
-{
-    text.iter().position(|byte| *byte == b' ')
-}
-
-/// The parts of a text before and after its first space; `None` where it has no space.
-pub(crate) fn split_word(text: &[u8]) -> Option<(&[u8], &[u8])>
-    ensures some { IfSome result (λ p. text.now ≡ p.0.now ++ codes " " ++ p.1.now) }
-    ensures only { (a b : List ℕ) → All (λ byte. byte ≢ 32) a → text.now ≡ a ++ codes " " ++ b → MatchOption result ⊥ (λ p. (p.0.now ≡ a) × (p.1.now ≡ b)) }
-{
-    match first_space(text) {
-        Some(at) => Some((&text[..at], &text[at + 1..])),
-        None => None,
-    }
-}
 
 /// Whether a byte may stand in a file's name.
 fn is_file_byte(byte: u8) -> bool

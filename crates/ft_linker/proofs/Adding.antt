@@ -1,14 +1,14 @@
 -- One more module: the totals, and what was added.
-use Rattle.std.proofs.Common.{◌≡◌, ℕ, zero, suc, ◌+◌, ◌≤◌, ◌<◌, ◌^◌, Bool, true, false, List, [], ◌∷◌, ◌++◌, length, slice_get, Option, Some, None, refl, sym, ap, ◌∙◌, subst, arith}
+use Rattle.std.proofs.Common.{◌≡◌, ℕ, zero, suc, ◌+◌, ◌≤◌, ◌<◌, ◌^◌, true, List, [], ◌∷◌, ◌++◌, length, slice_get, Option, Some, None, refl, sym, ap, ◌∙◌, subst, arith}
 use Rattle.std.specs.Prelude.{All, ◌&&◌, sum_by}
 use Rattle.std.specs.List.{list_all}
 use Rattle.std.specs.Option.{option_or, option_map}
 use Rattle.std.proofs.lemmas.List.Elements.{All-append}
 use Rattle.std.proofs.lemmas.List.Sums.{sum_by-append, sum_by-cons}
+use Rattle.ft_isa.proofs.Lists.{all_there, all_of_one}
 use Rattle.ft_types.specs.declared.object.Object.{Object}
 use Rattle.ft_types.specs.Spellable.{IsSpellable, reg_row_count, queue_row_count}
 use Rattle.ft_typing.specs.Accepted.{IsAccepted}
-use Rattle.ft_tolerance.proofs.Lists.{of_all}
 use Rattle.ft_modules.specs.Linkable.{AreFew}
 use Rattle.ft_modules.specs.LinkRefusals.{LinkRefusal, Cells, CodeOf, Rows, TooBig, are_few, first_walk_fault, has_plain_rows, is_plain_cell, modules_refusal, same_cells, unless}
 use Rattle.ft_modules.proofs.Deciding.{few_are, or_none}
@@ -49,8 +49,8 @@ count_types : (ms : List Object) → All IsSpellable ms → length ms ≤ sum_by
 count_types [] h = omega arith
 count_types (o ∷ os) h =
     let s = sum_by-cons (λ (x : Object). length x.types) o os in
-    let some = (of_all IsSpellable (o ∷ os) 0 o h refl).some_type in
-    let rest = count_types os (all_of IsSpellable os (λ k x e. of_all IsSpellable (o ∷ os) (suc k) x h e)) in
+    let some = (all_there IsSpellable (o ∷ os) 0 o h refl).some_type in
+    let rest = count_types os (all_of IsSpellable os (λ k x e. all_there IsSpellable (o ∷ os) (suc k) x h e)) in
     omega (arith, s, some, rest)
 
 pub counted : (ms : List Object) → AreAdded ms → length ms < 2 ^ 32
@@ -76,9 +76,6 @@ one_at : {X : Type 0} (P : X → Type 0) (x : X) → P x → (k : ℕ) (y : X) �
 one_at P x h zero y e = let same : x ≡ y = cc in subst P same h
 one_at P x h (suc k) y e = cc
 
-one_all : {X : Type 0} (P : X → Type 0) (x : X) → P x → All P (x ∷ [])
-one_all P x h = all_of P (x ∷ []) (one_at P x h)
-
 turns_more : (ms : List Object) (o : Object) → turns_refusal ms ≡ None → added_refusal ms o ≡ None → turns_refusal (ms ++ o ∷ []) ≡ None
 unfolding modules_refusal
 turns_more [] o h e = in_turn o.cells [] o ∙ e
@@ -86,8 +83,8 @@ turns_more (f ∷ fs) o h e = in_turn f.cells (f ∷ fs) o ∙ or_none _ _ h e
 
 pub added_more : (ms : List Object) (o : Object) → AreAdded ms → IsSpellable o → IsAccepted o → added_refusal ms o ≡ None → AreAdded (ms ++ o ∷ [])
 added_more ms o h s a e = record {
-  spelled = All-append IsSpellable ms (o ∷ []) h.spelled (one_all IsSpellable o s);
-  accepted = All-append IsAccepted ms (o ∷ []) h.accepted (one_all IsAccepted o a);
+  spelled = All-append IsSpellable ms (o ∷ []) h.spelled (all_of_one IsSpellable o s);
+  accepted = All-append IsAccepted ms (o ∷ []) h.accepted (all_of_one IsAccepted o a);
   unrefused = turns_more ms o h.unrefused e;
   few = few_are (ms ++ o ∷ []) (passes_few ms o e);
 }

@@ -1,51 +1,33 @@
 -- Nodes of two objects, by their numbers.
-use Rattle.std.proofs.Common.{◌≡◌, ℕ, ◌+◌, true, false, List, [], length, slice_get, Option, Some, refl, sym, ap, ◌∙◌, subst, true≢false}
+use Rattle.std.proofs.Common.{◌≡◌, ℕ, ◌+◌, true, false, List, [], length, slice_get, Option, Some, sym, ap, ◌∙◌, subst, true≢false}
 use Rattle.std.specs.Prelude.{◌↔◌, All, IsTrue}
 use Rattle.std.specs.List.{AllZip}
 use Rattle.std.specs.Option.{option_map, unwrap_or}
-use Rattle.ft_isa.specs.declared.colour.Colour.{Colour}
-use Rattle.ft_isa.specs.declared.colour.Colour.TheVariants.{Green, Blue}
-use Rattle.ft_typing.specs.TypingRow.{same_colour}
-use Rattle.ft_static.specs.Expression.{Expression, integer, memory}
-use Rattle.ft_static.specs.NodeRules.{is_memory, AreNodes}
-use Rattle.ft_static.specs.NodeTree.{integer_part, memory_part, integer_at, memory_at, tree_of, trees, tree_at}
-use Rattle.ft_static.specs.declared.node.Node.{Node}
-use Rattle.ft_static.specs.declared.node.Shape.{Shape}
-use Rattle.ft_static.specs.declared.node.Shape.TheVariants as shape
-use Rattle.ft_static.proofs.NodeTrees.{tree_at-row}
+use Rattle.ft_isa.proofs.Lists.{all_there}
+use Rattle.ft_static.specs.Expression.{integer, memory}
+use Rattle.ft_static.specs.NodeRules.{AreNodes}
+use Rattle.ft_static.specs.NodeTree.{integer_part, memory_part}
 use Rattle.ft_types.specs.declared.object.Object.{Object}
 use Rattle.ft_types.specs.declared.object.CodeType.{CodeType}
 use Rattle.ft_types.specs.Objects.{regs_of, queue_of, ints_of_type, memory_of_type, memory_of, reg_rows, queue_rows}
 use Rattle.ft_types.specs.Spellable.{IsNodeIn, IsRegRow, IsQueueRow, IsCodeType, IsSpellable}
-use Rattle.ft_tolerance.proofs.Lists.{of_all}
+use Rattle.ft_types.proofs.NodesIn.{integer_in, memory_in}
 use Rattle.ft_modules.specs.LikeTypes.{LikeTypes, SameInteger, SameMemory, SameRow, SamePair}
 use Rattle.ft_modules.proofs.Elements.{all_of}
 use Rattle.ft_modules.specs.TreeKeys.{number_in}
 use Rattle.ft_linker.specs.Numbers.{AreCompared, HasRow, HasPair}
-use Rattle.ft_modules.proofs.Deciding.{colour_itself, colour_same}
-use Rattle.ft_modules.proofs.Keys.{integer_tree, memory_tree}
-
-integer_named : (nodes : List Node) (scope m : ℕ) → AreNodes nodes → IsNodeIn nodes scope false m → tree_at nodes m ≡ integer (integer_at (trees nodes) m)
-integer_named nodes scope m h k =
-    let e = tree_at-row nodes m k.node h k.found in
-    subst (λ (t : Expression). t ≡ integer (integer_part t)) (sym e) (integer_tree (trees nodes) k.node.shape k.sort)
-
-memory_named : (nodes : List Node) (scope m : ℕ) → AreNodes nodes → IsNodeIn nodes scope true m → tree_at nodes m ≡ memory (memory_at (trees nodes) m)
-memory_named nodes scope m h k =
-    let e = tree_at-row nodes m k.node h k.found in
-    subst (λ (t : Expression). t ≡ memory (memory_part t)) (sym e) (memory_tree (trees nodes) k.node.shape k.sort)
 
 module _ (cs : List ℕ) (o : Object) (k : ℕ) (x : Object) (l : ℕ) (one : AreNodes o.nodes) (other : AreNodes x.nodes) (h : AreCompared cs o k x l) where
   -- nodes of integers have one number exactly where they stand for one integer
   pub integers_compared : (sc sd n m : ℕ) → IsNodeIn o.nodes sc false n → IsNodeIn x.nodes sd false m → number_in cs (k + n) ≡ number_in cs (l + m) ↔ SameInteger o x n m
   integers_compared sc sd n m p q =
       let t = h.same n m p.lower q.lower in
-      (λ e. ap integer_part (t.0 e), λ e. t.1 (integer_named o.nodes sc n one p ∙ ap integer e ∙ sym (integer_named x.nodes sd m other q)))
+      (λ e. ap integer_part (t.0 e), λ e. t.1 (integer_in o.nodes sc n one p ∙ ap integer e ∙ sym (integer_in x.nodes sd m other q)))
 
   pub memories_compared : (sc sd n m : ℕ) → IsNodeIn o.nodes sc true n → IsNodeIn x.nodes sd true m → number_in cs (k + n) ≡ number_in cs (l + m) ↔ SameMemory o x n m
   memories_compared sc sd n m p q =
       let t = h.same n m p.lower q.lower in
-      (λ e. ap memory_part (t.0 e), λ e. t.1 (memory_named o.nodes sc n one p ∙ ap memory e ∙ sym (memory_named x.nodes sd m other q)))
+      (λ e. ap memory_part (t.0 e), λ e. t.1 (memory_in o.nodes sc n one p ∙ ap memory e ∙ sym (memory_in x.nodes sd m other q)))
 
 -- a test that fails, and what is not so
 pub refuted : {P : Type 0} → (P → ⊥) → IsTrue false ↔ P
@@ -57,14 +39,14 @@ without t f = (λ e. absurd (true≢false (sym e)), λ p. t.1 (f p))
 
 -- a code type of an object that is spelled has rows with nodes of integers
 pub is_code_type : (o : Object) (t : ℕ) (y : CodeType) → IsSpellable o → slice_get o.types t ≡ Some y → IsCodeType (length o.types) o.nodes y
-is_code_type o t y s e = of_all (IsCodeType (length o.types) o.nodes) o.types t y s.types e
+is_code_type o t y s e = all_there (IsCodeType (length o.types) o.nodes) o.types t y s.types e
 
 pub rows_named : (o : Object) (t : ℕ) (y : CodeType) → IsSpellable o → slice_get o.types t ≡ Some y → All (HasRow o) y.regs
-rows_named o t y s e = all_of (HasRow o) y.regs (λ n r f. (y.ints, (of_all (IsRegRow (length o.types) o.nodes y.ints) y.regs n r (is_code_type o t y s e).regs f).expr))
+rows_named o t y s e = all_of (HasRow o) y.regs (λ n r f. (y.ints, (all_there (IsRegRow (length o.types) o.nodes y.ints) y.regs n r (is_code_type o t y s e).regs f).expr))
 
 pub pairs_named : (o : Object) (t : ℕ) (y : CodeType) → IsSpellable o → slice_get o.types t ≡ Some y → All (HasPair o) y.queue
 pairs_named o t y s e = all_of (HasPair o) y.queue (λ n q f.
-    let is = of_all (IsQueueRow o.nodes y.ints) y.queue n q (is_code_type o t y s e).queue f in
+    let is = all_there (IsQueueRow o.nodes y.ints) y.queue n q (is_code_type o t y s e).queue f in
     record { scope = y.ints; address = is.address; value = is.value })
 
 -- what two code types say, by their rows

@@ -1,43 +1,44 @@
 -- Lines of a map, one after the other.
-use Rattle.std.proofs.Common.{◌≡◌, ℕ, zero, suc, ◌+◌, ◌-◌, ◌<◌, ◌≤◌, Bool, true, false, cond, not, nat_lt, List, [], ◌∷◌, length, drop, slice_get, Option, Some, None, refl, sym, ap, ◌∙◌, subst, arith}
+use Rattle.std.proofs.Common.{◌≡◌, ℕ, suc, ◌+◌, ◌-◌, ◌<◌, ◌≤◌, Bool, true, false, cond, not, nat_lt, List, [], ◌∷◌, length, drop, slice_get, Option, Some, None, refl, sym, ap, ◌∙◌, subst, arith}
 use Rattle.std.specs.Prelude.{All, find}
 use Rattle.std.specs.Option.{option_map, option_or, unwrap_or}
-use Rattle.std.proofs.lemmas.Bool.{ltb-true}
+use Rattle.std.proofs.lemmas.Bool.{ltb-true, not-false}
 use Rattle.std.specs.Prelude.{slice_range}
+use Rattle.std.proofs.lemmas.Option.{slice_get_past}
+use Rattle.std.proofs.lemmas.List.{drop_all}
 use Rattle.ft_isa.specs.declared.instr.Instr.{Instr}
+use Rattle.ft_isa.proofs.Lists.{there_below, drop_next, range_past, all_there}
 use Rattle.ft_types.specs.declared.object.Object.{Object}
 use Rattle.ft_types.specs.Objects.{block_end, block_instrs, block_start}
 use Rattle.ft_link_map.specs.declared.link_map.Ask.{Ask}
 use Rattle.ft_modules.specs.Linkable.{HasBlock}
 use Rattle.ft_modules.specs.Links.{export_of, same_name, type_in}
-use Rattle.ft_modules.specs.LinkRefusals.{LinkRefusal, first_without, for_export, has_block, import_refusal, imports_refusal, instrs_in, is_halt, is_stub, like_in, line_of, lower_line, unless, Stub as Stubbed, Missing as Lacking, Types as Unlike}
+use Rattle.ft_modules.specs.LinkRefusals.{LinkRefusal, first_without, for_export, has_block, import_refusal, imports_refusal, instrs_in, is_halt, is_stub, like_in, line_of, unless, Stub as Stubbed, Missing as Lacking, Types as Unlike}
 use Rattle.ft_modules.specs.LikeTypes.{LikeTypes}
 use Rattle.ft_modules.specs.SameTrees.{like_types}
 use Rattle.ft_modules.proofs.Deciding.{is_like, like_is, map_parts}
-use Rattle.ft_tolerance.proofs.Lists.{found_there, of_all}
+use Rattle.ft_tolerance.proofs.Lists.{found_there}
 use Rattle.ft_types.specs.declared.object.Block.{Block as Placed}
 use Rattle.ft_modules.proofs.Placing.{type_there}
 use Rattle.ft_modules.proofs.Elements.{all_of}
-use Rattle.ft_linker.proofs.Walks.{drop_all, range_none, range_one}
-use Rattle.ft_modules.proofs.Addresses.{there_below, same_tests}
-use Rattle.ft_linker.proofs.Ranges.{none_there}
+use Rattle.ft_linker.proofs.Walks.{range_one}
+use Rattle.ft_modules.proofs.Addresses.{same_tests}
 use Rattle.ft_linker.specs.LinkErrors.{IsRefusalOf}
 use Rattle.ft_linker.specs.declared.link_error.LinkError.{LinkError}
 use Rattle.ft_linker.specs.declared.link_error.LinkError.TheVariants.{Cells, Rows, Code, TooBig, Block, Stub, Missing, Types, NoMemory}
-use Rattle.ft_linker.proofs.Comparing.{next_left}
-use Rattle.ft_modules.proofs.Exact.{none_first, none_found, not_false, has_block_by, no_line}
+use Rattle.ft_modules.proofs.Exact.{none_found, has_block_by}
 
 -- FINDING
 
 -- a test of what is left, one element further
 found_here : {X : Type 0} (p : X → Bool) (xs : List X) (n : ℕ) (x : X) → slice_get xs n ≡ Some x → p x ≡ true → find p (drop n xs) ≡ Some x
-found_here p xs n x e t = ap (find p) (next_left xs n x e) ∙ ap (λ b. cond b (Some x) (find p (drop (n + 1) xs))) t
+found_here p xs n x e t = ap (find p) (drop_next xs n x e) ∙ ap (λ b. cond b (Some x) (find p (drop (n + 1) xs))) t
 
 found_later : {X : Type 0} (p : X → Bool) (xs : List X) (n : ℕ) (x : X) → slice_get xs n ≡ Some x → p x ≡ false → find p (drop n xs) ≡ find p (drop (n + 1) xs)
-found_later p xs n x e t = ap (find p) (next_left xs n x e) ∙ ap (λ b. cond b (Some x) (find p (drop (n + 1) xs))) t
+found_later p xs n x e t = ap (find p) (drop_next xs n x e) ∙ ap (λ b. cond b (Some x) (find p (drop (n + 1) xs))) t
 
 found_never : {X : Type 0} (p : X → Bool) (xs : List X) (n : ℕ) → length xs ≤ n → find p (drop n xs) ≡ None
-found_never p xs n le = ap (find p) (drop_all xs n le)
+found_never p xs n le = ap (find p) (drop_all n xs le)
 
 -- LINES WITHOUT THEIR BLOCKS
 
@@ -52,7 +53,7 @@ without_none modules asks n le = ap (option_map line_of) (found_never (λ (z : A
 
 pub have_blocks : (modules : List Object) (asks : List Ask) → first_without modules asks ≡ None → All (λ (a : Ask). HasBlock modules a.module a.block) asks
 have_blocks modules asks e = all_of (λ (a : Ask). HasBlock modules a.module a.block) asks (λ n a f.
-    has_block_by modules a.module a.block (slice_get modules a.module) refl (not_false _ (none_found (λ (z : Ask). not (has_block modules z.module z.block)) asks (map_parts line_of _ e) n a f)))
+    has_block_by modules a.module a.block (slice_get modules a.module) refl (not-false _ (none_found (λ (z : Ask). not (has_block modules z.module z.block)) asks (map_parts line_of _ e) n a f)))
 
 -- whether a module has a block, by the object
 pub has_block_there : (modules : List Object) (m b : ℕ) (o : Object) → slice_get modules m ≡ Some o → nat_lt b (length o.blocks) ≡ has_block modules m b
@@ -64,7 +65,7 @@ none_below b false e = sym e
 
 pub has_no_block : (modules : List Object) (m b : ℕ) → length modules ≤ m → false ≡ has_block modules m b
 has_no_block modules m b le =
-    none_below b (nat_lt b 0) refl ∙ sym (ap (λ (u : Option Object). nat_lt b (unwrap_or (option_map (λ (x : Object). length x.blocks) u) 0)) (none_there modules m le))
+    none_below b (nat_lt b 0) refl ∙ sym (ap (λ (u : Option Object). nat_lt b (unwrap_or (option_map (λ (x : Object). length x.blocks) u) 0)) (slice_get_past modules m le))
 
 -- STUBS
 
@@ -76,7 +77,7 @@ stub_many o b first past e f lt le more =
 
 pub stub_one : (o : Object) (b first past : ℕ) (x : Instr) → first ≡ block_start o b → past ≡ block_end o b → past - first ≡ 1 → slice_get o.instrs first ≡ Some x → is_halt x ≡ is_stub (block_instrs o b)
 stub_one o b first past x e f one there =
-    ap is_stub (sym (range_one o.instrs first past x there (omega (arith, one)) ∙ ap (λ z. x ∷ z) (range_none o.instrs (suc first) past (omega (arith, one))))) ∙ (λ i. is_stub (slice_range o.instrs (e i) (f i)))
+    ap is_stub (sym (range_one o.instrs first past x there (omega (arith, one)) ∙ ap (λ z. x ∷ z) (range_past o.instrs (suc first) past (omega (arith, one))))) ∙ (λ i. is_stub (slice_range o.instrs (e i) (f i)))
 
 -- an object with its block
 pub below_there : (modules : List Object) (m b : ℕ) (o : Object) → HasBlock modules m b → slice_get modules m ≡ Some o → b < length o.blocks
@@ -89,7 +90,7 @@ below_there modules m b o h e =
 pub export_has : (modules : List Object) (exports : List Ask) (name : List ℕ) (a : Ask) → All (λ (e : Ask). HasBlock modules e.module e.block) exports → export_of exports name ≡ Some a → HasBlock modules a.module a.block
 export_has modules exports name a h e =
     let f = found_there (λ (z : Ask). same_name z.name name) exports a e in
-    of_all (λ (z : Ask). HasBlock modules z.module z.block) exports f.place a h f.there
+    all_there (λ (z : Ask). HasBlock modules z.module z.block) exports f.place a h f.there
 
 -- what a comparison of two code types says of two blocks
 pub like_exactly : (modules : List Object) (m n b d : ℕ) (o x : Object) (y z : Placed) (r : Bool) → slice_get modules m ≡ Some o → slice_get modules n ≡ Some x → slice_get o.blocks b ≡ Some y → slice_get x.blocks d ≡ Some z → (r ≡ true → LikeTypes o y.code_type x z.code_type) → (LikeTypes o y.code_type x z.code_type → r ≡ true) → r ≡ like_in (slice_get modules m) (type_in modules m b) (slice_get modules n) (type_in modules n d)
@@ -153,11 +154,11 @@ refusal_by x y e s h = subst (λ z. IsRefusalOf z e) (sym s) h
 -- imports, one after the other
 pub imports_next : (modules : List Object) (exports imports : List Ask) (n : ℕ) (i : Ask) → slice_get imports n ≡ Some i → imports_refusal modules exports (drop n imports) ≡ option_or (import_refusal modules exports i) (imports_refusal modules exports (drop (n + 1) imports))
 unfolding imports_refusal
-imports_next modules exports imports n i e = ap (imports_refusal modules exports) (next_left imports n i e)
+imports_next modules exports imports n i e = ap (imports_refusal modules exports) (drop_next imports n i e)
 
 pub imports_later : (modules : List Object) (exports imports : List Ask) (n : ℕ) (i : Ask) → slice_get imports n ≡ Some i → import_refusal modules exports i ≡ None → imports_refusal modules exports (drop n imports) ≡ imports_refusal modules exports (drop (n + 1) imports)
 imports_later modules exports imports n i e h = imports_next modules exports imports n i e ∙ ap (λ z. option_or z (imports_refusal modules exports (drop (n + 1) imports))) h
 
 pub imports_none : (modules : List Object) (exports imports : List Ask) (n : ℕ) → length imports ≤ n → imports_refusal modules exports (drop n imports) ≡ None
 unfolding imports_refusal
-imports_none modules exports imports n le = ap (imports_refusal modules exports) (drop_all imports n le)
+imports_none modules exports imports n le = ap (imports_refusal modules exports) (drop_all n imports le)

@@ -1,23 +1,22 @@
 -- One more node is numbered.
-use Rattle.std.proofs.Common.{◌≡◌, ℕ, ◌+◌, ◌<◌, ◌≤◌, Bool, true, false, cond, if◌then◌else◌, ◌==◌, List, [], ◌∷◌, ◌++◌, length, slice_get, Option, Some, None, refl, sym, ap, ◌∙◌, subst, arith, length-append}
+use Rattle.std.proofs.Common.{◌≡◌, ℕ, ◌+◌, ◌<◌, ◌≤◌, Bool, true, false, cond, if◌then◌else◌, List, [], ◌∷◌, ◌++◌, length, slice_get, Option, Some, None, refl, sym, ap, ◌∙◌, subst, arith, length-append}
 use Rattle.std.specs.Prelude.{unwrap_or}
 use Rattle.std.proofs.lemmas.Bool.{cases_lt}
 use Rattle.std.proofs.lemmas.List.{get_or_append_left, get_or_push}
 use Rattle.std.proofs.Common.{inl, inr, get_or}
 use Rattle.std.proofs.lemmas.Option.{slice_get_within, slice_get-get_or}
-use Rattle.ft_isa.specs.declared.op.Op.{Op}
-use Rattle.ft_isa.specs.declared.op.Op.TheVariants.{Add, Sub, Mul, Ltu, Eq, And, Or, Xor, Shl, Shr}
-use Rattle.ft_static.specs.NodeRules.{IsShape, AreNodes}
+use Rattle.ft_static.specs.NodeRules.{AreNodes}
 use Rattle.ft_static.specs.declared.node.Node.{Node}
 use Rattle.ft_static.specs.declared.node.Shape.{Shape}
 use Rattle.ft_static.specs.declared.node.Shape.TheVariants as shape
-use Rattle.ft_types.specs.NodeRows.{op_code}
+use Rattle.ft_static.specs.NodeTree.{HasPartsBelow}
+use Rattle.ft_static.proofs.NodeTrees.{parts_below}
 use Rattle.ft_modules.specs.TreeKeys.{AreTreeNumbers, number_in, key_of}
 use Rattle.ft_modules.proofs.Keys.{keys_same}
 use Rattle.ft_linker.specs.declared.key.Key.{Key}
 use Rattle.ft_linker.specs.declared.key.Key.TheVariants as key
 use Rattle.ft_linker.specs.Keys.{key_as}
-use Rattle.ft_linker.specs.Numbers.{HasPartsBelow, AreKnown, AreNumbered}
+use Rattle.ft_linker.specs.Numbers.{AreKnown, AreNumbered}
 use Rattle.ft_modules.proofs.Deciding.{op_again, op_of}
 
 -- KEYS
@@ -47,16 +46,6 @@ one_shape : (s t : Shape) → key_as s ≡ key_as t → s ≡ t
 one_shape s t e = sym (shape_again s) ∙ ap shape_as e ∙ shape_again t
 
 -- PARTS
-
--- the parts of a node are lower
-pub parts_below : (nodes : List Node) (n scope : ℕ) (s : Shape) → IsShape nodes n scope s → HasPartsBelow n s
-parts_below nodes n scope (shape.Word w) h = tt
-parts_below nodes n scope (shape.Var i) h = tt
-parts_below nodes n scope (shape.Op o a b) h = (h.0.lower, h.1.lower)
-parts_below nodes n scope (shape.Sel m a) h = (h.0.lower, h.1.lower)
-parts_below nodes n scope shape.Memory h = tt
-parts_below nodes n scope (shape.Upd m a v) h = (h.0.lower, h.1.lower, h.2.lower)
-parts_below nodes n scope (shape.Rem a m) h = h.0.lower
 
 -- an earlier number stays
 number_more : (cs : List ℕ) (c i : ℕ) → i < length cs → number_in (cs ++ c ∷ []) i ≡ number_in cs i

@@ -2,11 +2,11 @@
 use Rattle.std.proofs.Common.{◌≡◌, ℕ, zero, suc, ◌≤◌, List, [], ◌∷◌, length, map, slice_get, Option, Some, None, refl, sym, ap, ◌∙◌, subst, arith}
 use Rattle.std.specs.Prelude.{All}
 use Rattle.std.specs.Option.{option_map, option_or}
+use Rattle.ft_isa.proofs.Lists.{all_there}
 use Rattle.ft_types.specs.declared.object.Object.{Object}
 use Rattle.ft_types.specs.Spellable.{IsSpellable}
 use Rattle.ft_typing.specs.Accepted.{IsAccepted}
 use Rattle.ft_link_map.specs.declared.link_map.LinkMap.{LinkMap}
-use Rattle.ft_tolerance.proofs.Lists.{of_all}
 use Rattle.ft_modules.specs.Linkable.{AreLinkable, IsJoined}
 use Rattle.ft_modules.specs.Linked.{linked}
 use Rattle.ft_modules.specs.Links.{links}
@@ -31,7 +31,7 @@ refusal_is linkage (f ∷ fs) h some = ap (λ z. option_or z (later_refusal link
 
 -- linkable where nothing is refused
 linkable_when : (linkage : LinkMap) (f : Object) (fs : List Object) → AreAdded (f ∷ fs) → refusal_of linkage (f ∷ fs) ≡ None → AreLinkable linkage f fs
-linkable_when linkage f fs h e = (linkable_exactly linkage f fs (λ m o there. (of_all IsSpellable (f ∷ fs) m o h.spelled there, of_all IsAccepted (f ∷ fs) m o h.accepted there))).1 e
+linkable_when linkage f fs h e = (linkable_exactly linkage f fs (λ m o there. (all_there IsSpellable (f ∷ fs) m o h.spelled there, all_there IsAccepted (f ∷ fs) m o h.accepted there))).1 e
 
 -- both blocks of a join are there
 both_there : (ms : List Object) (j : Join) → IsJoined ms (link_as j) → HasBoth ms j
@@ -45,7 +45,7 @@ join_at (x ∷ js) (suc n) j e = join_at js n j e
 pub joins_there : (linkage : LinkMap) (ms : List Object) (js : List Join) → AreAdded ms → 1 ≤ length ms → refusal_of linkage ms ≡ None → map link_as js ≡ links linkage → All (HasBoth ms) js
 joins_there linkage [] js h some e same = absurd (omega (arith, some))
 joins_there linkage (f ∷ fs) js h some e same = all_of (HasBoth (f ∷ fs)) js (λ n j there.
-    both_there (f ∷ fs) j (of_all (IsJoined (f ∷ fs)) (links linkage) n (link_as j) (linkable_when linkage f fs h e).joined (ap (λ z. slice_get z n) (sym same) ∙ join_at js n j there)))
+    both_there (f ∷ fs) j (all_there (IsJoined (f ∷ fs)) (links linkage) n (link_as j) (linkable_when linkage f fs h e).joined (ap (λ z. slice_get z n) (sym same) ∙ join_at js n j there)))
 
 pub is_linked : (linkage : LinkMap) (ms : List Object) (o : Object) → AreAdded ms → 1 ≤ length ms → refusal_of linkage ms ≡ None → ((f : Object) (fs : List Object) → ms ≡ f ∷ fs → o ≡ linked linkage f fs) → IsLinked linkage ms o
 is_linked linkage [] o h some e is = absurd (omega (arith, some))

@@ -11,6 +11,7 @@ use Rattle.ft_isa.specs.declared.reg.Reg.{Reg}
 use Rattle.ft_isa.specs.declared.instr.Subst.{Subst}
 use Rattle.ft_isa.specs.declared.instr.Instr.{Instr}
 use Rattle.ft_isa.specs.declared.instr.Instr.TheVariants.{OpReg, OpWord, Mov, Ld, St, JmpG, JmpB, BzG, BzB, Halt, Idx}
+use Rattle.ft_isa.proofs.Lists.{all_there}
 use Rattle.ft_static.specs.NodeRules.{MayName, IsShape}
 use Rattle.ft_static.specs.declared.node.Node.{Node}
 use Rattle.ft_static.specs.declared.node.Shape.{Shape}
@@ -18,13 +19,13 @@ use Rattle.ft_static.specs.declared.node.Shape.TheVariants as shape
 use Rattle.ft_types.specs.declared.object.Object.{Object}
 use Rattle.ft_types.specs.declared.object.Block.{Block}
 use Rattle.ft_types.specs.Objects.{code_type_of}
-use Rattle.ft_types.specs.Spellable.{IsBase, IsNodeIn, IsRegRow, IsQueueRow, IsCodeType, HasCodeType, AreBlocks, IsInstr, subst_of, IsSubst, before, substs_of, Cover, IsSpellable}
+use Rattle.ft_types.specs.Spellable.{IsBase, IsNodeIn, IsRegRow, IsQueueRow, IsCodeType, HasCodeType, IsInstr, subst_of, IsSubst, before, substs_of, Cover, IsSpellable}
+use Rattle.ft_types.proofs.BlockStarts.{below_end}
 use Rattle.ft_typing.specs.TypedWord.{block_at, code_type_at, HasType, HasTypeOver}
-use Rattle.ft_tolerance.proofs.Lists.{of_all, found_there}
+use Rattle.ft_tolerance.proofs.Lists.{found_there}
 use Rattle.ft_modules.specs.declared.before.Before.{Before}
 use Rattle.ft_linker.specs.Raises.{Each, CanRaiseShape, CanRaiseNode, CanRaiseType, CanRaiseBlock, CanRaiseSubst, CanRaiseOver, CanRaise}
 use Rattle.ft_linker.specs.Tables.{Fits, HasTypedMoves}
-use Rattle.ft_linker.proofs.Ranges.{block_low}
 
 -- NODES
 
@@ -50,11 +51,11 @@ node_low nodes scope b k m h fit = named_low nodes (length nodes) scope b k m h 
 
 pub types_raise : (o : Object) (k : Before) → IsSpellable o → Fits k o → Each (CanRaiseType k.nodes) o.types
 types_raise o k s f = λ n t e.
-    let is : IsCodeType (length o.types) o.nodes t = of_all (IsCodeType (length o.types) o.nodes) o.types n t s.types e in
+    let is : IsCodeType (length o.types) o.nodes t = all_there (IsCodeType (length o.types) o.nodes) o.types n t s.types e in
     record {
-      regs = λ j r g. node_low o.nodes t.ints _ k.nodes r.expr (of_all (IsRegRow (length o.types) o.nodes t.ints) t.regs j r is.regs g).expr f.nodes;
+      regs = λ j r g. node_low o.nodes t.ints _ k.nodes r.expr (all_there (IsRegRow (length o.types) o.nodes t.ints) t.regs j r is.regs g).expr f.nodes;
       queue = λ j q g.
-          let is_row = of_all (IsQueueRow o.nodes t.ints) t.queue j q is.queue g in
+          let is_row = all_there (IsQueueRow o.nodes t.ints) t.queue j q is.queue g in
           (node_low o.nodes t.ints _ k.nodes q.0 is_row.address f.nodes, node_low o.nodes t.ints _ k.nodes q.1 is_row.value f.nodes);
       memory = node_low o.nodes t.ints _ k.nodes t.memory is.memory f.nodes;
     }
@@ -63,8 +64,8 @@ types_raise o k s f = λ n t e.
 
 pub blocks_raise : (o : Object) (k : Before) → IsSpellable o → Fits k o → Each (CanRaiseBlock k) o.blocks
 blocks_raise o k s f = λ n y e.
-    let low = block_low (length o.instrs) 0 o.blocks n y s.blocks e in
-    let typed : y.code_type < length o.types = of_all (HasCodeType (length o.types)) o.blocks n y s.block_types e in
+    let low = below_end (length o.instrs) 0 o.blocks n y s.blocks e in
+    let typed : y.code_type < length o.types = all_there (HasCodeType (length o.types)) o.blocks n y s.block_types e in
     let fi = f.instrs in
     let ft = f.types in
     record { start = omega (arith, low, fi); code_type = omega (arith, typed, ft) }
@@ -92,7 +93,7 @@ address_by o w t None s e g = cc
 address_by o w t (Some y) s e g =
     let f = found_there (λ (b : Block). w == code_address b.start) o.blocks y e in
     let is = eqb-true w (code_address y.start) f.passes in
-    let low = block_low (length o.instrs) 0 o.blocks f.place y s.blocks f.there in
+    let low = below_end (length o.instrs) 0 o.blocks f.place y s.blocks f.there in
     omega (arith, is, low)
 
 address_low : (o : Object) (w t : ℕ) → IsSpellable o → code_type_at o w ≡ Some t → w ≤ length o.instrs
@@ -130,9 +131,9 @@ instr_raises o k (Idx rd rs first m) s f h c u = tt
 
 pub instrs_raise : (o : Object) (k : Before) → IsSpellable o → HasTypedMoves o → Fits k o → Each (CanRaise k) o.instrs
 instrs_raise o k s m f = λ n i e.
-    instr_raises o k i s f (of_all (IsInstr (length o.types) (length o.cells)) o.instrs n i s.instrs e)
+    instr_raises o k i s f (all_there (IsInstr (length o.types) (length o.cells)) o.instrs n i s.instrs e)
     (λ rd v b same. m n rd v b (e ∙ ap Some same))
     (λ u g. cover_one o.nodes (length o.substs) 0 o.instrs n i u s.covered e g)
 
 pub substs_raise : (o : Object) (k : Before) → IsSpellable o → Fits k o → Each (λ n. k.nodes + n < 2 ^ 32) o.substs
-substs_raise o k s f = λ n m e. node_low o.nodes 128 _ k.nodes m (of_all (IsNodeIn o.nodes 128 _) o.substs n m s.substs e) f.nodes
+substs_raise o k s f = λ n m e. node_low o.nodes 128 _ k.nodes m (all_there (IsNodeIn o.nodes 128 _) o.substs n m s.substs e) f.nodes

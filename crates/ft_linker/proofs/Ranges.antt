@@ -1,16 +1,11 @@
 -- Where blocks begin and end.
-use Rattle.std.proofs.Common.{◌≡◌, ℕ, zero, suc, ◌<◌, ◌≤◌, List, [], ◌∷◌, length, slice_get, Option, Some, None, refl, sym, ap, subst, arith}
+use Rattle.std.proofs.Common.{◌≡◌, ℕ, zero, suc, ◌<◌, ◌≤◌, List, [], ◌∷◌, length, slice_get, Option, Some, sym, ap, subst, arith}
 use Rattle.std.specs.Option.{option_map, unwrap_or}
+use Rattle.std.proofs.lemmas.Option.{slice_get_past}
 use Rattle.ft_types.specs.declared.object.Object.{Object}
 use Rattle.ft_types.specs.declared.object.Block.{Block}
 use Rattle.ft_types.specs.Objects.{start_of, block_start, block_end}
 use Rattle.ft_types.specs.Spellable.{AreBlocks}
-
--- each block begins below the end
-pub block_low : (end least : ℕ) (bs : List Block) (n : ℕ) (y : Block) → AreBlocks end least bs → slice_get bs n ≡ Some y → y.start < end
-block_low end least [] n y h e = cc
-block_low end least (b ∷ bs) zero y h e = let same : b ≡ y = cc in subst (λ (z : Block). z.start < end) same h.1
-block_low end least (b ∷ bs) (suc n) y h e = block_low end (suc b.start) bs n y h.2 e
 
 -- and the next one after it
 pub block_next : (end least : ℕ) (bs : List Block) (n : ℕ) (y z : Block) → AreBlocks end least bs → slice_get bs n ≡ Some y → slice_get bs (suc n) ≡ Some z → y.start < z.start
@@ -28,11 +23,5 @@ starts_at o b y e = sym (ap (λ (z : Option Block). unwrap_or (option_map start_
 pub ends_at : (o : Object) (b : ℕ) (z : Block) → slice_get o.blocks (suc b) ≡ Some z → z.start ≡ block_end o b
 ends_at o b z e = sym (ap (λ (x : Option Block). unwrap_or (option_map start_of x) (length o.instrs)) e)
 
--- past the end there is nothing
-pub none_there : {X : Type 0} (xs : List X) (k : ℕ) → length xs ≤ k → slice_get xs k ≡ None
-none_there [] k le = refl
-none_there (x ∷ xs) zero le = absurd (omega (arith, le))
-none_there (x ∷ xs) (suc k) le = none_there xs k (omega (arith, le))
-
 pub ends_last : (o : Object) (b : ℕ) → length o.blocks ≤ suc b → length o.instrs ≡ block_end o b
-ends_last o b le = sym (ap (λ (x : Option Block). unwrap_or (option_map start_of x) (length o.instrs)) (none_there o.blocks (suc b) le))
+ends_last o b le = sym (ap (λ (x : Option Block). unwrap_or (option_map start_of x) (length o.instrs)) (slice_get_past o.blocks (suc b) le))

@@ -4,6 +4,7 @@ use Rattle.std.specs.Prelude.{sum_by}
 use Rattle.std.proofs.lemmas.List.{length-map}
 use Rattle.std.proofs.lemmas.Option.{slice_get-get_or}
 use Rattle.ft_isa.specs.declared.instr.Instr.TheVariants.{Mov}
+use Rattle.ft_isa.proofs.Lists.{all_there}
 use Rattle.ft_static.specs.NodeRules.{AreNodes}
 use Rattle.ft_static.specs.NodeTree.{tree_at}
 use Rattle.ft_static.specs.declared.node.Node.{Node}
@@ -13,7 +14,6 @@ use Rattle.ft_types.specs.Objects.{block_instrs}
 use Rattle.ft_types.specs.Spellable.{IsSpellable}
 use Rattle.ft_typing.specs.Accepted.{IsAccepted}
 use Rattle.ft_typing.specs.Context.{start_context}
-use Rattle.ft_tolerance.proofs.Lists.{of_all}
 use Rattle.ft_modules.specs.Linked.{before_module, laid, nodes_part, nothing_before, raised_node}
 use Rattle.ft_modules.proofs.Elements.{all_of}
 use Rattle.ft_modules.proofs.Laying.{laid_length}
@@ -36,7 +36,7 @@ moves_of o s a = λ n rd v b e.
 pub can_be_laid : (ms : List Object) → AreAdded ms → CanBeLaid ms
 can_be_laid ms h = record {
   spelled = h.spelled;
-  typed = all_of HasTypedMoves ms (λ k o e. moves_of o (of_all IsSpellable ms k o h.spelled e) (of_all IsAccepted ms k o h.accepted e));
+  typed = all_of HasTypedMoves ms (λ k o e. moves_of o (all_there IsSpellable ms k o h.spelled e) (all_there IsAccepted ms k o h.accepted e));
   few = h.few;
 }
 
@@ -45,7 +45,7 @@ module _ (ms : List Object) (h : AreAdded ms) where
   all_nodes = laid nodes_part nothing_before ms
 
   each_spelled : (m : ℕ) (o : Object) → slice_get ms m ≡ Some o → IsSpellable o
-  each_spelled m o e = of_all IsSpellable ms m o h.spelled e
+  each_spelled m o e = all_there IsSpellable ms m o h.spelled e
 
   pub all_are_nodes : AreNodes all_nodes
   all_are_nodes = laid_nodes ms each_spelled h.few.nodes

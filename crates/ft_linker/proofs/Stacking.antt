@@ -2,14 +2,13 @@
 use Rattle.std.proofs.Common.{◌≡◌, ℕ, zero, suc, ◌+◌, ◌<◌, ◌≤◌, List, [], ◌∷◌, ◌++◌, length, take, Some, slice_get, refl, sym, ap, ◌∙◌, subst, append_assoc, append-nil, arith}
 use Rattle.std.specs.Prelude.{sum_by}
 use Rattle.std.proofs.lemmas.List.Sums.{sum_by-cons}
+use Rattle.std.proofs.lemmas.List.{take_all}
 use Rattle.ft_types.specs.declared.object.Object.{Object}
 use Rattle.ft_modules.specs.Linkable.{AreFew}
 use Rattle.ft_modules.specs.declared.before.Before.{Before}
 use Rattle.ft_modules.specs.Linked.{laid, nothing_before, after_module, before_module}
 use Rattle.ft_linker.specs.Tables.{Fits, start_part, AreLaid, AddsModule}
 use Rattle.ft_linker.specs.declared.laying.Laid.{Laid}
-use Rattle.ft_modules.proofs.Laying.{before_next}
-use Rattle.ft_linker.proofs.Zips.{take_whole}
 
 -- one more module
 laid_more : {X : Type 0} (part : Before → Object → List X) (k : Before) (modules : List Object) (m : ℕ) (o : Object) → slice_get modules m ≡ Some o → laid part k (take m modules) ++ part (before_module k modules m) o ≡ laid part k (take (suc m) modules)
@@ -69,7 +68,7 @@ before_first [] = refl
 before_first (o ∷ os) = refl
 
 pub taken : (modules : List Object) (m : ℕ) (l : Laid) → length modules ≤ m → AreLaid (take m modules) l → AreLaid modules l
-taken modules m l le h = subst (λ (z : List Object). AreLaid z l) (take_whole modules m le) h
+taken modules m l le h = subst (λ (z : List Object). AreLaid z l) (take_all m modules le) h
 
 -- what stands before module m, in the table of starts
 pub start_of_module : (k : Before) (modules : List Object) (m : ℕ) → m < length modules → slice_get (laid start_part k modules) m ≡ Some (before_module k modules m)

@@ -8,35 +8,21 @@ use Rattle.std.specs.Ordering.{nat_cmp}
 use Rattle.std.proofs.Common.{⊎_elim}
 use Rattle.std.proofs.Math.ListN.{replicate, set}
 use Rattle.std.proofs.lemmas.Bool.Decides.{eqb_tells}
-use Rattle.std.proofs.lemmas.List.{get_or-replicate, length-replicate}
+use Rattle.std.proofs.lemmas.List.{get_or-replicate, length-replicate, drop_all}
 use Rattle.std.proofs.lemmas.Option.{slice_get_within, slice_get-get_or}
-use Rattle.ft_types.proofs.Maps.{get-insert}
 use Rattle.ft_isa.specs.declared.instr.Instr.{Instr}
+use Rattle.ft_isa.proofs.Lists.{there_below, drop_there, range_past}
 use Rattle.ft_types.specs.declared.object.Object.{Object}
 use Rattle.ft_types.specs.declared.object.Block.{Block}
 use Rattle.ft_types.specs.declared.object.RegType.{RegType}
 use Rattle.ft_types.specs.Objects.{block_end, block_instrs, block_start}
 use Rattle.ft_modules.specs.CodeWalk.{Entered, are_free, code_walk, entered_after, entered_with, is_free, is_traced}
 use Rattle.ft_modules.specs.LinkRefusals.{first_walk_fault}
-use Rattle.ft_modules.proofs.Elements.{get-remove}
 use Rattle.ft_linker.specs.Stands.{Stands}
 use Rattle.ft_linker.specs.declared.traced.Traced.{Traced}
-use Rattle.ft_modules.proofs.Addresses.{there_below}
-use Rattle.ft_modules.proofs.Beside.{entered_get}
+use Rattle.ft_modules.proofs.LinkedContexts.{entered_get}
 
 -- LISTS
-
--- what is left, with its first element
-pub drop_one : {X : Type 0} (xs : List X) (k : ℕ) (x : X) → slice_get xs k ≡ Some x → drop k xs ≡ x ∷ drop (suc k) xs
-drop_one [] k x e = cc
-drop_one (y ∷ ys) zero x e = let same : y ≡ x = cc in ap (λ z. z ∷ ys) same
-drop_one (y ∷ ys) (suc k) x e = drop_one ys k x e
-
-pub drop_all : {X : Type 0} (xs : List X) (k : ℕ) → length xs ≤ k → drop k xs ≡ []
-drop_all [] zero le = refl
-drop_all [] (suc k) le = refl
-drop_all (x ∷ xs) zero le = absurd (omega (arith, le))
-drop_all (x ∷ xs) (suc k) le = drop_all xs k (omega (arith, le))
 
 -- a stretch, with its first element
 take_one : {X : Type 0} (n : ℕ) (x : X) (xs : List X) → take (suc n) (x ∷ xs) ≡ x ∷ take n xs
@@ -45,20 +31,17 @@ take_one n x xs = refl
 pub range_one : {X : Type 0} (xs : List X) (i past : ℕ) (x : X) → slice_get xs i ≡ Some x → i < past → slice_range xs i past ≡ x ∷ slice_range xs (suc i) past
 range_one xs i past x e lt =
     let n : past - i ≡ suc (past - suc i) = omega (arith, lt) in
-    (λ j. take (n j) (drop_one xs i x e j)) ∙ take_one (past - suc i) x (drop (suc i) xs)
+    (λ j. take (n j) (drop_there xs i x e j)) ∙ take_one (past - suc i) x (drop (suc i) xs)
 
 nothing_taken : {X : Type 0} (ys : List X) → take 0 ys ≡ []
 nothing_taken [] = refl
 nothing_taken (y ∷ ys) = refl
 
-pub range_none : {X : Type 0} (xs : List X) (i past : ℕ) → past ≤ i → slice_range xs i past ≡ []
-range_none xs i past le = (let n : past - i ≡ 0 = omega (arith, le) in ap (λ j. take j (drop i xs)) n) ∙ nothing_taken (drop i xs)
-
 -- ROWS
 
 -- one more row is free
 pub free_more : (e : Entered) (rows : List RegType) (j : ℕ) (r : RegType) → slice_get rows j ≡ Some r → are_free e (drop j rows) ≡ (is_free e r.reg && are_free e (drop (suc j) rows))
-free_more e rows j r f = ap (list_all (λ (q : RegType). is_free e q.reg)) (drop_one rows j r f)
+free_more e rows j r f = ap (list_all (λ (q : RegType). is_free e q.reg)) (drop_there rows j r f)
 
 pub free_goes : (e : Entered) (rows : List RegType) (j : ℕ) (r : RegType) → slice_get rows j ≡ Some r → is_free e r.reg ≡ true → are_free e (drop j rows) ≡ are_free e (drop (j + 1) rows)
 free_goes e rows j r f t = free_more e rows j r f ∙ ap (λ b. b && are_free e (drop (suc j) rows)) t ∙ (let n : suc j ≡ j + 1 = omega arith in ap (λ k. are_free e (drop k rows)) n)
@@ -67,7 +50,7 @@ pub free_stops : (e : Entered) (rows : List RegType) (j : ℕ) (r : RegType) →
 free_stops e rows j r f t = free_more e rows j r f ∙ ap (λ b. b && are_free e (drop (suc j) rows)) t
 
 pub free_ends : (e : Entered) (rows : List RegType) (j : ℕ) → length rows ≤ j → are_free e (drop j rows) ≡ true
-free_ends e rows j le = ap (list_all (λ (q : RegType). is_free e q.reg)) (drop_all rows j le)
+free_ends e rows j le = ap (list_all (λ (q : RegType). is_free e q.reg)) (drop_all j rows le)
 
 -- ARRAYS
 
@@ -137,7 +120,7 @@ pub walk_stop : (o : Object) (e : Entered) (k i past : ℕ) (x : Instr) → slic
 walk_stop o e k i past x f lt t = ap (code_walk o e k) (range_one o.instrs i past x f lt) ∙ walk_fails o e k x (slice_range o.instrs (suc i) past) t
 
 pub walk_over : (o : Object) (e : Entered) (k i past : ℕ) → past ≤ i → code_walk o e k (slice_range o.instrs i past) ≡ None
-walk_over o e k i past le = ap (code_walk o e k) (range_none o.instrs i past le) ∙ walk_ends o e k
+walk_over o e k i past le = ap (code_walk o e k) (range_past o.instrs i past le) ∙ walk_ends o e k
 
 -- one block further
 pub block_next_fault : (o : Object) (b first past : ℕ) → b < length o.blocks → first ≡ block_start o b → past ≡ block_end o b → code_walk o finite.empty 0 (slice_range o.instrs first past) ≡ None → first_walk_fault o b (drop b o.blocks) ≡ first_walk_fault o (b + 1) (drop (b + 1) o.blocks)
@@ -145,13 +128,13 @@ block_next_fault o b first past lt e f w =
     let y = there_below o.blocks b lt in
     let n : suc b ≡ b + 1 = omega arith in
     let none : code_walk o finite.empty 0 (block_instrs o b) ≡ None = sym (λ i. code_walk o finite.empty 0 (slice_range o.instrs (e i) (f i))) ∙ w in
-    ap (first_walk_fault o b) (drop_one o.blocks b y.0 y.1) ∙ fault_later o b y.0 (drop (suc b) o.blocks) none ∙ (λ i. first_walk_fault o (n i) (drop (n i) o.blocks))
+    ap (first_walk_fault o b) (drop_there o.blocks b y.0 y.1) ∙ fault_later o b y.0 (drop (suc b) o.blocks) none ∙ (λ i. first_walk_fault o (n i) (drop (n i) o.blocks))
 
 pub block_fault : (o : Object) (b first past k : ℕ) → b < length o.blocks → first ≡ block_start o b → past ≡ block_end o b → code_walk o finite.empty 0 (slice_range o.instrs first past) ≡ Some k → first_walk_fault o b (drop b o.blocks) ≡ Some (b, k)
 block_fault o b first past k lt e f w =
     let y = there_below o.blocks b lt in
     let some : code_walk o finite.empty 0 (block_instrs o b) ≡ Some k = sym (λ i. code_walk o finite.empty 0 (slice_range o.instrs (e i) (f i))) ∙ w in
-    ap (first_walk_fault o b) (drop_one o.blocks b y.0 y.1) ∙ fault_here o b y.0 (drop (suc b) o.blocks) k some
+    ap (first_walk_fault o b) (drop_there o.blocks b y.0 y.1) ∙ fault_here o b y.0 (drop (suc b) o.blocks) k some
 
 pub no_block_fault : (o : Object) (b : ℕ) → length o.blocks ≤ b → first_walk_fault o b (drop b o.blocks) ≡ None
-no_block_fault o b le = ap (first_walk_fault o b) (drop_all o.blocks b le)
+no_block_fault o b le = ap (first_walk_fault o b) (drop_all b o.blocks le)

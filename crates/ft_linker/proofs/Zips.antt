@@ -1,13 +1,7 @@
 -- Two lists compared element by element.
 use Rattle.std.proofs.Common.{◌≡◌, ℕ, zero, suc, ◌+◌, ◌≤◌, List, [], ◌∷◌, length, take, slice_get, Some, refl, sym, ap, subst, arith}
 use Rattle.std.specs.List.{AllZip}
-
--- all elements are taken
-pub take_whole : {X : Type 0} (xs : List X) (m : ℕ) → length xs ≤ m → take m xs ≡ xs
-take_whole [] zero le = refl
-take_whole [] (suc m) le = refl
-take_whole (x ∷ xs) zero le = absurd (omega (arith, le))
-take_whole (x ∷ xs) (suc m) le = ap (λ z. x ∷ z) (take_whole xs m (omega (arith, le)))
+use Rattle.std.proofs.lemmas.List.{take_all}
 
 -- one more element of each
 zip_next : {X : Type 0} (R : X → X → Type 0) (xs ys : List X) (k : ℕ) (x y : X) → AllZip R (take k xs) (take k ys) → slice_get xs k ≡ Some x → slice_get ys k ≡ Some y → R x y → AllZip R (take (suc k) xs) (take (suc k) ys)
@@ -34,4 +28,4 @@ zip_long R (x ∷ xs) (y ∷ ys) h = ap suc (zip_long R xs ys h.1)
 
 -- all elements
 pub zip_whole : {X : Type 0} (R : X → X → Type 0) (xs ys : List X) (k : ℕ) → AllZip R (take k xs) (take k ys) → length xs ≤ k → length ys ≤ k → AllZip R xs ys
-zip_whole R xs ys k h le lf = subst (λ (z : List _). AllZip R z ys) (take_whole xs k le) (subst (AllZip R (take k xs)) (take_whole ys k lf) h)
+zip_whole R xs ys k h le lf = subst (λ (z : List _). AllZip R z ys) (take_all k xs le) (subst (AllZip R (take k xs)) (take_all k ys lf) h)

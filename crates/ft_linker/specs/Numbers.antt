@@ -11,16 +11,6 @@ use Rattle.ft_modules.specs.TreeKeys.{AreTreeNumbers, number_in, key_of}
 use Rattle.ft_linker.specs.declared.key.Key.{Key}
 use Rattle.ft_linker.specs.Keys.{key_as}
 
--- the parts of a shape are below n
-abbrev pub HasPartsBelow : ℕ → Shape → Type 0
-HasPartsBelow n (shape.Word w) = Unit {0}
-HasPartsBelow n (shape.Var i) = Unit {0}
-HasPartsBelow n (shape.Op o a b) = (a < n) × (b < n)
-HasPartsBelow n (shape.Sel m a) = (m < n) × (a < n)
-HasPartsBelow n shape.Memory = Unit {0}
-HasPartsBelow n (shape.Upd m a v) = (m < n) × (a < n) × (v < n)
-HasPartsBelow n (shape.Rem a m) = a < n
-
 -- these are the numbers of all nodes
 pub record AreNumbered (nodes : List Node) (cs : List ℕ) : Type 0 where
   pub count : length cs ≡ length nodes

@@ -3,7 +3,8 @@ ghost use Rattle.std.specs.Prelude.{◌≡◌, ◌<◌, Some, IfOk, cond, length
 ghost use Rattle.ft_static.specs.NodeRules.{AreNodes};
 ghost use Rattle.ft_modules.specs.TreeKeys.{key_of, number_in};
 ghost use Rattle.ft_linker.specs.Keys.{key_as, look};
-ghost use Rattle.ft_linker.specs.Numbers.{AreNumbered, HasPartsBelow};
+ghost use Rattle.ft_static.specs.NodeTree.{HasPartsBelow};
+ghost use Rattle.ft_linker.specs.Numbers.{AreNumbered};
 ghost use Rattle.ft_linker.specs.declared.key.Key.{Key as Known};
 ghost use Rattle.ft_linker.specs.contracts.key.KeyOrd.TheImpl as key_order;
 ghost use Rattle.std.specs.BTreeMap.{is_at};

@@ -1,5 +1,5 @@
 pub mod Runs
-pub mod Places
+pub mod EndBlocks
 pub mod Expressions
 pub mod Statements
 pub mod Whole

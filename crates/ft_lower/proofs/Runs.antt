@@ -44,7 +44,7 @@ after_steps bs zero k f = let e : 0 + k ≡ k = omega arith in ap (λ m. steps b
 after_steps bs (suc j) k f = let e : suc j + k ≡ suc (j + k) = omega arith in ap (λ m. steps bs m f) e ∙ after_steps bs j k (flow_step bs f)
 
 -- a run that is done stays
-done_stays : (bs : Blocks) (k : ℕ) (f : FlowState) → f.done ≡ true → steps bs k f ≡ f
+pub done_stays : (bs : Blocks) (k : ℕ) (f : FlowState) → f.done ≡ true → steps bs k f ≡ f
 done_stays bs zero f d = refl
 done_stays bs (suc k) f d = ap (steps bs k) (ap (λ b. act_if b (step_at bs f.place) f) d) ∙ done_stays bs k f d
 

@@ -14,7 +14,7 @@ use Rattle.ft_lower.specs.Well.{is_last}
 use Rattle.ft_lower.specs.Lowered.{read, expression_steps, write, block_count, statement_steps, zeros, program_steps, blocks_onto, lowered}
 
 -- two rows become what each becomes
-row_size-append : (a b : List Step3) → row_size (a ++ b) ≡ row_size a + row_size b
+pub row_size-append : (a b : List Step3) → row_size (a ++ b) ≡ row_size a + row_size b
 row_size-append [] b = omega arith
 row_size-append (i ∷ a) b = omega (arith, row_size-append a b)
 

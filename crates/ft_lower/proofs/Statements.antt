@@ -14,7 +14,7 @@ use Rattle.ft_lower.specs.declared.step3.Step3.TheVariants.{Exit, Go}
 use Rattle.ft_lower.specs.Flow.{Blocks, Place, FlowState, on, first, goes_on, goes_to, with_pair, with_cell, act, step_at}
 use Rattle.ft_lower.specs.Lowered.{expression_steps, write, block_count, statement_steps}
 use Rattle.ft_lower.proofs.Runs.{Reaches, reach_none, reach_trans, next, after, after-append, HasAt, has_front, has_back}
-use Rattle.ft_lower.proofs.Places.{expression_block, write_block, statements_block}
+use Rattle.ft_lower.proofs.EndBlocks.{expression_block, write_block, statements_block}
 use Rattle.ft_lower.proofs.Expressions.{Like, moved, other_pair, same_pair, put_like, put_first, reach_act, Valued, expression_run}
 
 -- the flow comes to place p like the program's state, in at most twice the work less c steps, and in no fewer than the loops taken

@@ -11,7 +11,7 @@ use Rattle.ft_lower.specs.Flow.{Blocks, Place, FlowState, on, first, goes_on, wi
 use Rattle.ft_lower.specs.Lowered.{statement_steps, zeros, program_steps, lowered}
 use Rattle.ft_lower.specs.Lowers.{Lowers}
 use Rattle.ft_lower.proofs.Runs.{Reaches, reach_none, reach_trans, reach_one, reached, stays, later, after, after-append, HasAt, has_front, has_back, has_all}
-use Rattle.ft_lower.proofs.Places.{zeros_block}
+use Rattle.ft_lower.proofs.EndBlocks.{zeros_block}
 use Rattle.ft_lower.proofs.Expressions.{Like, same_pair, other_pair}
 use Rattle.ft_lower.proofs.Statements.{Runs, statements_run}
 

@@ -27,7 +27,7 @@ use Rattle.ft_machine.specs.Effects.{Does, doing, followed, put_out, told_effect
 use Rattle.ft_machine.specs.Spans.{span, span-zero, span-add_one, HasGone, Goes}
 use Rattle.ft_machine.specs.Advances.{output_told, status_told, IsEnough, IsQuiet, Advances}
 use Rattle.ft_machine.proofs.Steps.{step_is_proper}
-use Rattle.ft_machine.proofs.Spanned.{joined, span_join, span_one, span_two, span_lost, span_keeps_cells, fetched_step, gone_more}
+use Rattle.ft_machine.proofs.Spanned.{joined, span_join, span_one, span_two, span_lost, span_keeps_cells, fetched_step, gone_more, rest_of}
 
 -- a span after a quiet one
 pub span_quiet : (o : Object) (n m : ℕ) (s s1 : State) (w w1 : List Wild) → s1 ≡ (span o n s w).state → w1 ≡ (span o n s w).wild → (span o n s w).outputs ≡ [] → span o (n + m) s w ≡ span o m s1 w1
@@ -60,10 +60,8 @@ advances_none o s w running =
       before = λ j below. absurd (omega (arith, below));
     }
 
-rest_of : (n j : ℕ) → n ≤ j → n + (j - n) ≡ j
-rest_of n j le = omega arith
-
-rest_below : (n m j : ℕ) → n ≤ j → j < n + m → j - n < m
+-- what is left after some steps is fewer
+pub rest_below : (n m j : ℕ) → n ≤ j → j < n + m → j - n < m
 rest_below n m j le below = omega arith
 
 -- steps after quiet ones
@@ -230,13 +228,15 @@ commit_last o s s' w w' most n x a =
     let some = a.enough.0 in
     (n - 1, (x, (one_before n some, a.outputs ∙ ap (λ ys. ys ++ x ∷ []) (sym (a.before (n - 1) (below_it n some)).nothing))))
 
-rest_less : (number left n : ℕ) → left ≤ number → n ≤ left → (number - left) + n ≡ number - (left - n)
+-- steps so far and more, by what is left
+pub rest_less : (number left n : ℕ) → left ≤ number → n ≤ left → (number - left) + n ≡ number - (left - n)
 rest_less number left n le few = omega arith
 
 rest_few : (number left n : ℕ) → left ≤ number → n ≤ left → (number - left) + n ≤ number
 rest_few number left n le few = omega arith
 
-some_more : (m n : ℕ) → 0 < n → 0 < m + n
+-- steps and some more are some
+pub some_more : (m n : ℕ) → 0 < n → 0 < m + n
 some_more m n some = omega arith
 
 module _ (o : Object) (s s1 s2 : State) (w w1 w2 : List Wild) (k k1 k2 : Option (List ℕ)) (p p1 p2 : Option (List (List ℕ))) (number left n : ℕ) (last : Stepped) (le : left ≤ number)

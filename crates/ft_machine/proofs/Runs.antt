@@ -1,12 +1,14 @@
 -- Runs: where they stop, how their outputs grow, and which cells they keep.
 use Rattle.std.proofs.Common.{◌≡◌, length, ℕ, zero, suc, ◌+◌, List, [], ◌++◌, Option, None, Some, Bool, true, false, ◌&&◌, refl, ap, sym, ◌∙◌, append_assoc, arith}
-use Rattle.std.specs.Prelude.{if◌then◌else◌, ◌==◌}
+use Rattle.std.specs.Prelude.{if◌then◌else◌, ◌==◌, not}
 use Rattle.std.proofs.lemmas.List.{append-nil}
 use Rattle.std.specs.Option.{option_to_list}
+use denote.Enum.Bare.{sameb}
 use Rattle.ft_isa.specs.declared.plan.Wild.{Wild}
 use Rattle.ft_isa.specs.declared.plan.Strike.{Strike}
 use Rattle.ft_isa.specs.declared.output.Output.{Output}
 use Rattle.ft_types.specs.declared.object.Object.{Object}
+use Rattle.ft_semantics.specs.contracts.status.Status as the_status
 use Rattle.ft_semantics.specs.declared.status.Status.{Status}
 use Rattle.ft_semantics.specs.declared.status.Status.TheVariants as status
 use Rattle.ft_semantics.specs.State.{State, is_cell, HasCells}
@@ -21,6 +23,18 @@ abbrev pub HasStopped : Status → Type 0
 HasStopped status.Running = ⊥
 HasStopped status.Done = Unit {0}
 HasStopped status.Detected = Unit {0}
+
+-- what the test of a status says
+pub has_stopped : (s : Status) → not (sameb the_status.the_type s status.Running) ≡ true → HasStopped s
+has_stopped status.Running h = cc
+has_stopped status.Done h = tt
+has_stopped status.Detected h = tt
+
+-- what it says of a run that goes on
+pub still_running : (s : Status) → not (sameb the_status.the_type s status.Running) ≡ false → s ≡ status.Running
+still_running status.Running h = refl
+still_running status.Done h = cc
+still_running status.Detected h = cc
 
 -- a step of a machine that has stopped
 pub stays_at : (o : Object) (v : Status) (s : State) (w : List Wild) → HasStopped v → step_at o v s w ≡ quiet s w

@@ -5,11 +5,12 @@ use Rattle.std.proofs.lemmas.Bool.Decides.{Decides-eqb, Decides-like}
 use Rattle.std.proofs.lemmas.Slice.Eq.{slice_eq-Decides}
 use lib.Pointwise.{pointwise}
 use Rattle.ft_isa.specs.declared.colour.Colour.{Colour}
-use Rattle.ft_isa.specs.declared.colour.Colour.TheVariants.{Green, Blue}
+use Rattle.ft_isa.specs.declared.colour.Colour.TheVariants.{Green}
 use Rattle.ft_isa.specs.contracts.colour.Colour as colour
 use denote.Enum.Bare.{sameb}
 use Rattle.std.specs.Prelude.{not}
 use Rattle.ft_isa.specs.declared.colour.Coloured.{Coloured}
+use Rattle.ft_isa.proofs.Decided.{colour_decides}
 use Rattle.ft_queue.proofs.SameLists.{same_lists}
 use Rattle.ft_semantics.specs.State.{cell_at, is_cell, held}
 use Rattle.ft_machine.specs.Arrays.{cells_of, registers_of, held_in}
@@ -39,12 +40,6 @@ same_register_words xs ys cs ds ex ey e = same_places xs ys 0 ex ey (λ i lt. ap
 
 pub same_register_colours : (xs ys : List ℕ) (cs ds : List Colour) → length cs ≡ 64 → length ds ≡ 64 → registers_of xs cs ≡ registers_of ys ds → cs ≡ ds
 same_register_colours xs ys cs ds ec ed e = same_places cs ds Green ec ed (λ i lt. ap (λ (x : Coloured). x.colour) (same_held xs ys cs ds e i lt))
-
-colour_decides : (a b : Colour) → Decides (sameb colour.the_type a b) (a ≡ b)
-colour_decides Green Green = (λ t. refl, λ e. refl)
-colour_decides Green Blue = (λ t. absurd (cc), λ e. absurd (cc))
-colour_decides Blue Green = (λ t. absurd (cc), λ e. absurd (cc))
-colour_decides Blue Blue = (λ t. refl, λ e. refl)
 
 pub colours_decide : (xs ys : List Colour) (r : Bool) → r ≡ pointwise (λ a b. sameb colour.the_type a b) xs ys → Decides r (xs ≡ ys)
 colours_decide xs ys r e = slice_eq-Decides colour_decides xs ys r e

@@ -2,7 +2,7 @@
 use Rattle.std.proofs.Common.{◌≡◌, ℕ, Bool, true, false, ◌&&◌, Option, Some, None, refl, ap, sym, ◌∙◌, Decides, eqb, true≢false}
 use Rattle.std.specs.Option.{option_eq}
 use Rattle.std.proofs.lemmas.Bool.Decides.{Decides-eqb, Decides-like}
-use denote.Enum.Bare.{sameb, same_true, true_same}
+use denote.Enum.Bare.{sameb}
 use Rattle.ft_isa.specs.contracts.colour.Colour as the_colour
 use Rattle.ft_isa.specs.declared.colour.Colour.{Colour}
 use Rattle.ft_isa.specs.declared.colour.Coloured.{Coloured}
@@ -11,7 +11,6 @@ use Rattle.ft_isa.specs.declared.basic.Base.{Base}
 use Rattle.ft_isa.specs.declared.basic.Base.TheVariants.{Int, Code}
 use Rattle.ft_isa.specs.contracts.basic.BasePartialEq.TheImpl as base
 use Rattle.ft_isa.specs.declared.instr.Subst.{Subst}
-use Rattle.ft_isa.specs.contracts.op.Op as the_op
 use Rattle.ft_isa.specs.declared.op.Op.{Op}
 use Rattle.ft_isa.specs.declared.reg.Reg.{Reg}
 use Rattle.ft_isa.specs.declared.instr.Instr.{Instr}
@@ -19,6 +18,7 @@ use Rattle.ft_isa.specs.declared.instr.Instr.TheVariants.{OpReg, OpWord, Mov, Ld
 use Rattle.ft_isa.specs.contracts.instr.InstrPartialEq.TheImpl as same
 use Rattle.ft_isa.specs.Registers.{reg_of}
 use Rattle.ft_isa.proofs.Registers.{reg_of-number}
+use Rattle.ft_isa.proofs.Decided.{colour_decides, op_decides}
 
 pub same_reg : (a b : Reg) → a.number ≡ b.number → a ≡ b
 same_reg a b e = (let h : Some a ≡ Some b = sym (reg_of-number a) ∙ ap reg_of e ∙ reg_of-number b in cc)
@@ -38,9 +38,6 @@ and3 false b c da db dc mk pa pb pc = (λ t. absurd (cc), λ r. da.1 (pa r))
 and4 : {A B C D R : Type 0} (a b c d : Bool) → Decides a A → Decides b B → Decides c C → Decides d D → (A → B → C → D → R) → (R → A) → (R → B) → (R → C) → (R → D) → Decides (a && (b && (c && d))) R
 and4 true b c d da db dc dd mk pa pb pc pd = and3 b c d db dc dd (mk (da.0 refl)) pb pc pd
 and4 false b c d da db dc dd mk pa pb pc pd = (λ t. absurd (cc), λ r. da.1 (pa r))
-
-colour_decides : (a b : Colour) → Decides (sameb the_colour.the_type a b) (a ≡ b)
-colour_decides a b = (same_true the_colour.the_type tt a b, true_same the_colour.the_type a b)
 
 coloured_decides : (a b : Coloured) → Decides (sameb the_colour.the_type a.colour b.colour && eqb a.word b.word) (a ≡ b)
 coloured_decides a b = and2 _ _ (colour_decides a.colour b.colour) (Decides-eqb a.word b.word)
@@ -62,9 +59,6 @@ subst_decides : (a b : Subst) → Decides (eqb a.first b.first && (eqb a.past b.
 subst_decides a b = and3 _ _ _ (Decides-eqb a.first b.first) (Decides-eqb a.past b.past) (Decides-eqb a.memory b.memory)
     (λ e f g. ap (λ x. let y : Subst = record { first = x; past = a.past; memory = a.memory } in y) e ∙ ap (λ x. let y : Subst = record { first = b.first; past = x; memory = a.memory } in y) f ∙ ap (λ x. let y : Subst = record { first = b.first; past = b.past; memory = x } in y) g)
     (λ r. ap (λ (y : Subst). y.first) r) (λ r. ap (λ (y : Subst). y.past) r) (λ r. ap (λ (y : Subst). y.memory) r)
-
-op_decides : (a b : Op) → Decides (sameb the_op.the_type a b) (a ≡ b)
-op_decides a b = (same_true the_op.the_type tt a b, true_same the_op.the_type a b)
 
 basic_0 : Basic → Instr → Basic
 basic_0 z (Mov _ _ x) = x

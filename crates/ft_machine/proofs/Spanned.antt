@@ -1,5 +1,5 @@
 -- Spans of steps after one another, and against the run under a plan.
-use Rattle.std.proofs.Common.{◌≡◌, ℕ, zero, suc, ◌+◌, ◌-◌, ◌<◌, ◌≤◌, List, [], ◌∷◌, ◌++◌, Option, Some, None, is_some, true, ◌&&◌, nat_le, nat_lt, refl, ap, sym, subst, ◌∙◌, append_assoc, arith}
+use Rattle.std.proofs.Common.{◌≡◌, ℕ, zero, suc, ◌+◌, ◌-◌, ◌<◌, ◌≤◌, List, [], ◌∷◌, ◌++◌, Option, Some, None, is_some, true, ◌&&◌, nat_le, nat_lt, refl, ap, sym, subst, ◌∙◌, append_assoc, arith, add-one, add-zero}
 use Rattle.std.proofs.lemmas.List.{append-nil}
 use Rattle.std.specs.Option.{option_to_list}
 use Rattle.ft_edge.specs.Told.{append_told}
@@ -39,16 +39,13 @@ joined xs r = record { state = r.state; wild = r.wild; outputs = xs ++ r.outputs
 extended_joined : (xs ys : List Output) (t : Stepping) → extended (xs ++ ys) t ≡ joined xs (extended ys t)
 extended_joined xs ys t = ap (λ zs. record { state = t.state; wild = t.wild; outputs = zs }) (append_assoc xs ys (option_to_list t.output))
 
-n_zero : (n : ℕ) → n + 0 ≡ n
-n_zero n = omega arith
-
 n_suc : (n m : ℕ) → n + suc m ≡ suc (n + m)
 n_suc n m = omega arith
 
 -- a span after a span is one span
 pub span_join : (o : Object) (n m : ℕ) (s : State) (w : List Wild) → span o (n + m) s w ≡ joined (span o n s w).outputs (span o m (span o n s w).state (span o n s w).wild)
 unfolding span
-span_join o n zero s w = ap (λ k. span o k s w) (n_zero n) ∙ ap (λ xs. record { state = (span o n s w).state; wild = (span o n s w).wild; outputs = xs }) (sym (append-nil (span o n s w).outputs))
+span_join o n zero s w = ap (λ k. span o k s w) (add-zero n) ∙ ap (λ xs. record { state = (span o n s w).state; wild = (span o n s w).wild; outputs = xs }) (sym (append-nil (span o n s w).outputs))
 span_join o n (suc m) s w =
     ap (λ k. span o k s w) (n_suc n m)
     ∙ ap (λ (r : Ran). extended r.outputs (step o r.state r.wild)) (span_join o n m s w)
@@ -177,14 +174,11 @@ ends_after o s s1 s2 w w1 w2 (Some e) k k1 k2 p p1 p2 n m limit h within a (j, (
 pub spared : (x : Strike) (j : ℕ) → (x.step ≡ j → ⊥) → Spares (Some x) j
 spared x j apart s = ap (λ b. if b then struck_state s x.site x.value else s) (ne_eqb x.step j apart)
 
-one_more_step : (m : ℕ) → m + 1 ≡ suc m
-one_more_step m = omega arith
-
 run_next : (o : Object) (strike : Option Strike) (w : List Wild) (m : ℕ) → run o strike w (suc m) ≡ after_step o strike m (run o strike w m)
-run_next o strike w m = ap (run o strike w) (sym (one_more_step m)) ∙ run-add_one o strike w m
+run_next o strike w m = ap (run o strike w) (sym (add-one m)) ∙ run-add_one o strike w m
 
 span_next : (o : Object) (m : ℕ) (s : State) (w : List Wild) → span o (suc m) s w ≡ extended (span o m s w).outputs (step o (span o m s w).state (span o m s w).wild)
-span_next o m s w = ap (λ k. span o k s w) (sym (one_more_step m)) ∙ span-add_one o m s w
+span_next o m s w = ap (λ k. span o k s w) (sym (add-one m)) ∙ span-add_one o m s w
 
 -- a run that was not struck is a span from the start
 pub run_start : (o : Object) (strike : Option Strike) (w : List Wild) (m : ℕ) → ((j : ℕ) → j < m → Spares strike j) → run o strike w m ≡ span o m (start o) w
@@ -199,7 +193,7 @@ run_start o strike w (suc m) h =
 pub run_on : (o : Object) (strike : Option Strike) (w : List Wild) (k m : ℕ) → ((j : ℕ) → k < j → Spares strike j)
     → run o strike w (k + suc m) ≡ joined (run o strike w k).outputs (span o (suc m) (struck_before strike k (run o strike w k).state) (run o strike w k).wild)
 run_on o strike w k zero h =
-    ap (run o strike w) (n_suc k 0 ∙ ap suc (n_zero k)) ∙ run_next o strike w k
+    ap (run o strike w) (n_suc k 0 ∙ ap suc (add-zero k)) ∙ run_next o strike w k
     ∙ ap (λ xs. extended xs (step o (struck_before strike k (run o strike w k).state) (run o strike w k).wild)) (sym (append-nil (run o strike w k).outputs))
     ∙ extended_joined (run o strike w k).outputs [] (step o (struck_before strike k (run o strike w k).state) (run o strike w k).wild)
     ∙ ap (joined (run o strike w k).outputs) (sym (span_one o (struck_before strike k (run o strike w k).state) (run o strike w k).wild))
@@ -213,7 +207,8 @@ run_on o strike w k (suc m) h =
     ∙ extended_joined xs (span o (suc m) s v).outputs (step o (span o (suc m) s v).state (span o (suc m) s v).wild)
     ∙ ap (joined xs) (sym (span_next o (suc m) s v))
 
-rest_of : (m n : ℕ) → m ≤ n → m + (n - m) ≡ n
+-- some steps and the rest are all
+pub rest_of : (m n : ℕ) → m ≤ n → m + (n - m) ≡ n
 rest_of m n le = omega arith
 
 -- where a run has ended after m steps, it ends so after more

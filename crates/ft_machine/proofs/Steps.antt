@@ -1,7 +1,7 @@
 -- What each step and each strike keeps, and what an output says.
 use Rattle.std.proofs.Common.{◌≡◌, ℕ, Bool, true, false, ◌&&◌, not, List, [], ◌∷◌, ◌++◌, length, Option, Some, None, refl, ap, sym, ◌∙◌, subst, nat_lt}
 use Rattle.std.specs.Prelude.{◌||◌, ◌==◌, if◌then◌else◌}
-use Rattle.std.proofs.lemmas.Bool.{eqb-true}
+use Rattle.std.proofs.lemmas.Bool.{eqb-true, and_parts}
 use Rattle.ft_isa.specs.declared.colour.Colour.{Colour}
 use Rattle.ft_isa.specs.declared.colour.Colour.TheVariants.{Green, Blue}
 use Rattle.ft_isa.specs.declared.reg.Reg.{Reg}
@@ -32,10 +32,6 @@ pub record IsProper (s : State) (t : Stepping) : Type 0 where
 quiet_is_proper : (s s' : State) (w : List Wild) → s'.cells ≡ s.cells → IsProper s (quiet s' w)
 quiet_is_proper s s' w e = record { output = λ out h. absurd (cc); cells = λ a. ap (λ m. is_cell m a) e }
 
-both : (a b : Bool) → (a && b) ≡ true → b ≡ true
-both true b h = h
-both false b h = absurd (cc)
-
 or_there : (x b : Bool) → (x ≡ true → b ≡ true) → (x || b) ≡ b
 or_there true b h = sym (h refl)
 or_there false b h = refl
@@ -46,7 +42,7 @@ GoesToCell s (Some out) = is_cell s.cells out.addr ≡ true
 
 commit_is_proper : (s : State) (a v : ℕ) (w : List Wild) → commits a v s ≡ true → IsProper s (commit a v s w)
 commit_is_proper s a v w h =
-    let here : is_cell s.cells a ≡ true = both (is_oldest s.queue a v) _ h in
+    let here : is_cell s.cells a ≡ true = (and_parts (is_oldest s.queue a v) _ h).1 in
     record {
       output = λ out e. (refl, subst (GoesToCell s) e here);
       cells = λ q. contains_key-insert s.cells a v q ∙ or_there (q == a) (is_cell s.cells q) (λ e. subst (λ n. is_cell s.cells n ≡ true) (sym (eqb-true q a e)) here);

@@ -5,8 +5,9 @@ use Rattle.std.specs.List.{AllZip}
 use Rattle.std.specs.Option.{option_map, unwrap_or}
 use Rattle.std.specs.FinMap as finite
 use Rattle.std.proofs.lemmas.Bool.{and_parts, and_from}
-use Rattle.std.proofs.lemmas.Option.{slice_get_within}
+use Rattle.std.proofs.lemmas.Option.{slice_get_within, same_Some}
 use Rattle.ft_isa.specs.Words.{code_address}
+use Rattle.ft_isa.proofs.Lists.{there_below, all_there}
 use Rattle.ft_static.specs.Expression.{memory_variable}
 use Rattle.ft_static.specs.NodeRules.{is_memory, AreNodes}
 use Rattle.ft_static.specs.NodeTree.{memory_part, memory_at, tree_of, trees, HasShape}
@@ -23,21 +24,22 @@ use Rattle.ft_types.specs.Objects.{start_of, code_type_of, memory_of_type, block
 use Rattle.ft_types.specs.Spellable.{IsCodeType, HasCodeType, IsSpellable}
 use Rattle.ft_typing.specs.TypedWord.{block_at}
 use Rattle.ft_tolerance.specs.TypedState.{entry_block}
-use Rattle.ft_tolerance.proofs.Lists.{of_all, found_there}
+use Rattle.ft_tolerance.proofs.Lists.{found_there}
 use Rattle.ft_link_map.specs.declared.link_map.LinkMap.{LinkMap}
 use Rattle.ft_modules.specs.LikeTypes.{SameRow, SamePair, LikeTypes}
 use Rattle.ft_modules.specs.Linkable.{HasPlainCell, IsModule, IsJoined, AreLinkable}
 use Rattle.ft_modules.specs.Linked.{nothing_before, raised_block, Change, change_of, blocks_part, entry_by, linked}
 use Rattle.ft_modules.specs.Links.{Link, links, type_in}
 use Rattle.ft_modules.specs.ModulesRun.{link_at}
-use Rattle.ft_modules.proofs.Addresses.{find_same, same_tests, there_below, one_number, block_at_own, some_same}
-use Rattle.ft_modules.proofs.BesideBlocks.{start_beside, applies_beside}
+use Rattle.ft_modules.proofs.Addresses.{find_same, same_tests, one_number, block_at_own}
+use Rattle.ft_modules.proofs.LinkedBlocks.{start_beside, applies_beside}
 use Rattle.ft_modules.proofs.Laying.{whence}
-use Rattle.ft_modules.proofs.Placing.{like_through, is_module, sits_in, sent_in, block_in, block_alike, change_is, sent_by_change, sent_to, start_there, type_there, world, to_is}
-use Rattle.ft_modules.proofs.Sits.{of_blocks, blocks_grow}
+use Rattle.ft_modules.proofs.Placing.{is_module, sits_in, sent_in, block_in, block_alike, change_is, sent_by_change, sent_to, start_there, type_there, world, to_is}
+use Rattle.ft_modules.proofs.ModuleParts.{of_blocks, blocks_grow}
 use Rattle.ft_modules.proofs.SpelledLinked.{from_map}
 use Rattle.ft_modules.proofs.SpelledWhole.{none_before_first, spelled_linked}
 use Rattle.ft_modules.proofs.World.{before_of, World, plain_type}
+use Rattle.ft_modules.proofs.SentOn.{like_through}
 
 -- ENTRY TYPES
 
@@ -70,7 +72,7 @@ variable_shape x (shape.Rem a n) m e = cc
 -- what says the same as an entry type is one
 entry_like : (o x : Object) (t u : ℕ) (y : CodeType) → IsSpellable o → IsSpellable x → LikeTypes o t x u → slice_get x.types u ≡ Some y → IsEntryType o t → IsEntryType x u
 entry_like o x t u y so sx l there e =
-    let is = of_all (IsCodeType (length x.types) x.nodes) x.types u y sx.types there in
+    let is = all_there (IsCodeType (length x.types) x.nodes) x.types u y sx.types there in
     let named : memory_of x u ≡ y.memory = ap (λ (z : Option CodeType). unwrap_or (option_map memory_of_type z) 0) there in
     let n = is.memory in
     let variable : memory_at (trees x.nodes) y.memory ≡ memory_variable = ap (memory_at (trees x.nodes)) (sym named) ∙ sym l.memory ∙ variable_memory o (memory_of o t) so.nodes e.memory in
@@ -149,19 +151,19 @@ module _ (linkage : LinkMap) (first : Object) (others : List Object) (h : AreLin
   -- both ways to look for the link of the entry block find the same
   entry_link : find by_number joins ≡ link_at modules joins 0 (entry_address first)
   entry_link = find_same _ _ joins (λ i l e.
-      let j = of_all (IsJoined modules) joins i l h.joined e in
+      let j = all_there (IsJoined modules) joins i l h.joined e in
       let z = j.from in
       let b = there_below z.object.blocks l.block z.below in
       let start = start_there modules l.module_of l.block z.object b.0 z.there b.1 in
       same_tests _ _
       (λ t.
       let p = and_parts _ _ t in
-      let from : z.object ≡ first = some_same _ _ (sym z.there ∙ ap (slice_get modules) (eqb-true _ _ p.0)) in
-      let block : b.0 ≡ entry_block first = some_same _ _ (sym b.1 ∙ (λ q. slice_get (from q).blocks (eqb-true l.block first.entry p.1 q)) ∙ at_entry) in
+      let from : z.object ≡ first = same_Some _ _ (sym z.there ∙ ap (slice_get modules) (eqb-true _ _ p.0)) in
+      let block : b.0 ≡ entry_block first = same_Some _ _ (sym b.1 ∙ (λ q. slice_get (from q).blocks (eqb-true l.block first.entry p.1 q)) ∙ at_entry) in
       and_from _ _ p.0 (eq-eqb _ _ (ap code_address (sym (start ∙ ap (λ (q : Block). q.start) block)))))
       (λ t.
       let p = and_parts _ _ t in
-      let from : z.object ≡ first = some_same _ _ (sym z.there ∙ ap (slice_get modules) (eqb-true _ _ p.0)) in
+      let from : z.object ≡ first = same_Some _ _ (sym z.there ∙ ap (slice_get modules) (eqb-true _ _ p.0)) in
       let there : slice_get first.blocks l.block ≡ Some b.0 = (λ q. slice_get (sym from q).blocks l.block) ∙ b.1 in
       let same = eqb-true _ _ p.1 in
       and_from _ _ p.0 (eq-eqb _ _ (one_number _ _ _ l.block first.entry b.0 (entry_block first) (mine 0 first refl).spelled.blocks there at_entry (omega (arith, start, same))))))
@@ -183,11 +185,11 @@ module _ (linkage : LinkMap) (first : Object) (others : List Object) (h : AreLin
       }
   entry_by_link (Some l) g =
       let found = found_there by_number joins l (entry_link ∙ g) in
-      let j = of_all (IsJoined modules) joins found.place l h.joined found.there in
+      let j = all_there (IsJoined modules) joins found.place l h.joined found.there in
       let p = and_parts _ _ found.passes in
-      let from : j.from.object ≡ first = some_same _ _ (sym j.from.there ∙ ap (slice_get modules) (eqb-true l.module_of 0 p.0)) in
+      let from : j.from.object ≡ first = same_Some _ _ (sym j.from.there ∙ ap (slice_get modules) (eqb-true l.module_of 0 p.0)) in
       let b = there_below j.from.object.blocks l.block j.from.below in
-      let block : b.0 ≡ entry_block first = some_same _ _ (sym b.1 ∙ (λ q. slice_get (from q).blocks (eqb-true l.block first.entry p.1 q)) ∙ at_entry) in
+      let block : b.0 ≡ entry_block first = same_Some _ _ (sym b.1 ∙ (λ q. slice_get (from q).blocks (eqb-true l.block first.entry p.1 q)) ∙ at_entry) in
       let b_type : type_in modules l.module_of l.block ≡ block_type first first.entry = type_there modules l.module_of l.block j.from.object b.0 j.from.there b.1 ∙ ap (λ (z : Block). z.code_type) block in
       let d = there_below j.to.object.blocks l.to_block j.to.below in
       let d_start = start_there modules l.to_module l.to_block j.to.object d.0 j.to.there d.1 in
@@ -219,12 +221,12 @@ module _ (linkage : LinkMap) (first : Object) (others : List Object) (h : AreLin
       let e = entry_in in
       let is : e.block ≡ entry_block x = entry_is e.block e.there in
       let kind : e.block.code_type ≡ block_type x x.entry = ap (λ (b : Block). b.code_type) is in
-      let below : e.block.code_type < length x.types = of_all (HasCodeType (length x.types)) x.blocks x.entry e.block spelled.block_types e.there in
+      let below : e.block.code_type < length x.types = all_there (HasCodeType (length x.types)) x.blocks x.entry e.block spelled.block_types e.there in
       let t = there_below x.types e.block.code_type below in
       let f = mine 0 first refl in
       record {
         entry = subst (IsEntryType x) kind (entry_like first x (block_type first first.entry) e.block.code_type t.0 f.spelled spelled e.like t.1 f.accepted.entry);
-        cells = λ n c g. plain_type first x c.init c.basic refl (of_all HasPlainCell first.cells n c f.plain_cells g) (f.accepted.cells n c g);
+        cells = λ n c g. plain_type first x c.init c.basic refl (all_there HasPlainCell first.cells n c f.plain_cells g) (f.accepted.cells n c g);
         blocks = applies_all;
       }
 

@@ -3,17 +3,19 @@ use Rattle.std.proofs.Common.{◌≡◌, ◌⊎◌, inl, inr, ⊎_elim, ℕ, zer
 use Rattle.std.specs.Prelude.{find, slice_range}
 use Rattle.std.specs.Option.{option_map, unwrap_or}
 use Rattle.std.proofs.lemmas.Bool.{cases_eq, cases_lt}
-use Rattle.std.proofs.lemmas.Option.{slice_get_within}
+use Rattle.std.proofs.lemmas.Option.{slice_get_within, same_Some}
 use Rattle.ft_isa.specs.Words.{code_address}
 use Rattle.ft_isa.specs.declared.instr.Instr.{Instr}
+use Rattle.ft_isa.proofs.Lists.{there_below}
 use Rattle.ft_types.specs.declared.object.Object.{Object}
 use Rattle.ft_types.specs.declared.object.Block.{Block}
 use Rattle.ft_typing.specs.Accepted.{IsAccepted}
 use Rattle.ft_types.specs.Objects.{start_of, block_start, block_end}
 use Rattle.ft_types.specs.Spellable.{AreBlocks, IsSpellable}
+use Rattle.ft_types.proofs.BlockStarts.{rises}
 use Rattle.ft_typing.specs.TypedWord.{block_at}
 use Rattle.ft_tolerance.specs.TypedState.{Place, instr_number, IsPlace}
-use Rattle.ft_tolerance.proofs.Places.{here}
+use Rattle.ft_tolerance.proofs.AcceptedSteps.{here}
 
 -- FINDING
 
@@ -37,16 +39,6 @@ same_tests true b h k = sym (h refl)
 same_tests false true h k = k refl
 same_tests false false h k = refl
 
--- an element below the length
-pub there_below : {X : Type 0} (xs : List X) (n : ℕ) → n < length xs → (x : X) × (slice_get xs n ≡ Some x)
-there_below [] n lt = absurd (omega (arith, lt))
-there_below (y ∷ xs) zero lt = (y, refl)
-there_below (y ∷ xs) (suc n) lt = there_below xs n (omega (arith, lt))
-
--- two that are there and equal
-pub some_same : {X : Type 0} (a b : X) → Some a ≡ Some b → a ≡ b
-some_same a b e = cc
-
 -- an element of the first k is below k
 take_length : {X : Type 0} (xs : List X) (k n : ℕ) (x : X) → slice_get (take k xs) n ≡ Some x → n < k
 take_length [] zero n x e = cc
@@ -63,19 +55,12 @@ within_blocks end least [] n y h e = cc
 within_blocks end least (b ∷ bs) zero y h e = let same : b ≡ y = cc in subst (λ (z : Block). (least ≤ z.start) × (z.start < end)) same (h.0, h.1)
 within_blocks end least (b ∷ bs) (suc n) y h e = let w = within_blocks end (suc b.start) bs n y h.2 e in (omega (arith, h.0, w.0), w.1)
 
--- a later block begins later
-pub rising_blocks : (end least : ℕ) (bs : List Block) (n m : ℕ) (y z : Block) → AreBlocks end least bs → slice_get bs n ≡ Some y → slice_get bs m ≡ Some z → n < m → y.start < z.start
-rising_blocks end least [] n m y z h e f lt = cc
-rising_blocks end least (b ∷ bs) n zero y z h e f lt = absurd (omega (arith, lt))
-rising_blocks end least (b ∷ bs) zero (suc m) y z h e f lt = let same : b ≡ y = cc in subst (λ (k : Block). k.start < z.start) same (let w = within_blocks end (suc b.start) bs m z h.2 f in omega (arith, w.0))
-rising_blocks end least (b ∷ bs) (suc n) (suc m) y z h e f lt = rising_blocks end (suc b.start) bs n m y z h.2 e f (omega (arith, lt))
-
 -- blocks that begin at one place are one
 pub one_number : (end least : ℕ) (bs : List Block) (n m : ℕ) (y z : Block) → AreBlocks end least bs → slice_get bs n ≡ Some y → slice_get bs m ≡ Some z → y.start ≡ z.start → n ≡ m
 one_number end least bs n m y z h e f s =
     ⊎_elim
-    (λ (lt : n < m). absurd (omega (arith, rising_blocks end least bs n m y z h e f lt, s)))
-    (λ (le : m ≤ n). ⊎_elim (λ (gt : m < n). absurd (omega (arith, rising_blocks end least bs m n z y h f e gt, s))) (λ (ge : n ≤ m). omega (arith, le, ge)) (cases_lt m n))
+    (λ (lt : n < m). absurd (omega (arith, rises end least bs n m y z h e f lt, s)))
+    (λ (le : m ≤ n). ⊎_elim (λ (gt : m < n). absurd (omega (arith, rises end least bs m n z y h f e gt, s))) (λ (ge : n ≤ m). omega (arith, le, ge)) (cases_lt m n))
     (cases_lt n m)
 
 -- a block that begins later is a later one
@@ -84,8 +69,8 @@ number_less end least bs n m y z h e f s =
     ⊎_elim
     (λ (lt : n < m). lt)
     (λ (le : m ≤ n). ⊎_elim
-    (λ (gt : m < n). absurd (omega (arith, rising_blocks end least bs m n z y h f e gt, s)))
-    (λ (ge : n ≤ m). let number : n ≡ m = omega (arith, le, ge) in let same : y ≡ z = some_same y z (sym e ∙ ap (slice_get bs) number ∙ f) in absurd (omega (arith, ap (λ (k : Block). k.start) same, s)))
+    (λ (gt : m < n). absurd (omega (arith, rises end least bs m n z y h f e gt, s)))
+    (λ (ge : n ≤ m). let number : n ≡ m = omega (arith, le, ge) in let same : y ≡ z = same_Some y z (sym e ∙ ap (slice_get bs) number ∙ f) in absurd (omega (arith, ap (λ (k : Block). k.start) same, s)))
     (cases_lt m n))
     (cases_lt n m)
 
@@ -114,8 +99,8 @@ end_least end least bs n m y z e h f g lt =
     subst (λ (u : Option Block). unwrap_or (option_map start_of u) e ≤ z.start) (sym x.1) (by_next x.0 x.1 (cases_eq (suc n) m))
   where
     by_next : (w : Block) → slice_get bs (suc n) ≡ Some w → (suc n ≡ m) ⊎ (suc n ≡ m → ⊥) → w.start ≤ z.start
-    by_next w i (inl s) = (let same : w ≡ z = some_same w z (sym i ∙ ap (slice_get bs) s ∙ g) in subst (λ (k : Block). w.start ≤ k.start) same (omega arith))
-    by_next w i (inr ne) = (let r = rising_blocks end least bs (suc n) m w z h i g (omega (arith, lt, ne)) in omega (arith, r))
+    by_next w i (inl s) = (let same : w ≡ z = same_Some w z (sym i ∙ ap (slice_get bs) s ∙ g) in subst (λ (k : Block). w.start ≤ k.start) same (omega arith))
+    by_next w i (inr ne) = (let r = rises end least bs (suc n) m w z h i g (omega (arith, lt, ne)) in omega (arith, r))
 
 -- the length of a stretch
 range_length : (is : List Instr) (a b n : ℕ) (i : Instr) → slice_get (slice_range is a b) n ≡ Some i → n < b - a

@@ -10,9 +10,9 @@ use Rattle.ft_isa.specs.declared.op.Op.TheVariants.{Add, Sub, Mul, Ltu, Eq, And,
 use Rattle.ft_isa.specs.declared.basic.Base.{Base}
 use Rattle.ft_isa.specs.declared.basic.Base.TheVariants.{Int, Code}
 use Rattle.ft_isa.specs.declared.colour.Colour.{Colour}
-use Rattle.ft_isa.specs.declared.colour.Colour.TheVariants.{Green, Blue}
 use Rattle.ft_isa.specs.declared.instr.Instr.{Instr}
 use Rattle.ft_isa.specs.declared.instr.Instr.TheVariants.{OpReg, OpWord, Mov, Ld, St, JmpG, JmpB, BzG, BzB, Halt, Idx}
+use Rattle.ft_isa.proofs.Lists.{all_there, all_pass}
 use Rattle.ft_static.specs.Expression.{Integer, Memory, word, variable, operation, sel, rem, memory_variable, upd}
 use Rattle.ft_types.specs.declared.object.Object.{Object}
 use Rattle.ft_types.specs.declared.object.Cell.{Cell}
@@ -22,9 +22,9 @@ use Rattle.ft_types.specs.declared.object.RegType.{RegType}
 use Rattle.ft_types.specs.NodeRows.{op_code}
 use Rattle.ft_types.specs.Objects.{block_instrs}
 use Rattle.ft_typing.specs.TypingRow.{same_colour}
-use Rattle.ft_typing.proofs.TypedWords.{same_basic_is, is_same_basic}
-use Rattle.ft_tolerance.proofs.Claims.{same_colour_is}
-use Rattle.ft_tolerance.proofs.Lists.{of_all}
+use Rattle.ft_typing.proofs.TypedWords.{same_basic_is, is_same_basic, same_colours}
+use Rattle.ft_typing.proofs.Acceptance.{or_parts}
+use Rattle.ft_tolerance.proofs.Premises.{same_colour_is}
 use Rattle.ft_modules.specs.CodeWalk.{code_walk}
 use Rattle.ft_modules.specs.LikeTypes.{SameRow, SamePair, LikeTypes}
 use Rattle.ft_modules.specs.Linkable.{HasPlainCell, HasPlainRow, HasPlainRows, AreFew}
@@ -125,15 +125,9 @@ memory_same m n h = subst (λ (z : Memory). same_memory m z ≡ true) h (memory_
 
 -- CODE TYPES
 
--- a colour is found the same as itself
-pub colour_itself : (c : Colour) → same_colour c c ≡ true
-unfolding same_colour
-colour_itself Green = refl
-colour_itself Blue = refl
-
 -- equal colours are found the same
 pub colour_same : (c d : Colour) → c ≡ d → same_colour c d ≡ true
-colour_same c d h = subst (λ (z : Colour). same_colour c z ≡ true) h (colour_itself c)
+colour_same c d h = subst (λ (z : Colour). same_colour c z ≡ true) h (same_colours c)
 
 -- register rows that the test finds the same say the same
 row_is : (o x : Object) (r q : RegType) → same_row o x r q ≡ true → SameRow o x r q
@@ -227,15 +221,10 @@ pub are_cells : (xs ys : List Cell) → xs ≡ ys → same_cells xs ys ≡ true
 are_cells xs ys h = subst (λ (z : List Cell). same_cells xs z ≡ true) h (cells_itself xs)
 
 -- a test of all elements
-pub all_pass : {X : Type 0} (p : X → Bool) (xs : List X) → list_all p xs ≡ true → (n : ℕ) (x : X) → slice_get xs n ≡ Some x → p x ≡ true
-all_pass p [] e n x f = cc
-all_pass p (y ∷ ys) e zero x f = let q = and_parts _ _ e in let same : y ≡ x = cc in subst (λ z. p z ≡ true) same q.0
-all_pass p (y ∷ ys) e (suc n) x f = let q = and_parts _ _ e in all_pass p ys q.1 n x f
-
--- a test that passes each element passes all
-pub pass_all : {X : Type 0} (p : X → Bool) (xs : List X) → ((n : ℕ) (x : X) → slice_get xs n ≡ Some x → p x ≡ true) → list_all p xs ≡ true
-pass_all p [] h = refl
-pass_all p (y ∷ ys) h = and_from _ _ (h 0 y refl) (pass_all p ys (λ n x e. h (suc n) x e))
+pub each_passes : {X : Type 0} (p : X → Bool) (xs : List X) → list_all p xs ≡ true → (n : ℕ) (x : X) → slice_get xs n ≡ Some x → p x ≡ true
+each_passes p [] e n x f = cc
+each_passes p (y ∷ ys) e zero x f = let q = and_parts _ _ e in let same : y ≡ x = cc in subst (λ z. p z ≡ true) same q.0
+each_passes p (y ∷ ys) e (suc n) x f = let q = and_parts _ _ e in each_passes p ys q.1 n x f
 
 -- a base that the test finds to be `int` is it
 int_is : (b : Base) → is_int b ≡ true → b ≡ Int
@@ -248,26 +237,21 @@ is_int_of b e = ap is_int e
 
 -- cells that the test finds plain are so
 pub plain_cells_are : (cs : List Cell) → list_all is_plain_cell cs ≡ true → All HasPlainCell cs
-plain_cells_are cs e = all_of HasPlainCell cs (λ n c f. int_is c.basic.base (all_pass is_plain_cell cs e n c f))
+plain_cells_are cs e = all_of HasPlainCell cs (λ n c f. int_is c.basic.base (each_passes is_plain_cell cs e n c f))
 
 -- and the other way round
 pub are_plain_cells : (cs : List Cell) → All HasPlainCell cs → list_all is_plain_cell cs ≡ true
-are_plain_cells cs h = pass_all is_plain_cell cs (λ n c f. is_int_of c.basic.base (of_all HasPlainCell cs n c h f))
+are_plain_cells cs h = all_pass is_plain_cell cs (λ n c f. is_int_of c.basic.base (all_there HasPlainCell cs n c h f))
 
 -- code types of which the test finds the rows plain have such rows
 pub plain_rows_are : (ts : List CodeType) → list_all has_plain_rows ts ≡ true → All HasPlainRows ts
-plain_rows_are ts e = all_of HasPlainRows ts (λ n t f. all_of HasPlainRow t.regs (λ m r g. int_is r.basic.base (all_pass is_plain_row t.regs (all_pass has_plain_rows ts e n t f) m r g)))
+plain_rows_are ts e = all_of HasPlainRows ts (λ n t f. all_of HasPlainRow t.regs (λ m r g. int_is r.basic.base (each_passes is_plain_row t.regs (each_passes has_plain_rows ts e n t f) m r g)))
 
 -- and the other way round
 pub are_plain_rows : (ts : List CodeType) → All HasPlainRows ts → list_all has_plain_rows ts ≡ true
-are_plain_rows ts h = pass_all has_plain_rows ts (λ n t f. pass_all is_plain_row t.regs (λ m r g. is_int_of r.basic.base (of_all HasPlainRow t.regs m r (of_all HasPlainRows ts n t h f) g)))
+are_plain_rows ts h = all_pass has_plain_rows ts (λ n t f. all_pass is_plain_row t.regs (λ m r g. is_int_of r.basic.base (all_there HasPlainRow t.regs m r (all_there HasPlainRows ts n t h f) g)))
 
 -- OPTIONS
-
--- where neither of two is there
-pub or_parts : {X : Type 0} (a b : Option X) → option_or a b ≡ None → (a ≡ None) × (b ≡ None)
-or_parts None b e = (refl, e)
-or_parts (Some x) b e = cc
 
 -- and the other way round
 pub or_none : {X : Type 0} (a b : Option X) → a ≡ None → b ≡ None → option_or a b ≡ None

@@ -1,6 +1,6 @@
 -- Elements of lists, and what a map holds after a key is taken out.
-use Rattle.std.proofs.Common.{◌≡◌, ℕ, suc, Bool, false, cond, ◌==◌, List, [], ◌∷◌, slice_get, get_or, Some, None, refl, ap, ◌∙◌}
-use Rattle.std.specs.Prelude.{All, find}
+use Rattle.std.proofs.Common.{◌≡◌, ℕ, cond, ◌==◌, List, slice_get, get_or, Some, None, refl}
+use Rattle.std.specs.Prelude.{All}
 use Rattle.std.specs.Cmp.{nat_cmp_total, unsigned_tied}
 use Rattle.std.specs.FinMap as finite
 use Rattle.std.proofs.lemmas.Option.{slice_get-get_or}
@@ -9,11 +9,6 @@ use Rattle.ft_modules.specs.CodeWalk.{Entered}
 -- what holds of each element
 pub all_of : {X : Type 0} (P : X → Type 0) (xs : List X) → ((k : ℕ) (x : X) → slice_get xs k ≡ Some x → P x) → All P xs
 all_of P xs h = λ k d lt. h k (get_or xs k d) (slice_get-get_or xs k d lt)
-
--- what no element passes is not found
-pub find_none : {X : Type 0} (p : X → Bool) (xs : List X) → ((n : ℕ) (x : X) → slice_get xs n ≡ Some x → p x ≡ false) → find p xs ≡ None
-find_none p [] h = refl
-find_none p (x ∷ xs) h = ap (λ b. cond b (Some x) (find p xs)) (h 0 x refl) ∙ find_none p xs (λ n y e. h (suc n) y e)
 
 -- what a map holds after a key is taken out
 pub get-remove : (m : Entered) (k q : ℕ) → finite.get (finite.remove m k) q ≡ cond (q == k) None (finite.get m q)

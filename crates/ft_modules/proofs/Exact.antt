@@ -4,15 +4,17 @@ use Rattle.std.specs.Prelude.{All, find, filter_map, ◌↔◌}
 use Rattle.std.specs.Option.{option_map, unwrap_or}
 use Rattle.std.specs.List.{cons_option}
 use Rattle.std.specs.FinMap as finite
-use Rattle.std.proofs.lemmas.Bool.{and_parts, and_from, ltb-true, lt-ltb}
+use Rattle.std.proofs.lemmas.Bool.{and_parts, and_from, ltb-true, lt-ltb, not-false}
 use Rattle.std.proofs.lemmas.List.{append_assoc}
 use Rattle.std.proofs.lemmas.List.Sums.{sum_by-append}
+use Rattle.ft_isa.proofs.Lists.{all_there, none_pass}
 use Rattle.ft_types.specs.declared.object.Object.{Object}
 use Rattle.ft_types.specs.declared.object.Cell.{Cell}
 use Rattle.ft_typing.specs.Accepted.{IsAccepted}
 use Rattle.ft_types.specs.Objects.{block_instrs}
 use Rattle.ft_types.specs.Spellable.{reg_row_count, queue_row_count, IsSpellable}
-use Rattle.ft_tolerance.proofs.Lists.{of_all, found_there}
+use Rattle.ft_typing.proofs.Acceptance.{or_parts}
+use Rattle.ft_tolerance.proofs.Lists.{found_there}
 use Rattle.ft_link_map.specs.declared.link_map.Ask.{Ask}
 use Rattle.ft_link_map.specs.declared.link_map.LinkMap.{LinkMap}
 use Rattle.ft_modules.specs.CodeWalk.{code_walk}
@@ -20,8 +22,8 @@ use Rattle.ft_modules.specs.Linkable.{HasPlainCell, HasPlainRows, IsModule, AreF
 use Rattle.ft_modules.specs.Links.{Link, same_name, export_of, link_by, links, type_in}
 use Rattle.ft_modules.specs.LinkRefusals.{LinkRefusal, NoBlock, CodeOf, are_few, unless, module_refusal, modules_refusal, has_block, line_of, first_without, lower_line, is_stub, instrs_in, like_in, for_export, import_refusal, imports_refusal, link_refusal}
 use Rattle.ft_modules.specs.SameTrees.{like_types}
-use Rattle.ft_modules.proofs.Elements.{all_of, find_none}
-use Rattle.ft_modules.proofs.Deciding.{like_is, is_like, cells_are, are_cells, plain_cells_are, are_plain_cells, plain_rows_are, are_plain_rows, or_parts, or_none, map_parts, no_walk_fault, walk_without_fault, few_are, are_few_of, stub_is}
+use Rattle.ft_modules.proofs.Elements.{all_of}
+use Rattle.ft_modules.proofs.Deciding.{like_is, is_like, cells_are, are_cells, plain_cells_are, are_plain_cells, plain_rows_are, are_plain_rows, or_none, map_parts, no_walk_fault, walk_without_fault, few_are, are_few_of, stub_is}
 
 -- TESTS
 
@@ -33,11 +35,6 @@ unless_true false r e = cc
 -- what passes the test is not refused
 true_unless : (b : Bool) (r : LinkRefusal) → b ≡ true → unless b r ≡ None
 true_unless b r e = ap (λ z. unless z r) e
-
--- the negation of a test that fails
-pub not_false : (b : Bool) → not b ≡ false → b ≡ true
-not_false true e = refl
-not_false false e = cc
 
 -- the first element, where nothing is found
 pub none_first : {X : Type 0} (b : Bool) (p : X → Bool) (y : X) (ys : List X) (n : ℕ) (x : X) → p y ≡ b → cond b (Some y) (find p ys) ≡ None → slice_get (y ∷ ys) n ≡ Some x → (find p ys ≡ None → (m : ℕ) (z : X) → slice_get ys m ≡ Some z → p z ≡ false) → p x ≡ false
@@ -143,11 +140,11 @@ no_line (Some x) (Some y) e = cc
 
 -- where no line is found without its block, each line has it
 all_have : (modules : List Object) (asks : List Ask) → first_without modules asks ≡ None → (n : ℕ) (a : Ask) → slice_get asks n ≡ Some a → HasBlock modules a.module a.block
-all_have modules asks e n a f = has_block_is modules a.module a.block (not_false _ (none_found (λ (z : Ask). not (has_block modules z.module z.block)) asks (map_parts line_of _ e) n a f))
+all_have modules asks e n a f = has_block_is modules a.module a.block (not-false _ (none_found (λ (z : Ask). not (has_block modules z.module z.block)) asks (map_parts line_of _ e) n a f))
 
 -- and the other way round
 have_all : (modules : List Object) (asks : List Ask) → ((n : ℕ) (a : Ask) → slice_get asks n ≡ Some a → HasBlock modules a.module a.block) → first_without modules asks ≡ None
-have_all modules asks h = ap (option_map line_of) (find_none (λ (z : Ask). not (has_block modules z.module z.block)) asks (λ n a f. ap not (is_has_block modules a.module a.block (h n a f))))
+have_all modules asks h = ap (option_map line_of) (none_pass (λ (z : Ask). not (has_block modules z.module z.block)) asks (λ n a f. ap not (is_has_block modules a.module a.block (h n a f))))
 
 -- where no import is refused, each is not
 each_import : (modules : List Object) (exports imports : List Ask) → imports_refusal modules exports imports ≡ None → (n : ℕ) (i : Ask) → slice_get imports n ≡ Some i → import_refusal modules exports i ≡ None
@@ -265,12 +262,12 @@ module _ (linkage : LinkMap) (first : Object) (others : List Object) where
   unfolding links
   unrefused h =
       let join : (k : ℕ) (i : Ask) → slice_get linkage.imports k ≡ Some i → Joined modules linkage.exports i = λ k i f.
-      let e = of_all (IsExported linkage.exports) linkage.imports k i h.exported f in
+      let e = all_there (IsExported linkage.exports) linkage.imports k i h.exported f in
       let at = to_filter (λ (z : Ask). link_by z (export_of linkage.exports z.name)) linkage.imports k i (record { module_of = i.module; block = i.block; to_module = e.0.module; to_block = e.0.block }) f (ap (link_by i) e.1) in
-      record { ask = e.0; found = e.1; joined = of_all (IsJoined modules) (links linkage) at.0 _ h.joined at.1 } in
-      or_none _ _ (pass_modules [] 0 first.cells modules (λ n o f. let m = of_all (IsModule first.cells) modules n o h.modules f in record { same = m.same_cells; plain_cells = m.plain_cells; plain_rows = m.plain_rows; walked = m.walked }) h.few)
+      record { ask = e.0; found = e.1; joined = all_there (IsJoined modules) (links linkage) at.0 _ h.joined at.1 } in
+      or_none _ _ (pass_modules [] 0 first.cells modules (λ n o f. let m = all_there (IsModule first.cells) modules n o h.modules f in record { same = m.same_cells; plain_cells = m.plain_cells; plain_rows = m.plain_rows; walked = m.walked }) h.few)
       (or_none _ _
-      (ap (option_map NoBlock) ((λ i. lower_line (have_all modules linkage.exports (λ n a f. of_all (λ (z : Ask). HasBlock modules z.module z.block) linkage.exports n a h.exports f) i) (have_all modules linkage.imports (λ n a f. (join n a f).joined.from) i))))
+      (ap (option_map NoBlock) ((λ i. lower_line (have_all modules linkage.exports (λ n a f. all_there (λ (z : Ask). HasBlock modules z.module z.block) linkage.exports n a h.exports f) i) (have_all modules linkage.imports (λ n a f. (join n a f).joined.from) i))))
       (import_each modules linkage.exports linkage.imports (λ n i f.
       let j = join n i f in
       let from = j.joined.from in

@@ -1,45 +1,14 @@
 -- Shapes with numbered parts are equal exactly where the trees are.
-use Rattle.std.proofs.Common.{◌≡◌, ℕ, ◌<◌, ◌≤◌, true, false, List, slice_get, Some, refl, sym, ap, ◌∙◌, subst, arith}
+use Rattle.std.proofs.Common.{◌≡◌, ℕ, ◌<◌, ◌≤◌, true, false, List, slice_get, Some, refl, sym, ap, ◌∙◌, arith}
 use Rattle.std.specs.Prelude.{◌↔◌}
-use Rattle.ft_static.specs.Expression.{Expression, word, variable, operation, sel, rem, upd, integer, memory}
-use Rattle.ft_static.specs.NodeRules.{is_memory, MayName, IsShape, AreNodes}
+use Rattle.ft_static.specs.Expression.{word, variable, operation, sel, rem, upd, integer, memory}
+use Rattle.ft_static.specs.NodeRules.{MayName, IsShape, AreNodes}
 use Rattle.ft_static.specs.NodeTree.{integer_part, memory_part, integer_at, memory_at, tree_of, trees, tree_at}
 use Rattle.ft_static.specs.declared.node.Node.{Node}
 use Rattle.ft_static.specs.declared.node.Shape.{Shape}
 use Rattle.ft_static.specs.declared.node.Shape.TheVariants as shape
-use Rattle.ft_static.proofs.NodeTrees.{tree_at-row}
+use Rattle.ft_static.proofs.NodeTrees.{tree_at-row, integer_named, memory_named}
 use Rattle.ft_modules.specs.TreeKeys.{number_in, key_of, AreTreeNumbers}
-
--- a named node's tree is of its sort
-pub integer_tree : (ts : List Expression) (y : Shape) → is_memory y ≡ false → tree_of ts y ≡ integer (integer_part (tree_of ts y))
-integer_tree ts (shape.Word w) e = refl
-integer_tree ts (shape.Var i) e = refl
-integer_tree ts (shape.Op o a b) e = refl
-integer_tree ts (shape.Sel m a) e = refl
-integer_tree ts shape.Memory e = cc
-integer_tree ts (shape.Upd m a v) e = cc
-integer_tree ts (shape.Rem a m) e = refl
-
--- the tree of a memory node is a memory
-pub memory_tree : (ts : List Expression) (y : Shape) → is_memory y ≡ true → tree_of ts y ≡ memory (memory_part (tree_of ts y))
-memory_tree ts (shape.Word w) e = cc
-memory_tree ts (shape.Var i) e = cc
-memory_tree ts (shape.Op o a b) e = cc
-memory_tree ts (shape.Sel m a) e = cc
-memory_tree ts shape.Memory e = refl
-memory_tree ts (shape.Upd m a v) e = refl
-memory_tree ts (shape.Rem a m) e = cc
-
-integer_named : (nodes : List Node) (n scope m : ℕ) → AreNodes nodes → MayName nodes n scope false m → tree_at nodes m ≡ integer (integer_at (trees nodes) m)
-integer_named nodes n scope m h k =
-    let e = tree_at-row nodes m k.node h k.found in
-    subst (λ (t : Expression). t ≡ integer (integer_part t)) (sym e) (integer_tree (trees nodes) k.node.shape k.sort)
-
--- a named memory's tree is a memory
-memory_named : (nodes : List Node) (n scope m : ℕ) → AreNodes nodes → MayName nodes n scope true m → tree_at nodes m ≡ memory (memory_at (trees nodes) m)
-memory_named nodes n scope m h k =
-    let e = tree_at-row nodes m k.node h k.found in
-    subst (λ (t : Expression). t ≡ memory (memory_part t)) (sym e) (memory_tree (trees nodes) k.node.shape k.sort)
 
 module _ (nodes : List Node) (cs : List ℕ) (n : ℕ) (h : AreNodes nodes) (s : AreTreeNumbers nodes cs n) where
   -- parts of the same number are of the same tree, and the other way round

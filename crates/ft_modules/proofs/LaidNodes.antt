@@ -2,6 +2,7 @@
 use Rattle.std.proofs.Common.{◌≡◌, ℕ, ◌+◌, ◌≤◌, List, length, slice_get, Some, refl, sym, subst, arith}
 use Rattle.std.specs.Prelude.{sum_by}
 use Rattle.std.proofs.lemmas.List.{length-map}
+use Rattle.ft_isa.proofs.Lists.{there_mapped}
 use Rattle.ft_static.specs.NodeRules.{IsNode, AreNodes}
 use Rattle.ft_static.specs.NodeTree.{tree_at}
 use Rattle.ft_static.specs.declared.node.Node.{Node}
@@ -9,7 +10,7 @@ use Rattle.ft_types.specs.declared.object.Object.{Object}
 use Rattle.ft_types.specs.Spellable.{IsSpellable}
 use Rattle.ft_modules.specs.Linked.{nothing_before, raised_node, laid, nodes_part}
 use Rattle.ft_modules.proofs.Laying.{get_among, whence, laid_length}
-use Rattle.ft_modules.proofs.Sits.{of_nodes, nodes_grow, among_all, mapped_at}
+use Rattle.ft_modules.proofs.ModuleParts.{of_nodes, nodes_grow, among_all}
 use Rattle.ft_modules.proofs.SpelledLinked.{from_map, raised_is_node}
 use Rattle.ft_modules.proofs.Trees.{StandIn, tree_raised}
 use Rattle.ft_modules.proofs.World.{before_of}
@@ -21,7 +22,7 @@ module _ (modules : List Object) (spelled : (m : ℕ) (o : Object) → slice_get
 
   -- a module's nodes stand among them
   laid_stand : (m : ℕ) (o : Object) → slice_get modules m ≡ Some o → StandIn o.nodes all_nodes (before_of modules m).nodes
-  laid_stand m o e n y f = get_among _ _ (before_of modules m).nodes n _ (among_all nodes_part of_nodes refl nodes_grow modules m o e) (mapped_at (raised_node (before_of modules m).nodes) o.nodes n y f)
+  laid_stand m o e n y f = get_among _ _ (before_of modules m).nodes n _ (among_all nodes_part of_nodes refl nodes_grow modules m o e) (there_mapped (raised_node (before_of modules m).nodes) o.nodes n y f)
 
   -- they obey the rules
   pub laid_nodes : AreNodes all_nodes

@@ -4,17 +4,12 @@ use Rattle.std.specs.Prelude.{slice_range, sum_by}
 use Rattle.std.proofs.lemmas.List.Sums.{sum_by-cons}
 use Rattle.std.proofs.lemmas.List.{append_assoc, length-append, length-drop, drop-append-le, take-append-le}
 use Rattle.std.proofs.Math.Seq.{drop-append-add}
+use Rattle.ft_isa.proofs.Lists.{there_front}
 use Rattle.ft_types.specs.declared.object.Object.{Object}
 use Rattle.ft_modules.specs.declared.before.Before.{Before}
 use Rattle.ft_modules.specs.Linked.{after_module, before_module, laid}
 
 -- ELEMENTS OF JOINED LISTS
-
--- an element of the first of joined lists
-pub get_left : {X : Type 0} (xs ys : List X) (k : ℕ) (x : X) → slice_get xs k ≡ Some x → slice_get (xs ++ ys) k ≡ Some x
-get_left [] ys k x e = cc
-get_left (y ∷ xs) ys zero x e = e
-get_left (y ∷ xs) ys (suc k) x e = get_left xs ys k x e
 
 -- an element of the second
 pub get_right : {X : Type 0} (xs ys : List X) (n k : ℕ) → n ≡ length xs + k → slice_get (xs ++ ys) n ≡ slice_get ys k
@@ -42,7 +37,7 @@ pub get_among : {X : Type 0} (whole part : List X) (n k : ℕ) (x : X) → Among
 get_among whole part n k x a e =
     let long = a.long in
     let place : n + k ≡ length a.front + k = omega arith in
-    ap (λ (z : List _). slice_get z (n + k)) a.is ∙ get_right a.front (part ++ a.back) (n + k) k place ∙ get_left part a.back k x e
+    ap (λ (z : List _). slice_get z (n + k)) a.is ∙ get_right a.front (part ++ a.back) (n + k) k place ∙ there_front part a.back k x e
 
 -- a stretch of the part
 pub range_among : {X : Type 0} (whole part : List X) (n a b : ℕ) → Among whole part n → a ≤ b → b ≤ length part → slice_range whole (n + a) (n + b) ≡ slice_range part a b

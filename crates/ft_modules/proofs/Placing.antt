@@ -1,10 +1,10 @@
 -- Modules that are linked without a refusal, as the run needs them.
-use Rattle.std.proofs.Common.{◌≡◌, ⊎_elim, ℕ, zero, suc, ◌+◌, ◌<◌, ◌≤◌, Bool, true, false, ◌&&◌, ◌==◌, if◌then◌else◌, List, [], ◌∷◌, length, map, slice_get, Option, Some, None, refl, sym, ap, ◌∙◌, subst, arith, eqb-true, eq-eqb}
+use Rattle.std.proofs.Common.{◌≡◌, ⊎_elim, ℕ, zero, suc, ◌+◌, ◌<◌, ◌≤◌, Bool, true, false, ◌&&◌, ◌==◌, List, [], ◌∷◌, length, map, slice_get, Option, Some, None, refl, sym, ap, ◌∙◌, subst, arith, eqb-true, eq-eqb}
 use Rattle.std.specs.Prelude.{slice_range}
 use Rattle.std.specs.List.{AllZip}
 use Rattle.std.specs.Option.{option_map, unwrap_or}
 use Rattle.std.proofs.lemmas.Bool.{cases_lt, and_parts, and_from}
-use Rattle.std.proofs.lemmas.Option.{slice_get_within}
+use Rattle.std.proofs.lemmas.Option.{slice_get_within, same_Some}
 use Rattle.ft_isa.specs.Words.{IsWord, code_address}
 use Rattle.ft_isa.specs.declared.basic.Base.{Base}
 use Rattle.ft_isa.specs.declared.basic.Base.TheVariants.{Int, Code}
@@ -18,115 +18,35 @@ use Rattle.ft_static.specs.declared.node.Node.{Node}
 use Rattle.ft_types.specs.declared.object.Object.{Object}
 use Rattle.ft_types.specs.declared.object.Block.{Block}
 use Rattle.ft_types.specs.declared.object.CodeType.{CodeType}
-use Rattle.ft_types.specs.declared.object.RegType.{RegType}
 use Rattle.ft_typing.specs.Accepted.{Applies, last_row, next_row}
 use Rattle.ft_typing.specs.Context.{Context, start_context}
-use Rattle.ft_types.specs.Objects.{start_of, code_type_of, block_start, block_type, block_end, block_instrs, reg_rows, queue_rows}
+use Rattle.ft_types.specs.Objects.{start_of, code_type_of, block_start, block_type, block_end, block_instrs}
 use Rattle.ft_typing.specs.Premise.{Premise}
 use Rattle.ft_types.specs.Spellable.{HasCodeType, subst_of, before, substs_of, IsSubst, Cover, IsSpellable}
 use Rattle.ft_semantics.specs.State.{State}
 use Rattle.ft_isa.specs.BasicTypes.{code}
+use Rattle.ft_isa.proofs.Lists.{there_below, all_there, none_pass}
+use Rattle.ft_types.proofs.BlockStarts.{rises}
 use Rattle.ft_typing.specs.TypedWord.{block_at, code_type_at, HasType, has_type}
 use Rattle.ft_typing.specs.TypingRow.{Outcome, Goes, Ends, Fails, need}
 use Rattle.ft_typing.proofs.TypedWords.{has_type_decides}
 use Rattle.ft_tolerance.specs.TypedState.{Place, instr_number, IsPlace}
-use Rattle.ft_tolerance.proofs.Lists.{of_all, found_there}
+use Rattle.ft_tolerance.proofs.Lists.{found_there}
 use Rattle.ft_tolerance.proofs.Transfers.{block_there}
 use Rattle.ft_link_map.specs.declared.link_map.LinkMap.{LinkMap}
 use Rattle.ft_modules.specs.CodeWalk.{code_over}
-use Rattle.ft_modules.specs.LikeTypes.{SameRow, SamePair, LikeTypes}
+use Rattle.ft_modules.specs.LikeTypes.{LikeTypes}
 use Rattle.ft_modules.specs.Linkable.{IsModule, IsJoined, AreLinkable}
 use Rattle.ft_modules.specs.declared.before.Before.{Before}
-use Rattle.ft_modules.specs.Linked.{nothing_before, after_module, before_module, raised_block, raised_subst, moves_to, Change, change_of, change_at, changed_by, linked}
+use Rattle.ft_modules.specs.Linked.{nothing_before, raised_block, raised_subst, moves_to, Change, change_of, change_at, changed_by, linked}
 use Rattle.ft_modules.specs.Links.{Link, links, start_in, type_in}
-use Rattle.ft_modules.specs.ModulesRun.{InModule, link_at, sent_by, sent_unfetched, sent}
-use Rattle.ft_modules.proofs.Elements.{find_none}
-use Rattle.ft_modules.proofs.Addresses.{find_same, find_mapped, same_tests, there_below, within_blocks, rising_blocks, one_number, block_at_own, some_same, no_block_inside}
-use Rattle.ft_modules.proofs.Beside.{Sends, AreSent, SameSubst, IsMovOf, IsInstrOf}
-use Rattle.ft_modules.proofs.Sits.{linked_instr, Sits, sits}
+use Rattle.ft_modules.specs.ModulesRun.{InModule, link_at, sent_by, sent}
+use Rattle.ft_modules.proofs.Addresses.{find_same, find_mapped, same_tests, within_blocks, one_number, block_at_own, no_block_inside}
+use Rattle.ft_modules.proofs.LinkedContexts.{Sends, AreSent, SameSubst, IsMovOf, IsInstrOf}
+use Rattle.ft_modules.proofs.ModuleParts.{linked_instr, Sits, sits}
 use Rattle.ft_modules.proofs.Trees.{range_get, like_raised, subst_raised}
 use Rattle.ft_modules.proofs.World.{before_of, at_address, Lands, BlockOf, World}
-
--- CODE TYPES THAT SAY THE SAME
-
--- rows say what they say themselves
-rows_itself : (o : Object) (rs : List RegType) → AllZip (SameRow o o) rs rs
-rows_itself o [] = tt
-rows_itself o (r ∷ rs) = (record { reg = refl; colour = refl; basic = refl; tree = refl }, rows_itself o rs)
-
--- so do queue rows
-pairs_itself : (o : Object) (rs : List (ℕ × ℕ)) → AllZip (SamePair o o) rs rs
-pairs_itself o [] = tt
-pairs_itself o (r ∷ rs) = (record { address = refl; value = refl }, pairs_itself o rs)
-
--- a code type says what it says itself
-pub like_itself : (o : Object) (t : ℕ) → LikeTypes o t o t
-like_itself o t = record { ints = refl; regs = rows_itself o (reg_rows o t); queue = pairs_itself o (queue_rows o t); memory = refl }
-
--- rows that say the same through others
-rows_through : (a b c : Object) (rs qs ps : List RegType) → AllZip (SameRow a b) rs qs → AllZip (SameRow b c) qs ps → AllZip (SameRow a c) rs ps
-rows_through a b c [] [] [] h k = tt
-rows_through a b c [] [] (p ∷ ps) h k = absurd k
-rows_through a b c [] (q ∷ qs) ps h k = absurd h
-rows_through a b c (r ∷ rs) [] ps h k = absurd h
-rows_through a b c (r ∷ rs) (q ∷ qs) [] h k = absurd k
-rows_through a b c (r ∷ rs) (q ∷ qs) (p ∷ ps) h k =
-    let x = h.0 in
-    let y = k.0 in
-    (record { reg = x.reg ∙ y.reg; colour = x.colour ∙ y.colour; basic = x.basic ∙ y.basic; tree = x.tree ∙ y.tree }, rows_through a b c rs qs ps h.1 k.1)
-
--- queue rows that do
-pairs_through : (a b c : Object) (rs qs ps : List (ℕ × ℕ)) → AllZip (SamePair a b) rs qs → AllZip (SamePair b c) qs ps → AllZip (SamePair a c) rs ps
-pairs_through a b c [] [] [] h k = tt
-pairs_through a b c [] [] (p ∷ ps) h k = absurd k
-pairs_through a b c [] (q ∷ qs) ps h k = absurd h
-pairs_through a b c (r ∷ rs) [] ps h k = absurd h
-pairs_through a b c (r ∷ rs) (q ∷ qs) [] h k = absurd k
-pairs_through a b c (r ∷ rs) (q ∷ qs) (p ∷ ps) h k =
-    let x = h.0 in
-    let y = k.0 in
-    (record { address = x.address ∙ y.address; value = x.value ∙ y.value }, pairs_through a b c rs qs ps h.1 k.1)
-
--- code types that do
-pub like_through : (a b c : Object) (t u v : ℕ) → LikeTypes a t b u → LikeTypes b u c v → LikeTypes a t c v
-like_through a b c t u v h k = record {
-  ints = h.ints ∙ k.ints;
-  regs = rows_through a b c _ _ _ h.regs k.regs;
-  queue = pairs_through a b c _ _ _ h.queue k.queue;
-  memory = h.memory ∙ k.memory;
-}
-
--- OFFSETS
-
--- a later module's instructions come after what stands first
-least_before : (k : Before) (modules : List Object) (m : ℕ) → k.instrs ≤ (before_module k modules m).instrs
-unfolding before_module
-least_before k [] m = omega arith
-least_before k (y ∷ ys) zero = omega arith
-least_before k (y ∷ ys) (suc m) = let h = least_before (after_module k y) ys m in omega (arith, h)
-
--- a later module's instructions come after a module's
-rises_before : (k : Before) (modules : List Object) (m n : ℕ) (o : Object) → slice_get modules m ≡ Some o → m < n → (before_module k modules m).instrs + length o.instrs ≤ (before_module k modules n).instrs
-unfolding before_module
-rises_before k [] m n o e lt = cc
-rises_before k (y ∷ ys) m zero o e lt = absurd (omega (arith, lt))
-rises_before k (y ∷ ys) zero (suc n) o e lt = let same : y ≡ o = cc in subst (λ (z : Object). k.instrs + length z.instrs ≤ (before_module (after_module k y) ys n).instrs) same (least_before (after_module k y) ys n)
-rises_before k (y ∷ ys) (suc m) (suc n) o e lt = rises_before (after_module k y) ys m n o e (omega (arith, lt))
-
--- SENDING ON
-
--- where a machine with nothing fetched and both counters at an address is sent
-sent_at : (modules : List Object) (joins : List Link) (m w : ℕ) (s : State) → s.fetched ≡ None → s.pc_green ≡ w → s.pc_blue ≡ w → sent modules joins (record { number = m; state = s }) ≡ sent_by modules (record { number = m; state = s }) (link_at modules joins m w)
-sent_at modules joins m w s f g b =
-    let a : InModule = record { number = m; state = s } in
-    let test : (s.pc_green == s.pc_blue) ≡ true = eq-eqb s.pc_green s.pc_blue (g ∙ sym b) in
-    ap (sent_unfetched modules joins a) f
-    ∙ ap (λ t. if t then sent_by modules a (link_at modules joins m s.pc_green) else a) test
-    ∙ ap (λ n. sent_by modules a (link_at modules joins m n)) g
-
--- both counters are there already
-stay_at : (m w : ℕ) (s : State) → s.pc_green ≡ w → s.pc_blue ≡ w → ◌≡◌ {A = InModule} (record { number = m; state = s }) (record { number = m; state = at_address w s })
-stay_at m w s g b = λ i. record { number = m; state = record s { pc_green = g i; pc_blue = b i } }
+use Rattle.ft_modules.proofs.SentOn.{like_itself, like_through, rises_before, sent_at, stay_at}
 
 -- MOVES AND SUBSTITUTIONS OF A MODULE
 
@@ -250,7 +170,7 @@ module _ (linkage : LinkMap) (first : Object) (others : List Object) (h : AreLin
 
   -- what is known of a module
   pub is_module : (m : ℕ) (o : Object) → slice_get modules m ≡ Some o → IsModule first.cells o
-  is_module m o e = of_all (IsModule first.cells) modules m o h.modules e
+  is_module m o e = all_there (IsModule first.cells) modules m o h.modules e
 
   -- where its parts stand
   pub sits_in : (m : ℕ) (o : Object) → slice_get modules m ≡ Some o → Sits o x (before_of modules m) cs
@@ -292,7 +212,7 @@ module _ (linkage : LinkMap) (first : Object) (others : List Object) (h : AreLin
   pub change_is : (m : ℕ) (o : Object) (e : slice_get modules m ≡ Some o) (n : ℕ) (y : Block) → slice_get o.blocks n ≡ Some y → change_at cs ((before_of modules m).instrs + code_address y.start) ≡ option_map (change_of modules) (link_at modules joins m (code_address y.start))
   change_is m o e n y f =
       find_mapped (λ (c : Change). (before_of modules m).instrs + code_address y.start == c.from) (change_of modules) joins
-      ∙ ap (option_map (change_of modules)) (find_same _ _ joins (λ i l g. test_same m o e n y f l (of_all (IsJoined modules) joins i l h.joined g)))
+      ∙ ap (option_map (change_of modules)) (find_same _ _ joins (λ i l g. test_same m o e n y f l (all_there (IsJoined modules) joins i l h.joined g)))
 
   -- where a block is sent, by its link
   landing_by : (m : ℕ) (o : Object) (e : slice_get modules m ≡ Some o) (n : ℕ) (y : Block) (f : slice_get o.blocks n ≡ Some y) (u : Option Link) → link_at modules joins m (code_address y.start) ≡ u → Landing modules joins x m o (sent_by_change (before_of modules m) o (code_address y.start) (option_map (change_of modules) u)) (code_address y.start) y
@@ -317,16 +237,16 @@ module _ (linkage : LinkMap) (first : Object) (others : List Object) (h : AreLin
   landing_by m o e n y f (Some l) g =
       let mine = is_module m o e in
       let found = found_there (λ (l : Link). (l.module_of == m) && (code_address y.start == code_address (start_in modules l.module_of l.block))) joins l g in
-      let j = of_all (IsJoined modules) joins found.place l h.joined found.there in
+      let j = all_there (IsJoined modules) joins found.place l h.joined found.there in
       let p = and_parts _ _ found.passes in
       let number : l.module_of ≡ m = eqb-true _ _ p.0 in
-      let from : j.from.object ≡ o = some_same _ _ (sym j.from.there ∙ ap (slice_get modules) number ∙ e) in
+      let from : j.from.object ≡ o = same_Some _ _ (sym j.from.there ∙ ap (slice_get modules) number ∙ e) in
       let b = there_below j.from.object.blocks l.block j.from.below in
       let b_there : slice_get o.blocks l.block ≡ Some b.0 = (λ i. slice_get (sym from i).blocks l.block) ∙ b.1 in
       let b_start = start_there modules l.module_of l.block j.from.object b.0 j.from.there b.1 in
       let starts : b.0.start ≡ y.start = (let same = eqb-true _ _ p.1 in omega (arith, same, b_start)) in
       let number_b : l.block ≡ n = one_number _ _ _ l.block n b.0 y mine.spelled.blocks b_there f starts in
-      let is : b.0 ≡ y = some_same _ _ (sym b_there ∙ ap (slice_get o.blocks) number_b ∙ f) in
+      let is : b.0 ≡ y = same_Some _ _ (sym b_there ∙ ap (slice_get o.blocks) number_b ∙ f) in
       let b_type : type_in modules l.module_of l.block ≡ y.code_type = type_there modules l.module_of l.block j.from.object b.0 j.from.there b.1 ∙ ap (λ (z : Block). z.code_type) is in
       let d = there_below j.to.object.blocks l.to_block j.to.below in
       let d_start = start_there modules l.to_module l.to_block j.to.object d.0 j.to.there d.1 in
@@ -367,7 +287,7 @@ module _ (linkage : LinkMap) (first : Object) (others : List Object) (h : AreLin
 
   -- a code type is there
   type_of_block : (o : Object) (n : ℕ) (y : Block) → IsSpellable o → slice_get o.blocks n ≡ Some y → (t : CodeType) × (slice_get o.types y.code_type ≡ Some t)
-  type_of_block o n y s f = there_below o.types y.code_type (of_all (HasCodeType (length o.types)) o.blocks n y s.block_types f)
+  type_of_block o n y s f = there_below o.types y.code_type (all_there (HasCodeType (length o.types)) o.blocks n y s.block_types f)
 
   -- a module's block type and the raised one say the same
   pub block_alike : (m : ℕ) (o : Object) → slice_get modules m ≡ Some o → (n : ℕ) (y : Block) → slice_get o.blocks n ≡ Some y → LikeTypes o y.code_type x ((before_of modules m).types + y.code_type)
@@ -406,7 +326,7 @@ module _ (linkage : LinkMap) (first : Object) (others : List Object) (h : AreLin
       by_next start None g = (let w = (within_blocks (length o.instrs) 0 o.blocks n y s.blocks f).1 in (omega (arith, start, w), omega arith))
       by_next start (Some z) g =
           let w = (within_blocks (length o.instrs) 0 o.blocks (suc n) z s.blocks g).1 in
-          let r = rising_blocks (length o.instrs) 0 o.blocks n (suc n) y z s.blocks f g (omega arith) in
+          let r = rises (length o.instrs) 0 o.blocks n (suc n) y z s.blocks f g (omega arith) in
           (omega (arith, start, r), omega (arith, w))
 
   -- a block of a module in the linked object
@@ -436,13 +356,13 @@ module _ (linkage : LinkMap) (first : Object) (others : List Object) (h : AreLin
   inside_in : (m : ℕ) (o : Object) (e : slice_get modules m ≡ Some o) (p : Place) (j : ℕ) (s : State) → IsPlace o p → p.index ≡ suc j → s.fetched ≡ None → s.pc_green ≡ code_address (instr_number p) → s.pc_blue ≡ code_address (instr_number p) → ◌≡◌ {A = InModule} (sent modules joins (record { number = m; state = s })) (record { number = m; state = s })
   inside_in m o e p j s at index f g b =
       let mine = is_module m o e in
-      let none : link_at modules joins m (code_address (instr_number p)) ≡ None = find_none _ joins (λ i l there.
-      let join = of_all (IsJoined modules) joins i l h.joined there in
+      let none : link_at modules joins m (code_address (instr_number p)) ≡ None = none_pass _ joins (λ i l there.
+      let join = all_there (IsJoined modules) joins i l h.joined there in
       let z = join.from in
       let block = there_below z.object.blocks l.block z.below in
       let start = start_there modules l.module_of l.block z.object block.0 z.there block.1 in
       not_here (l.module_of == m) (code_address (instr_number p) == code_address (start_in modules l.module_of l.block)) (λ t u.
-      let from : z.object ≡ o = some_same _ _ (sym z.there ∙ ap (slice_get modules) (eqb-true _ _ t) ∙ e) in
+      let from : z.object ≡ o = same_Some _ _ (sym z.there ∙ ap (slice_get modules) (eqb-true _ _ t) ∙ e) in
       no_block_inside o p j l.block block.0 mine.spelled mine.accepted at index ((λ q. slice_get (sym from q).blocks l.block) ∙ block.1) (eqb-true _ _ u ∙ ap code_address start))) in
       sent_at modules joins m (code_address (instr_number p)) s f g b ∙ ap (sent_by modules (record { number = m; state = s })) none
 

@@ -23,7 +23,8 @@ use Rattle.ft_link_map.specs.declared.link_map.LinkMap.{LinkMap}
 use Rattle.ft_modules.specs.Links.{Link, links}
 use Rattle.ft_modules.specs.ModulesRun.{InModule, link_at, sent_by, sent_unfetched, sent, step_in, ModulesRan, after_sent, modules_ran, modules_outputs, modules_status}
 use Rattle.ft_modules.proofs.World.{World, AreTogether, both_ended, both_stand}
-use Rattle.ft_modules.proofs.Together.{arrives, steps_together}
+use Rattle.ft_modules.proofs.LinkedSteps.{steps_together}
+use Rattle.ft_modules.proofs.Arrivals.{arrives}
 
 -- a machine that is sent on has the status that it had
 sent_to_status : (modules : List Object) (a : InModule) (l : Option Link) → (sent_by modules a l).state.status ≡ a.state.status

@@ -5,7 +5,7 @@ use Rattle.std.specs.Option.{option_map, unwrap_or}
 use Rattle.std.proofs.lemmas.Bool.{cases_lt}
 use Rattle.std.proofs.lemmas.List.{length-map}
 use Rattle.std.proofs.lemmas.List.Sums.{sum_by-cons, sum_by-append}
-use Rattle.std.proofs.lemmas.Option.{slice_get_within}
+use Rattle.std.proofs.lemmas.Option.{slice_get_within, same_Some}
 use Rattle.ft_isa.specs.declared.basic.Base.{Base}
 use Rattle.ft_isa.specs.declared.basic.Base.TheVariants.{Int, Code}
 use Rattle.ft_isa.specs.declared.basic.Basic.{Basic}
@@ -14,6 +14,7 @@ use Rattle.ft_isa.specs.declared.reg.Reg.{Reg}
 use Rattle.ft_isa.specs.declared.instr.Subst.{Subst}
 use Rattle.ft_isa.specs.declared.instr.Instr.{Instr}
 use Rattle.ft_isa.specs.declared.instr.Instr.TheVariants.{OpReg, OpWord, Mov, Ld, St, JmpG, JmpB, BzG, BzB, Halt, Idx}
+use Rattle.ft_isa.proofs.Lists.{all_there}
 use Rattle.ft_static.specs.NodeRules.{is_memory, MayName, IsShape, IsNode}
 use Rattle.ft_static.specs.declared.node.Node.{Node}
 use Rattle.ft_static.specs.declared.node.Shape.{Shape}
@@ -24,13 +25,11 @@ use Rattle.ft_types.specs.declared.object.CodeType.{CodeType}
 use Rattle.ft_types.specs.declared.object.RegType.{RegType}
 use Rattle.ft_types.specs.Objects.{start_of, block_start, block_end, block_instrs}
 use Rattle.ft_types.specs.Spellable.{IsBase, IsBasic, IsRegRow, AreRising, IsQueueRow, IsCodeType, AreBlocks, BeginAtZero, subst_of, before, substs_of, IsSubst, Cover, IsSpellable}
-use Rattle.ft_tolerance.proofs.Lists.{of_all}
 use Rattle.ft_modules.specs.declared.before.Before.{Before}
 use Rattle.ft_modules.specs.Linked.{after_module, before_module, raised_shape, raised_node, raised_row, raised_pair, raised_type, raised_block, raised_subst, raised_mov, raised_instr, Change, change_at, changed_by, changed_mov, changed_instr, laid, blocks_part, instrs_part}
 use Rattle.ft_modules.specs.CodeWalk.{code_claimed}
 use Rattle.ft_modules.proofs.Elements.{all_of}
-use Rattle.ft_modules.proofs.Addresses.{some_same}
-use Rattle.ft_modules.proofs.Sits.{first_block}
+use Rattle.ft_modules.proofs.ModuleParts.{first_block}
 use Rattle.ft_modules.proofs.Trees.{StandIn, get-drop}
 
 -- NODES
@@ -88,7 +87,7 @@ rows_rise k least (r ∷ rs) h = (h.0, rows_rise k (suc r.reg.number) rs h.1)
 -- an element of a mapped list is one of the list's, mapped
 pub from_map : {X Y : Type 0} (f : X → Y) (xs : List X) (n : ℕ) (y : Y) → slice_get (map f xs) n ≡ Some y → (x : X) × (slice_get xs n ≡ Some x) × (y ≡ f x)
 from_map f [] n y e = cc
-from_map f (x ∷ xs) zero y e = (x, refl, some_same y (f x) (sym e))
+from_map f (x ∷ xs) zero y e = (x, refl, same_Some y (f x) (sym e))
 from_map f (x ∷ xs) (suc n) y e = from_map f xs n y e
 
 -- a raised code type obeys its rules
@@ -97,13 +96,13 @@ raised_code_type t u k ns ms y le few s h = record {
   ints = h.ints;
   regs = all_of _ _ (λ n r e.
       let x = from_map (raised_row k) y.regs n r e in
-      let is = of_all (IsRegRow t ns y.ints) y.regs n x.0 h.regs x.1 in
+      let is = all_there (IsRegRow t ns y.ints) y.regs n x.0 h.regs x.1 in
       subst (IsRegRow u ms y.ints) (sym x.2) (record { basic = basic_more t u x.0.basic le is.basic; expr = raised_name ns ms k (length ns) (length ms) y.ints false x.0.expr s few is.expr }));
   rising = rows_rise k 0 y.regs h.rising;
   queue_length = (let l = length-map y.queue (raised_pair k) in let q = h.queue_length in omega (arith, l, q));
   queue = all_of _ _ (λ n r e.
       let x = from_map (raised_pair k) y.queue n r e in
-      let is = of_all (IsQueueRow ns y.ints) y.queue n x.0 h.queue x.1 in
+      let is = all_there (IsQueueRow ns y.ints) y.queue n x.0 h.queue x.1 in
       subst (IsQueueRow ms y.ints) (sym x.2) (record { address = raised_name ns ms k (length ns) (length ms) y.ints false x.0.0 s few is.address; value = raised_name ns ms k (length ns) (length ms) y.ints false x.0.1 s few is.value }));
   memory = raised_name ns ms k (length ns) (length ms) y.ints true y.memory s few h.memory;
 }

@@ -17,8 +17,9 @@ use Rattle.ft_typing.specs.Context.{start_context}
 use Rattle.ft_types.specs.Objects.{regs_of, queue_of, block_instrs}
 use Rattle.ft_types.specs.Spellable.{IsBasic, IsBase, IsCell, IsNodeIn, IsCodeType, HasCodeType, IsRun, IsInstr, Cover, substs_of, reg_row_count, queue_row_count, IsSpellable}
 use Rattle.ft_isa.specs.BasicTypes.{code}
+use Rattle.ft_isa.proofs.Lists.{there_below, all_there}
 use Rattle.ft_typing.specs.TypedWord.{code_type_at, HasType}
-use Rattle.ft_tolerance.proofs.Lists.{of_all, found_there}
+use Rattle.ft_tolerance.proofs.Lists.{found_there}
 use Rattle.ft_tolerance.proofs.Transfers.{block_of_type, block_there}
 use Rattle.ft_link_map.specs.declared.link_map.LinkMap.{LinkMap}
 use Rattle.ft_modules.specs.Linkable.{HasPlainCell, IsModule, IsJoined, AreLinkable}
@@ -26,11 +27,11 @@ use Rattle.ft_modules.specs.declared.before.Before.{Before}
 use Rattle.ft_modules.specs.Linked.{nothing_before, after_module, before_module, raised_node, raised_row, raised_pair, raised_type, raised_block, raised_instr, Change, change_of, change_at, changed_by, changed_instr, laid, nodes_part, types_part, blocks_part, instrs_part, substs_part, entry_by, linked}
 use Rattle.ft_modules.specs.Links.{Link, links}
 use Rattle.ft_modules.proofs.Elements.{all_of}
-use Rattle.ft_modules.proofs.Addresses.{there_below, within_blocks}
+use Rattle.ft_modules.proofs.Addresses.{within_blocks}
 use Rattle.ft_modules.proofs.LaidNodes.{laid_nodes}
 use Rattle.ft_modules.proofs.Laying.{whence, laid_length}
 use Rattle.ft_modules.proofs.Placing.{typed_moves, start_there, type_there}
-use Rattle.ft_modules.proofs.Sits.{of_nodes, of_types, of_blocks, of_instrs, of_substs, nodes_grow, types_grow, blocks_grow, instrs_grow, substs_grow, among_all, linked_instr, Sits, sits, first_block}
+use Rattle.ft_modules.proofs.ModuleParts.{of_nodes, of_types, of_blocks, of_instrs, of_substs, nodes_grow, types_grow, blocks_grow, instrs_grow, substs_grow, among_all, linked_instr, Sits, sits, first_block}
 use Rattle.ft_modules.proofs.SpelledLinked.{raised_name, basic_more, from_map, raised_code_type, raised_count, laid_sum, blocks_laid, begin_at_zero, changed_substs, cover_laid, instr_in_block}
 use Rattle.ft_modules.proofs.World.{before_of}
 
@@ -67,7 +68,7 @@ module _ (linkage : LinkMap) (first : Object) (others : List Object) (h : AreLin
 
   -- what is known of a module
   is_module : (m : ℕ) (o : Object) → slice_get modules m ≡ Some o → IsModule first.cells o
-  is_module m o e = of_all (IsModule first.cells) modules m o h.modules e
+  is_module m o e = all_there (IsModule first.cells) modules m o h.modules e
 
   -- a module is spelled
   spelled_module : (m : ℕ) (o : Object) → slice_get modules m ≡ Some o → IsSpellable o
@@ -132,7 +133,7 @@ module _ (linkage : LinkMap) (first : Object) (others : List Object) (h : AreLin
       let s = place_of w.number w.object w.there in
       let z = from_map (raised_type k.nodes) w.object.types w.place y w.found in
       let o = w.object in
-      let is = of_all (IsCodeType (length o.types) o.nodes) o.types w.place z.0 (spelled_module w.number o w.there).types z.1 in
+      let is = all_there (IsCodeType (length o.types) o.nodes) o.types w.place z.0 (spelled_module w.number o w.there).types z.1 in
       let many = types_within w.number o w.there in
       subst (IsCodeType (length x.types) x.nodes) (sym z.2) (raised_code_type (length o.types) (length x.types) k.nodes o.nodes x.nodes z.0 (omega (arith, many)) (nodes_within w.number o w.there) s.nodes is))
 
@@ -145,7 +146,7 @@ module _ (linkage : LinkMap) (first : Object) (others : List Object) (h : AreLin
       let k = before_of modules w.number in
       let o = w.object in
       let z = from_map (raised_block k) o.blocks w.place y w.found in
-      let is : z.0.code_type < length o.types = of_all (HasCodeType (length o.types)) o.blocks w.place z.0 (spelled_module w.number o w.there).block_types z.1 in
+      let is : z.0.code_type < length o.types = all_there (HasCodeType (length o.types)) o.blocks w.place z.0 (spelled_module w.number o w.there).block_types z.1 in
       let many = types_within w.number o w.there in
       subst (HasCodeType (length x.types)) (sym z.2) (omega (arith, is, many)))
 
@@ -160,7 +161,7 @@ module _ (linkage : LinkMap) (first : Object) (others : List Object) (h : AreLin
       let kind = type_there modules l.to_module l.to_block z.object b.0 z.there b.1 in
       let spelled = spelled_module l.to_module z.object z.there in
       let inside = (within_blocks _ _ _ l.to_block b.0 spelled.blocks b.1).1 in
-      let is : b.0.code_type < length z.object.types = of_all (HasCodeType (length z.object.types)) z.object.blocks l.to_block b.0 spelled.block_types b.1 in
+      let is : b.0.code_type < length z.object.types = all_there (HasCodeType (length z.object.types)) z.object.blocks l.to_block b.0 spelled.block_types b.1 in
       let many = types_within l.to_module z.object z.there in
       let room = instrs_within l.to_module z.object z.there in
       let few = h.few.instrs in
@@ -185,7 +186,7 @@ module _ (linkage : LinkMap) (first : Object) (others : List Object) (h : AreLin
   found_change w d e =
       let f = found_there (λ (c : Change). w == c.from) cs d e in
       let l = from_map (change_of modules) (links linkage) f.place d f.there in
-      subst (λ (c : Change). IsWord c.to × (c.code_type < length x.types)) (sym l.2) (change_is_lawful l.0 (of_all (IsJoined modules) (links linkage) f.place l.0 h.joined l.1))
+      subst (λ (c : Change). IsWord c.to × (c.code_type < length x.types)) (sym l.2) (change_is_lawful l.0 (all_there (IsJoined modules) (links linkage) f.place l.0 h.joined l.1))
 
   -- a `mov` of a module, raised and changed
   mov_lawful : (m : ℕ) (o : Object) → slice_get modules m ≡ Some o → (rd : Reg) (v : Coloured) (n : ℕ) (base : Base) → IsWord v.word → IsBasic (length o.types) (record { refs = n; base = base }) → HasType o v.word (record { refs = n; base = base }) → IsInstr (length x.types) (length x.cells) (linked_instr cs (before_of modules m) (Mov rd v (record { refs = n; base = base })))
@@ -215,7 +216,7 @@ module _ (linkage : LinkMap) (first : Object) (others : List Object) (h : AreLin
       let z = from_map (raised_instr k) o.instrs w.place a.0 w.found in
       let mine = is_module w.number o w.there in
       let b = instr_in_block o w.place z.0 mine.spelled z.1 in
-      let is : IsInstr (length o.types) (length o.cells) z.0 = of_all (IsInstr (length o.types) (length o.cells)) o.instrs w.place z.0 mine.spelled.instrs z.1 in
+      let is : IsInstr (length o.types) (length o.cells) z.0 = all_there (IsInstr (length o.types) (length o.cells)) o.instrs w.place z.0 mine.spelled.instrs z.1 in
       let same : y ≡ linked_instr cs k z.0 = a.2 ∙ ap (changed_instr cs) z.2 in
       subst (IsInstr (length x.types) (length x.cells)) (sym same) (instr_lawful w.number o w.there z.0 is (typed_moves o (start_context o b.1.code_type) (block_instrs o b.0) b.2 z.0 (mine.accepted.blocks b.0 b.1 b.3) b.4)))
 
@@ -229,7 +230,7 @@ module _ (linkage : LinkMap) (first : Object) (others : List Object) (h : AreLin
       let o = w.object in
       let s = place_of w.number o w.there in
       let z = from_map (λ j. k.nodes + j) o.substs w.place y w.found in
-      let is = of_all (IsNodeIn o.nodes 128 false) o.substs w.place z.0 (spelled_module w.number o w.there).substs z.1 in
+      let is = all_there (IsNodeIn o.nodes 128 false) o.substs w.place z.0 (spelled_module w.number o w.there).substs z.1 in
       subst (IsNodeIn x.nodes 128 false) (sym z.2) (raised_name o.nodes x.nodes k.nodes (length o.nodes) (length x.nodes) 128 false z.0 s.nodes (nodes_within w.number o w.there) is))
 
   -- the substitutions take all rows in turn
@@ -244,7 +245,7 @@ module _ (linkage : LinkMap) (first : Object) (others : List Object) (h : AreLin
   entry_below None e = (let w = blocks_within 0 first refl in let b = (spelled_module 0 first refl).entry in omega (arith, w, b))
   entry_below (Some l) e =
       let f = found_there (λ (l : Link). (l.module_of == 0) && (l.block == first.entry)) (links linkage) l e in
-      let j = of_all (IsJoined modules) (links linkage) f.place l h.joined f.there in
+      let j = all_there (IsJoined modules) (links linkage) f.place l h.joined f.there in
       let w = blocks_within l.to_module j.to.object j.to.there in
       let b = j.to.below in
       omega (arith, w, b)
@@ -259,8 +260,8 @@ module _ (linkage : LinkMap) (first : Object) (others : List Object) (h : AreLin
       record {
         few_cells = f.few_cells;
         cells = all_of (IsCell (length x.types)) first.cells (λ n c e.
-            let is = of_all (IsCell (length first.types)) first.cells n c f.cells e in
-            record { name = is.name; name_length = is.name_length; basic = record { refs = is.basic.refs; base = plain_cell_base (length x.types) c.basic.base (of_all HasPlainCell first.cells n c mine.plain_cells e) }; init = is.init });
+            let is = all_there (IsCell (length first.types)) first.cells n c f.cells e in
+            record { name = is.name; name_length = is.name_length; basic = record { refs = is.basic.refs; base = plain_cell_base (length x.types) c.basic.base (all_there HasPlainCell first.cells n c mine.plain_cells e) }; init = is.init });
         names_differ = f.names_differ;
         nodes = nodes_are;
         some_type = (let w = types_within 0 first refl in let s = f.some_type in omega (arith, w, s));

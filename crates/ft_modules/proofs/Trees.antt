@@ -12,19 +12,19 @@ use Rattle.ft_static.specs.declared.node.Shape.{Shape}
 use Rattle.ft_static.specs.declared.node.Shape.TheVariants as shape
 use Rattle.ft_static.proofs.NodeTrees.{tree_at-row}
 use Rattle.ft_isa.specs.declared.instr.Subst.{Subst}
+use Rattle.ft_isa.proofs.Lists.{all_there}
 use Rattle.ft_types.specs.declared.object.Object.{Object}
 use Rattle.ft_types.specs.declared.object.CodeType.{CodeType}
 use Rattle.ft_types.specs.Objects.{regs_of, queue_of, ints_of_type, memory_of_type, reg_rows, queue_rows, scope_of_node, scope_of}
 use Rattle.ft_types.specs.Spellable.{IsNodeIn, IsRegRow, IsQueueRow, IsCodeType, IsSpellable}
 use Rattle.ft_typing.specs.Context.{replacement, rows_of, integer_form_of}
 use Rattle.ft_tolerance.specs.TypedState.{valuation_by}
-use Rattle.ft_tolerance.proofs.Lists.{of_all}
 use Rattle.ft_modules.specs.LikeTypes.{SameInteger, SameMemory, SameRow, SamePair, LikeTypes}
 use Rattle.ft_modules.specs.declared.before.Before.{Before}
 use Rattle.ft_modules.specs.Linked.{raised_shape, raised_node, raised_row, raised_pair, raised_subst, Change}
-use Rattle.ft_modules.proofs.Beside.{SameSubst}
-use Rattle.ft_modules.proofs.BesideBlocks.{form_same, memory_form_same}
-use Rattle.ft_modules.proofs.Sits.{Sits}
+use Rattle.ft_modules.proofs.LinkedContexts.{SameSubst}
+use Rattle.ft_modules.proofs.LinkedBlocks.{form_same, memory_form_same}
+use Rattle.ft_modules.proofs.ModuleParts.{Sits}
 
 -- TREES
 
@@ -106,16 +106,16 @@ module _ (o x : Object) (k : Before) (cs : List Change) (spelled : IsSpellable o
   pub like_raised : (t : ℕ) (y : CodeType) → slice_get o.types t ≡ Some y → LikeTypes o t x (k.types + t)
   like_raised t y e =
       let f = s.types t y e in
-      let is : IsCodeType (length o.types) o.nodes y = of_all (IsCodeType (length o.types) o.nodes) o.types t y spelled.types e in
+      let is : IsCodeType (length o.types) o.nodes y = all_there (IsCodeType (length o.types) o.nodes) o.types t y spelled.types e in
       record {
         ints = ap (λ (z : Option CodeType). unwrap_or (option_map ints_of_type z) 0) e ∙ ap (λ (z : Option CodeType). unwrap_or (option_map ints_of_type z) 0) (sym f);
         regs = subst (λ (z : Option CodeType). AllZip (SameRow o x) (unwrap_or (option_map regs_of z) []) (reg_rows x (k.types + t))) (sym e)
             (subst (λ (z : Option CodeType). AllZip (SameRow o x) y.regs (unwrap_or (option_map regs_of z) [])) (sym f)
-            (zip_map (SameRow o x) (raised_row k.nodes) y.regs (λ n r g. record { reg = refl; colour = refl; basic = refl; tree = same_integer y.ints (length o.nodes) r.expr (of_all (IsRegRow (length o.types) o.nodes y.ints) y.regs n r is.regs g).expr })));
+            (zip_map (SameRow o x) (raised_row k.nodes) y.regs (λ n r g. record { reg = refl; colour = refl; basic = refl; tree = same_integer y.ints (length o.nodes) r.expr (all_there (IsRegRow (length o.types) o.nodes y.ints) y.regs n r is.regs g).expr })));
         queue = subst (λ (z : Option CodeType). AllZip (SamePair o x) (unwrap_or (option_map queue_of z) []) (queue_rows x (k.types + t))) (sym e)
             (subst (λ (z : Option CodeType). AllZip (SamePair o x) y.queue (unwrap_or (option_map queue_of z) [])) (sym f)
             (zip_map (SamePair o x) (raised_pair k.nodes) y.queue (λ n r g.
-            let q = of_all (IsQueueRow o.nodes y.ints) y.queue n r is.queue g in
+            let q = all_there (IsQueueRow o.nodes y.ints) y.queue n r is.queue g in
             record { address = same_integer y.ints (length o.nodes) r.0 q.address; value = same_integer y.ints (length o.nodes) r.1 q.value })));
         memory = (λ i. memory_at (trees o.nodes) (unwrap_or (option_map memory_of_type (e i)) 0)) ∙ same_memory y.ints (length o.nodes) y.memory is.memory ∙ (λ i. memory_at (trees x.nodes) (unwrap_or (option_map memory_of_type (sym f i)) 0));
       }
@@ -150,7 +150,7 @@ module _ (o x : Object) (k : Before) (cs : List Change) (spelled : IsSpellable o
   unfolding replacement valuation_by
   subst_raised u le few memory =
       let rows : rows_of x (raised_subst k u) ≡ map raise (rows_of o u) = s.substs u.first u.past le few in
-      let each : (j n : ℕ) → slice_get (rows_of o u) j ≡ Some n → IsNodeIn o.nodes 128 false n = λ j n e. of_all (IsNodeIn o.nodes 128 false) o.substs (u.first + j) n spelled.substs (range_get o.substs u.first u.past j n e) in
+      let each : (j n : ℕ) → slice_get (rows_of o u) j ≡ Some n → IsNodeIn o.nodes 128 false n = λ j n e. all_there (IsNodeIn o.nodes 128 false) o.substs (u.first + j) n spelled.substs (range_get o.substs u.first u.past j n e) in
       record {
         forms = λ i. record { integers = (forms_raised (rows_of o u) each ∙ ap (map (integer_form_of x)) (sym rows)) i; memory = memory_form_same o x u.memory (k.nodes + u.memory) (same_memory 128 (length o.nodes) u.memory memory) i };
         count = sym (length-map (rows_of o u) raise) ∙ ap (λ (ns : List ℕ). length ns) (sym rows);

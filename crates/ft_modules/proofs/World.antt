@@ -12,6 +12,7 @@ use Rattle.ft_isa.specs.declared.basic.Base.{Base}
 use Rattle.ft_isa.specs.declared.basic.Base.TheVariants.{Int, Code}
 use Rattle.ft_isa.specs.declared.basic.Basic.{Basic}
 use Rattle.ft_isa.specs.declared.instr.Instr.{Instr}
+use Rattle.ft_isa.proofs.Lists.{all_there}
 use Rattle.ft_static.specs.Expression.{Valuation}
 use Rattle.ft_static.specs.Form.{Updates}
 use Rattle.ft_types.specs.declared.object.Object.{Object}
@@ -27,7 +28,6 @@ use Rattle.ft_semantics.specs.State.{State, Cells}
 use Rattle.ft_typing.specs.TypedWord.{block_at, cell_of, cell_type, HasTypeOver, HasType}
 use Rattle.ft_typing.specs.Context.{Typed, TypedRegisters, FormPair, Context, typed_row, registers_after, start_context}
 use Rattle.ft_tolerance.specs.TypedState.{Place, instr_number, FitsQueue, FitsCells, FitsContext, Fits, context_at, IsPlace}
-use Rattle.ft_tolerance.proofs.Lists.{of_all}
 use Rattle.ft_types.proofs.Maps.{get-insert}
 use Rattle.ft_modules.specs.CodeWalk.{Entered, code_walk}
 use Rattle.ft_modules.specs.LikeTypes.{LikeTypes}
@@ -36,8 +36,8 @@ use Rattle.ft_modules.specs.declared.before.Before.{Before}
 use Rattle.ft_modules.specs.Linked.{nothing_before, before_module, raised_block}
 use Rattle.ft_modules.specs.Links.{Link}
 use Rattle.ft_modules.specs.ModulesRun.{InModule, sent}
-use Rattle.ft_modules.proofs.Beside.{AreSent, IsInstrOf, Beside}
-use Rattle.ft_modules.proofs.BesideBlocks.{starts_same}
+use Rattle.ft_modules.proofs.LinkedContexts.{AreSent, IsInstrOf, Beside}
+use Rattle.ft_modules.proofs.LinkedBlocks.{starts_same}
 
 -- what stands before module m
 abbrev pub before_of : List Object → ℕ → Before
@@ -148,7 +148,7 @@ cell_among o a c e = by_test _ e
 
 -- the type of a cell at an address is plain
 plain_cell : (o : Object) (a : ℕ) (b : Basic) → All HasPlainCell o.cells → cell_type o a ≡ Some b → b.base ≡ Int
-plain_cell o a b plain e = plain_cell_by o (cell_of o a) b (λ c f. let g = cell_among o a c f in of_all HasPlainCell o.cells g.0 c plain g.1) e
+plain_cell o a b plain e = plain_cell_by o (cell_of o a) b (λ c f. let g = cell_among o a c f in all_there HasPlainCell o.cells g.0 c plain g.1) e
 
 -- the registers of a starting context are plain
 plain_known : (b : Bool) (t y : Typed) (u : Option Typed) → t.basic.base ≡ Int → (u ≡ Some y → y.basic.base ≡ Int) → cond b (Some t) u ≡ Some y → y.basic.base ≡ Int
@@ -179,7 +179,7 @@ rows_plain_by (Some t) h = h t refl
 
 -- the rows of a code type are plain
 rows_plain : (o : Object) (t : ℕ) → All HasPlainRows o.types → All HasPlainRow (reg_rows o t)
-rows_plain o t h = rows_plain_by (slice_get o.types t) (λ c e. of_all HasPlainRows o.types t c h e)
+rows_plain o t h = rows_plain_by (slice_get o.types t) (λ c e. all_there HasPlainRows o.types t c h e)
 
 -- a queue that fits in one fits in the other
 plain_queue : (o z : Object) (v : Valuation) (ps : List FormPair) (q : Pending) → z.cells ≡ o.cells → All HasPlainCell o.cells → FitsQueue o v ps q → FitsQueue z v ps q

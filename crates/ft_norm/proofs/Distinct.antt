@@ -5,6 +5,7 @@ use Rattle.std.proofs.lemmas.Bool.{cases_lt}
 use Rattle.std.proofs.lemmas.Bool.Decides.{Decides-and, Decides-eqb}
 use Rattle.std.proofs.lemmas.List.{get_or_append_left, get_or_push}
 use Rattle.std.proofs.lemmas.Option.{slice_get_within, get_or_from_slice_get}
+use Rattle.ft_isa.proofs.Lists.{get_front}
 use Rattle.ft_static.specs.Form.{Atom, Form, integer_form, polynomial_of}
 use Rattle.ft_static.specs.NormalForm.{alone, degree}
 use Rattle.ft_norm.specs.declared.entry.LinearTerm.{LinearTerm}
@@ -18,9 +19,9 @@ use Rattle.ft_norm.specs.Orders.{AreTerms}
 use Rattle.ft_norm.specs.Packing.{ArePacked, HaveSmall, unpacked}
 use Rattle.ft_norm.specs.declared.packed.PackedTerm.{PackedTerm}
 use Rattle.ft_norm.proofs.Forms.{entry_agree, push_agrees, form_at, forms_onto-push, length-forms_of, names_push}
-use Rattle.ft_norm.proofs.Places.{grown, keeps_itself, keeps_push}
+use Rattle.ft_norm.proofs.HeldForms.{grown, keeps_itself, keeps_push}
 use Rattle.ft_norm.proofs.Linear.{linear_degree, linears_itself}
-use Rattle.ft_norm.proofs.Lists.{slice_get-append, slice_get-push}
+use Rattle.ft_norm.proofs.Lists.{slice_get-push}
 use Rattle.ft_norm.proofs.SameTerms.{factor_decides, linears_decide, packed_lists_decide, terms_decide}
 use Rattle.ft_norm.proofs.Packing.{have_small_unpacked, packed_itself}
 use Rattle.ft_norm.proofs.Single.{alone_is, degree_over, one_factor, one_integer, one_memory, one_polynomial}
@@ -112,7 +113,7 @@ distinct_push : (fs : List Form) (x : Form) → IsDistinct fs → ((k : ℕ) →
 distinct_push fs x d n = record { one = go }
   where
     old : (i : ℕ) (y : Form) → i < length fs → slice_get (fs ++ x ∷ []) i ≡ Some y → slice_get fs i ≡ Some y
-    old i y l e = sym (slice_get-append fs (x ∷ []) i l) ∙ e
+    old i y l e = sym (get_front fs (x ∷ []) i l) ∙ e
 
     new : (i : ℕ) (y : Form) → length fs ≤ i → slice_get (fs ++ x ∷ []) i ≡ Some y → (i ≡ length fs) × (y ≡ x)
     new i y l e =

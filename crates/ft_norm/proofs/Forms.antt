@@ -3,6 +3,7 @@ use Rattle.std.proofs.Common.{ℕ, suc, zero, add-one, ◌≡◌, ◌+◌, ◌<�
 use Rattle.std.specs.Option.{unwrap_or}
 use Rattle.std.proofs.lemmas.Bool.{cases_lt}
 use Rattle.std.proofs.lemmas.List.{get_or_append_left, get_or_push}
+use Rattle.ft_isa.proofs.Lists.{get_front}
 use Rattle.ft_static.specs.Form.{Atom, Form, Monomial, Polynomial, Updates, integer_form, memory_form, polynomial_of, updates_of, nought, one, plus, times, unchanged, update}
 use Rattle.ft_static.specs.NormalForm.{alone, with_factor}
 use Rattle.ft_norm.specs.declared.entry.Factor.{Factor}
@@ -13,7 +14,7 @@ use Rattle.ft_norm.specs.Packing.{unpacked}
 use Rattle.ft_norm.specs.declared.entry.Entry.TheVariants.{Atom as Lone, Linear, Packed, Full, Unchanged, Update}
 use Rattle.ft_norm.specs.Held.{polynomial_at, updates_at}
 use Rattle.ft_norm.specs.Entries.{alone_term, atom_at, atom_form, atom_of, atom_reach, full, monomial_form, polynomial_form, entry_form, forms_onto, forms_of, is_atom_form, is_integer_form, is_memory_form, integer_reach, memory_reach, reach, reach_of_atoms, reach_of_terms, reach_of_entry, with_atom, NamesEarlier, IsAtomAt, IsIntegerAt, IsMemoryAt}
-use Rattle.ft_norm.proofs.Lists.{slice_get-append, slice_get-push}
+use Rattle.ft_norm.proofs.Lists.{slice_get-push}
 
 -- both lists have the same forms below n
 pub record Agree (n : ℕ) (fs gs : List Form) : Type 0 where
@@ -78,7 +79,7 @@ forms_onto-kept fs [] k l = refl
 forms_onto-kept fs (x ∷ es) k l =
     let g = fs ++ (entry_form fs x ∷ []) in
     let m : k < length g = omega (arith, length-append fs (entry_form fs x ∷ [])) in
-    forms_onto-kept g es k m ∙ slice_get-append fs (entry_form fs x ∷ []) k l
+    forms_onto-kept g es k m ∙ get_front fs (entry_form fs x ∷ []) k l
 
 -- each form is its entry's
 forms_onto-at : (fs hs : List Form) (es : List Entry) (i : ℕ) (e : Entry) → i < length es → reach_of_entry hs (get_or es i e) ≤ length fs + i
@@ -177,7 +178,7 @@ pub push_agrees : (es : List Entry) (e : Entry) → Agree (length es) (forms_of 
 push_agrees es e = record {
   below = λ k l.
       let n = length-forms_of es in
-      sym (ap (λ fs. slice_get fs k) (forms_onto-push [] es e) ∙ slice_get-append (forms_of es) (entry_form (forms_of es) e ∷ []) k (omega arith));
+      sym (ap (λ fs. slice_get fs k) (forms_onto-push [] es e) ∙ get_front (forms_of es) (entry_form (forms_of es) e ∷ []) k (omega arith));
 }
 
 -- one more entry that names only earlier ones

@@ -8,6 +8,7 @@ use Rattle.ft_static.specs.FormOrder.{cmp_atom}
 use Rattle.ft_static.specs.NormalForm.{join, with_factor}
 use Rattle.ft_static.proofs.Cases.{by_cases}
 use Rattle.ft_static.proofs.Spelled.{atom_equal, cmp_atom_total}
+use Rattle.ft_static.proofs.Proper.{factors_with}
 use Rattle.ft_norm.specs.Entries.{atom_at, monomial_form, size, with_atom}
 
 -- an atom that is not above the first comes first
@@ -111,11 +112,6 @@ join_atoms fs a b c d n =
     ∙ (ap (with_atom fs a) (join_atom fs b (monomial_form fs (c ∷ d ∷ [])) n)
     ∙ (ap (λ k. with_atom fs a (with_atom fs b k)) (join_atom fs c (monomial_form fs (d ∷ [])) n)
     ∙ ap (λ k. with_atom fs a (with_atom fs b (with_atom fs c k))) (join_atom fs d one n)))
-
--- an atom more is one more
-factors_with : (a : Atom) (m : Monomial) → factors (with_factor a m) ≡ suc (factors m)
-factors_with a one = refl
-factors_with a (times b m) = by_cases (λ n. factors n ≡ suc (suc (factors m))) (cmp_atom a b) (times a (times b m)) (times a (times b m)) (times b (with_factor a m)) (λ e. refl) (λ e. refl) (λ e. ap suc (factors_with a m))
 
 -- a monomial has as many atoms as its numbers tell
 pub factors-monomial_form : (fs : List Form) (xs : List ℕ) → factors (monomial_form fs xs) ≡ size xs

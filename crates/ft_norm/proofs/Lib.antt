@@ -13,7 +13,7 @@ pub mod Views
 pub mod Single
 pub mod Limits
 pub mod Walking
-pub mod Places
+pub mod HeldForms
 pub mod Same
 pub mod Paths
 pub mod Made

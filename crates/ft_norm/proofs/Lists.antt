@@ -1,11 +1,5 @@
 -- Reading lists that grow.
-use Rattle.std.proofs.Common.{ℕ, suc, zero, ◌≡◌, ◌<◌, List, [], ◌∷◌, ◌++◌, length, refl, arith, Some, slice_get}
-
--- what is there stays
-pub slice_get-append : {A : Type 0} (xs ys : List A) (k : ℕ) → k < length xs → slice_get (xs ++ ys) k ≡ slice_get xs k
-slice_get-append [] ys k l = absurd (omega arith)
-slice_get-append (x ∷ xs) ys zero l = refl
-slice_get-append (x ∷ xs) ys (suc k) l = slice_get-append xs ys k (omega arith)
+use Rattle.std.proofs.Common.{ℕ, suc, zero, ◌≡◌, List, [], ◌∷◌, ◌++◌, length, refl, arith, Some, slice_get}
 
 -- the new one is the last
 pub slice_get-push : {A : Type 0} (xs : List A) (y : A) (k : ℕ) → k ≡ length xs → slice_get (xs ++ y ∷ []) k ≡ Some y

@@ -20,7 +20,7 @@ use Rattle.ft_norm.specs.declared.parts.Parts.{Parts}
 use Rattle.ft_norm.specs.declared.parts.Parts.TheVariants as part
 use Rattle.ft_norm.specs.Held.{held, updates_held, Keeps}
 use Rattle.ft_norm.specs.Parts.{AreMade, HaveSorts, IsPart, form_of_parts, updates_of_parts}
-use Rattle.ft_norm.proofs.Places.{integer_from, memory_from, polynomial_found, updates_found}
+use Rattle.ft_norm.proofs.HeldForms.{integer_from, memory_from, polynomial_found, updates_found}
 
 -- the sort of a node's form is that of its shape
 integer_shape : (ps : List Polynomial) (u : Updates) (fs : List Normal) (s : Shape) → is_memory s ≡ false → form_of ps u fs s ≡ integer_form (polynomial_of (form_of ps u fs s))

@@ -12,7 +12,7 @@ use Rattle.ft_norm.specs.declared.substitution.Memo.{Memo}
 use Rattle.ft_norm.specs.Held.{AreIntegers, IsInteger, IsMemory, Keeps, held, polynomials, updates_held}
 use Rattle.ft_norm.specs.Memos.{IsFresh, Remembers}
 use Rattle.ft_norm.proofs.Made.{Stands, held_count, integer_tree, memory_tree}
-use Rattle.ft_norm.proofs.Places.{integer_from, memory_from, polynomials_kept}
+use Rattle.ft_norm.proofs.HeldForms.{integer_from, memory_from, polynomials_kept}
 
 -- a fresh memo remembers nothing wrong
 pub remembers_none : (ns : List Node) (fs : List Normal) (ints : List Form) (memory : Form) (m : Memo) → IsFresh m → Remembers ns fs ints memory m

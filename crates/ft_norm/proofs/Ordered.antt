@@ -3,26 +3,21 @@ use Rattle.std.proofs.Common.{ℕ, suc, zero, ◌≡◌, ◌+◌, ◌-◌, ◌/�
 use Rattle.std.proofs.lemmas.Cmp.{nat_list_cmp_total}
 use Rattle.std.proofs.lemmas.List.{get_or_default}
 use Rattle.std.specs.FinMap.{nat_cmp-IsAntisymmetric}
-use Rattle.std.specs.Ordering.{nat_cmp, ordering_reverse, ordering_then}
+use Rattle.std.specs.Ordering.{nat_cmp, ordering_reverse}
 use Rattle.std.specs.declared.cmp.Ordering.{Ordering}
 use Rattle.std.specs.declared.cmp.Ordering.TheVariants.{Less, Equal, Greater}
+use Rattle.ft_static.proofs.Spelled.{then_both}
 use Rattle.ft_norm.specs.declared.entry.Term.{Term}
 use Rattle.ft_norm.specs.Orders.{AreTerms, IsMonomial, Precedes, cmp_atoms}
 use Rattle.ft_norm.specs.Terms.{IsPlace, IsThere, negated_term}
 use Rattle.ft_norm.proofs.Weights.{negative}
-
--- the second of two comparisons in turn
-then_parts : (o p : Ordering) → ordering_then o p ≡ Equal → (o ≡ Equal) × (p ≡ Equal)
-then_parts Less p e = cc
-then_parts Equal p e = (refl, e)
-then_parts Greater p e = cc
 
 -- monomials that are tied are the same
 pub atoms_equal : (xs ys : List ℕ) → cmp_atoms xs ys ≡ Equal → xs ≡ ys
 atoms_equal [] [] e = refl
 atoms_equal [] (y ∷ ys) e = cc
 atoms_equal (x ∷ xs) [] e = cc
-atoms_equal (x ∷ xs) (y ∷ ys) e = let t = then_parts (nat_cmp x y) (cmp_atoms xs ys) e in rw (nat_cmp-IsAntisymmetric x y t.0, atoms_equal xs ys t.1) refl
+atoms_equal (x ∷ xs) (y ∷ ys) e = let t = then_both (nat_cmp x y) (cmp_atoms xs ys) e in rw (nat_cmp-IsAntisymmetric x y t.0, atoms_equal xs ys t.1) refl
 
 -- a comparison turned round
 pub atoms_turned : (xs ys : List ℕ) → cmp_atoms xs ys ≡ Greater → cmp_atoms ys xs ≡ Less

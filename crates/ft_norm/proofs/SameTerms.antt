@@ -2,10 +2,9 @@
 use Rattle.std.proofs.Common.{◌≡◌, Bool, List, refl, sym, ap, ◌∙◌, Decides, true≢false}
 use Rattle.std.proofs.lemmas.Bool.Decides.{Decides-and, Decides-eqb, Decides-like}
 use Rattle.std.proofs.lemmas.Slice.Eq.{slice_eq-Decides}
-use denote.Enum.Bare.{same_true, sameb, true_same}
 use lib.Pointwise.{pointwise}
 use Rattle.ft_isa.specs.contracts.op.Op as op
-use Rattle.ft_isa.specs.declared.op.Op.{Op}
+use Rattle.ft_isa.proofs.Decided.{op_decides}
 use Rattle.ft_norm.specs.declared.entry.Factor.{Factor}
 use Rattle.ft_norm.specs.declared.entry.Factor.TheVariants.{Variable, Operation, Sel, Rem}
 use Rattle.ft_norm.specs.declared.entry.LinearTerm.{LinearTerm}
@@ -16,9 +15,6 @@ use Rattle.ft_norm.specs.contracts.entry.LinearTermPartialEq.TheImpl as linear
 use Rattle.ft_norm.specs.contracts.entry.TermPartialEq.TheImpl as term
 use Rattle.ft_norm.proofs.Packing.{rebuilt}
 use Rattle.ft_norm.specs.contracts.packed.PackedTermPartialEq.TheImpl as packed
-
-op_decides : (a b : Op) → Decides (sameb op.the_type a b) (a ≡ b)
-op_decides a b = (same_true op.the_type tt a b, true_same op.the_type a b)
 
 -- the test of two factors
 pub factor_decides : (a b : Factor) → Decides ((factor.ghosts).eq a b) (a ≡ b)

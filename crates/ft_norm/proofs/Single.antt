@@ -12,6 +12,7 @@ use Rattle.ft_static.specs.NormalForm.{add_term, alone, by_order, constant_of, d
 use Rattle.ft_static.proofs.Cases.{by_cases, if_cases}
 use Rattle.ft_static.proofs.Counts.{count_join}
 use Rattle.ft_static.proofs.Spelled.{atom_equal, cmp_atom_total, cmp_monomial_total, monomial_equal}
+use Rattle.ft_static.proofs.Coefficients.{order_split}
 use Rattle.ft_norm.specs.declared.entry.Factor.{Factor}
 use Rattle.ft_norm.specs.declared.entry.Factor.TheVariants.{Variable, Operation, Sel, Rem}
 use Rattle.ft_norm.specs.declared.entry.Term.{Term}
@@ -23,7 +24,7 @@ use Rattle.ft_norm.proofs.Forms.{atom_reached, integer_reached, memory_reached}
 use Rattle.ft_norm.proofs.Joining.{factors-monomial_form}
 use Rattle.ft_norm.proofs.Numbers.{one_number}
 use Rattle.ft_norm.proofs.Ordered.{atoms_equal, atoms_turned, precedes_through}
-use Rattle.ft_norm.proofs.Weights.{mods_both, mods_less, order_split, share_linear, weigh, weigh_add, words_same}
+use Rattle.ft_norm.proofs.Weights.{mods_both, mods_less, share_linear, weigh, weigh_add, words_same}
 
 -- whether two numbers are the same
 abbrev pub alike : ℕ → ℕ → ℕ

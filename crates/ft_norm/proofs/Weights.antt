@@ -4,31 +4,21 @@ use Rattle.std.proofs.Math.Nat.{mod-lt, mod-eq_of_lt, mod-mod, mod-add-mod, mul-
 use Rattle.std.proofs.lemmas.Bool.{eqb-true, eqb-false}
 use Rattle.std.proofs.lemmas.Nat.{mul-mod_first, mul-mod_second}
 use Rattle.std.proofs.lemmas.Cmp.{tied_itself}
-use Rattle.std.specs.declared.cmp.Ordering.{Ordering}
-use Rattle.std.specs.declared.cmp.Ordering.TheVariants.{Less, Equal, Greater}
+use Rattle.std.specs.declared.cmp.Ordering.TheVariants.{Less}
 use Rattle.ft_static.specs.Coefficient.{share}
 use Rattle.ft_static.specs.Form.{Monomial, Polynomial, nought, plus}
 use Rattle.ft_static.specs.FormOrder.{cmp_monomial}
 use Rattle.ft_static.specs.NormalForm.{add_multiple, add_products, add_term, join, led_by, negation, total}
 use Rattle.ft_static.specs.Proper.{Below}
 use Rattle.ft_static.proofs.Cases.{by_cases, if_cases}
-use Rattle.ft_static.proofs.Proper.{below_more, turned}
+use Rattle.ft_static.proofs.Proper.{below_more, turned, below_led, below_negation}
 use Rattle.ft_static.proofs.Spelled.{cmp_monomial_total, monomial_equal}
+use Rattle.ft_static.proofs.Coefficients.{order_split}
 
 -- monomials rise strictly, and coefficients are words other than 0
 abbrev pub Rises : Polynomial → Type 0
 Rises nought = Unit {0}
 Rises (plus m c p) = (0 < c) × (c < 2 ^ 64) × Below m p × Rises p
-
--- what follows in each case of a comparison
-pub order_split : (G : Type 0) (o : Ordering) → (o ≡ Less → G) → (o ≡ Equal → G) → (o ≡ Greater → G) → G
-order_split G Less f g h = f refl
-order_split G Equal f g h = g refl
-order_split G Greater f g h = h refl
-
--- a lower monomial first
-below_led : (k m : Monomial) (c : ℕ) (p : Polynomial) → cmp_monomial k m ≡ Less → Below k p → Below k (led_by m c p)
-below_led k m c p h g = if_cases (λ q. Below k q) (c == 0) p (plus m c p) (λ e. g) (λ e. h)
 
 -- a term above keeps a monomial below
 below_add : (k m : Monomial) (c : ℕ) (p : Polynomial) → cmp_monomial k m ≡ Less → Below k p → Rises p → Below k (add_term m c p)
@@ -64,11 +54,6 @@ rises_multiple m c (plus n d p) q k = rises_multiple m c p (add_term (join m n) 
 pub rises_products : (p q r : Polynomial) → Rises r → Rises (add_products p q r)
 rises_products nought q r k = k
 rises_products (plus m c p) q r k = rises_products p q (add_multiple m c q r) (rises_multiple m c q r k)
-
--- the same monomials
-below_negation : (k : Monomial) (p : Polynomial) → Below k p → Below k (negation p)
-below_negation k nought h = tt
-below_negation k (plus m c p) h = h
 
 -- a word other than 0 negated
 pub negative : (c : ℕ) → 0 < c → c < 2 ^ 64 → (2 ^ 64 - c % 2 ^ 64) % 2 ^ 64 ≡ 2 ^ 64 - c

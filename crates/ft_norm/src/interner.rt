@@ -235,6 +235,7 @@ impl Interner {
         ensures exact { IsTrue result ↔ (held self.now a ≡ held self.now b) }
         ensures denotes { (x y : Expression) (s : Valuation) → IsTrue result → held self.now a ≡ Some (norm x) → held self.now b ≡ Some (norm y) → HasWords x → HasWords y → IsLawful s → denotation x s ≡ denotation y s }
     {
+        // The proof knows the invariant, that equal entries have one number, only where a field is read.
         let _entries = &self.entries;
         a.0 == b.0
     }

@@ -7,7 +7,7 @@ use ft_norm::{Form, Interner};
 use std::test::Fail;
 
 /// Whether the remainder of a word by a length is that word.
-#[tactic(auto, using(ft_norm::proofs::Places::keeps_both))]
+#[tactic(auto, using(ft_norm::proofs::HeldForms::keeps_both))]
 fn leaves(forms: &mut Interner, word: u64, length: u32, rest: u64) -> Result<bool, NoMemory>
     requires some { 1 ≤ length }
     requires most { length ≤ 1024 }
@@ -45,7 +45,7 @@ fn remainders_of_words_are_words(forms: &mut Interner) -> Result<bool, NoMemory>
 }
 
 /// Whether the remainders of a form by two lengths are the same.
-#[tactic(auto, using(ft_norm::proofs::Places::keeps_both))]
+#[tactic(auto, using(ft_norm::proofs::HeldForms::keeps_both))]
 fn leave_the_same(forms: &mut Interner, x: Form, length: u32, other: u32) -> Result<bool, NoMemory>
     requires integer { IsInteger forms.old x }
     requires some { 1 ≤ length }
@@ -101,7 +101,7 @@ fn remainders_are_atoms(forms: &mut Interner) -> Result<bool, NoMemory> {
 }
 
 /// Whether an operation on two words gives that word.
-#[tactic(auto, using(ft_norm::proofs::Places::keeps_both))]
+#[tactic(auto, using(ft_norm::proofs::HeldForms::keeps_both))]
 fn gives(forms: &mut Interner, op: Op, a: u64, b: u64, word: u64) -> Result<bool, NoMemory>
     ensures { Keeps forms.old forms.new }
 {

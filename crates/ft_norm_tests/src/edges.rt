@@ -50,7 +50,7 @@ fn products_come_and_go(forms: &mut Interner) -> Result<bool, NoMemory> {
 }
 
 /// The product of two products.
-#[tactic(auto, using(ft_norm::proofs::Places::keeps_both))]
+#[tactic(auto, using(ft_norm::proofs::HeldForms::keeps_both))]
 fn by_pairs(forms: &mut Interner, a: Form, b: Form, c: Form, d: Form) -> Result<Form, NoMemory>
     requires first { IsInteger forms.old a }
     requires second { IsInteger forms.old b }
@@ -65,7 +65,7 @@ fn by_pairs(forms: &mut Interner, a: Form, b: Form, c: Form, d: Form) -> Result<
 }
 
 /// The product of four forms, one by one from the last.
-#[tactic(auto, using(ft_norm::proofs::Places::keeps_both))]
+#[tactic(auto, using(ft_norm::proofs::HeldForms::keeps_both))]
 fn one_by_one(forms: &mut Interner, a: Form, b: Form, c: Form, d: Form) -> Result<Form, NoMemory>
     requires first { IsInteger forms.old a }
     requires second { IsInteger forms.old b }
@@ -80,7 +80,7 @@ fn one_by_one(forms: &mut Interner, a: Form, b: Form, c: Form, d: Form) -> Resul
 }
 
 /// Whether two products of four forms are the same: by pairs, and one by one from the last.
-#[tactic(auto, using(ft_norm::proofs::Places::keeps_both))]
+#[tactic(auto, using(ft_norm::proofs::HeldForms::keeps_both))]
 fn commute(forms: &mut Interner, a: Form, b: Form, c: Form, d: Form) -> Result<bool, NoMemory>
     requires first { IsInteger forms.old a }
     requires second { IsInteger forms.old b }
@@ -126,7 +126,7 @@ fn equal_atoms_are_kept(forms: &mut Interner) -> Result<bool, NoMemory> {
 }
 
 /// Whether `x` times two numbers is 0.
-#[tactic(auto, using(ft_norm::proofs::Places::keeps_both))]
+#[tactic(auto, using(ft_norm::proofs::HeldForms::keeps_both))]
 fn vanishes(forms: &mut Interner, x: Form, first: u64, second: u64) -> Result<bool, NoMemory>
     requires { IsInteger forms.old x }
     ensures { Keeps forms.old forms.new }
@@ -158,7 +158,7 @@ fn coefficients_vanish(forms: &mut Interner) -> Result<bool, NoMemory> {
 }
 
 /// Whether the word that was put at `at` is found there past an update at `past`.
-#[tactic(auto, using(ft_norm::proofs::Places::keeps_both))]
+#[tactic(auto, using(ft_norm::proofs::HeldForms::keeps_both))]
 fn is_passed(forms: &mut Interner, at: Form, past: Form) -> Result<bool, NoMemory>
     requires first { IsInteger forms.old at }
     requires second { IsInteger forms.old past }
@@ -172,7 +172,7 @@ fn is_passed(forms: &mut Interner, at: Form, past: Form) -> Result<bool, NoMemor
 }
 
 /// Whether a form and the next number are known to differ, both ways.
-#[tactic(auto, using(ft_norm::proofs::Places::keeps_both))]
+#[tactic(auto, using(ft_norm::proofs::HeldForms::keeps_both))]
 fn next_is_passed(forms: &mut Interner, at: Form) -> Result<bool, NoMemory>
     requires { IsInteger forms.old at }
     ensures { Keeps forms.old forms.new }

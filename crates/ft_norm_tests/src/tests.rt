@@ -10,7 +10,7 @@ use std::sync::ledger::{Blank, Ledger};
 use std::test::Fail;
 
 /// The sum of `count` variables from `first` on, each added on the right or on the left.
-#[tactic(auto, using(ft_norm::proofs::Places::keeps_both))]
+#[tactic(auto, using(ft_norm::proofs::HeldForms::keeps_both))]
 fn sum(forms: &mut Interner, first: u8, count: u8, on_right: bool) -> Result<Form, NoMemory>
     requires { first + count ≤ 255 }
     ensures kept { Keeps forms.old forms.new }
@@ -58,7 +58,7 @@ pub fn sel(forms: &mut Interner, memory: Form, at: Form) -> Result<Form, NoMemor
 }
 
 /// A tower of comparisons over a variable, each of the one below with itself.
-#[tactic(auto, using(ft_norm::proofs::Places::keeps_both))]
+#[tactic(auto, using(ft_norm::proofs::HeldForms::keeps_both))]
 fn tower(forms: &mut Interner, variable: u8, height: u32) -> Result<Form, NoMemory>
     ensures kept { Keeps forms.old forms.new }
     ensures sort { IfOk result (λ f. IsInteger forms.new f) }
@@ -86,7 +86,7 @@ fn towers_are_compared_by_number(forms: &mut Interner) -> Result<bool, NoMemory>
 }
 
 /// A tower of tests, with a sum at each level, over the two towers that are added there.
-#[tactic(auto, using(ft_norm::proofs::Places::keeps_both))]
+#[tactic(auto, using(ft_norm::proofs::HeldForms::keeps_both))]
 fn levels(forms: &mut Interner, height: u32) -> Result<Form, NoMemory>
     ensures kept { Keeps forms.old forms.new }
     ensures sort { IfOk result (λ f. IsInteger forms.new f) }

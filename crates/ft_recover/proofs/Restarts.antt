@@ -1,8 +1,7 @@
 -- Runs under a plan of which the first outputs are left out, and what a recovery comes to by them.
 use Rattle.std.proofs.Common.{◌≡◌, ◌≢◌, ℕ, suc, ◌+◌, ◌-◌, ◌<◌, ◌≤◌, List, [], ◌++◌, length, Option, Some, None, refl, ap, sym, subst, ◌∙◌, arith}
-use Rattle.std.specs.Prelude.{drop, if◌then◌else◌, Result, Ok, Err, IfOk, OnOk, OnErr}
+use Rattle.std.specs.Prelude.{drop, Result, Ok, Err, IfOk, OnOk, OnErr}
 use Rattle.std.proofs.Math.Seq.{drop-append_seam}
-use Rattle.std.proofs.lemmas.Bool.{eq-eqb}
 use Rattle.std.proofs.lemmas.List.{append-nil, length-append}
 use Rattle.ft_edge.specs.Puts.{PutsLines, BreaksOff}
 use Rattle.ft_edge.proofs.PutLines.{breaks_before}
@@ -19,6 +18,7 @@ use Rattle.ft_semantics.specs.State.{State, start, is_cell, HasCells}
 use Rattle.ft_semantics.specs.Strike.{struck_state, struck_before}
 use Rattle.ft_semantics.specs.Agrees.{IsPrefix, Agrees, equal, stopped}
 use Rattle.ft_semantics.specs.Run.{Ran, run, outputs_after, status_after}
+use Rattle.ft_semantics.proofs.Struck.{struck_there}
 use Rattle.ft_machine.specs.Drives.{output_lines}
 use Rattle.ft_machine.specs.Spans.{span, Spares}
 use Rattle.ft_machine.proofs.Tabulated.{cells_there}
@@ -45,10 +45,6 @@ pub on_map : {T E : Type 0} (r : Result T E) (P Q : Type 0) → (P → Q) → On
 on_map (Ok x) P Q f h = f h
 on_map (Err e) P Q f h = tt
 
-pub on_err : {T E P : Type 0} (r : Result T E) → P → OnErr r P
-on_err (Ok x) p = tt
-on_err (Err e) p = p
-
 -- WHERE A PLAN STRIKES
 
 pub none_spares : (j : ℕ) → Spares None j
@@ -66,10 +62,6 @@ spares_before x n le j below = spared x j (apart x.step j n le below)
 
 spares_after : (x : Strike) (j : ℕ) → x.step < j → Spares (Some x) j
 spares_after x j above = spared x j (apart_after x.step j above)
-
--- and strikes at its own
-struck_there : (x : Strike) (s : State) → struck_before (Some x) x.step s ≡ struck_state s x.site x.value
-struck_there x s = ap (λ b. if b then struck_state s x.site x.value else s) (eq-eqb x.step x.step refl)
 
 -- a machine at its start has its cells
 pub start_cells : (o : Object) (s : State) → s ≡ start o → HasCells (length o.cells) s

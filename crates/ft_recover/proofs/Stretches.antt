@@ -1,7 +1,6 @@
 -- Steps of which the first outputs are left out, after one another.
-use Rattle.std.proofs.Common.{◌≡◌, ℕ, zero, suc, ◌+◌, ◌-◌, ◌<◌, ◌≤◌, List, [], ◌∷◌, ◌++◌, length, Option, true, false, refl, ap, sym, subst, ◌∙◌, arith}
-use Rattle.std.specs.Prelude.{drop, not}
-use denote.Enum.Bare.{sameb}
+use Rattle.std.proofs.Common.{◌≡◌, ℕ, zero, suc, ◌+◌, ◌-◌, ◌≤◌, List, [], ◌∷◌, ◌++◌, length, Option, true, refl, ap, sym, subst, ◌∙◌, arith, add-zero}
+use Rattle.std.specs.Prelude.{drop}
 use Rattle.std.specs.Option.{option_to_list}
 use Rattle.std.proofs.lemmas.List.{length-append}
 use Rattle.ft_edge.specs.Puts.{PutsLines, BreaksOff}
@@ -9,10 +8,6 @@ use Rattle.ft_edge.proofs.PutLines.{puts_none, breaks_before}
 use Rattle.ft_isa.specs.declared.plan.Wild.{Wild}
 use Rattle.ft_isa.specs.declared.output.Output.{Output}
 use Rattle.ft_types.specs.declared.object.Object.{Object}
-use Rattle.ft_semantics.specs.contracts.status.Status as status
-use Rattle.ft_semantics.specs.declared.status.Status.{Status}
-use Rattle.ft_semantics.specs.declared.status.Status.TheVariants.{Running}
-use Rattle.ft_semantics.specs.declared.status.Status.TheVariants as statuses
 use Rattle.ft_semantics.specs.State.{State, is_cell, HasCells}
 use Rattle.ft_semantics.specs.Step.{step}
 use Rattle.ft_semantics.specs.Run.{Ran, extended}
@@ -24,7 +19,7 @@ use Rattle.ft_machine.specs.Spans.{span, span-zero}
 use Rattle.ft_machine.proofs.Runs.{HasStopped, stays_at}
 use Rattle.ft_machine.proofs.Driven.{lines-append, lines_next, breaks_next}
 use Rattle.ft_machine.proofs.Spanned.{joined, span_join, span_has_cells, cell_bounds}
-use Rattle.ft_machine.proofs.Advancing.{enough_few}
+use Rattle.ft_machine.proofs.Advancing.{enough_few, rest_less}
 use Rattle.ft_recover.specs.Passing.{Passes, GoesToCell}
 
 -- OUTPUTS BUT THE FIRST ONES
@@ -152,37 +147,20 @@ breaks_of_more o s w n m passed k k' p p' h =
     subst (λ (r : Ran). BreaksOff (output_lines o (drop passed r.outputs)) k k' p p') (sym (span_join o n m s w))
     (breaks_later o passed (span o n s w).outputs (span o m (span o n s w).state (span o n s w).wild).outputs k k' p p' h)
 
--- what the test of a status says
-pub has_stopped : (s : Status) → not (sameb status.the_type s Running) ≡ true → HasStopped s
-has_stopped Running h = cc
-has_stopped statuses.Done h = tt
-has_stopped statuses.Detected h = tt
-
-pub still_running : (s : Status) → not (sameb status.the_type s Running) ≡ false → s ≡ Running
-still_running Running h = refl
-still_running statuses.Done h = cc
-still_running statuses.Detected h = cc
-
 -- A LOOP OF SUCH STEPS
 
 rest_of : (number left : ℕ) → left ≤ number → (number - left) + left ≡ number
 rest_of number left le = omega arith
 
-rest_less : (number left n : ℕ) → left ≤ number → n ≤ left → (number - left) + n ≡ number - (left - n)
-rest_less number left n le few = omega arith
-
 rest_few : (left n : ℕ) → n ≤ left → n + (left - n) ≡ left
 rest_few left n few = omega arith
-
-and_none : (n : ℕ) → n + 0 ≡ n
-and_none n = omega arith
 
 module _ (o : Object) (s s1 : State) (w w1 : List Wild) (number left passed count : ℕ) (k k1 : Option (List ℕ)) (p p1 : Option (List (List ℕ))) (le : left ≤ number) (a : Passes o s w (number - left) passed s1 w1 count k k1 p p1) where
   -- the machine has stopped
   pub passes_to_end : HasStopped s1.status → Passes o s w number passed s1 w1 count k k1 p p1
   passes_to_end h =
       subst (λ n. Passes o s w n passed s1 w1 count k k1 p p1) (rest_of number left le)
-      (subst (λ c. Passes o s w ((number - left) + left) passed s1 w1 c k k1 p p1) (and_none count)
+      (subst (λ c. Passes o s w ((number - left) + left) passed s1 w1 c k k1 p p1) (add-zero count)
       (passes_more o s s1 w w1 (number - left) passed count k k1 p p1 a s1 w1 left 0 k1 p1 (passes_still o s1 w1 left (passed - count) k1 p1 (span_stopped o left s1 w1 h))))
 
   module _ (s2 : State) (w2 : List Wild) (n : ℕ) (last : Stepped) (k2 : Option (List ℕ)) (p2 : Option (List (List ℕ))) (b : Advances o s1 w1 s2 w2 left n last) where

@@ -4,6 +4,7 @@ use Rattle.std.specs.List.{list_all}
 use Rattle.std.proofs.lemmas.Bool.{le-ltb, lt-ltb}
 use Rattle.std.specs.Option.{option_map}
 use Rattle.ft_isa.specs.declared.basic.Basic.{Basic}
+use Rattle.ft_isa.proofs.Lists.{all_there}
 use Rattle.ft_types.specs.declared.object.Object.{Object}
 use Rattle.ft_types.specs.declared.object.Cell.{Cell}
 use Rattle.ft_types.specs.declared.object.CellHead.{CellHead}
@@ -11,7 +12,6 @@ use Rattle.ft_types.specs.Objects.{basic_of, cell_head_of}
 use Rattle.ft_types.specs.Spellable.{IsBase, IsCell, IsSpellable}
 use Rattle.ft_typing.specs.TypedWord.{common_type, run_type, same_basic}
 use Rattle.ft_contexts.proofs.Lists.{range_there}
-use Rattle.ft_contexts.proofs.Spelled.{all_at}
 
 -- the cell in a place, by what it is without its name
 pub cell_found : (o : Object) (k : ℕ) (h : CellHead) → option_map cell_head_of (slice_get o.cells k) ≡ Some h → (x : Cell) × ((slice_get o.cells k ≡ Some x) × (cell_head_of x ≡ h))
@@ -31,7 +31,7 @@ types_there o k past h l e =
 pub base_there : (o : Object) (k : ℕ) (h : CellHead) → IsSpellable o → option_map cell_head_of (slice_get o.cells k) ≡ Some h → IsBase (length o.types) h.basic.base
 base_there o k h s e =
     let x = cell_found o k h e in
-    let c = all_at (IsCell (length o.types)) o.cells k x.0 s.cells x.1.0 in
+    let c = all_there (IsCell (length o.types)) o.cells k x.0 s.cells x.1.0 in
     subst (λ (z : CellHead). IsBase (length o.types) z.basic.base) x.1.1 c.basic.base
 
 -- the types of the others of a run

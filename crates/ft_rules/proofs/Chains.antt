@@ -19,9 +19,10 @@ use Rattle.ft_rules.specs.declared.why.Next.TheVariants.{On, Ends as End}
 use Rattle.ft_contexts.specs.declared.context.Context.{Context}
 use Rattle.ft_contexts.specs.Contexts.{typed_in, context_in, HoldsForms, NamesTypes}
 use Rattle.ft_rules.specs.Answers.{IsRefusal, Passes, Answers, Does, Grows, rule_cost}
-use Rattle.ft_contexts.proofs.Kept.{polynomial_found, integer_found, updates_found, memory_found, forms_kept, context_stays}
+use Rattle.ft_contexts.proofs.Kept.{polynomial_found, updates_found, forms_kept, context_stays}
 use Rattle.ft_contexts.proofs.Registers.{apart}
 use Rattle.ft_norm.specs.declared.form.Form.{Form}
+use Rattle.ft_norm.proofs.HeldForms.{integer_from, memory_from}
 
 -- a refusal of what comes after the premises that hold is one of the whole
 pub refused : (x y : Outcome) (e : RuleError) → x ≡ y → IsRefusal y e → IsRefusal x e
@@ -99,7 +100,7 @@ does_note x o fs gs c d rd k p goes made base keeps held types noted still named
     let t : typed_in gs k ≡ record { colour = k.colour; basic = k.basic; form = p } = (let e = polynomial_found gs k.form p made in λ i. record { colour = k.colour; basic = k.basic; form = e i }) in
     let e : context_in gs d ≡ with_type rd (record { colour = k.colour; basic = k.basic; form = p }) (context_in fs c) =
     noted gs ∙ ap (λ (y : Typed). with_type rd y (context_in gs c)) t ∙ ap (with_type rd (record { colour = k.colour; basic = k.basic; form = p })) (context_stays fs gs c keeps held) in
-    does_go x o fs gs c d (goes ∙ ap Goes (sym e)) keeps (still gs (forms_kept fs gs c keeps held) (integer_found gs k.form p made)) (named o types base) (grows_same fs gs c d keeps held (ap (λ (y : Defined). updates y.memory) (noted gs)) (ap (λ (y : Defined). length y.queue) (noted gs)))
+    does_go x o fs gs c d (goes ∙ ap Goes (sym e)) keeps (still gs (forms_kept fs gs c keeps held) (integer_from gs k.form p made)) (named o types base) (grows_same fs gs c d keeps held (ap (λ (y : Defined). updates y.memory) (noted gs)) (ap (λ (y : Defined). length y.queue) (noted gs)))
 
 -- THE STATIC QUEUE
 
@@ -119,7 +120,7 @@ does_commit x o fs gs c d m u goes made more keeps held types committed still na
     committed
     ∙ ap (λ (k : Defined). record k { queue = drop 1 k.queue; memory = updates_held gs m }) (context_stays fs gs c keeps held)
     ∙ ap (λ (v : Updates). record (context_in fs c) { queue = drop 1 (context_in fs c).queue; memory = v }) (updates_found gs m u made) in
-    does_go x o fs gs c d (goes ∙ ap Goes (sym e)) keeps (still (forms_kept fs gs c keeps held) (memory_found gs m u made)) (named types) (record { memory = (let w = ap (λ (k : Defined). updates k.memory) e in omega (arith, w, more)); queue = λ l. (let w = ap (λ (k : Defined). length k.queue) e in let z = length-drop 1 (context_in fs c).queue in omega (arith, w, z, l)) })
+    does_go x o fs gs c d (goes ∙ ap Goes (sym e)) keeps (still (forms_kept fs gs c keeps held) (memory_from gs m u made)) (named types) (record { memory = (let w = ap (λ (k : Defined). updates k.memory) e in omega (arith, w, more)); queue = λ l. (let w = ap (λ (k : Defined). length k.queue) e in let z = length-drop 1 (context_in fs c).queue in omega (arith, w, z, l)) })
 
 -- the row of an instruction that is this one
 pub row_of : (o : Object) (k : Defined) (gs : List Normal) (d : Context) (r : Result Next RuleError) (i j : Instr) → i ≡ j → Answers (row o k j) gs d r → Answers (row o k i) gs d r

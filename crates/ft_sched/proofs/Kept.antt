@@ -1,12 +1,14 @@
 -- What is kept of those that wait, as one more waits and as one is taken.
-use Rattle.std.proofs.Common.{◌≡◌, ℕ, zero, suc, ◌+◌, ◌<◌, ◌≤◌, Bool, true, false, cond, not, ◌&&◌, ◌||◌, ◌==◌, nat_lt, List, [], ◌∷◌, ◌++◌, length, drop, Option, Some, None, refl, sym, ap, ◌∙◌, subst, arith, eq-eqb, eqb-true, ne_eqb}
+use Rattle.std.proofs.Common.{◌≡◌, ℕ, suc, ◌+◌, ◌<◌, Bool, true, false, cond, not, ◌&&◌, ◌||◌, ◌==◌, nat_lt, List, [], ◌∷◌, ◌++◌, length, drop, Option, Some, None, refl, sym, ap, ◌∙◌, subst, arith}
 use Rattle.std.specs.Prelude.{slice_index_or}
 use Rattle.std.specs.List.{list_any}
 use Rattle.std.proofs.lemmas.List.{length-append, length-set, length-replicate, get_or-replicate}
+use Rattle.std.proofs.lemmas.Bool.{or_right}
 use Rattle.ft_isa.specs.declared.reg.Reg.{Reg}
 use Rattle.ft_isa.specs.declared.instr.Instr.{Instr}
 use Rattle.ft_isa.specs.declared.instr.Instr.TheVariants.{OpReg, OpWord, Mov, Ld, St, JmpG, JmpB, BzG, BzB, Halt, Idx}
 use Rattle.ft_exchange.specs.Exchange.{written, reads, is_register, touches, leaves_alone, is_blue_store}
+use Rattle.ft_exchange.proofs.Effects.{turned}
 use Rattle.ft_sched.specs.Registers.{number_of, first_read, second_read, writes, meets}
 use Rattle.ft_sched.specs.LastPlaces.{place_of, marked, unmet, last_place}
 use Rattle.ft_sched.specs.Waiting.{IsKept, conflicts}
@@ -194,13 +196,6 @@ unfolding hits
 hits_none None = refl
 hits_none (Some r) = refl
 
-turned : (a b : ℕ) → (a == b) ≡ (b == a)
-turned a b = by_test (a == b) refl
-  where
-    by_test : (t : Bool) → (a == b) ≡ t → (a == b) ≡ (b == a)
-    by_test true e = e ∙ sym (eq-eqb b a (sym (eqb-true a b e)))
-    by_test false e = e ∙ sym (ne_eqb b a (λ (f : b ≡ a). let g : (a == b) ≡ true = eq-eqb a b (sym f) in absurd (cc)))
-
 hits_one : (q : ℕ) (u : Option ℕ) → hits (Some q) u ≡ is_register u q
 unfolding hits
 hits_one q None = refl
@@ -221,10 +216,6 @@ all_three false false true h = refl
 all_three false false false h = refl
 all_three false true true h = refl
 all_three false true false h = sym (h refl)
-
-or_right : (a b : Bool) → b ≡ true → (a || b) ≡ true
-or_right true b e = refl
-or_right false b e = e
 
 conflict_by : (f s v u : Option ℕ) (w : Instr) → written w ≡ u → not (alone_by f s v u && leaves_alone w v) ≡ ((hits u f || hits u s) || meets v w)
 unfolding alone_by

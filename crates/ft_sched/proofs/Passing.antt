@@ -1,26 +1,19 @@
 -- A leading instruction passes those that wait, and stops behind the last one that holds it back.
-use Rattle.std.proofs.Common.{◌≡◌, ⊎_elim, ℕ, zero, suc, ◌+◌, ◌-◌, ◌<◌, ◌≤◌, Bool, true, false, cond, not, ◌&&◌, ◌||◌, nat_lt, List, [], ◌∷◌, ◌++◌, length, take, drop, Some, slice_get, refl, sym, ap, ◌∙◌, subst, arith, append_assoc}
+use Rattle.std.proofs.Common.{◌≡◌, ⊎_elim, ℕ, suc, ◌+◌, ◌-◌, ◌<◌, ◌≤◌, Bool, true, false, cond, not, ◌&&◌, ◌||◌, nat_lt, List, [], ◌∷◌, ◌++◌, length, take, drop, Some, slice_get, refl, sym, ap, ◌∙◌, subst, arith, append_assoc}
 use Rattle.std.specs.List.{slice_range, count_by, list_all, list_any}
-use Rattle.std.proofs.lemmas.Bool.{and_parts, and_from, cases_eq, cases_lt, ltb-true, lt-ltb}
+use Rattle.std.proofs.lemmas.Bool.{and_parts, and_from, cases_eq, cases_lt, ltb-true, lt-ltb, or_parts, not-false, or_right, or_left}
 use Rattle.std.proofs.lemmas.List.{length-append}
 use Rattle.ft_isa.specs.declared.instr.Instr.{Instr}
 use Rattle.ft_isa.specs.declared.instr.Instr.TheVariants.{OpReg, OpWord, Mov, Ld, St, JmpG, JmpB, BzG, BzB, Halt, Idx}
 use Rattle.ft_isa.specs.declared.colour.Colour.TheVariants.{Green, Blue}
-use Rattle.ft_exchange.specs.Exchange.{is_fixed, is_leading, is_trailing, written, leaves_alone, is_green_store, is_blue_store, queue_after, has_room, may_exchange, exchanged}
+use Rattle.ft_exchange.specs.Exchange.{is_leading, is_trailing, written, leaves_alone, is_green_store, is_blue_store, queue_after, may_exchange}
 use Rattle.ft_exchange.proofs.Permits.{permits}
+use Rattle.ft_exchange.proofs.Unique.{not_both}
 use Rattle.ft_sched.specs.Inside.{IsPermittedAt, Reaches, exchanges, HasNone}
 use Rattle.ft_sched.specs.Waiting.{conflicts, holds_back}
 use Rattle.ft_sched.proofs.Listed.{get_front, get_behind, get_seam, all_at, last_apart, range_front, range_end, rest_of_front, exchanged_seam, count_more}
 
 -- KINDS
-
--- no instruction both trails and leads
-pub not_both : (i : Instr) → is_trailing i ≡ true → is_leading i ≡ true → ⊥
-not_both i t l = (let n : is_trailing i ≡ false = ap (λ b. not (is_fixed i) && not b) l ∙ and_false (not (is_fixed i)) in cc)
-  where
-    and_false : (b : Bool) → (b && false) ≡ false
-    and_false true = refl
-    and_false false = refl
 
 -- a trailing one is no green store
 pub trailing_store : (i : Instr) → is_trailing i ≡ true → is_green_store i ≡ false
@@ -42,14 +35,6 @@ counts_none i h = ap (λ b. cond b 1 0) (trailing_store i h)
 
 -- TESTS
 
-or_none : (a b : Bool) → (a || b) ≡ false → (a ≡ false) × (b ≡ false)
-or_none false b h = (refl, h)
-or_none true b h = cc
-
-not_false : (b : Bool) → not b ≡ false → b ≡ true
-not_false true h = refl
-not_false false h = cc
-
 roomy : (a b c : Bool) → (a ≡ true → b ≡ true → c ≡ true) → (not (a && b) || c) ≡ true
 roomy false b c h = refl
 roomy true false c h = refl
@@ -69,27 +54,19 @@ Passes queued committed (w ∷ ws) i = (may_exchange (queued - committed) w i �
 
 may_pass : (n : ℕ) (w i : Instr) → is_trailing w ≡ true → is_leading i ≡ true → conflicts i w ≡ false → (is_blue_store w ≡ true → is_green_store i ≡ true → nat_lt n 8 ≡ true) → may_exchange n w i ≡ true
 may_pass n w i t l c room =
-    let alone = and_parts (leaves_alone i (written w)) (leaves_alone w (written i)) (not_false _ c) in
+    let alone = and_parts (leaves_alone i (written w)) (leaves_alone w (written i)) (not-false _ c) in
     and_from _ _ (and_from _ _ (and_from _ _ (and_from _ _ t l) alone.0) alone.1) (roomy (is_blue_store w) (is_green_store i) (nat_lt n 8) room)
 
 fewer_pairs : (q c b : ℕ) → nat_lt (q - c) 8 ≡ true → nat_lt (q - (c + b)) 8 ≡ true
 fewer_pairs q c b h = lt-ltb (q - (c + b)) 8 (let l = ltb-true (q - c) 8 h in omega arith)
 
-or_later : (a b : Bool) → b ≡ true → (a || b) ≡ true
-or_later true b h = refl
-or_later false b h = h
-
-or_sooner : (a b : Bool) → a ≡ true → (a || b) ≡ true
-or_sooner true b h = refl
-or_sooner false b h = cc
-
 passes_by : (q c : ℕ) (ws : List Instr) (i : Instr) → list_all is_trailing ws ≡ true → is_leading i ≡ true → list_any (conflicts i) ws ≡ false → (is_green_store i ≡ true → list_any is_blue_store ws ≡ true → nat_lt (q - c) 8 ≡ true) → Passes q c ws i
 passes_by q c [] i t l h room = tt
 passes_by q c (w ∷ ws) i t l h room =
     let ts = and_parts (is_trailing w) (list_all is_trailing ws) t in
-    let hs = or_none (conflicts i w) (list_any (conflicts i) ws) h in (
-      may_pass (q - c) w i ts.0 l hs.0 (λ b g. room g (or_sooner (is_blue_store w) (list_any is_blue_store ws) b)),
-      passes_by q (c + cond (is_blue_store w) 1 0) ws i ts.1 l hs.1 (λ g b. fewer_pairs q c (cond (is_blue_store w) 1 0) (room g (or_later (is_blue_store w) (list_any is_blue_store ws) b))),
+    let hs = or_parts (conflicts i w) (list_any (conflicts i) ws) h in (
+      may_pass (q - c) w i ts.0 l hs.0 (λ b g. room g (or_left (is_blue_store w) (list_any is_blue_store ws) b)),
+      passes_by q (c + cond (is_blue_store w) 1 0) ws i ts.1 l hs.1 (λ g b. fewer_pairs q c (cond (is_blue_store w) 1 0) (room g (or_right (is_blue_store w) (list_any is_blue_store ws) b))),
     )
 
 full_by : (g n b : Bool) → (g && not n && b) ≡ false → g ≡ true → b ≡ true → n ≡ true
@@ -101,7 +78,7 @@ full_by false n b h e f = cc
 -- where nothing holds the instruction back, it passes all
 pub passes_all : (q c : ℕ) (ws : List Instr) (i : Instr) → list_all is_trailing ws ≡ true → is_leading i ≡ true → holds_back (q - c) ws i ≡ false → Passes q c ws i
 passes_all q c ws i t l h =
-    let hs = or_none (list_any (conflicts i) ws) _ h in
+    let hs = or_parts (list_any (conflicts i) ws) _ h in
     passes_by q c ws i t l hs.0 (full_by (is_green_store i) (nat_lt (q - c) 8) (list_any is_blue_store ws) hs.1)
 
 -- the instruction that it doesn't pass
@@ -131,7 +108,7 @@ pub stuck_behind : (q c : ℕ) (w : Instr) (ws : List Instr) (i : Instr) → hol
 stuck_behind q c w ws i h k may =
     let p = permits (q - c) w i may in
     let free : conflicts i w ≡ false = conflict_free (leaves_alone i (written w)) (leaves_alone w (written i)) p.second_alone p.first_alone in
-    let ks = or_none (list_any (conflicts i) ws) _ k in
+    let ks = or_parts (list_any (conflicts i) ws) _ k in
     let full = any_held (conflicts i w) (list_any (conflicts i) ws) _ h free ks.0 in
     held_by (is_green_store i) (nat_lt (q - c) 8) (is_blue_store w) (list_any is_blue_store ws) (nat_lt (q - (c + cond (is_blue_store w) 1 0)) 8) full ks.1
     (λ e. ap (λ b. nat_lt (q - (c + cond b 1 0)) 8) e ∙ (let z : q - (c + 0) ≡ q - c = omega arith in ap (λ n. nat_lt n 8) z))

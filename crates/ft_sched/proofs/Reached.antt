@@ -1,13 +1,8 @@
 -- Lists that come from others by permitted exchanges between two places.
-use Rattle.std.proofs.Common.{◌≡◌, ℕ, zero, suc, ◌+◌, List, [], ◌∷◌, length, drop, slice_get, refl, ap, ◌∙◌, arith}
+use Rattle.std.proofs.Common.{◌≡◌, ℕ, List, length, refl, ◌∙◌, arith}
 use Rattle.ft_isa.specs.declared.instr.Instr.{Instr}
 use Rattle.ft_exchange.proofs.Lists.{length-exchanged}
 use Rattle.ft_sched.specs.Inside.{Reaches, stays, exchanges, HasNone}
-
-pub drop_get : (a : ℕ) (xs : List Instr) (k : ℕ) → slice_get (drop a xs) k ≡ slice_get xs (a + k)
-drop_get zero xs k = ap (slice_get xs) (omega arith)
-drop_get (suc a) [] k = refl
-drop_get (suc a) (i ∷ xs) k = drop_get a xs k ∙ (let e : suc (a + k) ≡ suc a + k = omega arith in ap (slice_get (i ∷ xs)) e)
 
 pub length_reached : (rows start past : ℕ) (is js : List Instr) → Reaches rows start past is js → length js ≡ length is
 length_reached rows start past is _ stays = refl

@@ -1,33 +1,28 @@
 -- Blocks that are scheduled one after the other.
-use Rattle.std.proofs.Common.{◌≡◌, ⊎_elim, inl, inr, ℕ, zero, suc, ◌+◌, ◌-◌, ◌<◌, ◌≤◌, List, [], ◌∷◌, ◌++◌, length, take, drop, Option, Some, None, Ok, Err, slice_get, refl, sym, ap, ◌∙◌, subst, arith, append-nil}
+use Rattle.std.proofs.Common.{◌≡◌, ℕ, suc, ◌+◌, ◌<◌, ◌≤◌, List, [], ◌∷◌, ◌++◌, length, drop, Some, Ok, Err, slice_get, refl, sym, ap, ◌∙◌, subst, arith, append-nil}
 use Rattle.std.specs.Prelude.{IfOk, Result}
 use Rattle.std.specs.Option.{option_map, unwrap_or}
 use Rattle.std.specs.List.{count_by}
 use Rattle.std.proofs.lemmas.List.{length-append}
-use Rattle.std.proofs.lemmas.Option.{slice_get_past, slice_get_within}
+use Rattle.std.proofs.lemmas.Option.{slice_get_past}
 use Rattle.std.proofs.Math.Seq.{drop-length}
 use Rattle.ft_isa.specs.declared.instr.Instr.{Instr}
+use Rattle.ft_isa.proofs.Lists.{drop_there}
 use Rattle.ft_types.specs.declared.object.Object.{Object}
 use Rattle.ft_types.specs.declared.object.Block.{Block}
-use Rattle.ft_types.specs.Objects.{start_of, block_start}
+use Rattle.ft_types.specs.Objects.{start_of}
 use Rattle.ft_types.specs.Spellable.{BeginAtZero, IsSpellable}
-use Rattle.ft_exchange.specs.Exchange.{is_trailing, is_green_store, is_blue_store, IsPermitted, with_instrs}
+use Rattle.ft_exchange.specs.Exchange.{is_green_store, is_blue_store, IsPermitted, with_instrs}
 use Rattle.ft_exchange.specs.Scheduled.{ComesFrom, itself, IsScheduled}
 use Rattle.ft_sched.specs.Inside.{Reaches, stays, HasNone}
-use Rattle.ft_sched.specs.Arranged.{Arranges, IsSettled, IsArranged, LaysAll, GetsPlace}
+use Rattle.ft_sched.specs.Arranged.{Arranges, IsArranged, LaysAll, GetsPlace}
 use Rattle.ft_sched.specs.UpTo.{boundary, laid_before, IsUpTo}
 use Rattle.ft_sched.proofs.Listed.{length_drop}
 use Rattle.ft_sched.proofs.Reached.{length_reached, none_begins}
 use Rattle.ft_sched.proofs.Whole.{OfBlock, turn_comes, turn_none}
 
--- one more of the rest
-drop_after : (xs : List Instr) (k : ℕ) (x : Instr) → slice_get xs k ≡ Some x → drop k xs ≡ x ∷ drop (suc k) xs
-drop_after [] k x e = cc
-drop_after (y ∷ xs) zero x e = (let same : y ≡ x = cc in ap (λ z. z ∷ xs) same)
-drop_after (y ∷ xs) (suc k) x e = drop_after xs k x e
-
 pub drop_next : (xs : List Instr) (k : ℕ) (x : Instr) → slice_get xs k ≡ Some x → drop k xs ≡ x ∷ drop (k + 1) xs
-drop_next xs k x e = drop_after xs k x e ∙ (let s : suc k ≡ k + 1 = omega arith in ap (λ n. x ∷ drop n xs) s)
+drop_next xs k x e = drop_there xs k x e ∙ (let s : suc k ≡ k + 1 = omega arith in ap (λ n. x ∷ drop n xs) s)
 
 -- the first block begins at 0
 begins_at : (bs : List Block) (n : ℕ) → BeginAtZero bs → unwrap_or (option_map start_of (slice_get bs 0)) n ≡ 0

@@ -1,23 +1,24 @@
 -- Exchanges in a list of instructions are exchanges in an object that has them.
-use Rattle.std.proofs.Common.{◌≡◌, inl, inr, ⊎_elim, ℕ, zero, suc, ◌+◌, ◌-◌, ◌<◌, ◌≤◌, ◌^◌, true, List, [], ◌∷◌, length, take, drop, Option, Some, None, slice_get, refl, sym, ap, ◌∙◌, subst, arith}
+use Rattle.std.proofs.Common.{◌≡◌, inl, inr, ⊎_elim, ℕ, zero, suc, ◌+◌, ◌-◌, ◌<◌, ◌≤◌, true, List, [], ◌∷◌, length, take, drop, Option, Some, None, slice_get, refl, sym, ap, ◌∙◌, subst, arith}
 use Rattle.std.specs.Option.{option_map, unwrap_or}
 use Rattle.std.specs.List.{slice_range}
 use Rattle.std.proofs.lemmas.Bool.{cases_lt}
 use Rattle.std.proofs.lemmas.Option.{slice_get_cases, slice_get_within}
 use Rattle.ft_isa.specs.declared.instr.Instr.{Instr}
+use Rattle.ft_isa.proofs.Lists.{get_dropped, all_there}
 use Rattle.ft_types.specs.declared.object.Object.{Object}
 use Rattle.ft_types.specs.declared.object.Block.{Block}
 use Rattle.ft_types.specs.declared.object.CodeType.{CodeType}
 use Rattle.ft_types.specs.declared.object.TypeHead.{TypeHead}
 use Rattle.ft_types.specs.Objects.{type_head_of, queue_of, queue_rows, code_type_of, start_of, block_type, block_start, block_end, block_instrs}
-use Rattle.ft_types.specs.Spellable.{AreBlocks, HasCodeType, IsCodeType, IsSpellable}
-use Rattle.ft_tolerance.proofs.Lists.{of_all}
+use Rattle.ft_types.specs.Spellable.{HasCodeType, IsCodeType, IsSpellable}
+use Rattle.ft_types.proofs.BlockStarts.{below_end}
 use Rattle.ft_exchange.specs.Exchange.{queue_after, may_exchange, IsPermitted, exchanged, with_instrs}
 use Rattle.ft_sched.specs.Inside.{IsPermittedAt, Reaches, stays, exchanges, HasNone}
 use Rattle.ft_exchange.specs.Scheduled.{ComesFrom, itself, exchange}
 use Rattle.ft_exchange.proofs.Lists.{get-range, range_before}
 use Rattle.ft_exchange.proofs.BlockRanges.{starts_rise, ends_before, start_is}
-use Rattle.ft_sched.proofs.Reached.{drop_get, length_reached}
+use Rattle.ft_sched.proofs.Reached.{length_reached}
 
 -- LISTS
 
@@ -35,19 +36,13 @@ get_take (suc m) (x ∷ xs) (suc k) h = get_take m xs k (omega arith)
 
 -- an element of a part
 get_range : (xs : List Instr) (a e n : ℕ) → a ≤ n → n < e → slice_get (slice_range xs a e) (n - a) ≡ slice_get xs n
-get_range xs a e n l h = get_take (e - a) (drop a xs) (n - a) (omega arith) ∙ drop_get a xs (n - a) ∙ (let q : a + (n - a) ≡ n = omega arith in ap (slice_get xs) q)
+get_range xs a e n l h = get_take (e - a) (drop a xs) (n - a) (omega arith) ∙ get_dropped a xs (n - a) ∙ (let q : a + (n - a) ≡ n = omega arith in ap (slice_get xs) q)
 
 -- the front of a part
 front_range : (xs : List Instr) (a e n : ℕ) → a ≤ n → n ≤ e → take (n - a) (slice_range xs a e) ≡ slice_range xs a n
 front_range xs a e n l h = take_take (n - a) (e - a) (drop a xs) (omega arith)
 
 -- OBJECTS
-
--- a block begins before the end of the code
-below_end : (end least : ℕ) (bs : List Block) (i : ℕ) (y : Block) → AreBlocks end least bs → slice_get bs i ≡ Some y → y.start < end
-below_end end least [] i y h e = cc
-below_end end least (z ∷ bs) zero y h e = (let same : z ≡ y = cc in subst (λ (w : Block). w.start < end) same h.1)
-below_end end least (z ∷ bs) (suc i) y h e = below_end end (suc z.start) bs i y h.2 e
 
 pub comes_on : (o s t : Object) → ComesFrom o s → ComesFrom s t → ComesFrom o t
 comes_on o s _ h itself = h
@@ -162,11 +157,11 @@ module _ (o : Object) (spelled : IsSpellable o) where
   pub rows_few : (t : ℕ) (x : CodeType) → slice_get o.types t ≡ Some x → length (queue_rows o t) ≤ 8
   rows_few t x e =
       let s : length (queue_rows o t) ≡ length x.queue = ap (λ u. length (unwrap_or (option_map queue_of u) [])) e in
-      let l = (of_all (IsCodeType (length o.types) o.nodes) o.types t x spelled.types e).queue_length in
+      let l = (all_there (IsCodeType (length o.types) o.nodes) o.types t x spelled.types e).queue_length in
       omega arith
 
   pub type_there : (b : ℕ) (x : Block) → slice_get o.blocks b ≡ Some x → x.code_type < length o.types
-  type_there b x e = of_all (HasCodeType (length o.types)) o.blocks b x spelled.block_types e
+  type_there b x e = all_there (HasCodeType (length o.types)) o.blocks b x spelled.block_types e
 
   pub type_is : (b : ℕ) (x : Block) → slice_get o.blocks b ≡ Some x → block_type o b ≡ x.code_type
   type_is b x e = ap (λ u. unwrap_or (option_map code_type_of u) 0) e

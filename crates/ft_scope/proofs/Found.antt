@@ -1,5 +1,5 @@
 -- What names name, as declarations are added.
-use Rattle.std.proofs.Common.{◌≡◌, ℕ, suc, ◌+◌, ◌*◌, ◌<◌, ◌≤◌, Bool, true, false, cond, List, [], ◌∷◌, ◌++◌, length, map, Option, Some, None, is_some, refl, sym, ap, ◌∙◌, subst, arith}
+use Rattle.std.proofs.Common.{◌≡◌, ℕ, ◌+◌, ◌*◌, ◌<◌, ◌≤◌, Bool, true, false, cond, List, [], ◌∷◌, ◌++◌, length, Option, Some, None, is_some, refl, sym, ap, ◌∙◌, subst, arith}
 use Rattle.std.specs.Option.{option_map}
 use Rattle.std.specs.Str.{bytes_eq}
 use Rattle.std.specs.Cmp.Lexicographic.{bytes_decides}
@@ -161,11 +161,6 @@ found_fits c v (array n l at w ∷ ds) text s ok h =
     (length_some l fine.0, length_few l fine.0, omega arith)
     (λ g. subst (λ k. AnyFits k (v + variable_count ds) s) e (found_fits (c + l) v ds text s fine.1 g))
 
--- one more item that is mapped
-pub map_push : {A B : Type 0} (f : A → B) (xs : List A) (x : A) → map f (xs ++ x ∷ []) ≡ map f xs ++ f x ∷ []
-map_push f [] x = refl
-map_push f (y ∷ xs) x = ap (λ v. f y ∷ v) (map_push f xs x)
-
 -- a name that was not declared before
 pub repeated_step : (before : List Declared) (d : Declared) (ds : List Declared) → find before (declared_name d).text ≡ None → repeated before (d ∷ ds) ≡ repeated (before ++ d ∷ []) ds
 repeated_step before d ds h = ap (λ o. cond (is_some o) (Some (declared_name d).at) (repeated (before ++ d ∷ []) ds)) h
@@ -178,8 +173,3 @@ pub twice_fails : (e : SourceError) (before : List Declared) (d : Declared) (ds 
 twice_fails (Twice at) before d ds found h g = repeated_here before d ds at (sym (some_mapped (find before (declared_name d).text)) ∙ ap is_some (sym h) ∙ g.1) g.0
 twice_fails NoMemory before d ds found h g = tt
 twice_fails _ before d ds found h g = absurd g
-
--- a map keeps the length
-pub length_map : {A B : Type 0} (f : A → B) (xs : List A) → length (map f xs) ≡ length xs
-length_map f [] = refl
-length_map f (x ∷ xs) = ap suc (length_map f xs)

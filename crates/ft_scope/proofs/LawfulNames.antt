@@ -1,10 +1,10 @@
 -- The names of a text's cells are lawful, and differ.
-use Rattle.std.proofs.Common.{◌≡◌, ◌≢◌, ℕ, zero, suc, ◌+◌, ◌^◌, ◌<◌, ◌≤◌, Bool, true, false, cond, ◌&&◌, ◌||◌, ◌==◌, List, [], ◌∷◌, ◌++◌, length, Option, Some, None, refl, sym, ap, ◌∙◌, subst, arith, get_or, decimal, length-append}
+use Rattle.std.proofs.Common.{◌≡◌, ◌≢◌, ℕ, zero, suc, ◌+◌, ◌^◌, ◌<◌, ◌≤◌, Bool, true, false, cond, ◌||◌, ◌==◌, List, [], ◌∷◌, ◌++◌, length, Option, Some, None, refl, sym, ap, ◌∙◌, subst, arith, get_or, decimal, length-append}
 use Rattle.std.specs.Prelude.{All, is_some, nat_le, codes}
 use Rattle.std.specs.List.{AllPairs, AllByRecursion, list_all}
 use Rattle.std.specs.Str.{bytes_eq}
 use Rattle.std.specs.Str.Parse.{AllDigits}
-use Rattle.std.proofs.lemmas.Bool.{and_parts, and_from, or_parts, le-leb, eqb-true, true≢false}
+use Rattle.std.proofs.lemmas.Bool.{and_parts, and_from, or_parts, le-leb, eqb-true, true≢false, or_from, or_right}
 use Rattle.std.proofs.lemmas.Fmt.{decimal_is_IsNumeral, length-decimal-le, decimal_injective}
 use Rattle.std.proofs.lemmas.List.{append_cancel_left, append_cancel_right}
 use Rattle.std.proofs.lemmas.List.Elements.{All-nil, All-cons, All-append}
@@ -14,7 +14,7 @@ use Rattle.std.proofs.lemmas.Slice.Eq.{bytes_eq-Decides}
 use Rattle.std.proofs.lemmas.Str.Parse.{digit_from_value}
 use Rattle.ft_lexer.specs.Bytes.{is_letter, is_digit, is_name_byte}
 use Rattle.ft_lexer.proofs.FitLexemes.{is_word, IsNameText}
-use Rattle.ft_syntax.specs.Syntax.{Named, Declared, cell, var, array}
+use Rattle.ft_syntax.specs.Syntax.{Declared, cell, var, array}
 use Rattle.ft_syntax.proofs.FitTrees.{IsFitDeclaration}
 use Rattle.ft_scope.specs.declared.slot.Slot.{Slot}
 use Rattle.ft_scope.specs.declared.slot.Slot.TheVariants.{Cell, Var, Run}
@@ -35,11 +35,6 @@ cell_bytes [] e = refl
 cell_bytes (b ∷ bs) e =
     let p = and_parts (is_name_byte b) (list_all is_name_byte bs) e in
     and_from (is_cell_byte b) (list_all is_cell_byte bs) (cell_byte b p.0) (cell_bytes bs p.1)
-
--- the second of two tests holds
-or_right : (x y : Bool) → y ≡ true → (x || y) ≡ true
-or_right true y e = refl
-or_right false y e = e
 
 -- a digit may stand in a name
 digit_byte : (c : ℕ) → 48 ≤ c → c ≤ 57 → is_name_byte c ≡ true
@@ -180,11 +175,6 @@ is_seen (d ∷ ds) t = bytes_eq (declared_name d).text t || is_seen ds t
 seen_or : (b : Bool) (s : Slot) (o : Option Slot) (c : Bool) → is_some o ≡ c → is_some (cond b (Some s) o) ≡ (b || c)
 seen_or true s o c e = refl
 seen_or false s o c e = e
-
--- neither of two tests holds
-or_from : (x y : Bool) → x ≡ false → y ≡ false → (x || y) ≡ false
-or_from true y e f = e
-or_from false y e f = f
 
 -- a text is found where it is declared
 found_is_seen : (c v : ℕ) (ds : List Declared) (t : List ℕ) → is_some (found_after c v ds t) ≡ is_seen ds t

@@ -1,6 +1,7 @@
 -- Cells one after the other.
 use Rattle.std.proofs.Common.{◌≡◌, true, false, add-one, ℕ, suc, zero, ◌+◌, List, [], ◌∷◌, ◌++◌, length, map, replicate, Option, Some, None, refl, sym, ap, ◌∙◌, arith, append_assoc, append-nil, length-append, cond, Bor, Result, Ok, Err}
 use Rattle.std.specs.Prelude.{OnOk}
+use Rattle.std.proofs.lemmas.List.{map_push}
 use Rattle.ft_syntax.specs.Syntax.{Named, Declared, cell, var, array}
 use Rattle.ft_scope.specs.CellNames.{cell_name, array_names, cell_names, joined_names}
 use Rattle.ft_scope.specs.Scope.{cell_texts, cell_places, cell_words, cell_count, places_from, wrong_length, is_length}
@@ -149,10 +150,6 @@ made_none c ds n at w m = record {
   places = m.places ∙ sym (places_push ds (array n 0 at w) ∙ append-nil (cell_places ds));
   inits = m.inits ∙ sym (words_push ds (array n 0 at w) ∙ append-nil (cell_words ds));
 }
-
-map_push : {A B : Type 0} (f : A → B) (xs : List A) (x : A) → map f (xs ++ x ∷ []) ≡ map f xs ++ f x ∷ []
-map_push f [] x = refl
-map_push f (y ∷ xs) x = ap (λ v. f y ∷ v) (map_push f xs x)
 
 -- one more cell of an array is made
 pub made_more : (c e : Cells) (ds : List Declared) (n : Named) (name : Bor (List ℕ)) (l at w : ℕ) → n.text ≡ name.now → e.names.items ≡ c.names.items ++ name ∷ [] → e.places.items ≡ c.places.items ++ Some l ∷ [] → e.inits.items ≡ c.inits.items ++ w ∷ [] → Made c (ds ++ array n l at w ∷ []) → Made e (ds ++ array n (l + 1) at w ∷ [])

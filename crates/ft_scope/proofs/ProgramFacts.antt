@@ -1,5 +1,5 @@
 -- What is so of a text's program: of its cells, its statements and its size.
-use Rattle.std.proofs.Common.{◌≡◌, ℕ, ◌+◌, ◌^◌, ◌<◌, ◌≤◌, Bool, true, false, List, [], ◌∷◌, ◌++◌, length, replicate, Option, Some, None, refl, sym, ap, ◌∙◌, subst, arith}
+use Rattle.std.proofs.Common.{◌≡◌, ℕ, ◌+◌, ◌≤◌, Bool, true, false, List, [], ◌∷◌, length, replicate, Option, Some, None, refl, sym, ◌∙◌, subst, arith}
 use Rattle.std.specs.Prelude.{All, Result, Ok, Err, if◌then◌else◌, nat_lt}
 use Rattle.std.specs.List.{AllByRecursion}
 use Rattle.std.proofs.lemmas.Bool.{ltb-false}
@@ -9,7 +9,7 @@ use Rattle.ft_syntax.specs.Syntax.{Named, Declared, cell, var, array, SyntaxTree
 use Rattle.ft_syntax.specs.Plain.{Expression, literal, name, indexed, operation, StatementList, none, assign, assign_at, loop, choose}
 use Rattle.ft_syntax.specs.declared.source_error.SourceError.{SourceError}
 use Rattle.ft_syntax.specs.declared.source_error.SourceError.TheVariants as errors
-use Rattle.ft_syntax.proofs.FitTrees.{IsFitDeclaration, HasWords, HaveWords, IsFitTree, source_fits}
+use Rattle.ft_syntax.proofs.FitTrees.{IsFitDeclaration, HasWords, HaveWords, source_fits}
 use Rattle.ft_scope.specs.declared.slot.Slot.{Slot}
 use Rattle.ft_scope.specs.CellNames.{cell_names}
 use Rattle.ft_scope.specs.Outcome.{IsProgramOf}
@@ -18,7 +18,7 @@ use Rattle.ft_scope.specs.Renames.{AnyFits}
 use Rattle.ft_scope.specs.Resolved.{Program, program_need, program_weight, refused_above, limited, program_with, refused_at, resolved}
 use Rattle.ft_scope.specs.Scope.{cell_words, cell_count, variable_count, wrong_length, find, repeated, ◌>>=◌, found, renamed_expression, renamed, first_of, bare_misuse, index_misuse, misused_expression, misused}
 use Rattle.ft_scope.specs.Size.{ExpressionFits, StatementsFit}
-use Rattle.ft_scope.proofs.Found.{found_fits, length_fine}
+use Rattle.ft_scope.proofs.Found.{found_fits}
 use Rattle.ft_scope.proofs.LawfulNames.{names_lawful, names_differ}
 use Rattle.ft_scope.proofs.MadeCells.{count_names, count_words}
 use Rattle.ft_scope.proofs.MisusedNames.{first_left, first_right, bare_fits, index_fits}

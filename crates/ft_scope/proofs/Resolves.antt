@@ -1,6 +1,7 @@
 -- What a tree is, by what the code knows of it.
-use Rattle.std.proofs.Common.{◌≡◌, ◌≢◌, ℕ, ◌+◌, ◌*◌, ◌-◌, ◌^◌, ◌<◌, ◌≤◌, Bool, true, false, List, [], length, map, min, Some, None, Result, Ok, Err, nat_lt, if◌then◌else◌, refl, sym, ap, ◌∙◌, subst, arith}
+use Rattle.std.proofs.Common.{◌≡◌, ◌≢◌, ℕ, ◌+◌, ◌<◌, ◌≤◌, Bool, true, false, List, [], length, map, Some, None, Result, Ok, Err, nat_lt, if◌then◌else◌, refl, sym, ap, ◌∙◌, subst, arith}
 use Rattle.std.proofs.lemmas.Bool.{lt-ltb, ltb-true}
+use Rattle.std.proofs.lemmas.List.{length-map}
 use Rattle.ft_syntax.specs.declared.decl.Decl.{Decl}
 use Rattle.ft_syntax.specs.declared.spot.Spot.{Spot}
 use Rattle.ft_syntax.specs.declared.stmt.Stmt.{Stmt}
@@ -22,7 +23,7 @@ use Rattle.ft_scope.specs.Renames.{Fails, AllFit, AnyFits}
 use Rattle.ft_scope.specs.Made.{Made}
 use Rattle.ft_scope.specs.declared.making.Cells.{Cells as MadeOf}
 use Rattle.ft_scope.proofs.MadeCells.{count_texts, count_places, count_words, made_names}
-use Rattle.ft_scope.proofs.Found.{counts_within, count_within, length_map}
+use Rattle.ft_scope.proofs.Found.{counts_within, count_within}
 use Rattle.ft_scope.proofs.Narrowed.{Exact, fails_exactly, gives_exactly, gives_the_same, table_fits, misuse_exactly}
 
 above : (limit n : ℕ) (e : SourceError) (other : Result Program SourceError) → limit < n → refused_above limit n e other ≡ Err e
@@ -148,7 +149,7 @@ module _ (t : SyntaxTree) (n : Names) (b : StatementList Slot) (r : Renamed t n 
 
         -- as many names and places as initial words
         pub as_many : length made.names.items ≡ length made.inits.items
-        as_many = sym (length_map (λ r. r.now) made.names.items) ∙ ap length is.names ∙ count_texts t.decls ∙ sym (ap length is.inits ∙ count_words t.decls)
+        as_many = sym (length-map made.names.items (λ r. r.now)) ∙ ap length is.names ∙ count_texts t.decls ∙ sym (ap length is.inits ∙ count_words t.decls)
 
         pub as_many_places : length made.places.items ≡ length made.inits.items
         as_many_places = ap length is.places ∙ count_places t.decls ∙ sym (ap length is.inits ∙ count_words t.decls)

@@ -1,6 +1,6 @@
 -- A line gives one command.
-use Rattle.std.proofs.Common.{◌≡◌, ◌⊎◌, inl, inr, ⊎_elim, ℕ, ◌^◌, ◌<◌, ◌≤◌, ◌==◌, List, [], ◌∷◌, ◌++◌, length, Some, decimal, codes, refl, ap, sym, ◌∙◌, append_assoc, lit<, arith}
-use Rattle.std.specs.Prelude.{if◌then◌else◌, position}
+use Rattle.std.proofs.Common.{◌≡◌, ◌⊎◌, inl, inr, ⊎_elim, ℕ, ◌^◌, ◌<◌, ◌≤◌, ◌==◌, List, [], ◌∷◌, ◌++◌, Some, decimal, codes, refl, ap, sym, ◌∙◌, lit<, arith}
+use Rattle.std.specs.Prelude.{if◌then◌else◌}
 use Rattle.std.specs.List.{AllZip}
 use Rattle.std.proofs.lemmas.List.{append_cancel_left}
 use Rattle.std.proofs.lemmas.Fmt.{decimal_injective}
@@ -9,10 +9,11 @@ use Rattle.ft_isa.specs.declared.plan.Site.{Site}
 use Rattle.ft_isa.specs.declared.plan.Site.TheVariants as sites
 use Rattle.ft_isa.specs.declared.plan.Strike.{Strike}
 use Rattle.ft_isa.proofs.StrikeRead.{strike_reader}
+use Rattle.ft_text.proofs.FirstWords.{one_split}
 use Rattle.ft_script.specs.declared.register.Register.{Register}
 use Rattle.ft_script.specs.declared.register.Register.TheVariants as registers
 use Rattle.ft_script.specs.Commands.{Command, Step, Go, Back, Zap, Reg, Queue, Cell, Where, Break, Bad, IsText, Gives, site_of, register_text}
-use Rattle.ft_script.proofs.Spaces.{HasNoSpace, first_space, split_only, decimal_no_space, site_no_space}
+use Rattle.ft_script.proofs.Spaces.{decimal_no_space, site_no_space}
 
 -- SITES AND REGISTERS
 
@@ -51,14 +52,6 @@ one_register : (r q : Register) → register_text r ≡ register_text q → r �
 one_register r q e = sym (there_and_back r) ∙ ap register_of (one_site (site_of r) (site_of q) (is_site r) (is_site q) e) ∙ there_and_back q
 
 -- WORDS
-
--- a text has one first word
-one_split : (text a b c d : List ℕ) → HasNoSpace a → HasNoSpace c → text ≡ a ++ codes " " ++ b → text ≡ c ++ codes " " ++ d → (a ≡ c) × (b ≡ d)
-one_split text a b c d ha hc e f =
-    let at : position (λ byte. byte == 32) text ≡ Some (length a) = ap (position (λ byte. byte == 32)) (e ∙ append_assoc a (32 ∷ []) b) ∙ first_space a b ha in
-    let x = split_only text (length a) a b at ha e in
-    let y = split_only text (length a) c d at hc f in
-    (sym x.0 ∙ y.0, sym x.1 ∙ y.1)
 
 one_number : (piece line : List ℕ) (n m : ℕ) → n < 2 ^ 64 → m < 2 ^ 64 → line ≡ piece ++ decimal n → line ≡ piece ++ decimal m → n ≡ m
 one_number piece line n m hn hm e f = decimal_injective n m hn hm (append_cancel_left piece (decimal n) (decimal m) (sym e ∙ f))

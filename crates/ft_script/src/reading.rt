@@ -9,8 +9,9 @@ ghost use Rattle.ft_script.specs.declared.register.Register as register;
 
 use crate::command::Command;
 use crate::register::Register;
-use crate::words::{after, is_line_word, is_same, read_count, read_register, split_word};
+use crate::words::{is_line_word, is_same, read_count, read_register};
 use ft_isa::{Site, read_number, read_site};
+use ft_text::{after, split_word};
 
 /// A number of steps after a piece.
 fn count_after(line: &[u8], piece: &[u8]) -> Option<u64>

@@ -1,44 +1,20 @@
 //! The words of a line: numbers and registers.
-ghost use Rattle.std.specs.Prelude.{◌≡◌, ◌≢◌, ℕ, List, ◌++◌, All, length, codes, decimal, position, ◌==◌, Decides, IfSome, IfNone, MatchOption};
+ghost use Rattle.std.specs.Prelude.{◌≡◌, ◌≢◌, ℕ, decimal, Decides, IfSome, IfNone};
 ghost use Rattle.ft_script.specs.Commands.{IsCount, IsLineWord, register_text};
 ghost use Rattle.ft_script.specs.declared.register.Register as register;
 
 use crate::register::Register;
 use ft_isa::{Site, read_number, read_site};
+use ft_text::first_space;
 
 /// The most steps of one command.
 const STEP_LIMIT: u64 = 1_000_000;
-
-/// What follows a piece at the start of a text; `None` where the text does not begin with it.
-pub fn after<'t>(text: &'t [u8], piece: &[u8]) -> Option<&'t [u8]>
-    ensures { MatchOption result ((rest : List ℕ) → text.now ≢ piece.now ++ rest) (λ rest. text.now ≡ piece.now ++ rest.now) }
-{
-    text.strip_prefix(piece)
-}
 
 /// Whether two texts are the same.
 pub fn is_same(a: &[u8], b: &[u8]) -> bool
     ensures { Decides result (a.now ≡ b.now) }
 {
     a == b
-}
-
-/// The place of the first space.
-fn first_space(text: &[u8]) -> Option<usize>
-    ensures { result ≡ position (λ byte. byte == 32) text.now }
-{
-    text.iter().position(|byte| *byte == b' ')
-}
-
-/// The parts of a text before and after its first space; `None` where it has no space.
-pub fn split_word(text: &[u8]) -> Option<(&[u8], &[u8])>
-    ensures some { IfSome result (λ p. text.now ≡ p.0.now ++ codes " " ++ p.1.now) }
-    ensures only { (a b : List ℕ) → All (λ byte. byte ≢ 32) a → text.now ≡ a ++ codes " " ++ b → MatchOption result ⊥ (λ p. (p.0.now ≡ a) × (p.1.now ≡ b)) }
-{
-    match first_space(text) {
-        Some(at) => Some((&text[..at], &text[at + 1..])),
-        None => None,
-    }
 }
 
 /// Whether a text is a word of a line: it has a byte or more, and no space.

@@ -15,7 +15,7 @@ use Rattle.ft_static.proofs.Cases.{by_cases, if_cases}
 use Rattle.ft_static.proofs.Proper.{below_more, turned, proper_add_term, proper_join, factors_join, proper_multiple}
 
 -- what follows in each case of a comparison
-order_split : (G : Type 0) (o : Ordering) → (o ≡ Less → G) → (o ≡ Equal → G) → (o ≡ Greater → G) → G
+pub order_split : (G : Type 0) (o : Ordering) → (o ≡ Less → G) → (o ≡ Equal → G) → (o ≡ Greater → G) → G
 order_split G Less f g h = f refl
 order_split G Equal f g h = g refl
 order_split G Greater f g h = h refl

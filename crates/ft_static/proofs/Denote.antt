@@ -10,7 +10,7 @@ use Rattle.ft_static.specs.NormalForm.{norm, norm_integer, norm_memory, same}
 use Rattle.ft_static.specs.declared.node.Node.{Node}
 use Rattle.ft_static.proofs.Equal.{equal_polynomials, equal_updates}
 use Rattle.ft_static.proofs.NodeTrees.{tree_at-row}
-use Rattle.ft_static.proofs.Rows.{norm_value, value_norm_memory}
+use Rattle.ft_static.proofs.FormsDenote.{norm_value, value_norm_memory}
 use Rattle.ft_static.proofs.Under.{form_of-map}
 
 -- a form denotes what its expression does

@@ -31,6 +31,10 @@ equal_monomials m n = (monomial_equal m n, tied cmp_monomial cmp_monomial_total 
 pub equal_polynomials : (p q : Polynomial) → same_polynomial p q ≡ true ↔ p ≡ q
 equal_polynomials p q = (λ e. polynomial_equal p q (is_equal (cmp_polynomial p q) e), λ e. ap is_eq (tied cmp_polynomial cmp_polynomial_total p q e))
 
+-- a form is the same as itself
+pub same_itself : (p : Polynomial) → same_polynomial p p ≡ true
+same_itself p = (equal_polynomials p p).1 refl
+
 -- that of memory forms too
 pub equal_updates : (u w : Updates) → same_updates u w ≡ true ↔ u ≡ w
 equal_updates u w = (λ e. updates_equal u w (is_equal (cmp_updates u w) e), λ e. ap is_eq (tied cmp_updates cmp_updates_total u w e))

@@ -5,7 +5,7 @@ pub mod Equal
 pub mod Lists
 pub mod Counts
 pub mod Sums
-pub mod Rows
+pub mod FormsDenote
 pub mod Proper
 pub mod Coefficients
 pub mod Under

@@ -3,7 +3,7 @@ use Rattle.std.proofs.Common.{ℕ, suc, zero, ◌≡◌, ◌<◌, ◌≤◌, ◌
 use Rattle.std.proofs.lemmas.List.{get_or_append_left, get_or_push, length_push}
 use Rattle.ft_static.specs.Expression.{Integer, Memory, Expression, word, variable, operation, sel, rem, memory_variable, upd, integer, memory, HasWords, HasVariablesBelow, AreWords, AreWordsOfMemory, IsWithin, IsMemoryWithin}
 use Rattle.ft_static.specs.NodeRules.{is_memory, MayName, IsShape, AreNodes}
-use Rattle.ft_static.specs.NodeTree.{integer_part, memory_part, integer_at, memory_at, tree_of, trees_onto, trees, tree_at, HasShape, StandsFor, word_node, variable_node, operation_node, sel_node, rem_node, memory_node, upd_node}
+use Rattle.ft_static.specs.NodeTree.{integer_part, memory_part, integer_at, memory_at, tree_of, trees_onto, trees, tree_at, HasShape, StandsFor, word_node, variable_node, operation_node, sel_node, rem_node, memory_node, upd_node, HasPartsBelow}
 use Rattle.ft_static.specs.declared.node.Node.{Node}
 use Rattle.ft_static.specs.declared.node.Shape.{Shape}
 use Rattle.ft_static.specs.declared.node.Shape.TheVariants as shape
@@ -12,18 +12,8 @@ use Rattle.ft_static.specs.declared.node.Shape.TheVariants as shape
 abbrev none : Expression
 none = integer (word 0)
 
--- the parts of a node of this shape have numbers below n
-abbrev HasPartsBelow : ℕ → Shape → Type 0
-HasPartsBelow n (shape.Word w) = Unit {0}
-HasPartsBelow n (shape.Var i) = Unit {0}
-HasPartsBelow n (shape.Op o a b) = (a < n) × (b < n)
-HasPartsBelow n (shape.Sel m a) = (m < n) × (a < n)
-HasPartsBelow n shape.Memory = Unit {0}
-HasPartsBelow n (shape.Upd m a v) = (m < n) × (a < n) × (v < n)
-HasPartsBelow n (shape.Rem a m) = a < n
-
 -- the parts of a lawful node have lower numbers
-parts_below : (nodes : List Node) (n scope : ℕ) (x : Shape) → IsShape nodes n scope x → HasPartsBelow n x
+pub parts_below : (nodes : List Node) (n scope : ℕ) (x : Shape) → IsShape nodes n scope x → HasPartsBelow n x
 parts_below nodes n scope (shape.Word w) h = tt
 parts_below nodes n scope (shape.Var i) h = tt
 parts_below nodes n scope (shape.Op o a b) h = (h.0.lower, h.1.lower)
@@ -69,7 +59,7 @@ pub tree_at-row : (nodes : List Node) (n : ℕ) (x : Node) → AreNodes nodes �
 tree_at-row nodes n x h f = trees_onto-row [] nodes n n x (omega arith) f (parts_below nodes n x.scope x.shape (h.each n x f).shape)
 
 -- a node that isn't a memory's has an integer's tree
-integer_tree : (ts : List Expression) (x : Shape) → is_memory x ≡ false → tree_of ts x ≡ integer (integer_part (tree_of ts x))
+pub integer_tree : (ts : List Expression) (x : Shape) → is_memory x ≡ false → tree_of ts x ≡ integer (integer_part (tree_of ts x))
 integer_tree ts (shape.Word w) e = refl
 integer_tree ts (shape.Var i) e = refl
 integer_tree ts (shape.Op o a b) e = refl
@@ -79,7 +69,7 @@ integer_tree ts (shape.Upd m a v) e = cc
 integer_tree ts (shape.Rem a m) e = refl
 
 -- a memory's node has a memory's tree
-memory_tree : (ts : List Expression) (x : Shape) → is_memory x ≡ true → tree_of ts x ≡ memory (memory_part (tree_of ts x))
+pub memory_tree : (ts : List Expression) (x : Shape) → is_memory x ≡ true → tree_of ts x ≡ memory (memory_part (tree_of ts x))
 memory_tree ts (shape.Word w) e = cc
 memory_tree ts (shape.Var i) e = cc
 memory_tree ts (shape.Op o a b) e = cc
@@ -89,13 +79,13 @@ memory_tree ts (shape.Upd m a v) e = refl
 memory_tree ts (shape.Rem a m) e = cc
 
 -- the tree of a node that is named as an integer
-integer_named : (nodes : List Node) (n scope m : ℕ) → AreNodes nodes → MayName nodes n scope false m → tree_at nodes m ≡ integer (integer_at (trees nodes) m)
+pub integer_named : (nodes : List Node) (n scope m : ℕ) → AreNodes nodes → MayName nodes n scope false m → tree_at nodes m ≡ integer (integer_at (trees nodes) m)
 integer_named nodes n scope m h k =
     let e = tree_at-row nodes m k.node h k.found in
     subst (λ t. t ≡ integer (integer_part t)) (sym e) (integer_tree (trees nodes) k.node.shape k.sort)
 
 -- the tree of a node that is named as a memory
-memory_named : (nodes : List Node) (n scope m : ℕ) → AreNodes nodes → MayName nodes n scope true m → tree_at nodes m ≡ memory (memory_at (trees nodes) m)
+pub memory_named : (nodes : List Node) (n scope m : ℕ) → AreNodes nodes → MayName nodes n scope true m → tree_at nodes m ≡ memory (memory_at (trees nodes) m)
 memory_named nodes n scope m h k =
     let e = tree_at-row nodes m k.node h k.found in
     subst (λ t. t ≡ memory (memory_part t)) (sym e) (memory_tree (trees nodes) k.node.shape k.sort)

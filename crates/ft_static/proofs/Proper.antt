@@ -54,7 +54,7 @@ proper_join one n h k = k
 proper_join (times a m) n h k = proper_join m (with_factor a n) h.2 (proper_with a n h.0 k)
 
 -- an atom more is one more
-factors_with : (a : Atom) (m : Monomial) → factors (with_factor a m) ≡ suc (factors m)
+pub factors_with : (a : Atom) (m : Monomial) → factors (with_factor a m) ≡ suc (factors m)
 factors_with a one = refl
 factors_with a (times b m) = by_cases (λ n. factors n ≡ suc (suc (factors m))) (cmp_atom a b) (times a (times b m)) (times a (times b m)) (times b (with_factor a m)) (λ e. refl) (λ e. refl) (λ e. ap suc (factors_with a m))
 
@@ -64,7 +64,7 @@ factors_join one n = omega arith
 factors_join (times a m) n = let h = factors_join m (with_factor a n) in let k = factors_with a n in omega arith
 
 -- terms
-below_led : (k m : Monomial) (c : ℕ) (p : Polynomial) → cmp_monomial k m ≡ Less → Below k p → Below k (led_by m c p)
+pub below_led : (k m : Monomial) (c : ℕ) (p : Polynomial) → cmp_monomial k m ≡ Less → Below k p → Below k (led_by m c p)
 below_led k m c p h g = if_cases (λ q. Below k q) (c == 0) p (plus m c p) (λ e. g) (λ e. h)
 
 -- what is below the first is below what follows
@@ -148,7 +148,7 @@ proper_norm_mul p q h k m n = if_cases (λ t. IsProper t × (terms t ≤ 64)) (n
     (λ e. (proper_alone (operation_atom Mul p q) (h, k, m, n), lit≤ tt))
 
 -- negation keeps the monomials
-below_negation : (k : Monomial) (p : Polynomial) → Below k p → Below k (negation p)
+pub below_negation : (k : Monomial) (p : Polynomial) → Below k p → Below k (negation p)
 below_negation k nought h = tt
 below_negation k (plus m c p) h = h
 

@@ -170,7 +170,7 @@ pub cmp_updates_total : IsTotalOrder cmp_updates
 cmp_updates_total = agreeing cmp_updates (on spell_updates lex) updates_spelled (on_texts spell_updates)
 
 -- two comparisons that tie
-then_both : (a b : Ordering) → ordering_then a b ≡ Equal → (a ≡ Equal) × (b ≡ Equal)
+pub then_both : (a b : Ordering) → ordering_then a b ≡ Equal → (a ≡ Equal) × (b ≡ Equal)
 then_both Less b e = cc
 then_both Equal b e = (refl, e)
 then_both Greater b e = cc

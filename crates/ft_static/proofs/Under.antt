@@ -12,7 +12,7 @@ use Rattle.ft_static.specs.FormUnder.{norm_under, norm_memory_under, form_under,
 use Rattle.ft_static.specs.declared.node.Node.{Node}
 use Rattle.ft_static.specs.declared.node.Shape.{Shape}
 use Rattle.ft_static.specs.declared.node.Shape.TheVariants as shape
-use Rattle.ft_static.proofs.Rows.{value_op, value_rem, value_sel, value_upd, value_constant}
+use Rattle.ft_static.proofs.FormsDenote.{value_op, value_rem, value_sel, value_upd, value_constant}
 use Rattle.ft_static.proofs.Sums.{value_polynomial_is_word, value_updates_are_words}
 
 -- what is at a place of a list after a function, with its value at the default

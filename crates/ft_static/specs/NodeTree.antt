@@ -1,5 +1,5 @@
 -- The tree for which a numbered node stands.
-use Rattle.std.specs.Prelude.{◌≡◌, ℕ, List, [], ◌∷◌, ◌++◌, Some, slice_get, slice_index_or}
+use Rattle.std.specs.Prelude.{◌≡◌, ℕ, List, [], ◌∷◌, ◌++◌, Some, slice_get, slice_index_or, ◌<◌}
 use Rattle.ft_static.specs.Expression.{Integer, Memory, Expression, word, variable, operation, sel, rem, memory_variable, upd, integer, memory}
 use Rattle.ft_isa.specs.declared.op.Op.{Op}
 use Rattle.ft_static.specs.declared.node.Node.{Node}
@@ -62,3 +62,13 @@ pub data StandsFor (nodes : List Node) : ℕ → Expression → Type 0 where
   rem_node : (n j m : ℕ) (a : Integer) → HasShape nodes n (shape.Rem j m) → StandsFor nodes j (integer a) → StandsFor nodes n (integer (rem a m))
   memory_node : (n : ℕ) → HasShape nodes n shape.Memory → StandsFor nodes n (memory memory_variable)
   upd_node : (n j k l : ℕ) (m : Memory) (a v : Integer) → HasShape nodes n (shape.Upd j k l) → StandsFor nodes j (memory m) → StandsFor nodes k (integer a) → StandsFor nodes l (integer v) → StandsFor nodes n (memory (upd m a v))
+
+-- the parts of a shape are below n
+abbrev pub HasPartsBelow : ℕ → Shape → Type 0
+HasPartsBelow n (shape.Word w) = Unit {0}
+HasPartsBelow n (shape.Var i) = Unit {0}
+HasPartsBelow n (shape.Op o a b) = (a < n) × (b < n)
+HasPartsBelow n (shape.Sel m a) = (m < n) × (a < n)
+HasPartsBelow n shape.Memory = Unit {0}
+HasPartsBelow n (shape.Upd m a v) = (m < n) × (a < n) × (v < n)
+HasPartsBelow n (shape.Rem a m) = a < n

@@ -2,6 +2,8 @@ pub mod PlainForms
 pub mod DeclaredLists
 pub mod Followed
 pub mod Complete
+pub mod Derived
+pub mod NextState
 pub mod Reached
 pub mod Judged
 pub mod Only

@@ -4,7 +4,7 @@ use Rattle.ft_lexer.specs.declared.lex_error.LexError.{LexError}
 use Rattle.ft_lexer.specs.declared.kind.Kind.TheVariants as kinds
 use Rattle.ft_lexer.specs.Scan.{Lexeme, Scan, over, wrong, token, all_of, with_token, scan}
 use Rattle.ft_lexer.specs.Placed.{Placed}
-use Rattle.ft_lexer.proofs.Places.{placed}
+use Rattle.ft_lexer.proofs.TokenPlaces.{placed}
 use Rattle.ft_syntax.specs.declared.decl.Decl.{Decl}
 use Rattle.ft_syntax.specs.declared.spot.Spot.{Spot}
 use Rattle.ft_syntax.specs.declared.stmt.Stmt.{Stmt}

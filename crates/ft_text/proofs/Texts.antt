@@ -4,6 +4,7 @@ use Rattle.std.specs.Prelude.{not, nat_lt, position}
 use Rattle.std.specs.List.{position_or_len}
 use Rattle.std.proofs.lemmas.Bool.{ltb-true, ltb-false}
 use Rattle.std.proofs.lemmas.List.{take_rest, length-drop}
+use Rattle.std.proofs.lemmas.Option.{cond_some}
 use Rattle.ft_text.specs.Lines.{with_byte, lines_of}
 
 -- where the first line feed is
@@ -33,18 +34,15 @@ only_line : (b : ℕ) (bs : List ℕ) → length (b ∷ bs) ≤ feed (b ∷ bs) 
 only_line b [] le = only_step (b == 10) b [] (feed []) (λ _. refl) le
 only_line b (d ∷ ds) le = only_step (b == 10) b (d ∷ ds) (feed (d ∷ ds)) (λ h. ap (with_byte b) (only_line d ds h)) le
 
-found : (t : Bool) (p at : ℕ) → cond t (Some p) None ≡ Some at → (t ≡ true) × (p ≡ at)
-found true p at e = (refl, cc)
-found false p at e = cc
-
-missing : (t : Bool) (p : ℕ) → cond t (Some p) None ≡ None → t ≡ false
+-- a choice that gives nothing was not taken
+pub missing : (t : Bool) (p : ℕ) → cond t (Some p) None ≡ None → t ≡ false
 missing true p e = cc
 missing false p e = refl
 
 -- the first line of a text with a line feed, and the rest
 pub first_line : (text : List ℕ) (at : ℕ) → position (λ byte. byte == 10) text ≡ Some at → (lines_of text ≡ take at text ∷ lines_of (take (length text - (at + 1)) (drop (at + 1) text))) × (length (take (length text - (at + 1)) (drop (at + 1) text)) < length text)
 first_line text at e =
-    let h = found (nat_lt (feed text) (length text)) (feed text) at e in
+    let h = cond_some (nat_lt (feed text) (length text)) (feed text) at e in
     let below : feed text < length text = ltb-true (feed text) (length text) h.0 in
     let rest = take_rest text (at + 1) in (
       subst (λ (n : ℕ). lines_of text ≡ take n text ∷ lines_of (drop (n + 1) text)) h.1 (first_ends text below) ∙ ap (λ l. take at text ∷ lines_of l) (sym rest),

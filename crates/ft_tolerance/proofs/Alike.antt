@@ -17,7 +17,7 @@ use Rattle.ft_semantics.specs.Step.{execute, advance, step_at, step}
 use Rattle.ft_semantics.specs.Strike.{is_there, with_word, struck_state}
 use Rattle.ft_tolerance.specs.Alike.{AreAlikeWords, AreAlikeRegisters, AreAlike, colour_of_site, Follows, keeps_alike, is_detected}
 use Rattle.ft_semantics.proofs.Held.{held-with_held}
-use Rattle.ft_tolerance.proofs.Wants.{Wants}
+use Rattle.ft_tolerance.proofs.WantedColours.{Wants}
 
 -- the same choice between alike registers
 alike_cond : (c : Colour) (b : Bool) (x y f g : Coloured) → AreAlikeWords c x y → AreAlikeWords c f g → AreAlikeWords c (cond b x f) (cond b y g)

@@ -10,7 +10,7 @@ use Rattle.ft_static.specs.NodeRules.{AreNodes}
 use Rattle.ft_static.specs.NodeTree.{trees, trees_onto, tree_of, integer_part, memory_part, integer_at, memory_at, tree_at}
 use Rattle.ft_static.specs.declared.node.Node.{Node}
 use Rattle.ft_static.proofs.NodeTrees.{tree_fits}
-use Rattle.ft_static.proofs.Rows.{norm_value, value_norm_memory}
+use Rattle.ft_static.proofs.FormsDenote.{norm_value, value_norm_memory}
 use Rattle.ft_static.proofs.Under.{value_under, value_memory_under, valuation_under-lawful}
 use Rattle.ft_types.specs.declared.object.Object.{Object}
 use Rattle.ft_typing.specs.Context.{integer_form_of, memory_form_of, integer_form_after, memory_form_after, rows_of, replacement}

@@ -1,10 +1,10 @@
 pub mod Lists
-pub mod Claims
+pub mod Premises
 pub mod Forms
-pub mod Rows
+pub mod StayingRows
 pub mod Transfers
-pub mod Wants
-pub mod Places
+pub mod WantedColours
+pub mod AcceptedSteps
 pub mod Start
 pub mod Whole
 pub mod Alike

@@ -1,7 +1,6 @@
 -- What a list holds where a test found it.
 use Rattle.std.proofs.Common.{◌≡◌, ℕ, suc, Bool, true, false, cond, List, [], ◌∷◌, Some, slice_get, refl, ap, subst}
-use Rattle.std.specs.Prelude.{All, find}
-use Rattle.std.proofs.lemmas.Option.{slice_get_within, get_or_from_slice_get}
+use Rattle.std.specs.Prelude.{find}
 
 -- an element that a test found
 pub record Found {X : Type 0} (test : X → Bool) (xs : List X) (x : X) : Type 0 where
@@ -18,7 +17,3 @@ found_by test y ys x false other h rest = let f = rest h in record { place = suc
 pub found_there : {X : Type 0} (test : X → Bool) (xs : List X) (x : X) → find test xs ≡ Some x → Found test xs x
 found_there test [] x e = cc
 found_there test (y ∷ ys) x e = found_by test y ys x (test y) refl e (found_there test ys x)
-
--- what holds of all elements holds of one
-pub of_all : {X : Type 0} (P : X → Type 0) (xs : List X) (k : ℕ) (x : X) → All P xs → slice_get xs k ≡ Some x → P x
-of_all P xs k x h e = subst P (get_or_from_slice_get xs k x x e) (h k x (slice_get_within xs k x e))

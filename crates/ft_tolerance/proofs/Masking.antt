@@ -21,7 +21,7 @@ use Rattle.ft_tolerance.specs.TypedState.{Place, Fits, IsPlace}
 use Rattle.ft_tolerance.specs.Soundness.{EndsOrFits, ended, running}
 use Rattle.ft_tolerance.specs.Alike.{AreAlike, colour_of_site, Follows, keeps_alike, is_detected, IsAlikeOrDetected, is_alike, has_stopped, IsAlikeAfter, StaysAlike, IsAlikeLater}
 use Rattle.ft_tolerance.proofs.Alike.{alike_step, strike_alike}
-use Rattle.ft_tolerance.proofs.Places.{keeps, wants_fetched}
+use Rattle.ft_tolerance.proofs.AcceptedSteps.{keeps, wants_fetched}
 use Rattle.ft_tolerance.proofs.Whole.{along}
 
 -- ONE STEP

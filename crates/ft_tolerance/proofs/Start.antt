@@ -8,6 +8,7 @@ use Rattle.std.proofs.lemmas.Option.{slice_get_cases, slice_get_within}
 use borrow.Author.Tests.{leb-true}
 use Rattle.ft_isa.specs.Words.{IsWord, code_address, cell_address}
 use Rattle.ft_isa.specs.declared.basic.Basic.{Basic}
+use Rattle.ft_isa.proofs.Lists.{all_there}
 use Rattle.ft_static.specs.Expression.{word_at}
 use Rattle.ft_static.specs.Form.{Updates, unchanged}
 use Rattle.ft_static.specs.FormValue.{value_updates}
@@ -27,7 +28,6 @@ use Rattle.ft_typing.specs.Context.{memory_form_of, registers_after, queue_pair}
 use Rattle.ft_typing.specs.Accepted.{IsAccepted}
 use Rattle.ft_tolerance.specs.TypedState.{entry_block, start_place, FitsQueue, FitsCells, FitsContext, Fits, context_at, IsPlace}
 use Rattle.ft_types.proofs.Maps.{get-insert}
-use Rattle.ft_tolerance.proofs.Lists.{of_all}
 
 -- THE CELLS
 
@@ -61,7 +61,7 @@ init_there o k x e = ap (λ u. init_or_zero (option_map cell_head_of u)) e
 -- the initial words are words
 init_is_word : (o : Object) (k : ℕ) → IsSpellable o → k < length o.cells → IsWord (init_of o k)
 init_is_word o k spelled h = elim (slice_get_cases o.cells k).1 [
-  | inl x ↦ subst IsWord (sym (init_there o k x.0 x.2)) (of_all (IsCell (length o.types)) o.cells k x.0 spelled.cells x.2).init
+  | inl x ↦ subst IsWord (sym (init_there o k x.0 x.2)) (all_there (IsCell (length o.types)) o.cells k x.0 spelled.cells x.2).init
   | inr e ↦ absurd (omega (arith, e.0))
 ]
 

@@ -32,8 +32,8 @@ use Rattle.ft_tolerance.specs.TypedState.{valuation_by, FitsRegister, FitsTarget
 use Rattle.ft_types.proofs.Maps.{get-insert}
 use Rattle.ft_tolerance.proofs.Lists.{found_there}
 use Rattle.ft_tolerance.proofs.Forms.{by_lawful, after_denotes, memory_after_denotes}
-use Rattle.ft_tolerance.proofs.Claims.{After, after_goes, after_ends, after_need, after_typed, after_code, after_target, after_conditional, same_colour_is}
-use Rattle.ft_tolerance.proofs.Rows.{GoesOn, same_denotes, has_seen, pass_fits}
+use Rattle.ft_tolerance.proofs.Premises.{After, after_goes, after_ends, after_need, after_typed, after_code, after_target, after_conditional, same_colour_is}
+use Rattle.ft_tolerance.proofs.StayingRows.{GoesOn, same_denotes, has_seen, pass_fits}
 
 -- BLOCKS
 

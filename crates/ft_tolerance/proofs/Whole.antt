@@ -10,7 +10,7 @@ use Rattle.ft_semantics.specs.Step.{step, step_at}
 use Rattle.ft_semantics.specs.Run.{run, state_after, wild_after}
 use Rattle.ft_tolerance.specs.TypedState.{Place, next_place, place}
 use Rattle.ft_tolerance.specs.Soundness.{EndsOrFits, ended, running, IsNeverDetected, FitsAfter}
-use Rattle.ft_tolerance.proofs.Places.{keeps}
+use Rattle.ft_tolerance.proofs.AcceptedSteps.{keeps}
 use Rattle.ft_tolerance.proofs.Start.{start_is_place, start_fits}
 
 -- where the run is after some steps, with all answers to wild loads left

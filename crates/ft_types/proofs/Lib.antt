@@ -1,2 +1,4 @@
 pub mod Maps
 pub mod Counted
+pub mod NodesIn
+pub mod BlockStarts

@@ -90,21 +90,21 @@ walk_applied o c k (i ∷ is) (next_row d e a) = after_goes o d k is (row o c i)
 -- FIRST REFUSALS
 
 -- neither of two is there
-or_none : {A : Type 0} (x y : Option A) → option_or x y ≡ None → (x ≡ None) × (y ≡ None)
-or_none None y e = (refl, e)
-or_none (Some a) y e = cc
+pub or_parts : {A : Type 0} (x y : Option A) → option_or x y ≡ None → (x ≡ None) × (y ≡ None)
+or_parts None y e = (refl, e)
+or_parts (Some a) y e = cc
 
 -- where nothing is refused, each is not
 first_none : {X : Type 0} (refuse : ℕ → X → Option Refusal) (k : ℕ) (xs : List X) → first_refusal refuse k xs ≡ None → (n : ℕ) (x : X) → slice_get xs n ≡ Some x → refuse (k + n) x ≡ None
 unfolding first_refusal
 first_none refuse k [] e n x f = cc
 first_none refuse k (y ∷ ys) e zero x f =
-    let p = or_none (refuse k y) (first_refusal refuse (suc k) ys) e in
+    let p = or_parts (refuse k y) (first_refusal refuse (suc k) ys) e in
     let same : y ≡ x = cc in
     let here : k + 0 ≡ k = omega arith in
     rw here (subst (λ z. refuse k z ≡ None) same p.0)
 first_none refuse k (y ∷ ys) e (suc n) x f =
-    let p = or_none (refuse k y) (first_refusal refuse (suc k) ys) e in
+    let p = or_parts (refuse k y) (first_refusal refuse (suc k) ys) e in
     let here : k + suc n ≡ suc k + n = omega arith in
     rw here (first_none refuse (suc k) ys p.1 n x f)
 
@@ -147,7 +147,7 @@ accepted_is_unrefused o = (
       rw ((is_entry_type_decides o (block_type o o.entry)).1 h.entry, cells, blocks) refl,
   λ e.
       let p = after_entry o _ _ e in
-      let q = or_none _ _ p.1 in
+      let q = or_parts _ _ p.1 in
       record {
         entry = (is_entry_type_decides o (block_type o o.entry)).0 p.0;
         cells = λ k x f. (has_type_decides o x.init x.basic).0 ((cell_typed o (0 + k) x).1 (first_none (cell_refusal o) 0 o.cells q.0 k x f));

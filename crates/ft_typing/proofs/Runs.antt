@@ -6,6 +6,7 @@ use Rattle.std.proofs.lemmas.Bool.{and_parts, le-leb, lt-ltb, ltb-true}
 use Rattle.std.proofs.lemmas.Option.{slice_get-map, slice_get_cases}
 use Rattle.ft_isa.specs.Words.{cell_address}
 use Rattle.ft_isa.specs.declared.basic.Basic.{Basic}
+use Rattle.ft_isa.proofs.Lists.{get_taken, get_dropped, all_pass}
 use Rattle.ft_types.specs.declared.object.Object.{Object}
 use Rattle.ft_types.specs.declared.object.Cell.{Cell}
 use Rattle.ft_types.specs.Objects.{basic_of}
@@ -19,25 +20,12 @@ cell_at_address o k =
     let z : cell_address k - cell_address 0 ≡ k = omega arith in
     ap (λ b. if b then slice_get o.cells (cell_address k - cell_address 0) else None) (le-leb (cell_address 0) (cell_address k) (omega arith)) ∙ ap (slice_get o.cells) z
 
--- what is at a place of the first so many
-get_taken : {X : Type 0} (n : ℕ) (xs : List X) (k : ℕ) → k < n → slice_get (take n xs) k ≡ slice_get xs k
-get_taken zero xs k l = absurd (omega (arith, l))
-get_taken (suc n) [] k l = refl
-get_taken (suc n) (x ∷ xs) zero l = refl
-get_taken (suc n) (x ∷ xs) (suc k) l = get_taken n xs k (omega (arith, l))
-
 -- nothing is past them
 taken_within : {X : Type 0} (n : ℕ) (xs : List X) (k : ℕ) (x : X) → slice_get (take n xs) k ≡ Some x → k < n
 taken_within zero xs k x e = cc
 taken_within (suc n) [] k x e = cc
 taken_within (suc n) (y ∷ xs) zero x e = omega arith
 taken_within (suc n) (y ∷ xs) (suc k) x e = let h = taken_within n xs k x e in omega (arith, h)
-
--- what is at a place after so many
-get_dropped : {X : Type 0} (n : ℕ) (xs : List X) (k : ℕ) → slice_get (drop n xs) k ≡ slice_get xs (n + k)
-get_dropped zero xs k = let n : 0 + k ≡ k = omega arith in rw n refl
-get_dropped (suc n) [] k = refl
-get_dropped (suc n) (x ∷ xs) k = let more : suc n + k ≡ suc (n + k) = omega arith in rw more (get_dropped n xs k)
 
 -- a run as the first so many after so many
 range_is : {X : Type 0} (xs : List X) (first m : ℕ) → slice_range xs first (first + m) ≡ take m (drop first xs)
@@ -63,11 +51,6 @@ all_at p [] k x h e = cc
 all_at p (y ∷ xs) zero x h e = let same : y ≡ x = cc in rw (sym same) (and_parts (p y) (list_all p xs) h).0
 all_at p (y ∷ xs) (suc k) x h e = all_at p xs k x (and_parts (p y) (list_all p xs) h).1 e
 
--- a test that each passes is passed by all
-all_from : {X : Type 0} (p : X → Bool) (xs : List X) → ((k : ℕ) (x : X) → slice_get xs k ≡ Some x → p x ≡ true) → list_all p xs ≡ true
-all_from p [] h = refl
-all_from p (y ∷ xs) h = rw (h 0 y refl) (all_from p xs (λ k x e. h (suc k) x e))
-
 -- each type is the one of all
 common_is : (xs : List Basic) (b : Basic) → common_type xs ≡ Some b → (k : ℕ) (x : Basic) → slice_get xs k ≡ Some x → x ≡ b
 unfolding common_type
@@ -85,7 +68,7 @@ unfolding common_type
 is_common [] b e h = cc
 is_common (y ∷ ys) b e h =
     let same : y ≡ b = cc in
-    rw (all_from (same_basic y) ys (λ k x f. is_same_basic y x (same ∙ sym (h (suc k) x f)))) (ap Some same)
+    rw (all_pass (same_basic y) ys (λ k x f. is_same_basic y x (same ∙ sym (h (suc k) x f)))) (ap Some same)
 
 -- a type that a `ref` can refer to
 referable_is : (x : Option Basic) (b : Basic) → only_referable x ≡ Some b → (x ≡ Some b) × (b.refs < 8)

@@ -7,7 +7,10 @@ use Rattle.ft_isa.specs.declared.basic.Base.TheVariants.{Int, Code}
 use Rattle.ft_isa.specs.declared.basic.Basic.{Basic}
 use Rattle.ft_types.specs.declared.object.Object.{Object}
 use Rattle.ft_isa.specs.BasicTypes.{int}
+use Rattle.ft_isa.specs.declared.colour.Colour.{Colour}
+use Rattle.ft_isa.specs.declared.colour.Colour.TheVariants.{Green, Blue}
 use Rattle.ft_typing.specs.TypedWord.{cell_type, code_type_at, HasTypeOver, HasType, IsSeenAs, same_base, same_basic, is_seen_as, is_code_type, is_cell_type, has_type_over, has_type}
+use Rattle.ft_typing.specs.TypingRow.{same_colour}
 
 -- two bases are equal where the test says so
 same_base_is : (a b : Base) → same_base a b ≡ true → a ≡ b
@@ -62,3 +65,9 @@ has_type_over_decides o w (suc k) b = is_cell_type_is (cell_type o w) (record { 
 pub has_type_decides : (o : Object) (w : ℕ) (b : Basic) → Decides (has_type o w b) (HasType o w b)
 unfolding has_type
 has_type_decides o w b = has_type_over_decides o w b.refs b.base
+
+-- a colour is the same as itself
+pub same_colours : (k : Colour) → same_colour k k ≡ true
+unfolding same_colour
+same_colours Green = refl
+same_colours Blue = refl

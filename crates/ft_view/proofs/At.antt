@@ -4,6 +4,7 @@ use Rattle.std.specs.Prelude.{slice_get}
 use Rattle.std.specs.Option.{option_map}
 use Rattle.std.proofs.lemmas.List.{length-take-le, length-drop}
 use Rattle.std.proofs.lemmas.Option.{slice_get-map}
+use Rattle.ft_isa.proofs.Lists.{get_taken, get_dropped}
 use Rattle.ft_types.specs.declared.object.CodeType.{CodeType}
 use Rattle.ft_types.specs.declared.object.RegType.{RegType}
 use Rattle.ft_format.specs.Values.{past_of, cell_of, cells_of, regs_end_of, queue_end_of, type_ints_of, type_memory_of, types_of}
@@ -14,18 +15,6 @@ use Rattle.ft_view.proofs.EndsRise.{types_more}
 -- a value of a record
 pub mapped : {X : Type 0} (v : List ℕ → X) (rs : List (List ℕ)) (i : ℕ) (row : List ℕ) (x : X) → slice_get rs i ≡ Some row → x ≡ v row → slice_get (map v rs) i ≡ Some x
 mapped v rs i row x there is = slice_get-map v rs i ∙ ap (option_map v) there ∙ ap Some (sym is)
-
--- what stands in a part of a list
-pub get_taken : {X : Type 0} (n : ℕ) (xs : List X) (j : ℕ) → j < n → slice_get (take n xs) j ≡ slice_get xs j
-get_taken zero xs j lt = absurd (omega arith)
-get_taken (suc n) [] j lt = refl
-get_taken (suc n) (x ∷ xs) zero lt = refl
-get_taken (suc n) (x ∷ xs) (suc j) lt = get_taken n xs j (omega arith)
-
-pub get_dropped : {X : Type 0} (n : ℕ) (xs : List X) (j : ℕ) → slice_get (drop n xs) j ≡ slice_get xs (n + j)
-get_dropped zero xs j = let e : 0 + j ≡ j = omega arith in rw e refl
-get_dropped (suc n) [] j = refl
-get_dropped (suc n) (x ∷ xs) j = let e : suc n + j ≡ suc (n + j) = omega arith in rw e (get_dropped n xs j)
 
 -- where the rows of the record before a place end
 pub last_at : (end_of : List ℕ → ℕ) (start : ℕ) (rs : List (List ℕ)) (k : ℕ) (row : List ℕ) → slice_get rs k ≡ Some row → last_end end_of start (take (suc k) rs) ≡ end_of row

@@ -152,6 +152,7 @@ impl<'a> View<'a> {
         ensures there { slice_get (instr_rows_of (header_at self.now) self.now) (at / 16) ≡ Some (numbers code_layout result.now) }
         ensures known { IsKnown result.now }
     {
+        // The proof knows the view's invariant only where a field is read; so it is below.
         let _ = &self.header;
         stretch(code, at, INSTR_BYTES)
     }

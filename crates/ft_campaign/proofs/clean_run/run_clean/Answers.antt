@@ -4,9 +4,8 @@ use Rattle.ft_semantics.specs.State.{State}
 use Rattle.ft_semantics.specs.Step.{step}
 use Rattle.ft_semantics.specs.Run.{Ran, run-zero}
 use Rattle.ft_machine.proofs.Driven.{next}
-use Rattle.ft_machine.proofs.Runs.{HasStopped}
+use Rattle.ft_machine.proofs.Runs.{HasStopped, has_stopped, still_running}
 use Rattle.ft_campaign.specs.Snapshots.{AreLengths, AreSnapshots}
-use Rattle.ft_campaign.proofs.Ends.{has_stopped, still_running}
 use Rattle.ft_campaign.proofs.Keeping.{snapshots_none, lengths_none, lengths_more, clean_stopped}
 use Rattle.ft_campaign.proofs.clean_run.run_clean.Goals as goal
 

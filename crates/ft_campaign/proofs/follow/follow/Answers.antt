@@ -2,7 +2,7 @@ use Rattle.std.proofs.Common.{◌≡◌, ◌≤◌, ◌<◌, ◌+◌, ◌-◌, �
 use Rattle.ft_semantics.specs.State.{State}
 use Rattle.ft_semantics.specs.Run.{Ran}
 use Rattle.ft_machine.specs.Spans.{span, span-zero}
-use Rattle.ft_campaign.proofs.Ends.{has_stopped, still_running}
+use Rattle.ft_machine.proofs.Runs.{has_stopped, still_running}
 use Rattle.ft_campaign.proofs.Following.{continues_none, follows_apart, follows_stopped, state_next, wild_next, front_next, running_next, not_running, follows_on}
 use Rattle.ft_campaign.proofs.follow.follow.Goals as goal
 

@@ -1,10 +1,11 @@
 use Rattle.std.proofs.Common.{◌∙◌, sym, ap, subst, refl, ℕ, List, [], ◌∷◌, arith}
 use Rattle.std.specs.Io.KnownBytes.{append_known}
+use Rattle.ft_isa.proofs.Results.{on_err}
 use Rattle.ft_edge.specs.Causes.{AddsPrefix}
 use Rattle.ft_edge.specs.Told.{append_told}
 use Rattle.ft_edge.specs.Puts.{PutsLines}
 use Rattle.ft_edge.proofs.PutLines.{puts_none}
-use Rattle.ft_campaign.proofs.Puts.{puts_more, breaks, line_there, line_next, all_lines, on_err}
+use Rattle.ft_campaign.proofs.Puts.{puts_more, breaks, line_there, line_next, all_lines}
 use Rattle.ft_campaign.proofs.report.put_verdicts.Goals as goal
 
 pub loop-i-init : goal.loop-i-init

@@ -1,10 +1,11 @@
 use Rattle.std.proofs.Common.{◌∙◌, ap, subst, refl, ℕ, List, [], ◌∷◌, length}
 use Rattle.std.specs.Io.KnownBytes.{append_known}
+use Rattle.ft_isa.proofs.Results.{on_err}
 use Rattle.ft_edge.specs.Causes.{AddsPrefix}
 use Rattle.ft_edge.specs.Told.{append_told}
 use Rattle.ft_campaign.specs.Texts.{verdict_lines, end_line, totals_of}
 use Rattle.ft_edge.proofs.PutLines.{breaks_before}
-use Rattle.ft_campaign.proofs.Puts.{puts_more, breaks, on_err}
+use Rattle.ft_campaign.proofs.Puts.{puts_more, breaks}
 use Rattle.ft_campaign.proofs.report.report.Goals as goal
 
 pub returns-in_err-put_verdicts-clause-err : goal.returns-in_err-put_verdicts-clause-err

@@ -6,9 +6,10 @@ use Rattle.ft_static.specs.Form.{updates}
 use Rattle.ft_typing.specs.Context.{start_context}
 use Rattle.ft_contexts.specs.declared.context.Context.{Context}
 use Rattle.ft_contexts.specs.Contexts.{context_in, pair_in}
-use Rattle.ft_contexts.proofs.Kept.{keeps_itself, keeps_on}
+use Rattle.ft_contexts.proofs.Kept.{keeps_itself}
 use Rattle.ft_checker.specs.Judges.{IsRefusalOf, StopsAt}
 use Rattle.std.proofs.lemmas.List.{length-map}
+use Rattle.ft_norm.proofs.HeldForms.{keeps_both}
 use Rattle.ft_types.specs.declared.object.Block.{Block}
 use Rattle.ft_checker.specs.Costs.{instrs_cost}
 use Rattle.ft_checker.proofs.Costs.{cost_more, cost_rises, rule_within}
@@ -29,8 +30,8 @@ pub loop-i-init : goal.loop-i-init
 loop-i-init g c =
     let o = g.P.Program.object c.args.program.now in
     let fs = c.args.forms.now in
-    let same : c.in_ok-context.context ≡ c.args.start.now.context = c.in_ok-context.ensures in
-    let k : context_in fs c.in_ok-context.context ≡ start_context o c.block-block.result.code_type = ap (context_in fs) same ∙ (c.requires.start.context ∙ ap (start_context o) (c.requires.code_type c.block-block.result c.block-block.ensures)) in
+    let same : c.copy_from.new.self ≡ c.args.start.now.context = c.in_ok-copy_from.ensures in
+    let k : context_in fs c.copy_from.new.self ≡ start_context o c.block-block.result.code_type = ap (context_in fs) same ∙ (c.requires.start.context ∙ ap (start_context o) (c.requires.code_type c.block-block.result c.block-block.ensures)) in
     let m = ap (λ (x : Context). updates (context_in fs x).memory) same in
     let q = ap (λ (x : Context). length (context_in fs x).queue) same in
     let n = length-map c.args.start.now.context.queue (pair_in fs) in
@@ -70,15 +71,15 @@ loop-i-preserved g c =
       queue = c.turn.ensures.grows.queue c.loop-i.invariant.queue;
       memory = omega (arith, c.turn.ensures.grows.memory, c.loop-i.invariant.memory);
       steps = omega (arith, c.turn.ensures.steps, c.loop-i.invariant.steps, sw, sm);
-      kept = keeps_on _ _ _ c.loop-i.invariant.kept c.turn.ensures.kept;
+      kept = keeps_both _ _ _ c.loop-i.invariant.kept c.turn.ensures.kept;
       own = c.turn.ensures.own;
       held = c.turn.ensures.held;
       types = c.turn.ensures.types;
       left = ap (λ (m : ℕ). walk o (context_in c.turn.new.forms c.turn.new.context) m others) n ∙ sym goes ∙ whole;
     }
 
-pub returns-in_err-context-clause-judged : goal.returns-in_err-context-clause-judged
-returns-in_err-context-clause-judged g c = λ x f. judges_stop _ _ c.from_residual.ensures.1
+pub returns-in_err-copy_from-clause-judged : goal.returns-in_err-copy_from-clause-judged
+returns-in_err-copy_from-clause-judged g c = λ x f. judges_stop _ _ c.from_residual.ensures.1
 
 pub returns-in-Err-clause-judged : goal.returns-in-Err-clause-judged
 returns-in-Err-clause-judged g c = λ x f.
@@ -165,8 +166,8 @@ returns-clause-steps g c = λ x f.
     let sr = cost_rises so so.instrs c.loop-i.i c.end_of-past.result (omega (arith, c.loop-i.auto.i-end, ends.0)) in
     omega (arith, c.loop-i.invariant.steps, ss, sp, sr)
 
-pub returns-in_err-context-clause-steps : goal.returns-in_err-context-clause-steps
-returns-in_err-context-clause-steps g c = λ x f.
+pub returns-in_err-copy_from-clause-steps : goal.returns-in_err-copy_from-clause-steps
+returns-in_err-copy_from-clause-steps g c = λ x f.
     let so = g.P.Program.object c.args.program.now in
     let ends = block_ends so c.args.b c.block-block.result c.requires.spellable c.block-block.ensures in
     let past = c.end_of-past.ensures in
@@ -177,7 +178,7 @@ returns-in_err-context-clause-steps g c = λ x f.
     omega (arith, ss, sp, sr)
 
 pub returns-in-Err-clause-kept : goal.returns-in-Err-clause-kept
-returns-in-Err-clause-kept g c = keeps_on _ _ _ c.loop-i.invariant.kept c.turn.ensures.kept
+returns-in-Err-clause-kept g c = keeps_both _ _ _ c.loop-i.invariant.kept c.turn.ensures.kept
 
 pub returns-then-ended-clause-kept : goal.returns-then-ended-clause-kept
-returns-then-ended-clause-kept g c = keeps_on _ _ _ c.loop-i.invariant.kept c.turn.ensures.kept
+returns-then-ended-clause-kept g c = keeps_both _ _ _ c.loop-i.invariant.kept c.turn.ensures.kept

@@ -1,12 +1,12 @@
 use Rattle.std.proofs.Common.{ℕ, suc, ◌≡◌, ◌+◌, ◌*◌, ◌≤◌, length, take, ap, sym, ◌∙◌, arith, refl, subst, Some}
 use Rattle.ft_typing.specs.Accepted.{block_refusal}
 use Rattle.std.proofs.Math.Nat.{mul-le-mul_right}
+use Rattle.ft_isa.proofs.Lists.{all_there}
 use Rattle.ft_types.specs.Objects.{block_end}
 use Rattle.ft_checker.specs.Costs.{instrs_cost, visit_cost}
 use Rattle.ft_checker.proofs.Costs.{begins, begins_there, cost_all, none_cost, start_within}
 use Rattle.ft_types.specs.declared.object.Block.{Block}
 use Rattle.ft_types.specs.Spellable.{HasCodeType}
-use Rattle.ft_contexts.proofs.Spelled.{all_at}
 use Rattle.ft_checker.proofs.Turned.{last_kept, first_turn, first_end, block_there, or_refused, judges_exit, judges_stop}
 use Rattle.ft_checker.specs.Judges.{IsStartOf}
 use Rattle.ft_checker.proofs.blocks.check_blocks.Goals as goal
@@ -64,7 +64,7 @@ block-t-requires g c = omega arith
 pub renew-requires-clause-there : goal.renew-requires-clause-there
 renew-requires-clause-there g c =
     let o = g.P.Program.object c.args.program.now in
-    all_at (HasCodeType (length o.types)) o.blocks c.loop-b.b c.block-t.result c.requires.block_types c.block-t.ensures
+    all_there (HasCodeType (length o.types)) o.blocks c.loop-b.b c.block-t.result c.requires.block_types c.block-t.ensures
 
 pub check_block-requires-clause-code_type : goal.check_block-requires-clause-code_type
 check_block-requires-clause-code_type g c = λ x f.

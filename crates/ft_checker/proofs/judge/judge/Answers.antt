@@ -1,15 +1,15 @@
 use Rattle.std.proofs.Common.{Option, arith, length, sym, subst, ap, ◌∙◌}
 use Rattle.std.specs.Option.{option_or}
+use Rattle.ft_isa.proofs.Lists.{all_there}
 use Rattle.ft_typing.specs.Accepted.{Refusal, first_refusal, block_refusal}
 use Rattle.ft_types.specs.Spellable.{HasCodeType}
-use Rattle.ft_contexts.proofs.Spelled.{all_at}
 use Rattle.ft_checker.specs.Judges.{Judges}
 use Rattle.ft_checker.proofs.Costs.{cost_whole}
 use Rattle.ft_checker.proofs.Turned.{refusal_first, refusal_rest, type_found, or_refused, judges_exit}
 use Rattle.ft_checker.proofs.judge.judge.Goals as goal
 
 pub is_entry_type-begins-requires-clause-there : goal.is_entry_type-begins-requires-clause-there
-is_entry_type-begins-requires-clause-there g c = all_at (HasCodeType (length (g.P.Program.object c.args.program.now).types)) (g.P.Program.object c.args.program.now).blocks c.entry.result c.block-first.result c.requires.block_types c.block-first.ensures
+is_entry_type-begins-requires-clause-there g c = all_there (HasCodeType (length (g.P.Program.object c.args.program.now).types)) (g.P.Program.object c.args.program.now).blocks c.entry.result c.block-first.result c.requires.block_types c.block-first.ensures
 
 pub returns-then-not-begins-clause-judged : goal.returns-then-not-begins-clause-judged
 returns-then-not-begins-clause-judged g c = refusal_first (g.P.Program.object c.args.program.now) _ (type_found (g.P.Program.object c.args.program.now) (g.P.Program.object c.args.program.now).entry c.block-first.result (rw c.entry.ensures at c.block-first.ensures)) (sym c.is_entry_type-begins.ensures ∙ c.if-not-begins.true)

@@ -2,7 +2,7 @@ use Rattle.std.proofs.Common.{ap, ◌∙◌, subst}
 use Rattle.ft_lower.specs.Flow.{blocks_of}
 use Rattle.ft_lower.specs.Well.{IsWell}
 use Rattle.ft_scope.specs.ProgramOf.{program_of}
-use Rattle.ft_dup.proofs.Places.{shape_of_well}
+use Rattle.ft_dup.proofs.WellFormedBlocks.{shape_of_well}
 use Rattle.ft_compile.specs.Emitted.{emitted}
 use Rattle.ft_compile.proofs.Stands.{stands}
 use Rattle.ft_compile.proofs.compiling.compile_program.Goals as goal

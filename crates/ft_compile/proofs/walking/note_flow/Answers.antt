@@ -3,7 +3,7 @@ use Rattle.std.proofs.Common.{◌<◌, length, map, refl, sym, ap, ◌∙◌, su
 use Rattle.std.specs.List.{All}
 use Rattle.ft_lower.specs.Flow.{blocks_of}
 use Rattle.ft_lower.specs.Size.{PairsBelow, pairs_of}
-use Rattle.ft_dup.proofs.Places.{all_mapped}
+use Rattle.ft_dup.proofs.WellFormedBlocks.{all_mapped}
 use Rattle.ft_compile.specs.Emitted.{blocks_noted, row_noted, begun}
 use Rattle.ft_compile.specs.Viewed.{noted_of}
 use Rattle.ft_compile.proofs.Turns.{room_at_first, block_turn}

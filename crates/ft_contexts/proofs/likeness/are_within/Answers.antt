@@ -1,7 +1,8 @@
 use Rattle.std.proofs.Common.{nat_le, arith, sym, ap, ◌∙◌}
 use Rattle.std.specs.List.{list_all}
+use Rattle.ft_isa.proofs.Lists.{range_past}
 use Rattle.ft_types.specs.Objects.{scope_of}
-use Rattle.ft_contexts.proofs.Lists.{range_there, range_past, all_turn, all_stop}
+use Rattle.ft_contexts.proofs.Lists.{range_there, all_turn, all_stop}
 use Rattle.ft_contexts.proofs.likeness.are_within.Goals as goal
 
 pub returns-then-not-within : goal.returns-then-not-within

@@ -2,13 +2,14 @@ use Rattle.std.proofs.Common.{◌≡◌, ◌+◌, refl, drop, Option, None, Some
 use Rattle.std.proofs.lemmas.List.{length-set, length-replicate}
 use Rattle.ft_static.specs.Form.{integer_form}
 use Rattle.ft_norm.specs.Held.{held}
+use Rattle.ft_norm.proofs.HeldForms.{integer_from, keeps_both}
 use Rattle.ft_types.specs.Objects.{reg_rows}
 use Rattle.ft_typing.specs.Context.{TypedRegisters, registers_after, integer_form_of}
 use Rattle.ft_contexts.specs.declared.register.RegForm.{RegForm}
 use Rattle.ft_contexts.specs.Contexts.{registers_in}
 use Rattle.ft_contexts.specs.Costs.{tree_cost}
 use Rattle.ft_contexts.proofs.Costs.{one_tree, some_trees}
-use Rattle.ft_contexts.proofs.Kept.{keeps_itself, keeps_on, integer_found, registers_kept}
+use Rattle.ft_contexts.proofs.Kept.{keeps_itself, registers_kept}
 use Rattle.ft_contexts.proofs.Registers.{registers_held_set, registers_typed_set}
 use Rattle.ft_contexts.proofs.Spelled.{most_scope, reg_row_spelled}
 use Rattle.ft_contexts.proofs.Turns.{registers_none, none_there, registers_turn, registers_end, registers_noted}
@@ -40,9 +41,9 @@ loop-j-preserved g c =
     record {
       steps = sy;
       own = c.integer.ensures.own;
-      kept = keeps_on _ _ _ c.loop-j.invariant.kept c.integer.ensures.kept;
+      kept = keeps_both _ _ _ c.loop-j.invariant.kept c.integer.ensures.kept;
       sized = length-set c.loop-j.registers c.number.result _ ∙ c.loop-j.invariant.sized;
-      held = registers_held_set c.integer.new.forms c.loop-j.registers c.number.result _ (registers_kept c.loop-j.forms c.integer.new.forms c.loop-j.registers c.integer.ensures.kept c.loop-j.invariant.held) (integer_found c.integer.new.forms c.in_ok-form.form _ made);
+      held = registers_held_set c.integer.new.forms c.loop-j.registers c.number.result _ (registers_kept c.loop-j.forms c.integer.new.forms c.loop-j.registers c.integer.ensures.kept c.loop-j.invariant.held) (integer_from c.integer.new.forms c.in_ok-form.form _ made);
       types = registers_typed_set _ c.loop-j.registers c.number.result _ c.loop-j.invariant.types spelled.basic.base;
       left = ap (λ (m : TypedRegisters). registers_after o m (drop (c.loop-j.j + 1) (reg_rows o c.args.t))) (registers_noted o c.loop-j.forms c.integer.new.forms c.loop-j.registers c.number.result row c.in_ok-form.form c.integer.ensures.kept c.loop-j.invariant.held (let n = c.loop-j.invariant.sized in omega arith) c.number.ensures.same made)
           ∙ sym (registers_turn o (registers_in c.loop-j.forms 0 c.loop-j.registers) (reg_rows o c.args.t) c.loop-j.j row c.reg_row-row.ensures) ∙ c.loop-j.invariant.left;

@@ -1,10 +1,11 @@
 use Rattle.std.proofs.Common.{◌∙◌, ap, subst, refl, ℕ, List, [], ◌∷◌}
 use Rattle.std.specs.Io.KnownBytes.{append_known}
+use Rattle.ft_isa.proofs.Results.{on_err}
 use Rattle.ft_edge.specs.Causes.{AddsPrefix}
 use Rattle.ft_edge.specs.Told.{append_told}
 use Rattle.ft_edge.proofs.PutLines.{puts_none, puts_one}
 use Rattle.ft_campaign.specs.Texts.{end_line}
-use Rattle.ft_campaign.proofs.Puts.{puts_more, breaks, on_err}
+use Rattle.ft_campaign.proofs.Puts.{puts_more, breaks}
 use Rattle.ft_demo.specs.Demonstrations.{outputs_line}
 use Rattle.ft_demo.proofs.report.put_lines.Goals as goal
 

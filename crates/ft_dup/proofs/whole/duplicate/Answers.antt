@@ -4,7 +4,7 @@ use Rattle.std.specs.List.{All}
 use Rattle.ft_lower.specs.Flow.{blocks_of}
 use Rattle.ft_dup.specs.Shape.{HasTarget}
 use Rattle.ft_dup.specs.Images.{starts, blocks_images}
-use Rattle.ft_dup.proofs.Places.{targets_there, images_there}
+use Rattle.ft_dup.proofs.WellFormedBlocks.{targets_there, images_there}
 use Rattle.ft_dup.proofs.Laying.{blocks_length}
 use Rattle.ft_dup.proofs.Following.{runs_as}
 use Rattle.ft_dup.proofs.whole.duplicate.Goals as goal

@@ -3,7 +3,7 @@ use Rattle.std.proofs.Common.{◌<◌, length, sym, subst}
 use Rattle.std.specs.List.{All}
 use Rattle.ft_lower.specs.Size.{pairs_of}
 use Rattle.ft_dup.specs.Shape.{HasTarget}
-use Rattle.ft_dup.proofs.Places.{all_mapped}
+use Rattle.ft_dup.proofs.WellFormedBlocks.{all_mapped}
 use Rattle.ft_dup.proofs.whole.put_blocks.Goals as goal
 
 pub put_block-requires-clause-pairs : goal.put_block-requires-clause-pairs

@@ -1,4 +1,3 @@
-use Rattle.ft_format.specs.declared.version.Version.TheVariants.{Second}
 use Rattle.ft_encode.proofs.Spelled.{counted, unbroken, back, one, apart}
 use Rattle.ft_encode.proofs.writing.encode.Goals as goal
 

@@ -26,8 +26,8 @@ returns c =
     subst (Puts c.write_queue.new.out.items c.write_all-2.new.out.items) (spelled_map pair_layout block_row o.blocks) (rw c.as_slice-6.ensures at c.in_ok-write_all-2.ensures) in
     let p7 : Puts c.write_all-2.new.out.items c.write_all-3.new.out.items (spelled code_layout (map instr_row o.instrs)) =
     subst (Puts c.write_all-2.new.out.items c.write_all-3.new.out.items) (spelled_map code_layout instr_row o.instrs) (rw c.as_slice-7.ensures at c.in_ok-write_all-3.ensures) in
-    let p8 : Puts c.write_all-3.new.out.items c.write_all-4.new.out.items (spelled subst_layout (map subst_row o.substs)) =
-    subst (Puts c.write_all-3.new.out.items c.write_all-4.new.out.items) (spelled_map subst_layout subst_row o.substs) (rw c.as_slice-8.ensures at c.in_ok-write_all-4.ensures) in
-    let p9 : Puts c.write_all-4.new.out.items c.write_names.new.out.items (all_names o) = rw c.as_slice-9.ensures at c.in_ok-write_names.ensures in
+    let p8 : Puts c.write_all-3.new.out.items c.write_rows.new.out.items (spelled subst_layout (map subst_row o.substs)) =
+    subst (Puts c.write_all-3.new.out.items c.write_rows.new.out.items) (spelled_map subst_layout subst_row o.substs) (rw c.as_slice-8.ensures at c.in_ok-write_rows.ensures) in
+    let p9 : Puts c.write_rows.new.out.items c.write_names.new.out.items (all_names o) = rw c.as_slice-9.ensures at c.in_ok-write_names.ensures in
     let all = before p0 (before p1 (before p2 (before p3 (before p4 (before p5 (before p6 (before p7 (before p8 p9)))))))) in
     rw c.in_ok-out.ensures.items at all.added

@@ -1,4 +1,4 @@
-use Rattle.ft_lexer.proofs.Places.{placed}
+use Rattle.ft_lexer.proofs.TokenPlaces.{placed}
 use Rattle.ft_lexer.proofs.laws.places_rise.Goals as goal
 
 pub returns : goal.returns

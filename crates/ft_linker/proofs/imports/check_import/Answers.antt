@@ -1,8 +1,8 @@
 use Rattle.std.proofs.Common.{List, sym, ap, ◌∙◌}
 use Rattle.std.proofs.lemmas.Option.{slice_get_within}
+use Rattle.ft_isa.proofs.Lists.{all_there}
 use Rattle.ft_types.specs.Spellable.{IsSpellable}
 use Rattle.ft_link_map.specs.declared.link_map.Ask.{Ask}
-use Rattle.ft_tolerance.proofs.Lists.{of_all}
 use Rattle.ft_modules.specs.Links.{export_of}
 use Rattle.ft_linker.proofs.Mapped.{at_index}
 use Rattle.ft_linker.proofs.JoinedBlocks.{below_there, export_has, import_unstubbed, import_missing, import_unlike, import_passes}
@@ -17,7 +17,7 @@ is_stub-requires c =
     let i = c.args.import.now in
     let o = c.index-objects-m.result in
     let there = at_index ms i.module o (slice_get_within ms i.module c.requires.import.object c.requires.import.there) c.index-objects-m.is in
-    record { spelled = of_all IsSpellable ms i.module o c.requires.ready.can.spelled there; there = below_there ms i.module i.block o c.requires.import there }
+    record { spelled = all_there IsSpellable ms i.module o c.requires.ready.can.spelled there; there = below_there ms i.module i.block o c.requires.import there }
 
 pub like_blocks-requires : goal.like_blocks-requires
 like_blocks-requires c = record {

@@ -1,6 +1,6 @@
 use Rattle.std.proofs.Common.{◌≤◌, length, drop, ◌+◌, ◌∙◌, arith}
+use Rattle.ft_isa.proofs.Lists.{all_there}
 use Rattle.ft_link_map.specs.declared.link_map.Ask.{Ask}
-use Rattle.ft_tolerance.proofs.Lists.{of_all}
 use Rattle.ft_modules.specs.Linkable.{HasBlock}
 use Rattle.ft_modules.specs.LinkRefusals.{import_refusal, imports_refusal}
 use Rattle.ft_linker.proofs.JoinedBlocks.{imports_next, imports_later, imports_none, refusal_first, refusal_by}
@@ -10,7 +10,7 @@ pub check_import-requires : goal.check_import-requires
 check_import-requires c = record {
   ready = c.requires.ready;
   exports = c.requires.exports;
-  import = of_all (λ (i : Ask). HasBlock c.args.objects.now i.module i.block) c.args.imports.now c.loop-n.n c.at.result.now c.requires.imports c.at.ensures;
+  import = all_there (λ (i : Ask). HasBlock c.args.objects.now i.module i.block) c.args.imports.now c.loop-n.n c.at.result.now c.requires.imports c.at.ensures;
 }
 
 pub loop-n-preserved : goal.loop-n-preserved

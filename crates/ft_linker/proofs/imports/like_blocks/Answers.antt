@@ -1,7 +1,7 @@
 use Rattle.std.proofs.Common.{sym, ◌∙◌, subst}
 use Rattle.std.proofs.lemmas.Option.{slice_get_within}
+use Rattle.ft_isa.proofs.Lists.{all_there}
 use Rattle.ft_types.specs.Spellable.{HasCodeType, IsSpellable}
-use Rattle.ft_tolerance.proofs.Lists.{of_all}
 use Rattle.ft_modules.specs.declared.before.Before.{Before}
 use Rattle.ft_modules.specs.Linked.{before_module, nothing_before}
 use Rattle.ft_linker.proofs.Mapped.{at_index}
@@ -32,16 +32,16 @@ same_types-requires c =
     let are = c.as_slice-starts.ensures.value ∙ c.requires.ready.tables.starts in
     let o_there = at_index ms i.module o (slice_get_within ms i.module c.requires.from.object c.requires.from.there) c.index-objects-m.is in
     let x_there = at_index ms e.module x (slice_get_within ms e.module c.requires.to.object c.requires.to.there) c.index-objects-n.is in
-    let o_spelled = of_all IsSpellable ms i.module o c.requires.ready.can.spelled o_there in
-    let x_spelled = of_all IsSpellable ms e.module x c.requires.ready.can.spelled x_there in
+    let o_spelled = all_there IsSpellable ms i.module o c.requires.ready.can.spelled o_there in
+    let x_spelled = all_there IsSpellable ms e.module x c.requires.ready.can.spelled x_there in
     let k_is = start_is ms c.as_slice-starts.result.now c.requires.ready.can are i.module i.block c.start_of-from.result c.requires.from c.start_of-from.ensures in
     let l_is = start_is ms c.as_slice-starts.result.now c.requires.ready.can are e.module e.block c.start_of-to.result c.requires.to c.start_of-to.ensures in
     record {
       one = o_spelled;
       other = x_spelled;
       compared = subst (λ (k : Before). AreCompared c.args.numbers.now o k.nodes x c.start_of-to.result.nodes) (sym k_is) (subst (λ (l : Before). AreCompared c.args.numbers.now o (before_module nothing_before ms i.module).nodes x l.nodes) (sym l_is) (c.requires.ready.compared i.module e.module o x o_there x_there));
-      there = of_all (HasCodeType _) o.blocks i.block c.block_of-one.result o_spelled.block_types (c.block_of-one.ensures o o_there);
-      other_there = of_all (HasCodeType _) x.blocks e.block c.block_of-other.result x_spelled.block_types (c.block_of-other.ensures x x_there);
+      there = all_there (HasCodeType _) o.blocks i.block c.block_of-one.result o_spelled.block_types (c.block_of-one.ensures o o_there);
+      other_there = all_there (HasCodeType _) x.blocks e.block c.block_of-other.result x_spelled.block_types (c.block_of-other.ensures x x_there);
     }
 
 pub returns : goal.returns

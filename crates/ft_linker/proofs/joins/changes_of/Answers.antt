@@ -1,6 +1,6 @@
 use Rattle.std.proofs.Common.{◌≡◌, ℕ, ◌<◌, ◌+◌, ◌-◌, ◌∷◌, length, map, drop, get_or, sym, subst, arith}
 use Rattle.std.proofs.lemmas.Option.{slice_get-get_or}
-use Rattle.ft_tolerance.proofs.Lists.{of_all}
+use Rattle.ft_isa.proofs.Lists.{all_there}
 use Rattle.ft_modules.specs.Linked.{change_of}
 use Rattle.ft_linker.specs.Changes.{Holds}
 use Rattle.ft_linker.specs.Joins.{HasBoth, link_as}
@@ -19,7 +19,7 @@ unfolding no_join
 address-from-requires c =
     let k = c.loop-i.i - 1 in
     let lt : k < length c.args.joins.now = omega (arith, c.loop-i.auto.i, c.loop-i-test.true) in
-    let both = of_all (HasBoth c.args.objects.now) c.args.joins.now k (get_or c.args.joins.now k no_join) c.requires.there (slice_get-get_or c.args.joins.now k no_join lt) in
+    let both = all_there (HasBoth c.args.objects.now) c.args.joins.now k (get_or c.args.joins.now k no_join) c.requires.there (slice_get-get_or c.args.joins.now k no_join lt) in
     record { can = c.requires.can; starts = c.requires.starts; there = both.from }
 
 pub address-to-requires : goal.address-to-requires
@@ -27,7 +27,7 @@ unfolding no_join
 address-to-requires c =
     let k = c.loop-i.i - 1 in
     let lt : k < length c.args.joins.now = omega (arith, c.loop-i.auto.i, c.loop-i-test.true) in
-    let both = of_all (HasBoth c.args.objects.now) c.args.joins.now k (get_or c.args.joins.now k no_join) c.requires.there (slice_get-get_or c.args.joins.now k no_join lt) in
+    let both = all_there (HasBoth c.args.objects.now) c.args.joins.now k (get_or c.args.joins.now k no_join) c.requires.there (slice_get-get_or c.args.joins.now k no_join lt) in
     record { can = c.requires.can; starts = c.requires.starts; there = both.to }
 
 pub code_type-kind-requires : goal.code_type-kind-requires
@@ -35,7 +35,7 @@ unfolding no_join
 code_type-kind-requires c =
     let k = c.loop-i.i - 1 in
     let lt : k < length c.args.joins.now = omega (arith, c.loop-i.auto.i, c.loop-i-test.true) in
-    let both = of_all (HasBoth c.args.objects.now) c.args.joins.now k (get_or c.args.joins.now k no_join) c.requires.there (slice_get-get_or c.args.joins.now k no_join lt) in
+    let both = all_there (HasBoth c.args.objects.now) c.args.joins.now k (get_or c.args.joins.now k no_join) c.requires.there (slice_get-get_or c.args.joins.now k no_join lt) in
     record { can = c.requires.can; starts = c.requires.starts; there = both.to }
 
 pub loop-i-preserved : goal.loop-i-preserved

@@ -1,6 +1,6 @@
 use Rattle.std.proofs.Common.{sym, ap, ◌∙◌, subst, ◌≤◌, suc, ◌+◌, ◌≡◌, length, arith}
+use Rattle.ft_isa.proofs.Lists.{all_there}
 use Rattle.ft_types.specs.Spellable.{IsSpellable}
-use Rattle.ft_tolerance.proofs.Lists.{of_all}
 use Rattle.ft_modules.specs.declared.before.Before.{Before}
 use Rattle.ft_modules.specs.Linked.{after_module, before_module, nothing_before}
 use Rattle.ft_linker.specs.Tables.{Fits, HasTypedMoves}
@@ -17,8 +17,8 @@ add-requires c =
     let o = c.index-objects-m.result in
     let there = at_index c.args.objects.now c.loop-m.m o c.loop-m-test.true c.index-objects-m.is in
     record {
-      spelled = of_all IsSpellable c.args.objects.now c.loop-m.m o c.requires.spelled there;
-      typed = of_all HasTypedMoves c.args.objects.now c.loop-m.m o c.requires.typed there;
+      spelled = all_there IsSpellable c.args.objects.now c.loop-m.m o c.requires.spelled there;
+      typed = all_there HasTypedMoves c.args.objects.now c.loop-m.m o c.requires.typed there;
       fits = subst (λ (k : Before). Fits k o) (sym c.loop-m.invariant.start) (module_fits c.args.objects.now c.loop-m.m o c.requires.few there);
     }
 

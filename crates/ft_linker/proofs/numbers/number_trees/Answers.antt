@@ -7,10 +7,11 @@ use Rattle.ft_linker.specs.contracts.key.KeyOrd.TheImpl as key_order
 use Rattle.ft_linker.specs.Keys.{look}
 use Rattle.ft_modules.specs.TreeKeys.{key_of}
 use Rattle.ft_linker.specs.Keys.{key_as}
-use Rattle.ft_linker.specs.Numbers.{HasPartsBelow}
 use Rattle.std.specs.Map.{lookup}
+use Rattle.ft_static.specs.NodeTree.{HasPartsBelow}
+use Rattle.ft_static.proofs.NodeTrees.{parts_below}
 use Rattle.ft_linker.proofs.OneKey.{only_key, own_key}
-use Rattle.ft_linker.proofs.Numbering.{known_next, known_none, all_known, parts_below}
+use Rattle.ft_linker.proofs.Numbering.{known_next, known_none, all_known}
 use Rattle.ft_linker.proofs.numbers.number_trees.Goals as goal
 
 word_node : Node

@@ -1,5 +1,5 @@
 use Rattle.std.proofs.Common.{refl}
-use Rattle.ft_tolerance.proofs.Lists.{of_all}
+use Rattle.ft_isa.proofs.Lists.{all_there}
 use Rattle.ft_modules.specs.LikeTypes.{SamePair}
 use Rattle.ft_linker.specs.Numbers.{HasPair}
 use Rattle.ft_linker.proofs.Compared.{without}
@@ -7,10 +7,10 @@ use Rattle.ft_linker.proofs.Zips.{zip_at, zip_more}
 use Rattle.ft_linker.proofs.types.same_pairs.Goals as goal
 
 pub same_pair-requires-clause-row : goal.same_pair-requires-clause-row
-same_pair-requires-clause-row c = of_all (HasPair c.args.a.now) c.args.rs.now c.loop-j.j c.at-r.result.now c.requires.rows c.at-r.ensures
+same_pair-requires-clause-row c = all_there (HasPair c.args.a.now) c.args.rs.now c.loop-j.j c.at-r.result.now c.requires.rows c.at-r.ensures
 
 pub same_pair-requires-clause-other_row : goal.same_pair-requires-clause-other_row
-same_pair-requires-clause-other_row c = of_all (HasPair c.args.b.now) c.args.qs.now c.loop-j.j c.at-q.result.now c.requires.other_rows c.at-q.ensures
+same_pair-requires-clause-other_row c = all_there (HasPair c.args.b.now) c.args.qs.now c.loop-j.j c.at-q.result.now c.requires.other_rows c.at-q.ensures
 
 pub loop-j-preserved : goal.loop-j-preserved
 loop-j-preserved c = zip_more (SamePair c.args.a.now c.args.b.now) c.args.rs.now c.args.qs.now c.loop-j.j c.at-r.result.now c.at-q.result.now c.loop-j.invariant c.at-r.ensures c.at-q.ensures (c.if-not-same_pair.ensures.0 refl)

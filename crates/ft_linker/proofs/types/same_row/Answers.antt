@@ -1,6 +1,6 @@
 use Rattle.std.proofs.Common.{sym, ◌∙◌, true≢false, arith}
 use Rattle.ft_typing.proofs.TypedWords.{same_basic_is, is_same_basic}
-use Rattle.ft_tolerance.proofs.Claims.{same_colour_is}
+use Rattle.ft_tolerance.proofs.Premises.{same_colour_is}
 use Rattle.ft_linker.proofs.Compared.{integers_compared, refuted}
 use Rattle.ft_modules.proofs.Deciding.{colour_same}
 use Rattle.ft_linker.proofs.types.same_row.Goals as goal

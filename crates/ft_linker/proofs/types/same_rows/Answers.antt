@@ -1,5 +1,5 @@
 use Rattle.std.proofs.Common.{refl}
-use Rattle.ft_tolerance.proofs.Lists.{of_all}
+use Rattle.ft_isa.proofs.Lists.{all_there}
 use Rattle.ft_modules.specs.LikeTypes.{SameRow}
 use Rattle.ft_linker.specs.Numbers.{HasRow}
 use Rattle.ft_linker.proofs.Compared.{without}
@@ -7,10 +7,10 @@ use Rattle.ft_linker.proofs.Zips.{zip_at, zip_more}
 use Rattle.ft_linker.proofs.types.same_rows.Goals as goal
 
 pub same_row-requires-clause-row : goal.same_row-requires-clause-row
-same_row-requires-clause-row c = of_all (HasRow c.args.a.now) c.args.rs.now c.loop-j.j c.at-r.result.now c.requires.rows c.at-r.ensures
+same_row-requires-clause-row c = all_there (HasRow c.args.a.now) c.args.rs.now c.loop-j.j c.at-r.result.now c.requires.rows c.at-r.ensures
 
 pub same_row-requires-clause-other_row : goal.same_row-requires-clause-other_row
-same_row-requires-clause-other_row c = of_all (HasRow c.args.b.now) c.args.qs.now c.loop-j.j c.at-q.result.now c.requires.other_rows c.at-q.ensures
+same_row-requires-clause-other_row c = all_there (HasRow c.args.b.now) c.args.qs.now c.loop-j.j c.at-q.result.now c.requires.other_rows c.at-q.ensures
 
 pub loop-j-preserved : goal.loop-j-preserved
 loop-j-preserved c = zip_more (SameRow c.args.a.now c.args.b.now) c.args.rs.now c.args.qs.now c.loop-j.j c.at-r.result.now c.at-q.result.now c.loop-j.invariant c.at-r.ensures c.at-q.ensures (c.if-not-same_row.ensures.0 refl)

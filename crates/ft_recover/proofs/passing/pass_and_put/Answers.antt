@@ -5,9 +5,9 @@ use Rattle.ft_edge.specs.Puts.{PutsLines, BreaksOff}
 use Rattle.ft_semantics.specs.State.{State}
 use Rattle.ft_machine.specs.Advances.{output_told}
 use Rattle.ft_machine.specs.Drives.{output_lines}
-use Rattle.ft_machine.proofs.Runs.{HasStopped}
+use Rattle.ft_machine.proofs.Runs.{HasStopped, has_stopped, still_running}
 use Rattle.ft_recover.specs.Passing.{Passes}
-use Rattle.ft_recover.proofs.Stretches.{passes_none, passes_to_end, passes_on, passes_cells, breaks_on, goes_to_cell, has_stopped, still_running}
+use Rattle.ft_recover.proofs.Stretches.{passes_none, passes_to_end, passes_on, passes_cells, breaks_on, goes_to_cell}
 use Rattle.ft_recover.proofs.passing.pass_and_put.Goals as goal
 
 none_yet : (n : ℕ) → 0 ≡ n - n

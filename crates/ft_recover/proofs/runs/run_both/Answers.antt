@@ -1,12 +1,13 @@
 use Rattle.std.proofs.Common.{◌≡◌, None, ap, sym, ◌∙◌}
 use Rattle.std.specs.Prelude.{drop}
+use Rattle.ft_isa.proofs.Results.{on_err}
 use Rattle.ft_edge.specs.Puts.{PutsLines, BreaksOff}
 use Rattle.ft_semantics.specs.declared.status.Status.TheVariants.{Running, Done}
 use Rattle.ft_semantics.specs.State.{State}
 use Rattle.ft_semantics.specs.Run.{outputs_after, status_after}
 use Rattle.ft_machine.specs.Drives.{output_lines}
 use Rattle.ft_recover.specs.Recovery.{count_at, whole_output}
-use Rattle.ft_recover.proofs.Restarts.{on_err, on_map, err_map, same_status, same_lines, breaks_early, lines_again, breaks_again, done_undetected, running_undetected}
+use Rattle.ft_recover.proofs.Restarts.{on_map, err_map, same_status, same_lines, breaks_early, lines_again, breaks_again, done_undetected, running_undetected}
 use Rattle.ft_recover.proofs.runs.run_both.Goals as goal
 
 pub returns-in_err-committed-clause-breaks : goal.returns-in_err-committed-clause-breaks

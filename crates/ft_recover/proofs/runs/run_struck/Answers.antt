@@ -1,6 +1,7 @@
 use Rattle.std.proofs.Common.{length}
+use Rattle.ft_isa.proofs.Results.{on_err}
 use Rattle.ft_recover.proofs.Stretches.{passes_cells}
-use Rattle.ft_recover.proofs.Restarts.{on_err, start_cells, breaks_first, runs_struck, breaks_struck}
+use Rattle.ft_recover.proofs.Restarts.{start_cells, breaks_first, runs_struck, breaks_struck}
 use Rattle.ft_recover.proofs.runs.run_struck.Goals as goal
 
 pub pass_and_put-requires-clause-cells : goal.pass_and_put-requires-clause-cells

@@ -1,7 +1,8 @@
 use Rattle.std.proofs.Common.{arith}
+use Rattle.ft_norm.proofs.HeldForms.{keeps_both}
 use Rattle.ft_typing.specs.TypingRow.{row}
 use Rattle.ft_contexts.specs.Contexts.{context_in}
-use Rattle.ft_contexts.proofs.Kept.{forms_kept, keeps_on}
+use Rattle.ft_contexts.proofs.Kept.{forms_kept}
 use Rattle.ft_rules.proofs.Chains.{does_stop, grows_on, row_on, steps_on}
 use Rattle.ft_rules.proofs.rows.apply_rule.Goals as goal
 
@@ -21,7 +22,7 @@ pub returns-clause-row : goal.returns-clause-row
 returns-clause-row g c = row_on (g.P.Program.object c.args.program.now) c.args.forms.now c.new.new.forms c.apply_rule_over.new.forms c.args.ctx.now c.apply_rule_over.new.ctx c.args.instr.now c.apply_rule_over.result c.new.ensures.kept c.requires.held c.apply_rule_over.ensures.row
 
 pub returns-clause-kept : goal.returns-clause-kept
-returns-clause-kept g c = keeps_on _ _ _ c.new.ensures.kept c.apply_rule_over.ensures.kept
+returns-clause-kept g c = keeps_both _ _ _ c.new.ensures.kept c.apply_rule_over.ensures.kept
 
 pub returns-clause-grows : goal.returns-clause-grows
 returns-clause-grows g c = grows_on c.args.forms.now c.new.new.forms c.apply_rule_over.new.forms c.args.ctx.now c.apply_rule_over.new.ctx c.new.ensures.kept c.requires.held c.apply_rule_over.ensures.grows

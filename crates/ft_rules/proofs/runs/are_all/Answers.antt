@@ -1,8 +1,9 @@
 use Rattle.std.proofs.Common.{arith, map, sym, ap, ◌∙◌}
 use Rattle.std.specs.List.{list_all}
+use Rattle.ft_isa.proofs.Lists.{range_past}
 use Rattle.ft_types.specs.Objects.{basic_of}
 use Rattle.ft_typing.specs.TypedWord.{same_basic}
-use Rattle.ft_contexts.proofs.Lists.{range_past, all_turn, all_stop}
+use Rattle.ft_contexts.proofs.Lists.{all_turn, all_stop}
 use Rattle.ft_rules.proofs.Cells.{types_there}
 use Rattle.ft_rules.proofs.runs.are_all.Goals as goal
 

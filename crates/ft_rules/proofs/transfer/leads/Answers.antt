@@ -11,12 +11,13 @@ use Rattle.ft_typing.specs.Context.{Context, Replacement, replacement, rows_of, 
 use Rattle.ft_typing.specs.TypingRow.{leads, is_annotated, are_like, is_queue_like}
 use Rattle.ft_types.specs.declared.object.RegType.{RegType}
 use Rattle.ft_static.specs.FormOrder.{same_updates}
+use Rattle.ft_norm.proofs.HeldForms.{keeps_both}
 use Rattle.ft_contexts.specs.declared.variables.Variables.{Variables}
 use Rattle.ft_contexts.specs.Contexts.{replacement_in, context_in}
 use Rattle.ft_contexts.specs.Costs.{tree_cost}
 use Rattle.ft_contexts.proofs.Costs.{cost_rises}
 use Rattle.ft_rules.proofs.Chains.{passes_exit, passes_stop, passes_after}
-use Rattle.ft_contexts.proofs.Kept.{keeps_on, memory_stays, owned_kept, forms_kept, variables_kept, context_stays, replacement_stays}
+use Rattle.ft_contexts.proofs.Kept.{memory_stays, owned_kept, forms_kept, variables_kept, context_stays, replacement_stays}
 use Rattle.ft_rules.proofs.transfer.leads.Goals as goal
 
 -- a substitution that is annotated has rows for the target's variables, within the scope of those here
@@ -56,16 +57,16 @@ pub registers_are_like-requires-clause-held : goal.registers_are_like-requires-c
 registers_are_like-requires-clause-held g c = forms_kept c.args.forms.now c.replace.new.forms c.args.context.now c.replace.ensures.kept c.requires.held
 
 pub queue_is_like-requires-clause-held : goal.queue_is_like-requires-clause-held
-queue_is_like-requires-clause-held g c = forms_kept c.args.forms.now c.registers_are_like.new.forms c.args.context.now (keeps_on _ _ _ c.replace.ensures.kept c.registers_are_like.ensures.kept) c.requires.held
+queue_is_like-requires-clause-held g c = forms_kept c.args.forms.now c.registers_are_like.new.forms c.args.context.now (keeps_both _ _ _ c.replace.ensures.kept c.registers_are_like.ensures.kept) c.requires.held
 
 pub queue_is_like-requires-clause-put : goal.queue_is_like-requires-clause-put
 queue_is_like-requires-clause-put g c = (variables_kept c.replace.new.forms c.registers_are_like.new.forms c.replace.new.self.put c.registers_are_like.ensures.kept c.in_ok-replace.ensures.held)
 
 pub memory_is_like-requires-clause-held : goal.memory_is_like-requires-clause-held
-memory_is_like-requires-clause-held g c = forms_kept c.args.forms.now c.queue_is_like.new.forms c.args.context.now (keeps_on _ _ _ (keeps_on _ _ _ c.replace.ensures.kept c.registers_are_like.ensures.kept) c.queue_is_like.ensures.kept) c.requires.held
+memory_is_like-requires-clause-held g c = forms_kept c.args.forms.now c.queue_is_like.new.forms c.args.context.now (keeps_both _ _ _ (keeps_both _ _ _ c.replace.ensures.kept c.registers_are_like.ensures.kept) c.queue_is_like.ensures.kept) c.requires.held
 
 pub memory_is_like-requires-clause-put : goal.memory_is_like-requires-clause-put
-memory_is_like-requires-clause-put g c = (variables_kept c.replace.new.forms c.queue_is_like.new.forms c.replace.new.self.put (keeps_on _ _ _ c.registers_are_like.ensures.kept c.queue_is_like.ensures.kept) c.in_ok-replace.ensures.held)
+memory_is_like-requires-clause-put g c = (variables_kept c.replace.new.forms c.queue_is_like.new.forms c.replace.new.self.put (keeps_both _ _ _ c.registers_are_like.ensures.kept c.queue_is_like.ensures.kept) c.in_ok-replace.ensures.held)
 
 pub returns-in_err-need-clause-passes : goal.returns-in_err-need-clause-passes
 unfolding leads
@@ -95,7 +96,7 @@ returns-in_err-need-3-clause-passes g c = λ next.
     let k1 = context_stays c.args.forms.now c.replace.new.forms c.args.context.now c.replace.ensures.kept c.requires.held in
     let l1 = registers_so (g.P.Program.object c.args.program.now) _ (replacement_in c.replace.new.forms c.replace.new.self.put) (replacement (g.P.Program.object c.args.program.now) c.args.subst) (context_in c.replace.new.forms c.args.context.now) (context_in c.args.forms.now c.args.context.now) (reg_rows (g.P.Program.object c.args.program.now) c.args.t) c.in_ok-registers.ensures.like x1 k1 in
     let x2 = replacement_stays c.replace.new.forms c.registers_are_like.new.forms c.replace.new.self.put c.registers_are_like.ensures.kept c.in_ok-replace.ensures.held ∙ x1 in
-    let k2 = context_stays c.args.forms.now c.registers_are_like.new.forms c.args.context.now (keeps_on _ _ _ c.replace.ensures.kept c.registers_are_like.ensures.kept) c.requires.held in
+    let k2 = context_stays c.args.forms.now c.registers_are_like.new.forms c.args.context.now (keeps_both _ _ _ c.replace.ensures.kept c.registers_are_like.ensures.kept) c.requires.held in
     let l2 = queue_so (g.P.Program.object c.args.program.now) _ (replacement_in c.registers_are_like.new.forms c.replace.new.self.put) (replacement (g.P.Program.object c.args.program.now) c.args.subst) (context_in c.registers_are_like.new.forms c.args.context.now) (context_in c.args.forms.now c.args.context.now) (queue_rows (g.P.Program.object c.args.program.now) c.args.t) c.in_ok-queue.ensures.like x2 k2 in
     passes_exit _ _ _ _ _ c.from_residual-in_err-need-3.ensures.1 ((rw c.is_annotated-annotated.ensures at c.in_ok-need.ensures.passes) _ ∙ (rw l1 at c.in_ok-need-2.ensures.passes) _) ((rw l2 at c.in_err-need-3.ensures.passes) _)
 
@@ -109,10 +110,10 @@ returns-clause-passes g c = λ next.
     let k1 = context_stays c.args.forms.now c.replace.new.forms c.args.context.now c.replace.ensures.kept c.requires.held in
     let l1 = registers_so (g.P.Program.object c.args.program.now) _ (replacement_in c.replace.new.forms c.replace.new.self.put) (replacement (g.P.Program.object c.args.program.now) c.args.subst) (context_in c.replace.new.forms c.args.context.now) (context_in c.args.forms.now c.args.context.now) (reg_rows (g.P.Program.object c.args.program.now) c.args.t) c.in_ok-registers.ensures.like x1 k1 in
     let x2 = replacement_stays c.replace.new.forms c.registers_are_like.new.forms c.replace.new.self.put c.registers_are_like.ensures.kept c.in_ok-replace.ensures.held ∙ x1 in
-    let k2 = context_stays c.args.forms.now c.registers_are_like.new.forms c.args.context.now (keeps_on _ _ _ c.replace.ensures.kept c.registers_are_like.ensures.kept) c.requires.held in
+    let k2 = context_stays c.args.forms.now c.registers_are_like.new.forms c.args.context.now (keeps_both _ _ _ c.replace.ensures.kept c.registers_are_like.ensures.kept) c.requires.held in
     let l2 = queue_so (g.P.Program.object c.args.program.now) _ (replacement_in c.registers_are_like.new.forms c.replace.new.self.put) (replacement (g.P.Program.object c.args.program.now) c.args.subst) (context_in c.registers_are_like.new.forms c.args.context.now) (context_in c.args.forms.now c.args.context.now) (queue_rows (g.P.Program.object c.args.program.now) c.args.t) c.in_ok-queue.ensures.like x2 k2 in
-    let x3 = replacement_stays c.replace.new.forms c.queue_is_like.new.forms c.replace.new.self.put (keeps_on _ _ _ c.registers_are_like.ensures.kept c.queue_is_like.ensures.kept) c.in_ok-replace.ensures.held ∙ x1 in
-    let k3 = context_stays c.args.forms.now c.queue_is_like.new.forms c.args.context.now (keeps_on _ _ _ (keeps_on _ _ _ c.replace.ensures.kept c.registers_are_like.ensures.kept) c.queue_is_like.ensures.kept) c.requires.held in
+    let x3 = replacement_stays c.replace.new.forms c.queue_is_like.new.forms c.replace.new.self.put (keeps_both _ _ _ c.registers_are_like.ensures.kept c.queue_is_like.ensures.kept) c.in_ok-replace.ensures.held ∙ x1 in
+    let k3 = context_stays c.args.forms.now c.queue_is_like.new.forms c.args.context.now (keeps_both _ _ _ (keeps_both _ _ _ c.replace.ensures.kept c.registers_are_like.ensures.kept) c.queue_is_like.ensures.kept) c.requires.held in
     let l3 = memory_so (g.P.Program.object c.args.program.now) _ (replacement_in c.queue_is_like.new.forms c.replace.new.self.put) (replacement (g.P.Program.object c.args.program.now) c.args.subst) (context_in c.queue_is_like.new.forms c.args.context.now) (context_in c.args.forms.now c.args.context.now) (memory_of (g.P.Program.object c.args.program.now) c.args.t) c.in_ok-memory.ensures.like x3 k3 in
     passes_after _ _ _ _ ((rw c.is_annotated-annotated.ensures at c.in_ok-need.ensures.passes) _ ∙ (rw l1 at c.in_ok-need-2.ensures.passes) _ ∙ (rw l2 at c.in_ok-need-3.ensures.passes) _) ((rw l3 at c.need-4.ensures.passes) _)
 
@@ -172,7 +173,7 @@ returns-in_err-memory-clause-steps g c =
     let w = cost_rises o u n c.in_ok-replace.ensures.count in
     let k = memory_stays c.replace.new.forms c.registers_are_like.new.forms c.replace.new.self.put.memory c.registers_are_like.ensures.kept c.in_ok-replace.ensures.held.memory in
     let y : c.queue_is_like.new.steps ≤ c.registers_are_like.new.steps + 16 * tree_cost o u = rw k at c.queue_is_like.ensures.steps in
-    let l = memory_stays c.replace.new.forms c.queue_is_like.new.forms c.replace.new.self.put.memory (keeps_on _ _ _ c.registers_are_like.ensures.kept c.queue_is_like.ensures.kept) c.in_ok-replace.ensures.held.memory in
+    let l = memory_stays c.replace.new.forms c.queue_is_like.new.forms c.replace.new.self.put.memory (keeps_both _ _ _ c.registers_are_like.ensures.kept c.queue_is_like.ensures.kept) c.in_ok-replace.ensures.held.memory in
     let x : c.memory_is_like.new.steps ≤ c.queue_is_like.new.steps + tree_cost o u = rw l at c.memory_is_like.ensures.steps in
     omega (arith, z, w, c.replace.ensures.steps, c.registers_are_like.ensures.steps, y, x)
 
@@ -185,7 +186,7 @@ returns-clause-steps g c =
     let w = cost_rises o u n c.in_ok-replace.ensures.count in
     let k = memory_stays c.replace.new.forms c.registers_are_like.new.forms c.replace.new.self.put.memory c.registers_are_like.ensures.kept c.in_ok-replace.ensures.held.memory in
     let y : c.queue_is_like.new.steps ≤ c.registers_are_like.new.steps + 16 * tree_cost o u = rw k at c.queue_is_like.ensures.steps in
-    let l = memory_stays c.replace.new.forms c.queue_is_like.new.forms c.replace.new.self.put.memory (keeps_on _ _ _ c.registers_are_like.ensures.kept c.queue_is_like.ensures.kept) c.in_ok-replace.ensures.held.memory in
+    let l = memory_stays c.replace.new.forms c.queue_is_like.new.forms c.replace.new.self.put.memory (keeps_both _ _ _ c.registers_are_like.ensures.kept c.queue_is_like.ensures.kept) c.in_ok-replace.ensures.held.memory in
     let x : c.memory_is_like.new.steps ≤ c.queue_is_like.new.steps + tree_cost o u = rw l at c.memory_is_like.ensures.steps in
     omega (arith, z, w, c.replace.ensures.steps, c.registers_are_like.ensures.steps, y, x)
 
@@ -196,13 +197,13 @@ pub returns-in_err-need-2-clause-own : goal.returns-in_err-need-2-clause-own
 returns-in_err-need-2-clause-own g c = owned_kept (g.P.Program.object c.args.program.now) c.replace.new.forms c.registers_are_like.new.forms c.replace.new.self.own c.registers_are_like.ensures.kept c.replace.ensures.own
 
 pub returns-in_err-queue-clause-own : goal.returns-in_err-queue-clause-own
-returns-in_err-queue-clause-own g c = owned_kept (g.P.Program.object c.args.program.now) c.replace.new.forms c.queue_is_like.new.forms c.replace.new.self.own (keeps_on _ _ _ c.registers_are_like.ensures.kept c.queue_is_like.ensures.kept) c.replace.ensures.own
+returns-in_err-queue-clause-own g c = owned_kept (g.P.Program.object c.args.program.now) c.replace.new.forms c.queue_is_like.new.forms c.replace.new.self.own (keeps_both _ _ _ c.registers_are_like.ensures.kept c.queue_is_like.ensures.kept) c.replace.ensures.own
 
 pub returns-in_err-need-3-clause-own : goal.returns-in_err-need-3-clause-own
-returns-in_err-need-3-clause-own g c = owned_kept (g.P.Program.object c.args.program.now) c.replace.new.forms c.queue_is_like.new.forms c.replace.new.self.own (keeps_on _ _ _ c.registers_are_like.ensures.kept c.queue_is_like.ensures.kept) c.replace.ensures.own
+returns-in_err-need-3-clause-own g c = owned_kept (g.P.Program.object c.args.program.now) c.replace.new.forms c.queue_is_like.new.forms c.replace.new.self.own (keeps_both _ _ _ c.registers_are_like.ensures.kept c.queue_is_like.ensures.kept) c.replace.ensures.own
 
 pub returns-in_err-memory-clause-own : goal.returns-in_err-memory-clause-own
-returns-in_err-memory-clause-own g c = owned_kept (g.P.Program.object c.args.program.now) c.replace.new.forms c.memory_is_like.new.forms c.replace.new.self.own (keeps_on _ _ _ (keeps_on _ _ _ c.registers_are_like.ensures.kept c.queue_is_like.ensures.kept) c.memory_is_like.ensures.kept) c.replace.ensures.own
+returns-in_err-memory-clause-own g c = owned_kept (g.P.Program.object c.args.program.now) c.replace.new.forms c.memory_is_like.new.forms c.replace.new.self.own (keeps_both _ _ _ (keeps_both _ _ _ c.registers_are_like.ensures.kept c.queue_is_like.ensures.kept) c.memory_is_like.ensures.kept) c.replace.ensures.own
 
 pub returns-clause-own : goal.returns-clause-own
-returns-clause-own g c = owned_kept (g.P.Program.object c.args.program.now) c.replace.new.forms c.memory_is_like.new.forms c.replace.new.self.own (keeps_on _ _ _ (keeps_on _ _ _ c.registers_are_like.ensures.kept c.queue_is_like.ensures.kept) c.memory_is_like.ensures.kept) c.replace.ensures.own
+returns-clause-own g c = owned_kept (g.P.Program.object c.args.program.now) c.replace.new.forms c.memory_is_like.new.forms c.replace.new.self.own (keeps_both _ _ _ (keeps_both _ _ _ c.registers_are_like.ensures.kept c.queue_is_like.ensures.kept) c.memory_is_like.ensures.kept) c.replace.ensures.own

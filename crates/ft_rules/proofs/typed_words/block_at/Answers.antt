@@ -1,11 +1,12 @@
 use Rattle.std.proofs.Common.{◌≡◌, ◌≢◌, ◌+◌, ◌≤◌, ℕ, eqb, eqb-true, eq-eqb, true, false, slice_get, None, Some, arith, refl, sym, ⊎_elim, subst}
 use Rattle.std.proofs.lemmas.Bool.{cases_lt}
+use Rattle.ft_isa.proofs.Lists.{none_pass}
 use Rattle.ft_types.specs.declared.object.Object.{Object}
 use Rattle.ft_types.specs.declared.object.Block.{Block}
 use Rattle.ft_types.specs.Spellable.{IsSpellable}
 use Rattle.ft_typing.specs.TypedWord.{block_at}
 use Rattle.ft_contexts.proofs.Registers.{apart}
-use Rattle.ft_rules.proofs.Blocks.{starts_rise, find_first, find_none}
+use Rattle.ft_rules.proofs.Blocks.{starts_rise, find_first}
 use Rattle.ft_rules.proofs.typed_words.block_at.Goals as goal
 
 -- a block that begins at the address is the one that is found
@@ -18,7 +19,7 @@ block_found o address n b h e s = sym (find_first _ o.blocks n b e (eq-eqb addre
 -- where none begins there, none is found
 block_lacks : (o : Object) (address : ℕ) → ((k : ℕ) (b : Block) → slice_get o.blocks k ≡ Some b → b.start + 1 ≢ address) → None ≡ block_at o address
 unfolding block_at
-block_lacks o address h = sym (find_none _ o.blocks (λ k y f. let n = h k y f in apart address (1 + y.start) (λ q. absurd (n (omega arith)))))
+block_lacks o address h = sym (none_pass _ o.blocks (λ k y f. let n = h k y f in apart address (1 + y.start) (λ q. absurd (n (omega arith)))))
 
 -- a block at an earlier place, or the same, begins no later
 no_later : (o : Object) (k n : ℕ) (x y : Block) → IsSpellable o → k ≤ n → slice_get o.blocks k ≡ Some x → slice_get o.blocks n ≡ Some y → x.start ≤ y.start

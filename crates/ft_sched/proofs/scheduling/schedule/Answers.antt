@@ -1,5 +1,4 @@
 use Rattle.std.proofs.Common.{sym, subst}
-use Rattle.ft_types.specs.declared.object.Object.{Object}
 use Rattle.ft_exchange.specs.Alike.{RunsAlike}
 use Rattle.ft_exchange.specs.Scheduled.{IsScheduled}
 use Rattle.ft_exchange.proofs.Chains.{kept, alike}

@@ -1,7 +1,6 @@
 use Rattle.std.proofs.Common.{◌≡◌, ◌≤◌, None, arith, length, sym, ap, ◌∙◌, subst}
 use Rattle.ft_syntax.specs.Plain.{plain_list}
 use Rattle.ft_syntax.specs.Size.{statement_nodes}
-use Rattle.ft_syntax.specs.Syntax.{named, declared_list}
 use Rattle.ft_syntax.specs.TreeOf.{tree_from}
 use Rattle.ft_syntax.proofs.DeclaredLists.{declared_length}
 use Rattle.ft_scope.specs.Scope.{misused, wrong_length}

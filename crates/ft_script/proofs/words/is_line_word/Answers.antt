@@ -1,7 +1,7 @@
 use Rattle.std.proofs.Common.{◌≡◌, ℕ, List, Some, None, sym, ◌∙◌, arith}
 use Rattle.std.specs.Prelude.{position}
+use Rattle.ft_text.proofs.FirstWords.{is_space, no_space_found, found_no_space}
 use Rattle.ft_script.specs.Commands.{IsLineWord}
-use Rattle.ft_script.proofs.Spaces.{is_space, no_space_found, found_no_space}
 use Rattle.ft_script.proofs.words.is_line_word.Goals as goal
 
 no_word : (text : List ℕ) (at : ℕ) → position is_space text ≡ Some at → ¬ (IsLineWord text)

@@ -1,4 +1,4 @@
-use Rattle.ft_tolerance.proofs.Places.{keeps}
+use Rattle.ft_tolerance.proofs.AcceptedSteps.{keeps}
 use Rattle.ft_tolerance.proofs.laws.rows_keep_what_fits.Goals as goal
 
 pub returns : goal.returns

@@ -1,11 +1,12 @@
 use Rattle.std.proofs.Common.{◌≡◌, [], true, is_ok, ap, sym, ◌∙◌, arith}
 use Rattle.std.proofs.lemmas.Bool.{cond-true}
-use Rattle.ft_asm.proofs.HeldLaws.{empty_of, cell_held}
+use Rattle.std.proofs.lemmas.List.{nil_from_length}
+use Rattle.ft_asm.proofs.HeldLaws.{cell_held}
 use Rattle.ft_asm.proofs.draft.Draft.add_cell.Goals as goal
 
 pub returns : goal.returns
 returns c =
-    let none : c.args.self.now.nodes.items ≡ [] = empty_of c.args.self.now.nodes.items (grind (arith, c.as_slice.ensures, c.is_empty.ensures, c.if-not-is_empty.false)) in
+    let none : c.args.self.now.nodes.items ≡ [] = nil_from_length c.args.self.now.nodes.items (grind (arith, c.as_slice.ensures, c.is_empty.ensures, c.if-not-is_empty.false)) in
     let ok : is_ok c.push.result ≡ true = sym c.map_err.ensures.variant ∙ ap is_ok c.in_ok-map_err.was in
     let pushed = c.push.ensures.items ∙ cond-true _ _ _ ok in
     cell_held c.args.self.now (record c.args.self.now { cells = c.push.new.self }) c.args.cell c.in-Start.is none pushed

@@ -2,7 +2,8 @@ use Rattle.std.proofs.Common.{Some, arith, sym, ap, ◌∙◌}
 use Rattle.ft_static.specs.Form.{memory_form, Updates, updates}
 use Rattle.ft_norm.specs.Held.{polynomial, updates_held}
 use Rattle.ft_norm.proofs.Made.{updates-norm_upd}
-use Rattle.ft_contexts.proofs.Kept.{integer_kept, integer_stays, updates_found, memory_found, keeps_on}
+use Rattle.ft_norm.proofs.HeldForms.{memory_from, keeps_both}
+use Rattle.ft_contexts.proofs.Kept.{integer_kept, integer_stays, updates_found}
 use Rattle.ft_contexts.proofs.Turns.{pending_turn, pending_end}
 use Rattle.ft_contexts.proofs.context.Context.pending.Goals as goal
 
@@ -19,13 +20,13 @@ loop-j-preserved g c =
     let v = integer_stays c.args.forms.now c.loop-j.forms c.at.result.1 c.loop-j.invariant.kept k.1 in
     let u = updates_found c.upd.new.self c.in_ok-memory.memory _ (rw (a, v) at c.in_ok-memory.ensures.form) in
     record {
-      kept = keeps_on _ _ _ c.loop-j.invariant.kept c.upd.ensures.kept;
+      kept = keeps_both _ _ _ c.loop-j.invariant.kept c.upd.ensures.kept;
       count =
           let w = ap updates (updates_found c.upd.new.self c.in_ok-memory.memory _ c.in_ok-memory.ensures.form) in
           let x = updates-norm_upd (updates_held c.loop-j.forms c.loop-j.memory) (polynomial c.loop-j.forms c.at.result.0) (polynomial c.loop-j.forms c.at.result.1) in
           omega (arith, w, x, c.loop-j.invariant.count);
       steps = omega (arith, c.loop-j.invariant.steps, c.tick.ensures);
-      memory = memory_found c.upd.new.self c.in_ok-memory.memory _ c.in_ok-memory.ensures.form;
+      memory = memory_from c.upd.new.self c.in_ok-memory.memory _ c.in_ok-memory.ensures.form;
       left = rw u (sym (pending_turn c.args.forms.now (updates_held c.loop-j.forms c.loop-j.memory) c.args.self.now.queue c.loop-j.j c.at.result c.at.ensures) ∙ c.loop-j.invariant.left);
     }
 

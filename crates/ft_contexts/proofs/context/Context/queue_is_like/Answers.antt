@@ -1,13 +1,14 @@
 use Rattle.std.proofs.Common.{map, sym, ◌∙◌, arith, ◌≤◌, ◌+◌, ◌*◌, refl}
 use Rattle.std.proofs.lemmas.List.{length-map}
+use Rattle.ft_isa.proofs.Lists.{there_mapped}
 use Rattle.ft_types.specs.Objects.{queue_rows}
 use Rattle.ft_contexts.specs.Contexts.{pair_in, replacement_in}
 use Rattle.ft_static.specs.Form.{updates}
 use Rattle.ft_norm.specs.Held.{updates_held}
+use Rattle.ft_norm.proofs.HeldForms.{keeps_both}
 use Rattle.ft_contexts.specs.Costs.{tree_cost}
 use Rattle.ft_contexts.proofs.Costs.{few_queue_rows, one_tree, some_trees}
-use Rattle.ft_contexts.proofs.Kept.{keeps_on, variables_kept, replacement_stays, integer_kept, integer_stays, memory_stays}
-use Rattle.ft_contexts.proofs.Lists.{map_there}
+use Rattle.ft_contexts.proofs.Kept.{variables_kept, replacement_stays, integer_kept, integer_stays, memory_stays}
 use Rattle.ft_contexts.proofs.Spelled.{queue_row_spelled}
 use Rattle.ft_contexts.proofs.Turns.{head_says, unlike_lengths, queue_turn, queue_end}
 use Rattle.ft_contexts.proofs.context.Context.queue_is_like.Goals as goal
@@ -38,7 +39,7 @@ returns-then-not-like-clause-like g c =
     let a = integer_stays c.args.forms.now c.loop-j.forms pair.0 c.loop-j.invariant.kept k.0 in
     let v = integer_stays c.args.forms.now c.loop-j.forms pair.1 c.loop-j.invariant.kept k.1 in
     let x = replacement_stays c.args.forms.now c.loop-j.forms c.args.put.now c.loop-j.invariant.kept c.requires.put in
-    let turn = queue_turn (g.P.Program.object c.args.program.now) (replacement_in c.args.forms.now c.args.put.now) (map (pair_in c.args.forms.now) c.args.self.now.queue) (queue_rows (g.P.Program.object c.args.program.now) c.args.t) c.loop-j.j (pair_in c.args.forms.now pair) row c.in_ok-like.like (map_there (pair_in c.args.forms.now) c.args.self.now.queue c.loop-j.j pair c.at.ensures) c.queue_row-row.ensures (rw (a, v, x) at c.in_ok-like.ensures.like) in
+    let turn = queue_turn (g.P.Program.object c.args.program.now) (replacement_in c.args.forms.now c.args.put.now) (map (pair_in c.args.forms.now) c.args.self.now.queue) (queue_rows (g.P.Program.object c.args.program.now) c.args.t) c.loop-j.j (pair_in c.args.forms.now pair) row c.in_ok-like.like (there_mapped (pair_in c.args.forms.now) c.args.self.now.queue c.loop-j.j pair c.at.ensures) c.queue_row-row.ensures (rw (a, v, x) at c.in_ok-like.ensures.like) in
     let stop = rw c.if-not-like.true at turn in
     sym stop ∙ c.loop-j.invariant.left
 
@@ -50,7 +51,7 @@ loop-j-preserved g c =
     let a = integer_stays c.args.forms.now c.loop-j.forms pair.0 c.loop-j.invariant.kept k.0 in
     let v = integer_stays c.args.forms.now c.loop-j.forms pair.1 c.loop-j.invariant.kept k.1 in
     let x = replacement_stays c.args.forms.now c.loop-j.forms c.args.put.now c.loop-j.invariant.kept c.requires.put in
-    let turn = queue_turn (g.P.Program.object c.args.program.now) (replacement_in c.args.forms.now c.args.put.now) (map (pair_in c.args.forms.now) c.args.self.now.queue) (queue_rows (g.P.Program.object c.args.program.now) c.args.t) c.loop-j.j (pair_in c.args.forms.now pair) row c.in_ok-like.like (map_there (pair_in c.args.forms.now) c.args.self.now.queue c.loop-j.j pair c.at.ensures) c.queue_row-row.ensures (rw (a, v, x) at c.in_ok-like.ensures.like) in
+    let turn = queue_turn (g.P.Program.object c.args.program.now) (replacement_in c.args.forms.now c.args.put.now) (map (pair_in c.args.forms.now) c.args.self.now.queue) (queue_rows (g.P.Program.object c.args.program.now) c.args.t) c.loop-j.j (pair_in c.args.forms.now pair) row c.in_ok-like.like (there_mapped (pair_in c.args.forms.now) c.args.self.now.queue c.loop-j.j pair c.at.ensures) c.queue_row-row.ensures (rw (a, v, x) at c.in_ok-like.ensures.like) in
     let go = rw c.if-not-like.false at turn in
     let so = g.P.Program.object c.args.program.now in
     let cost = tree_cost (g.P.Program.object c.args.program.now) (updates (updates_held c.args.forms.now c.args.put.now.memory)) in
@@ -59,7 +60,7 @@ loop-j-preserved g c =
     let sy = one_tree c.loop-j.steps c.pair_is_like.new.steps (c.loop-j.j + 1) c.args.steps.now c.loop-j.j (2 * cost) c.loop-j.invariant.steps sx refl in
     record {
       steps = sy;
-      kept = keeps_on _ _ _ c.loop-j.invariant.kept c.pair_is_like.ensures.kept;
+      kept = keeps_both _ _ _ c.loop-j.invariant.kept c.pair_is_like.ensures.kept;
       made = c.pair_is_like.ensures.made;
       count = c.loop-j.invariant.count;
       left = sym go ∙ c.loop-j.invariant.left;

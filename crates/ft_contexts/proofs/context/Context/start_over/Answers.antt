@@ -3,24 +3,25 @@ use Rattle.std.specs.FinMap as finite
 use Rattle.std.proofs.lemmas.List.{length-map}
 use Rattle.ft_static.specs.Form.{updates}
 use Rattle.ft_norm.specs.Held.{updates_held}
+use Rattle.ft_norm.proofs.HeldForms.{memory_from, keeps_both}
 use Rattle.ft_types.specs.Objects.{memory_of, reg_rows, queue_rows}
 use Rattle.ft_typing.specs.Context.{d_zero, registers_after, queue_pair, memory_form_of}
 use Rattle.ft_contexts.specs.Contexts.{registers_in, pair_in}
 use Rattle.ft_contexts.specs.Costs.{tree_cost}
 use Rattle.ft_contexts.proofs.Costs.{few_queue_rows, few_reg_rows, some_trees}
-use Rattle.ft_contexts.proofs.Kept.{keeps_on, registers_kept, registers_stay, updates_found, memory_found, memory_kept, memory_stays}
+use Rattle.ft_contexts.proofs.Kept.{registers_kept, registers_stay, updates_found, memory_kept, memory_stays}
 use Rattle.ft_contexts.proofs.Spelled.{memory_spelled, most_scope}
 use Rattle.ft_contexts.proofs.Turns.{head_says}
 use Rattle.ft_contexts.proofs.context.Context.start_over.Goals as goal
 
 pub returns-clause-held : goal.returns-clause-held
 returns-clause-held g c =
-    let late = keeps_on _ _ _ c.start_registers.ensures.kept c.start_queue.ensures.kept in
+    let late = keeps_both _ _ _ c.start_registers.ensures.kept c.start_queue.ensures.kept in
     record {
       registers = registers_kept c.start_registers.new.forms c.start_queue.new.forms c.in_ok-registers.registers c.start_queue.ensures.kept c.in_ok-registers.ensures.held;
       d = tt;
       queue = c.in_ok-queue.ensures.held;
-      memory = memory_kept c.memory.new.forms c.start_queue.new.forms c.in_ok-memory.memory late (memory_found c.memory.new.forms c.in_ok-memory.memory _ c.in_ok-memory.ensures.form);
+      memory = memory_kept c.memory.new.forms c.start_queue.new.forms c.in_ok-memory.memory late (memory_from c.memory.new.forms c.in_ok-memory.memory _ c.in_ok-memory.ensures.form);
     }
 
 pub returns-clause-types : goal.returns-clause-types
@@ -34,9 +35,9 @@ returns-clause-context g c =
     let ints = head.0 in
     let registers : registers_in last 0 c.in_ok-registers.registers ≡ registers_after o finite.empty (reg_rows o c.args.t) = registers_stay c.start_registers.new.forms last 0 c.in_ok-registers.registers c.start_queue.ensures.kept c.in_ok-registers.ensures.held ∙ c.in_ok-registers.ensures.known in
     let queue : map (pair_in last) c.in_ok-queue.queue ≡ map (queue_pair o) (queue_rows o c.args.t) = c.in_ok-queue.ensures.pairs in
-    let late = keeps_on _ _ _ c.start_registers.ensures.kept c.start_queue.ensures.kept in
+    let late = keeps_both _ _ _ c.start_registers.ensures.kept c.start_queue.ensures.kept in
     let first = updates_found c.memory.new.forms c.in_ok-memory.memory _ c.in_ok-memory.ensures.form in
-    let memory : updates_held last c.in_ok-memory.memory ≡ memory_form_of o (memory_of o c.args.t) = memory_stays c.memory.new.forms last c.in_ok-memory.memory late (memory_found c.memory.new.forms c.in_ok-memory.memory _ c.in_ok-memory.ensures.form) ∙ (rw head.3 at first) in
+    let memory : updates_held last c.in_ok-memory.memory ≡ memory_form_of o (memory_of o c.args.t) = memory_stays c.memory.new.forms last c.in_ok-memory.memory late (memory_from c.memory.new.forms c.in_ok-memory.memory _ c.in_ok-memory.ensures.form) ∙ (rw head.3 at first) in
     λ i. record { ints = ints i; registers = registers i; d = d_zero; queue = queue i; memory = memory i }
 
 pub returns-clause-pending : goal.returns-clause-pending
@@ -50,8 +51,8 @@ returns-clause-pending g c =
 
 pub returns-clause-count : goal.returns-clause-count
 returns-clause-count g c =
-    let late = keeps_on _ _ _ c.start_registers.ensures.kept c.start_queue.ensures.kept in
-    let m = ap updates (memory_stays c.memory.new.forms c.start_queue.new.forms c.in_ok-memory.memory late (memory_found c.memory.new.forms c.in_ok-memory.memory _ c.in_ok-memory.ensures.form)) in
+    let late = keeps_both _ _ _ c.start_registers.ensures.kept c.start_queue.ensures.kept in
+    let m = ap updates (memory_stays c.memory.new.forms c.start_queue.new.forms c.in_ok-memory.memory late (memory_from c.memory.new.forms c.in_ok-memory.memory _ c.in_ok-memory.ensures.form)) in
     omega (arith, m, c.in_ok-memory.ensures.count)
 
 pub returns-in_err-registers-clause-steps : goal.returns-in_err-registers-clause-steps

@@ -1,14 +1,16 @@
 use Rattle.std.proofs.Common.{◌≡◌, ◌+◌, ◌-◌, List, ◌∷◌, ◌++◌, map, slice_range, Some, arith, refl, sym, ap, ◌∙◌}
+use Rattle.std.proofs.lemmas.List.{map_push, append-nil}
+use Rattle.ft_isa.proofs.Lists.{range_past, all_there}
 use Rattle.ft_static.specs.Form.{integer_form, Polynomial}
 use Rattle.ft_norm.specs.Held.{held, IsInteger, polynomial, polynomials}
 use Rattle.ft_norm.proofs.Memos.{remembers_none}
+use Rattle.ft_norm.proofs.HeldForms.{integer_from, memory_from, keeps_both, polynomials_kept}
 use Rattle.ft_types.specs.Spellable.{IsNodeIn}
 use Rattle.ft_typing.specs.Context.{replacement, rows_of, integer_form_of}
 use Rattle.ft_contexts.specs.Costs.{tree_cost}
 use Rattle.ft_contexts.proofs.Costs.{one_tree, some_trees}
-use Rattle.ft_contexts.proofs.Kept.{keeps_itself, keeps_on, none_held, integer_found, integer_kept, polynomial_found, polynomials_stay, memory_found, updates_found}
-use Rattle.ft_contexts.proofs.Lists.{get_pushed, range_there, range_past, one_more, append_none, map_pushed}
-use Rattle.ft_contexts.proofs.Spelled.{all_at}
+use Rattle.ft_contexts.proofs.Kept.{keeps_itself, none_held, integer_kept, polynomial_found, updates_found}
+use Rattle.ft_contexts.proofs.Lists.{get_pushed, range_there, one_more}
 use Rattle.ft_contexts.proofs.transfers.Shared.replace.Goals as goal
 
 pub loop-n-init : goal.loop-n-init
@@ -23,7 +25,7 @@ loop-n-init g c = record {
 }
 
 pub integer-requires-clause-node : goal.integer-requires-clause-node
-integer-requires-clause-node g c = let o = g.P.Program.object c.args.program.now in all_at (IsNodeIn o.nodes 128 _) o.substs c.loop-n.n c.subst_row-row.result c.requires.spellable.substs c.subst_row-row.ensures
+integer-requires-clause-node g c = let o = g.P.Program.object c.args.program.now in all_there (IsNodeIn o.nodes 128 _) o.substs c.loop-n.n c.subst_row-row.result c.requires.spellable.substs c.subst_row-row.ensures
 
 pub loop-n-preserved : goal.loop-n-preserved
 loop-n-preserved g c =
@@ -41,11 +43,11 @@ loop-n-preserved g c =
     record {
       from = omega (arith, c.loop-n.invariant.from);
       steps = sy;
-      kept = keeps_on _ _ _ c.loop-n.invariant.kept c.integer.ensures.kept;
+      kept = keeps_both _ _ _ c.loop-n.invariant.kept c.integer.ensures.kept;
       own = c.integer.ensures.own;
       fresh = c.loop-n.invariant.fresh;
-      held = rw c.in_ok-push.ensures.ok (λ i x e. get_pushed ints c.in_ok-form.form i x e (λ _ z. IsInteger new z) (integer_found new c.in_ok-form.form _ made) (λ j z s. integer_kept old new z c.integer.ensures.kept (c.loop-n.invariant.held j z s)));
-      left = rw (c.in_ok-push.ensures.ok, map_pushed (polynomial new) ints c.in_ok-form.form, polynomials_stay old new ints c.integer.ensures.kept c.loop-n.invariant.held) (
+      held = rw c.in_ok-push.ensures.ok (λ i x e. get_pushed ints c.in_ok-form.form i x e (λ _ z. IsInteger new z) (integer_from new c.in_ok-form.form _ made) (λ j z s. integer_kept old new z c.integer.ensures.kept (c.loop-n.invariant.held j z s)));
+      left = rw (c.in_ok-push.ensures.ok, map_push (polynomial new) ints c.in_ok-form.form, polynomials_kept old new ints c.integer.ensures.kept c.loop-n.invariant.held) (
           one_more (polynomials old ints) (polynomial new c.in_ok-form.form) others
           ∙ ap (λ (p : Polynomial). polynomials old ints ++ (p ∷ others)) f
           ∙ ap (λ (ps : List Polynomial). polynomials old ints ++ ps) (sym rest)
@@ -53,7 +55,7 @@ loop-n-preserved g c =
     }
 
 pub returns-clause-held : goal.returns-clause-held
-returns-clause-held g c = record { integers = λ i x e. integer_kept c.loop-n.forms c.memory.new.forms x c.memory.ensures.kept (c.loop-n.invariant.held i x e); memory = memory_found c.memory.new.forms c.in_ok-memory.memory _ c.in_ok-memory.ensures.form }
+returns-clause-held g c = record { integers = λ i x e. integer_kept c.loop-n.forms c.memory.new.forms x c.memory.ensures.kept (c.loop-n.invariant.held i x e); memory = memory_from c.memory.new.forms c.in_ok-memory.memory _ c.in_ok-memory.ensures.form }
 
 pub returns-clause-made : goal.returns-clause-made
 returns-clause-made g c = remembers_none _ c.memory.new.forms _ _ _ c.loop-n.invariant.fresh
@@ -65,8 +67,8 @@ returns-clause-replaced g c =
     let ints = c.loop-n.self.put.integers in
     let none = ap (map (integer_form_of o)) (range_past o.substs c.loop-n.n c.args.subst.past (omega arith)) in
     let integers : polynomials c.memory.new.forms ints ≡ map (integer_form_of o) (rows_of o c.args.subst) =
-    polynomials_stay c.loop-n.forms c.memory.new.forms ints c.memory.ensures.kept c.loop-n.invariant.held
-    ∙ sym (append_none (polynomials c.loop-n.forms ints)) ∙ ap (λ (ps : List Polynomial). polynomials c.loop-n.forms ints ++ ps) (sym none) ∙ c.loop-n.invariant.left in
+    polynomials_kept c.loop-n.forms c.memory.new.forms ints c.memory.ensures.kept c.loop-n.invariant.held
+    ∙ sym (append-nil (polynomials c.loop-n.forms ints)) ∙ ap (λ (ps : List Polynomial). polynomials c.loop-n.forms ints ++ ps) (sym none) ∙ c.loop-n.invariant.left in
     let memory = updates_found c.memory.new.forms c.in_ok-memory.memory _ c.in_ok-memory.ensures.form in
     λ i. record { integers = integers i; memory = memory i }
 

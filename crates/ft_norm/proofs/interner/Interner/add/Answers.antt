@@ -5,7 +5,7 @@ use Rattle.ft_norm.specs.Entries.{polynomial_form}
 use Rattle.ft_norm.specs.Held.{polynomial}
 use Rattle.ft_norm.specs.Terms.{AreOver, terms_of}
 use Rattle.ft_norm.proofs.Limits.{empty_with_sum, sum_large, sum_small, sum_with_empty}
-use Rattle.ft_norm.proofs.Places.{integer_within, made}
+use Rattle.ft_norm.proofs.HeldForms.{integer_within, made}
 use Rattle.ft_norm.proofs.interner.Interner.add.Goals as goal
 
 pub returns-then-is_empty-clause-form : goal.returns-then-is_empty-clause-form

@@ -1,5 +1,5 @@
 use Rattle.std.proofs.Common.{◌∙◌, ap, Some}
-use Rattle.ft_norm.proofs.Places.{entry_seen}
+use Rattle.ft_norm.proofs.HeldForms.{entry_seen}
 use Rattle.ft_norm.proofs.interner.Interner.is_word_at.Goals as goal
 
 pub returns-then-place-entries : goal.returns-then-place-entries

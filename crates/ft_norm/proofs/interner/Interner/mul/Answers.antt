@@ -3,7 +3,7 @@ use Rattle.ft_static.specs.Form.{integer_form}
 use Rattle.ft_norm.specs.Entries.{polynomial_form}
 use Rattle.ft_norm.specs.Held.{polynomial}
 use Rattle.ft_norm.proofs.Limits.{product_large, product_small}
-use Rattle.ft_norm.proofs.Places.{integer_within, made}
+use Rattle.ft_norm.proofs.HeldForms.{integer_within, made}
 use Rattle.ft_norm.proofs.interner.Interner.mul.Goals as goal
 
 pub alone-requires : goal.alone-requires

@@ -1,7 +1,7 @@
 use Rattle.std.proofs.Common.{◌≡◌, ◌≤◌, ◌∙◌, ap, arith, length}
 use Rattle.ft_norm.specs.Entries.{forms_of, memory_reach}
 use Rattle.ft_norm.specs.Walks.{EndsWithin}
-use Rattle.ft_norm.proofs.Places.{integer_seen, integer_within, memory_seen}
+use Rattle.ft_norm.proofs.HeldForms.{integer_seen, integer_within, memory_seen}
 use Rattle.ft_norm.proofs.interner.Interner.sel.Goals as goal
 
 pub walk_from-requires-clause-memory : goal.walk_from-requires-clause-memory

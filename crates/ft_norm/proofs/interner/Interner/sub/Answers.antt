@@ -9,7 +9,7 @@ use Rattle.ft_norm.specs.Held.{polynomial, polynomial_at}
 use Rattle.ft_norm.specs.Terms.{AreOver, negated_term, terms_of}
 use Rattle.ft_norm.proofs.Limits.{less_empty, sum_large, sum_small}
 use Rattle.ft_norm.proofs.Ordered.{terms_negated}
-use Rattle.ft_norm.proofs.Places.{integer_within, made, polynomial_found}
+use Rattle.ft_norm.proofs.HeldForms.{integer_within, made, polynomial_found}
 use Rattle.ft_norm.proofs.Sums.{form_negated, negated_reach}
 use Rattle.ft_norm.proofs.interner.Interner.sub.Goals as goal
 

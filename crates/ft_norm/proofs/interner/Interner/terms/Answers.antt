@@ -1,7 +1,7 @@
 use Rattle.std.proofs.Common.{◌≡◌, ◌∙◌, ap}
 use Rattle.ft_norm.specs.Entries.{forms_of}
 use Rattle.ft_norm.specs.Terms.{terms_of}
-use Rattle.ft_norm.proofs.Places.{over_seen, within}
+use Rattle.ft_norm.proofs.HeldForms.{over_seen, within}
 use Rattle.ft_norm.proofs.interner.Interner.terms.Goals as goal
 
 pub terms_at-requires-clause-named : goal.terms_at-requires-clause-named

@@ -1,6 +1,6 @@
 use Rattle.std.proofs.Common.{◌≡◌, ◌≤◌, ◌∙◌, ap, arith, length}
 use Rattle.ft_norm.specs.Entries.{forms_of, memory_reach}
-use Rattle.ft_norm.proofs.Places.{integer_seen, integer_within, memory_seen, within}
+use Rattle.ft_norm.proofs.HeldForms.{integer_seen, integer_within, memory_seen, within}
 use Rattle.ft_norm.proofs.interner.Interner.upd.Goals as goal
 
 pub below_newest-older-requires-clause-memory : goal.below_newest-older-requires-clause-memory

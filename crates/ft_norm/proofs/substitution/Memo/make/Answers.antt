@@ -8,7 +8,7 @@ use Rattle.ft_norm.specs.Parts.{form_of_parts, updates_of_parts}
 use Rattle.ft_norm.proofs.Made.{node_made, part_lower, parts_count, parts_sorts, stands_kept, stands_more}
 use Rattle.ft_norm.proofs.Memos.{remembered, remembers_kept, remembers_same, stands_from}
 use Rattle.ft_norm.proofs.Paths.{count, count_bound, count_less, count_more, path_end, path_first, path_pop, path_push, steps_all, steps_more}
-use Rattle.ft_norm.proofs.Places.{integers_kept, keeps_both, keeps_itself, polynomials_kept}
+use Rattle.ft_norm.proofs.HeldForms.{integers_kept, keeps_both, keeps_itself, polynomials_kept}
 use Rattle.ft_norm.proofs.substitution.Memo.make.Goals as goal
 
 pub returns-in-Err-push-clause-steps : goal.returns-in-Err-push-clause-steps

@@ -1,4 +1,4 @@
-use Rattle.std.proofs.Common.{◌||◌, sym, ap, ◌∙◌}
+use Rattle.std.proofs.Common.{◌||◌, sym, ◌∙◌}
 use Rattle.std.specs.List.{list_any}
 use Rattle.ft_sched.specs.Registers.{writes, meets}
 use Rattle.ft_sched.proofs.Kept.{conflict_behind}

@@ -20,7 +20,7 @@ use Rattle.ft_static.specs.FormOrder.{same_polynomial}
 use Rattle.ft_static.specs.FormValue.{value_polynomial, value_updates}
 use Rattle.ft_static.specs.NormalForm.{constant, norm_op, norm_rem, norm_sel, norm_upd}
 use Rattle.ft_static.proofs.Equal.{equal_polynomials}
-use Rattle.ft_static.proofs.Rows.{value_constant, value_op, value_rem, value_upd, value_sel}
+use Rattle.ft_static.proofs.FormsDenote.{value_constant, value_op, value_rem, value_upd, value_sel}
 use Rattle.ft_static.proofs.Words.{word_at-with_word}
 use Rattle.ft_types.specs.declared.object.Object.{Object}
 use Rattle.ft_types.specs.Spellable.{IsRun}
@@ -37,7 +37,7 @@ use Rattle.ft_typing.proofs.TypedWords.{has_type_decides, is_seen_as_decides}
 use Rattle.ft_tolerance.specs.TypedState.{FitsRegister, FitsTarget, FitsD, FitsPair, FitsQueue, FitsCell, FitsCells, FitsContext}
 use Rattle.ft_types.proofs.Maps.{get-insert}
 use Rattle.ft_semantics.proofs.Held.{held-with_held}
-use Rattle.ft_tolerance.proofs.Claims.{After, after_goes, after_ends, after_need, after_typed, after_ref, after_code, after_zero, after_oldest, after_run}
+use Rattle.ft_tolerance.proofs.Premises.{After, after_goes, after_ends, after_need, after_typed, after_ref, after_code, after_zero, after_oldest, after_run}
 
 -- the machine goes on, and its state fits this context
 pub record GoesOn (o : Object) (v : Valuation) (s : State) (w : List Wild) (t : Stepping) (c : Context) : Type 0 where

@@ -3,8 +3,9 @@ use Rattle.std.proofs.Common.{◌≡◌, ℕ, zero, suc, ◌+◌, ◌-◌, ◌�
 use Rattle.std.specs.Prelude.{slice_range}
 use Rattle.std.specs.Option.{option_map, unwrap_or}
 use Rattle.std.proofs.lemmas.List.{length-map, take-map, drop-map}
-use Rattle.std.proofs.lemmas.Option.{slice_get-map, slice_get_within, slice_get_past}
+use Rattle.std.proofs.lemmas.Option.{slice_get_within, slice_get_past}
 use Rattle.ft_isa.specs.declared.instr.Instr.{Instr}
+use Rattle.ft_isa.proofs.Lists.{there_mapped}
 use Rattle.ft_static.specs.declared.node.Node.{Node}
 use Rattle.ft_types.specs.declared.object.Object.{Object}
 use Rattle.ft_types.specs.declared.object.Block.{Block}
@@ -84,10 +85,6 @@ past_end [] n e = omega arith
 past_end (y ∷ xs) zero e = cc
 past_end (y ∷ xs) (suc n) e = omega (arith, past_end xs n e)
 
--- an element of a mapped list
-pub mapped_at : {X Y : Type 0} (f : X → Y) (xs : List X) (n : ℕ) (y : X) → slice_get xs n ≡ Some y → slice_get (map f xs) n ≡ Some (f y)
-mapped_at f xs n y e = slice_get-map f xs n ∙ ap (option_map f) e
-
 -- a stretch of a mapped list
 pub mapped_range : {X Y : Type 0} (f : X → Y) (xs : List X) (a b : ℕ) → slice_range (map f xs) a b ≡ map f (slice_range xs a b)
 mapped_range f xs a b = ap (take (b - a)) (drop-map f a xs) ∙ take-map f (b - a) (drop a xs)
@@ -115,7 +112,7 @@ module _ (linkage : LinkMap) (first : Object) (others : List Object) where
 
   -- a module's block
   block_sits : (m : ℕ) (o : Object) → slice_get modules m ≡ Some o → (n : ℕ) (y : Block) → slice_get o.blocks n ≡ Some y → slice_get x.blocks ((before_of modules m).blocks + n) ≡ Some (raised_block (before_of modules m) y)
-  block_sits m o e n y f = get_among _ _ (before_of modules m).blocks n _ (among_all blocks_part of_blocks refl blocks_grow modules m o e) (mapped_at (raised_block (before_of modules m)) o.blocks n y f)
+  block_sits m o e n y f = get_among _ _ (before_of modules m).blocks n _ (among_all blocks_part of_blocks refl blocks_grow modules m o e) (there_mapped (raised_block (before_of modules m)) o.blocks n y f)
 
   -- the end of a module's last block
   end_by : (m : ℕ) (o : Object) → slice_get modules m ≡ Some o → (n : ℕ) → suc n ≡ length o.blocks → ((j : ℕ) (z : Object) → slice_get modules j ≡ Some z → IsSpellable z) → (u : Option Object) → slice_get modules (suc m) ≡ u → block_end x ((before_of modules m).blocks + n) ≡ (before_of modules m).instrs + length o.instrs
@@ -158,8 +155,8 @@ module _ (linkage : LinkMap) (first : Object) (others : List Object) where
   sits m o e spelled =
       let k = before_of modules m in
       record {
-        nodes = λ n y f. get_among _ _ k.nodes n _ (among_all nodes_part of_nodes refl nodes_grow modules m o e) (mapped_at (raised_node k.nodes) o.nodes n y f);
-        types = λ n y f. get_among _ _ k.types n _ (among_all types_part of_types refl types_grow modules m o e) (mapped_at (raised_type k.nodes) o.types n y f);
+        nodes = λ n y f. get_among _ _ k.nodes n _ (among_all nodes_part of_nodes refl nodes_grow modules m o e) (there_mapped (raised_node k.nodes) o.nodes n y f);
+        types = λ n y f. get_among _ _ k.types n _ (among_all types_part of_types refl types_grow modules m o e) (there_mapped (raised_type k.nodes) o.types n y f);
         blocks = block_sits m o e;
         substs = λ a b le few.
             let long = length-map o.substs (λ n. k.nodes + n) in

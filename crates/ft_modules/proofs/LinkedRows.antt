@@ -23,7 +23,7 @@ use Rattle.ft_static.specs.FormValue.{value_polynomial}
 use Rattle.ft_static.specs.FormUnder.{norm_under, norm_memory_under}
 use Rattle.ft_static.specs.NormalForm.{constant, norm_sel, norm_upd}
 use Rattle.ft_static.proofs.Equal.{equal_polynomials}
-use Rattle.ft_static.proofs.Rows.{value_constant}
+use Rattle.ft_static.proofs.FormsDenote.{value_constant}
 use Rattle.ft_types.specs.declared.object.Object.{Object}
 use Rattle.ft_types.specs.declared.object.RegType.{RegType}
 use Rattle.ft_types.specs.Objects.{basic_of, reg_rows, queue_rows, ints_of, memory_of}
@@ -36,7 +36,7 @@ use Rattle.ft_typing.proofs.TypedWords.{has_type_decides}
 use Rattle.ft_modules.specs.CodeWalk.{Entered, code_over, code_claimed, entered_with, entered_after, is_free, is_entered, are_free, is_traced}
 use Rattle.ft_modules.specs.LikeTypes.{SameInteger, SameMemory, SameRow, SamePair, LikeTypes}
 use Rattle.ft_modules.proofs.Both.{Both, both_goes, both_end, both_need, both_typed, both_known, both_ref, both_code, both_oldest, both_run}
-use Rattle.ft_modules.proofs.Beside.{AreSent, SameSubst, IsMovOf, IsInstrOf, Beside, free_same, target_there, free_target_there, written, both_zero, both_target, both_conditional}
+use Rattle.ft_modules.proofs.LinkedContexts.{AreSent, SameSubst, IsMovOf, IsInstrOf, Beside, free_same, target_there, free_target_there, written, both_zero, both_target, both_conditional}
 
 -- WHAT LEADS TO A CODE TYPE
 

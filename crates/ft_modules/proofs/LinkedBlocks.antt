@@ -14,8 +14,8 @@ use Rattle.ft_typing.specs.Accepted.{Applies, last_row, next_row}
 use Rattle.ft_modules.specs.CodeWalk.{Entered, entered_after, is_traced, code_walk}
 use Rattle.ft_modules.specs.LikeTypes.{SameInteger, SameMemory, SameRow, SamePair, LikeTypes}
 use Rattle.ft_modules.proofs.Both.{Both}
-use Rattle.ft_modules.proofs.Beside.{AreSent, IsInstrOf, RegistersBeside, Beside}
-use Rattle.ft_modules.proofs.BesideRows.{row_beside}
+use Rattle.ft_modules.proofs.LinkedContexts.{AreSent, IsInstrOf, RegistersBeside, Beside}
+use Rattle.ft_modules.proofs.LinkedRows.{row_beside}
 
 -- STARTING CONTEXTS
 

@@ -1,6 +1,5 @@
 -- The modules' run and the linked object's run: one step from states that stand beside each other.
-use Rattle.std.proofs.Common.{◌≡◌, ◌⊎◌, inl, inr, ℕ, zero, suc, ◌+◌, ◌<◌, ◌^◌, Bool, true, false, not, ◌&&◌, ◌==◌, nat_lt, List, [], ◌∷◌, length, drop, slice_get, Option, Some, None, is_some, refl, sym, ap, ◌∙◌, subst, arith, eq-eqb, mod-eq_of_lt, true≢false, if◌then◌else◌}
-use Rattle.std.specs.List.{AllZip}
+use Rattle.std.proofs.Common.{◌≡◌, ◌⊎◌, inl, inr, ℕ, suc, ◌+◌, Bool, true, not, ◌==◌, nat_lt, List, [], length, drop, slice_get, Option, Some, None, is_some, refl, sym, ap, ◌∙◌, subst, arith, true≢false}
 use Rattle.std.specs.FinMap as finite
 use Rattle.std.proofs.lemmas.Bool.{and_parts}
 use Rattle.std.proofs.lemmas.Option.{slice_get_within}
@@ -13,196 +12,36 @@ use Rattle.ft_isa.specs.declared.reg.Reg.{Reg}
 use Rattle.ft_isa.specs.declared.instr.Subst.{Subst}
 use Rattle.ft_isa.specs.declared.instr.Instr.{Instr}
 use Rattle.ft_isa.specs.declared.instr.Instr.TheVariants.{OpReg, OpWord, Mov, Ld, St, JmpG, JmpB, BzG, BzB, Halt, Idx}
+use Rattle.ft_isa.proofs.Lists.{drop_there, all_there}
 use Rattle.ft_static.specs.Expression.{Valuation}
 use Rattle.ft_static.specs.FormValue.{value_polynomial}
-use Rattle.ft_static.proofs.Rows.{value_constant}
 use Rattle.ft_types.specs.declared.object.Object.{Object}
-use Rattle.ft_types.specs.declared.object.Block.{Block}
 use Rattle.ft_semantics.specs.declared.status.Status.{Status}
 use Rattle.ft_semantics.specs.declared.status.Status.TheVariants.{Running}
 use Rattle.ft_typing.specs.Accepted.{IsAccepted}
-use Rattle.ft_types.specs.Objects.{block_instrs, instr_at}
+use Rattle.ft_types.specs.Objects.{block_instrs}
 use Rattle.ft_types.specs.Spellable.{IsInstr, IsSpellable}
 use Rattle.ft_semantics.specs.State.{State, word}
-use Rattle.ft_semantics.specs.Step.{Stepping, quiet, detected, next, fetch, found, load, commits, commit, store_blue, jump_green, jump_blue, pass, execute, advance, step_at, step}
+use Rattle.ft_semantics.specs.Step.{Stepping, quiet, next, fetch, found, pass, execute, advance, step_at, step}
 use Rattle.ft_typing.specs.TypedWord.{block_at, code_type_at}
-use Rattle.ft_typing.specs.Context.{Typed, Context, typed, start_context}
-use Rattle.ft_typing.specs.TypingRow.{Outcome, Goes, Ends, Fails, row}
-use Rattle.ft_tolerance.specs.TypedState.{Place, instr_number, valuation_by, FitsContext, Fits, context_of, context_after, context_at, IsPlace}
-use Rattle.ft_tolerance.proofs.Claims.{After, after_typed}
-use Rattle.ft_tolerance.proofs.Lists.{of_all}
-use Rattle.ft_tolerance.proofs.Places.{Here, here, Passes, ends, goes}
-use Rattle.ft_tolerance.proofs.Rows.{GoesOn, op_row, op_word_row, mov_row, load_row, store_green_row, store_blue_row, jump_green_row, branch_green_row, index_row}
+use Rattle.ft_typing.specs.Context.{Typed, Context, typed}
+use Rattle.ft_typing.specs.TypingRow.{Goes, row}
+use Rattle.ft_tolerance.specs.TypedState.{Place, instr_number, valuation_by, context_of, context_after, context_at, IsPlace}
+use Rattle.ft_tolerance.proofs.Premises.{After, after_typed}
+use Rattle.ft_tolerance.proofs.AcceptedSteps.{Here, here, Passes, goes, next_address}
+use Rattle.ft_tolerance.proofs.StayingRows.{GoesOn, op_row, op_word_row, mov_row, load_row, store_green_row, store_blue_row, jump_green_row, branch_green_row, index_row}
 use Rattle.ft_tolerance.proofs.Transfers.{block_there, Arrives, jump_blue_row, Branch, taken, passed, branch_blue_row}
+use Rattle.ft_tolerance.proofs.WantedColours.{anyhow}
 use Rattle.ft_modules.specs.CodeWalk.{code_claimed, entered_after, is_free, is_traced, code_walk}
-use Rattle.ft_modules.specs.Linked.{moves_to, raised_block}
+use Rattle.ft_modules.specs.Linked.{moves_to}
 use Rattle.ft_modules.specs.Links.{Link}
-use Rattle.ft_modules.specs.ModulesRun.{InModule, sent, step_in}
+use Rattle.ft_modules.specs.ModulesRun.{InModule, step_in}
 use Rattle.ft_modules.proofs.Both.{Both}
-use Rattle.ft_modules.proofs.Beside.{SameSubst, IsMovOf, IsInstrOf, addressed, Beside, free_same, target_there, free_target_entered}
-use Rattle.ft_modules.proofs.BesideRows.{row_beside}
-use Rattle.ft_modules.proofs.BesideBlocks.{start_beside, both_ends, both_go, Walked, walked_first}
-use Rattle.ft_modules.proofs.World.{before_of, at_address, InWorld, World, SameFetched, none_fetched, both_fetched, Stands, AreTogether, both_ended, both_stand, start_fits_like, block_place, block_begins, block_start_fits}
-
--- LISTS
-
--- a list of which something is at a place goes on with it there
-drop_of : (xs : List Instr) (k : ℕ) (i : Instr) → slice_get xs k ≡ Some i → drop k xs ≡ i ∷ drop (suc k) xs
-drop_of [] k i e = cc
-drop_of (x ∷ xs) zero i e = (let same : x ≡ i = cc in λ j. same j ∷ xs)
-drop_of (x ∷ xs) (suc k) i e = drop_of xs k i e
-
--- what is at one place of two lists
-zip_at : {A B : Type 0} (R : A → B → Type 0) (xs : List A) (ys : List B) (k : ℕ) (x : A) (y : B) → AllZip R xs ys → slice_get xs k ≡ Some x → slice_get ys k ≡ Some y → R x y
-zip_at R [] ys k x y l e f = cc
-zip_at R (a ∷ xs) [] k x y l e f = absurd l
-zip_at R (a ∷ xs) (b ∷ ys) zero x y l e f = let p : a ≡ x = cc in let q : b ≡ y = cc in subst (λ z. R z y) p (subst (R a) q l.0)
-zip_at R (a ∷ xs) (b ∷ ys) (suc k) x y l e f = zip_at R xs ys k x y l.1 e f
-
--- STEPS
-
--- the next code address, of which there are few
-next_address : (n : ℕ) → n < 65536 → next (code_address n) ≡ code_address (suc n)
-next_address n h = let a : 1 + n + 1 ≡ 1 + suc n = omega arith in let b : 1 + n + 1 < 2 ^ 64 = omega arith in mod-eq_of_lt b ∙ a
-
--- a fetch at a place
-fetches : (o : Object) (p : Place) (n : ℕ) (s : State) → Here o p n → Fits o p s → (i : Instr) → slice_get o.instrs (instr_number p) ≡ Some i → advance o None s [] ≡ quiet (record s { fetched = Some i }) []
-fetches o p n s h f i there =
-    let test : (s.pc_green == s.pc_blue) ≡ true = eq-eqb s.pc_green s.pc_blue (f.pc_green ∙ sym f.pc_blue) in
-    let pc : s.pc_green ≡ suc (instr_number p) = (let g = f.pc_green in omega arith) in
-    let at : instr_at o s.pc_green ≡ Some i = ap (instr_at o) pc ∙ there in
-    ap (λ (b : Bool). if b then fetch (instr_at o s.pc_green) s [] else detected s []) test ∙ ap (λ (u : Option Instr). fetch u s []) at
-
--- the outputs of steps that have none
-load_silent : (c : Colour) (rd : Reg) (u : Option ℕ) (s : State) → (load c rd u s []).output ≡ None
-load_silent c rd None s = refl
-load_silent c rd (Some v) s = refl
-
--- either of two
-if_silent : (b : Bool) (x y : Stepping) → x.output ≡ None → y.output ≡ None → (if b then x else y).output ≡ None
-if_silent true x y h k = h
-if_silent false x y h k = k
-
--- a green jump
-jump_green_silent : (a : ℕ) (s : State) → (jump_green a s []).output ≡ None
-jump_green_silent a s = if_silent (s.d == 0) _ _ refl refl
-
--- a branch that is not taken
-pass_silent : (s : State) → (pass s []).output ≡ None
-pass_silent s = if_silent (s.d == 0) _ _ refl refl
-
--- a blue jump
-jump_blue_silent : (a : ℕ) (s : State) → (jump_blue a s []).output ≡ None
-jump_blue_silent a s = if_silent (not (s.d == 0) && (s.d == a)) _ _ refl refl
-
--- a blue store that goes on shows its pair
-store_blue_by : (b : Bool) (a v : ℕ) (s : State) → s.status ≡ Running → (if b then commit a v s [] else detected s []).state.status ≡ Running → (if b then commit a v s [] else detected s []).output ≡ Some (record { addr = a; value = v })
-store_blue_by true a v s go h = refl
-store_blue_by false a v s go h = cc
-
--- a blue store shows its pair
-store_blue_shows : (a v : ℕ) (s : State) → s.status ≡ Running → (store_blue a v s []).state.status ≡ Running → (store_blue a v s []).output ≡ Some (record { addr = a; value = v })
-store_blue_shows a v s go h = store_blue_by (commits a v s) a v s go h
-
--- CLAIMS
-
--- a fact of a row that doesn't fail
-anyhow : (C : Type 0) (x : Outcome) → C → After (λ _. C) C x
-unfolding After
-anyhow C (Goes c) h = h
-anyhow C Ends h = h
-anyhow C (Fails p) h = tt
-
--- a fact that is claimed of a row holds where the row passes
-claimed : (o : Object) (c : Context) (i : Instr) (C : Type 0) (x : Outcome) → row o c i ≡ x → After (λ _. C) C x → Passes o c i → C
-unfolding After
-claimed o c i C (Goes d) e a p = a
-claimed o c i C Ends e a p = a
-claimed o c i C (Fails n) e a (ends f) = cc
-claimed o c i C (Fails n) e a (goes d f) = cc
-
--- the context that a row goes on to, with what holds of it, where it never ends the block
-pub record GoesTo (o : Object) (c : Context) (i : Instr) (G : Context → Type 0) : Type 0 where
-  pub context : Context
-  pub goes_to : row o c i ≡ Goes context
-  pub holds : G context
-
--- the context, by the outcome
-goes_to_by : (o : Object) (c : Context) (i : Instr) (G : Context → Type 0) (x : Outcome) → row o c i ≡ x → After G ⊥ x → Passes o c i → GoesTo o c i G
-unfolding After
-goes_to_by o c i G (Goes d) e a p = record { context = d; goes_to = e; holds = a }
-goes_to_by o c i G Ends e a p = absurd a
-goes_to_by o c i G (Fails n) e a (ends f) = cc
-goes_to_by o c i G (Fails n) e a (goes d f) = cc
-
--- the context of a row that passes
-goes_to : (o : Object) (c : Context) (i : Instr) (G : Context → Type 0) → After G ⊥ (row o c i) → Passes o c i → GoesTo o c i G
-goes_to o c i G a p = goes_to_by o c i G (row o c i) refl a p
-
--- what holds where a row ends the block, which never goes on
-ends_by : (o : Object) (c : Context) (i : Instr) (E : Type 0) (x : Outcome) → row o c i ≡ x → After (λ _. ⊥) E x → Passes o c i → (row o c i ≡ Ends) × E
-unfolding After
-ends_by o c i E (Goes d) e a p = absurd a
-ends_by o c i E Ends e a p = (e, a)
-ends_by o c i E (Fails n) e a (ends f) = cc
-ends_by o c i E (Fails n) e a (goes d f) = cc
-
--- the claim at an outcome
-goes_holds : (G : Context → Type 0) (E : Type 0) (x : Outcome) (d : Context) → After G E x → x ≡ Goes d → G d
-unfolding After
-goes_holds G E (Goes c) d a e = let same : c ≡ d = cc in subst G same a
-goes_holds G E Ends d a e = cc
-goes_holds G E (Fails p) d a e = cc
-
--- the claim at the end of a block
-ends_holds : (G : Context → Type 0) (E : Type 0) (x : Outcome) → After G E x → x ≡ Ends → E
-unfolding After
-ends_holds G E (Goes c) a e = cc
-ends_holds G E Ends a e = a
-ends_holds G E (Fails p) a e = cc
-
--- WORDS
-
--- the word of a register whose form is a constant
-address_word : (o : Object) (v : Valuation) (c : Context) (s : State) (r : Reg) (k : Colour) (t w : ℕ) → FitsContext o v c s → typed c r.number ≡ Some (addressed k t w) → IsWord w → word s r ≡ w
-address_word o v c s r k t w f e is = (f.registers r.number (addressed k t w) e).word ∙ value_constant w v ∙ mod-eq_of_lt is
-
--- what one step of each run gives: equal outputs, and states together
-pub record Steps (modules : List Object) (joins : List Link) (x : Object) (world : World modules joins x) (m : ℕ) (a b : Stepping) : Type 0 where
-  pub output : a.output ≡ b.output
-  pub after : AreTogether modules joins x world (record { number = m; state = a.state }) b.state
-
-module _ (modules : List Object) (joins : List Link) (x : Object) (spelled : IsSpellable x) (accepted : IsAccepted x) (world : World modules joins x) where
-  -- ARRIVALS
-
-  -- module states at the start of block y, and states of the linked object where that is sent to
-  pub arrives : (m : ℕ) (o : Object) (there : slice_get modules m ≡ Some o) (w : ℕ) (y : Block) → block_at o w ≡ Some y → (s t : State) (v u : Valuation) → v ≡ u → FitsContext o v (start_context o y.code_type) s → s.pc_green ≡ w → s.pc_blue ≡ w → s.fetched ≡ None → s.status ≡ Running → (b : Block) → block_at x ((world m o there).to w).0 ≡ Some b → FitsContext x u (start_context x b.code_type) t → t.pc_green ≡ code_address b.start → t.pc_blue ≡ code_address b.start → t.fetched ≡ None → t.status ≡ Running → Stands modules joins x world (sent modules joins (record { number = m; state = s })) t
-  arrives m o there w y at s t v u same f sg sb sf sr b bt g tg tb tf run_t =
-      let here = world m o there in
-      let l = here.lands w y at in
-      let home = world l.number l.object l.there in
-      let k = before_of modules l.number in
-      let is : raised_block k l.block ≡ b = (let z = l.found in cc) in
-      let blocks = home.blocks l.block_number l.block l.block_there in
-      subst (λ (a : InModule). Stands modules joins x world a t) (sym (l.is_sent s sf sg sb)) (record {
-        object = l.object;
-        there = l.there;
-        place = block_place l.object l.block v;
-        at = record { number = l.block_number; block = l.block_there; context = block_begins l.object l.block_number l.block l.block_there };
-        fits = block_start_fits l.object l.block v (at_address (code_address l.block.start) s) (start_fits_like o l.object v y.code_type l.block.code_type s (code_address l.block.start) (sym home.same_cells ∙ here.same_cells) here.plain_cells here.plain_rows l.like f) refl refl sf;
-        going = sr;
-        other = block_place x (raised_block k l.block) u;
-        other_at = record { number = k.blocks + l.block_number; block = blocks.there; context = block_begins x (k.blocks + l.block_number) (raised_block k l.block) blocks.there };
-        other_fits = block_start_fits x (raised_block k l.block) u t (subst (λ (z : Block). FitsContext x u (start_context x z.code_type) t) (sym is) g) (tg ∙ ap (λ (z : Block). code_address z.start) (sym is)) (tb ∙ ap (λ (z : Block). code_address z.start) (sym is)) tf;
-        other_going = run_t;
-        number = refl;
-        index = refl;
-        entered = finite.empty;
-        contexts = start_beside l.object x home.to l.block.code_type (k.types + l.block.code_type) blocks.alike;
-        rest = home.walked l.block_number l.block l.block_there;
-        values = same;
-        fetched = none_fetched sf tf;
-      })
+use Rattle.ft_modules.proofs.LinkedContexts.{SameSubst, IsMovOf, IsInstrOf, addressed, Beside, free_same, target_there, free_target_entered}
+use Rattle.ft_modules.proofs.LinkedRows.{row_beside}
+use Rattle.ft_modules.proofs.LinkedBlocks.{both_ends, both_go, Walked, walked_first}
+use Rattle.ft_modules.proofs.World.{before_of, InWorld, World, SameFetched, none_fetched, both_fetched, Stands, AreTogether, both_ended, both_stand}
+use Rattle.ft_modules.proofs.Arrivals.{zip_at, fetches, load_silent, if_silent, jump_green_silent, pass_silent, jump_blue_silent, store_blue_shows, claimed, goes_to, ends_by, goes_holds, ends_holds, address_word, Steps, arrives}
 
 module _ (modules : List Object) (joins : List Link) (x : Object) (spelled : IsSpellable x) (accepted : IsAccepted x) (world : World modules joins x) (a : InModule) (t : State) (h : Stands modules joins x world a t) where
   -- the module, its state and context, those of the linked object, and the valuations
@@ -246,7 +85,7 @@ module _ (modules : List Object) (joins : List Link) (x : Object) (spelled : IsS
   -- what the walk says of the instruction
   walked : Walked o h.entered h.place.index here_o.instr (drop (suc h.place.index) (block_instrs o h.at.number))
   walked = walked_first o h.entered h.place.index here_o.instr (drop (suc h.place.index) (block_instrs o h.at.number))
-      (subst (λ (is : List Instr). code_walk o h.entered h.place.index is ≡ None) (drop_of (block_instrs o h.at.number) h.place.index here_o.instr here_o.in_block) h.rest)
+      (subst (λ (is : List Instr). code_walk o h.entered h.place.index is ≡ None) (drop_there (block_instrs o h.at.number) h.place.index here_o.instr here_o.in_block) h.rest)
 
   -- the rows of both instructions
   rows : Both (Beside o home.to (entered_after here_o.instr h.entered)) (row o c here_o.instr) (row x b here_x.instr)
@@ -453,8 +292,8 @@ module _ (modules : List Object) (joins : List Link) (x : Object) (spelled : IsS
   -- the instructions at both places, executed
   executed : Steps modules joins x world a.number (execute here_o.instr s []) (execute here_x.instr t [])
   executed = executed_by here_o.instr here_x.instr refl refl related walked.first
-      (of_all (IsInstr (length o.types) (length o.cells)) o.instrs (instr_number h.place) here_o.instr home.spelled.instrs here_o.there)
-      (of_all (IsInstr (length x.types) (length x.cells)) x.instrs (instr_number h.other) here_x.instr spelled.instrs here_x.there)
+      (all_there (IsInstr (length o.types) (length o.cells)) o.instrs (instr_number h.place) here_o.instr home.spelled.instrs here_o.there)
+      (all_there (IsInstr (length x.types) (length x.cells)) x.instrs (instr_number h.other) here_x.instr spelled.instrs here_x.there)
 
   -- both fetch
   fetched_both : SameFetched (Some here_o.instr) (Some here_x.instr) → Steps modules joins x world a.number (quiet (record s { fetched = Some here_o.instr }) []) (quiet (record t { fetched = Some here_x.instr }) [])

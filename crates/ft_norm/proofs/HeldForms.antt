@@ -3,6 +3,7 @@ use Rattle.std.proofs.Common.{ℕ, suc, ◌≡◌, ◌+◌, ◌<◌, ◌≤◌, 
 use Rattle.std.specs.Prelude.{IfOk}
 use Rattle.std.specs.Option.{unwrap_or}
 use Rattle.std.proofs.lemmas.Option.{slice_get_within}
+use Rattle.ft_isa.proofs.Lists.{get_front}
 use Rattle.ft_static.specs.Form.{Form as Normal, Polynomial, Updates, integer_form, memory_form, nought, polynomial_of, updates_of}
 use Rattle.ft_norm.specs.declared.form.Form.{Form}
 use Rattle.ft_norm.specs.declared.entry.Entry.{Entry}
@@ -11,7 +12,6 @@ use Rattle.ft_norm.specs.declared.entry.Term.{Term}
 use Rattle.ft_norm.specs.Entries.{AreEntries, IsDistinct, IsIntegerAt, IsMemoryAt, NamesEarlier, entry_form, forms_of, integer_reach, reach_of_terms}
 use Rattle.ft_norm.specs.Orders.{AreTerms}
 use Rattle.ft_norm.specs.Terms.{AreOver}
-use Rattle.ft_norm.proofs.Lists.{slice_get-append}
 use Rattle.ft_norm.proofs.Forms.{form_read, integer_reaches, length-forms_of, forms_onto-push}
 
 -- a place of the list is that of an entry
@@ -64,7 +64,7 @@ keeps_from fs gs k = record {
 
 -- one more form keeps what was there
 pub keeps_push : (fs gs : List Normal) (x : Normal) → gs ≡ fs ++ x ∷ [] → Keeps fs gs
-keeps_push fs gs x e = keeps_from fs gs (λ (f : Form) (y : Normal) h. ap (λ (hs : List Normal). slice_get hs f.0) e ∙ (slice_get-append fs (x ∷ []) f.0 (slice_get_within fs f.0 y h) ∙ h))
+keeps_push fs gs x e = keeps_from fs gs (λ (f : Form) (y : Normal) h. ap (λ (hs : List Normal). slice_get hs f.0) e ∙ (get_front fs (x ∷ []) f.0 (slice_get_within fs f.0 y h) ∙ h))
 
 -- nothing changed
 pub keeps_itself : (fs gs : List Normal) → gs ≡ fs → Keeps fs gs

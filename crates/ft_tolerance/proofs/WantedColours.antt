@@ -18,8 +18,8 @@ use Rattle.ft_typing.specs.declared.why.Why.TheVariants as premise
 use Rattle.ft_typing.specs.Context.{Typed, FormPair, Context, typed}
 use Rattle.ft_typing.specs.TypingRow.{Outcome, Goes, Ends, Fails, same_colour, row}
 use Rattle.ft_tolerance.specs.TypedState.{FitsQueue, FitsContext}
-use Rattle.ft_tolerance.proofs.Claims.{After, after_need, after_typed, after_ref, after_oldest, same_colour_is}
-use Rattle.ft_tolerance.proofs.Rows.{refers, finds, queue_length}
+use Rattle.ft_tolerance.proofs.Premises.{After, after_need, after_typed, after_ref, after_oldest, same_colour_is}
+use Rattle.ft_tolerance.proofs.StayingRows.{refers, finds, queue_length}
 
 -- the colours that an instruction wants, that its load finds a word, and that its store finds room or an entry
 abbrev pub Wants : Instr → State → Type 0
@@ -37,7 +37,7 @@ Wants Halt s = Unit {0}
 Wants (Idx rd rs first m) s = Unit {0}
 
 -- a fact of a row that doesn't fail
-anyhow : (C : Type 0) (x : Outcome) → C → After (λ _. C) C x
+pub anyhow : (C : Type 0) (x : Outcome) → C → After (λ _. C) C x
 unfolding After
 anyhow C (Goes c) h = h
 anyhow C Ends h = h

@@ -3,6 +3,7 @@ use Rattle.std.proofs.Common.{◌≡◌, ℕ, zero, suc, ◌+◌, ◌<◌, List,
 use Rattle.std.specs.List.{All}
 use Rattle.std.proofs.Math.ListN.{get_or-map}
 use Rattle.std.proofs.lemmas.List.Elements.{All-head, All-tail, All-cons, All-nil, All-from_get_or}
+use Rattle.std.proofs.lemmas.List.{length-map}
 use Rattle.ft_lower.specs.declared.step3.Step3.{Step3}
 use Rattle.ft_lower.specs.declared.step3.Step3.TheVariants.{Put, Copy, Op, Load, Store, LoadAt, StoreAt, Exit, Go, Stop}
 use Rattle.ft_lower.specs.Flow.{Blocks, block_of}
@@ -11,15 +12,10 @@ use Rattle.ft_lower.specs.Well.{Known, StepFits, RowIsWell, known_after, known_f
 use Rattle.ft_dup.specs.Shape.{HasTarget, HasShape}
 use Rattle.ft_dup.specs.Images.{image, row_images, blocks_images, starts, starts_from, start_of, doubled}
 
--- a function gives as many values as there are elements
-pub mapped_length : {X Y : Type 0} (f : X → Y) (xs : List X) → length (map f xs) ≡ length xs
-mapped_length f [] = refl
-mapped_length f (x ∷ xs) = ap suc (mapped_length f xs)
-
 -- what holds of each value of a function holds at an element
 pub all_mapped : {X Y : Type 0} (f : X → Y) (P : Y → Type 0) (xs : List X) (i : ℕ) (x : X) → i < length xs → x ≡ get_or xs i x → All P (map f xs) → P (f x)
 all_mapped f P xs i x h e all =
-    let there : i < length (map f xs) = omega (arith, mapped_length f xs) in
+    let there : i < length (map f xs) = omega (arith, length-map xs f) in
     subst P (get_or-map f xs i x ∙ ap f (sym e)) (all i (f x) there)
 
 -- THE STARTS

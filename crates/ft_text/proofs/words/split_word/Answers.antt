@@ -1,6 +1,6 @@
 use Rattle.std.proofs.Common.{sym, ◌∙◌}
-use Rattle.ft_link_map.proofs.Spaces.{split_there, split_only, split_never}
-use Rattle.ft_link_map.proofs.words.split_word.Goals as goal
+use Rattle.ft_text.proofs.FirstWords.{split_there, split_only, split_never}
+use Rattle.ft_text.proofs.words.split_word.Goals as goal
 
 pub returns-in-Some-clause-some : goal.returns-in-Some-clause-some
 returns-in-Some-clause-some c = split_there c.args.text.now c.in-Some.at (sym c.first_space.ensures ∙ c.in-Some.is)

@@ -9,6 +9,7 @@ use Rattle.ft_isa.specs.declared.instr.Subst.{Subst}
 use Rattle.ft_isa.specs.declared.instr.Instr.{Instr}
 use Rattle.ft_isa.specs.declared.instr.Instr.TheVariants.{OpReg, OpWord, Mov, Ld, St, JmpG, JmpB, BzG, BzB, Halt, Idx}
 use Rattle.ft_isa.specs.declared.plan.Wild.{Wild}
+use Rattle.ft_isa.proofs.Lists.{drop_there, all_there}
 use Rattle.ft_types.specs.declared.object.Object.{Object}
 use Rattle.ft_types.specs.declared.object.Block.{Block}
 use Rattle.ft_semantics.specs.declared.status.Status.{Status}
@@ -23,11 +24,10 @@ use Rattle.ft_typing.specs.TypingRow.{Outcome, Goes, Ends, Fails, row}
 use Rattle.ft_typing.specs.Accepted.{Applies, last_row, next_row, IsAccepted}
 use Rattle.ft_tolerance.specs.TypedState.{Place, instr_number, further, arrived, place_after, next_place, valuation_by, Fits, context_of, context_after, context_at, IsPlace}
 use Rattle.ft_tolerance.specs.Soundness.{IsUntroubled, EndsOrFits, ended, running, Keeps}
-use Rattle.ft_tolerance.proofs.Lists.{of_all}
-use Rattle.ft_tolerance.proofs.Claims.{After}
-use Rattle.ft_tolerance.proofs.Rows.{GoesOn, op_row, op_word_row, mov_row, load_row, store_green_row, store_blue_row, jump_green_row, branch_green_row, index_row}
+use Rattle.ft_tolerance.proofs.Premises.{After}
+use Rattle.ft_tolerance.proofs.StayingRows.{GoesOn, op_row, op_word_row, mov_row, load_row, store_green_row, store_blue_row, jump_green_row, branch_green_row, index_row}
 use Rattle.ft_tolerance.proofs.Transfers.{block_there, Arrives, jump_blue_row, Branch, taken, passed, branch_blue_row}
-use Rattle.ft_tolerance.proofs.Wants.{Wants, wants_row, found_is_not_wild}
+use Rattle.ft_tolerance.proofs.WantedColours.{Wants, wants_row, found_is_not_wild}
 
 -- INSTRUCTIONS OF A BLOCK
 
@@ -67,12 +67,6 @@ goes_of o (Some i) (Some d) c e = (i, d, refl, refl, by_outcome (row o d i) e)
     by_outcome Ends e = cc
     by_outcome (Fails p) e = cc
 
--- a list of which something is at a place goes on with it there
-drop_of : (xs : List Instr) (k : ℕ) (i : Instr) → slice_get xs k ≡ Some i → drop k xs ≡ i ∷ drop (suc k) xs
-drop_of [] k i e = cc
-drop_of (x ∷ xs) zero i e = (let same : x ≡ i = cc in λ j. same j ∷ xs)
-drop_of (x ∷ xs) (suc k) i e = drop_of xs k i e
-
 -- the rows of a block that are left at an index apply from the context there
 applies_at : (o : Object) (b k : ℕ) (c : Context) → Applies o (start_context o (block_type o b)) (block_instrs o b) → context_at o b k ≡ Some c → Applies o c (drop k (block_instrs o b))
 unfolding context_at
@@ -80,7 +74,7 @@ applies_at o b zero c a e = (let same : start_context o (block_type o b) ≡ c =
 applies_at o b (suc k) c a e =
     let g = goes_of o (slice_get (block_instrs o b) k) (context_at o b k) c e in
     let before = applies_at o b k g.1 a g.3 in
-    applies_on o g.1 c g.0 (drop (suc k) (block_instrs o b)) (subst (Applies o g.1) (drop_of (block_instrs o b) k g.0 g.2) before) g.4
+    applies_on o g.1 c g.0 (drop (suc k) (block_instrs o b)) (subst (Applies o g.1) (drop_there (block_instrs o b) k g.0 g.2) before) g.4
 
 -- the row of an instruction of an accepted block ends it or goes on
 pub data Passes (o : Object) (c : Context) (i : Instr) : Type 0 where
@@ -127,7 +121,7 @@ pub record Lands (o : Object) (p : Place) (w : List Wild) (t : Stepping) : Type 
   pub after : EndsOrFits o p t.state
 
 -- the next code address, of which there are few
-next_address : (n : ℕ) → n < 65536 → next (code_address n) ≡ code_address (suc n)
+pub next_address : (n : ℕ) → n < 65536 → next (code_address n) ≡ code_address (suc n)
 next_address n h = let a : 1 + n + 1 ≡ 1 + suc n = omega arith in let b : 1 + n + 1 < 2 ^ 64 = omega arith in mod-eq_of_lt b ∙ a
 
 module _ (o : Object) (p : Place) (s : State) (w : List Wild) (spelled : IsSpellable o) (acc : IsAccepted o) (at : IsPlace o p) (go : s.status ≡ Running) (fits : Fits o p s) where
@@ -224,7 +218,7 @@ module _ (o : Object) (p : Place) (s : State) (w : List Wild) (spelled : IsSpell
 
   -- the instruction at the place is executed
   executed : (h : Here o p at.number) → Lands o (place_after o h.instr s p) w (execute h.instr s w)
-  executed h = executed_by h h.instr refl (of_all (IsInstr (length o.types) (length o.cells)) o.instrs (instr_number p) h.instr spelled.instrs h.there)
+  executed h = executed_by h h.instr refl (all_there (IsInstr (length o.types) (length o.cells)) o.instrs (instr_number p) h.instr spelled.instrs h.there)
 
   -- the instruction at a place is at both counters
   at_counter : (h : Here o p at.number) → instr_at o s.pc_green ≡ Some h.instr

@@ -1,0 +1,104 @@
+-- What stands at a place of a list: in its parts, after a push, after a function, and what all places share.
+use Rattle.std.proofs.Common.{◌≡◌, ◌⊎◌, inl, inr, ℕ, zero, suc, ◌+◌, ◌-◌, ◌<◌, ◌≤◌, Bool, true, false, cond, List, [], ◌∷◌, ◌++◌, length, map, take, drop, slice_get, slice_range, Some, None, refl, ap, subst, ◌∙◌, arith}
+use Rattle.std.specs.Prelude.{All, find}
+use Rattle.std.specs.List.{AllByRecursion, list_all}
+use Rattle.std.proofs.lemmas.List.{length-append}
+use Rattle.std.proofs.lemmas.List.Elements.{All-cons, All-nil}
+use Rattle.std.proofs.lemmas.Option.{slice_get_within, get_or_from_slice_get}
+
+-- PLACES
+
+-- below its length a list has an element
+pub there_below : {X : Type 0} (xs : List X) (k : ℕ) → k < length xs → (x : X) × (slice_get xs k ≡ Some x)
+there_below [] k lt = absurd (omega arith)
+there_below (x ∷ xs) zero lt = (x, refl)
+there_below (x ∷ xs) (suc k) lt = there_below xs k (omega arith)
+
+-- what is within a list is at its place before more
+pub get_front : {X : Type 0} (xs ys : List X) (k : ℕ) → k < length xs → slice_get (xs ++ ys) k ≡ slice_get xs k
+get_front [] ys k lt = absurd (omega arith)
+get_front (x ∷ xs) ys zero lt = refl
+get_front (x ∷ xs) ys (suc k) lt = get_front xs ys k (omega arith)
+
+-- what is at a place stays there before more
+pub there_front : {X : Type 0} (xs ys : List X) (k : ℕ) (x : X) → slice_get xs k ≡ Some x → slice_get (xs ++ ys) k ≡ Some x
+there_front [] ys k x e = cc
+there_front (y ∷ xs) ys zero x e = e
+there_front (y ∷ xs) ys (suc k) x e = there_front xs ys k x e
+
+-- after a push an element is an earlier one or the last one
+pub there_pushed : {X : Type 0} (xs : List X) (y : X) (k : ℕ) (x : X) → slice_get (xs ++ y ∷ []) k ≡ Some x → (slice_get xs k ≡ Some x) ⊎ ((k ≡ length xs) × (y ≡ x))
+there_pushed [] y zero x e = inr (refl, (let f : y ≡ x = cc in f))
+there_pushed [] y (suc k) x e = cc
+there_pushed (z ∷ zs) y zero x e = inl e
+there_pushed (z ∷ zs) y (suc k) x e = elim (there_pushed zs y k x e) [ inl f ↦ inl f | inr f ↦ inr (ap suc f.0, f.1) ]
+
+-- a push makes a list longer by one
+pub length_pushed : {X : Type 0} (xs : List X) (y : X) → length (xs ++ y ∷ []) ≡ suc (length xs)
+length_pushed xs y = length-append xs (y ∷ []) ∙ omega arith
+
+-- the place of an element after a function
+pub there_mapped : {X Y : Type 0} (f : X → Y) (xs : List X) (k : ℕ) (x : X) → slice_get xs k ≡ Some x → slice_get (map f xs) k ≡ Some (f x)
+there_mapped f [] k x e = cc
+there_mapped f (y ∷ xs) zero x e = let same : y ≡ x = cc in ap (λ z. Some (f z)) same
+there_mapped f (y ∷ xs) (suc k) x e = there_mapped f xs k x e
+
+-- PARTS
+
+-- a list from the place of an element on
+pub drop_there : {X : Type 0} (xs : List X) (k : ℕ) (x : X) → slice_get xs k ≡ Some x → drop k xs ≡ x ∷ drop (suc k) xs
+drop_there [] k x e = cc
+drop_there (y ∷ xs) zero x e = let same : y ≡ x = cc in ap (λ z. z ∷ xs) same
+drop_there (y ∷ xs) (suc k) x e = drop_there xs k x e
+
+-- the same with the next place as a loop has it
+pub drop_next : {X : Type 0} (xs : List X) (k : ℕ) (x : X) → slice_get xs k ≡ Some x → drop k xs ≡ x ∷ drop (k + 1) xs
+drop_next xs k x e = drop_there xs k x e ∙ (let n : suc k ≡ k + 1 = omega arith in ap (λ j. x ∷ drop j xs) n)
+
+-- a list up to the place of an element and with it
+pub take_there : {X : Type 0} (xs : List X) (k : ℕ) (x : X) → slice_get xs k ≡ Some x → take (suc k) xs ≡ take k xs ++ x ∷ []
+take_there [] k x e = cc
+take_there (y ∷ xs) zero x e = (let same : y ≡ x = cc in ap (λ z. z ∷ []) same)
+take_there (y ∷ xs) (suc k) x e = ap (λ z. y ∷ z) (take_there xs k x e)
+
+-- what is at a place of the first so many
+pub get_taken : {X : Type 0} (n : ℕ) (xs : List X) (k : ℕ) → k < n → slice_get (take n xs) k ≡ slice_get xs k
+get_taken zero xs k lt = absurd (omega arith)
+get_taken (suc n) [] k lt = refl
+get_taken (suc n) (x ∷ xs) zero lt = refl
+get_taken (suc n) (x ∷ xs) (suc k) lt = get_taken n xs k (omega arith)
+
+-- what is at a place after so many
+pub get_dropped : {X : Type 0} (n : ℕ) (xs : List X) (k : ℕ) → slice_get (drop n xs) k ≡ slice_get xs (n + k)
+get_dropped zero xs k = let e : 0 + k ≡ k = omega arith in rw e refl
+get_dropped (suc n) [] k = refl
+get_dropped (suc n) (x ∷ xs) k = let e : suc n + k ≡ suc (n + k) = omega arith in rw e (get_dropped n xs k)
+
+-- a range that ends where it starts, or before
+pub range_past : {X : Type 0} (xs : List X) (i j : ℕ) → j ≤ i → slice_range xs i j ≡ []
+range_past xs i j le = let n : j - i ≡ 0 = omega arith in rw n refl
+
+-- WHAT ALL SHARE
+
+-- what holds of all holds at a place
+pub all_there : {X : Type 0} (P : X → Type 0) (xs : List X) (k : ℕ) (x : X) → All P xs → slice_get xs k ≡ Some x → P x
+all_there P xs k x h e = subst P (get_or_from_slice_get xs k x x e) (h k x (slice_get_within xs k x e))
+
+-- what holds of one holds of all of a list of one
+pub all_of_one : {X : Type 0} (P : X → Type 0) (x : X) → P x → All P (x ∷ [])
+all_of_one P x h = All-cons P x [] h (All-nil P)
+
+-- what holds of all of two lists holds of all of them together
+pub all_append : {X : Type 0} (P : X → Type 0) (xs ys : List X) → AllByRecursion P xs → AllByRecursion P ys → AllByRecursion P (xs ++ ys)
+all_append P [] ys h i = i
+all_append P (x ∷ xs) ys h i = (h.0, all_append P xs ys h.1 i)
+
+-- a test that the element at each place passes is passed by all
+pub all_pass : {X : Type 0} (p : X → Bool) (xs : List X) → ((k : ℕ) (x : X) → slice_get xs k ≡ Some x → p x ≡ true) → list_all p xs ≡ true
+all_pass p [] h = refl
+all_pass p (y ∷ xs) h = rw (h 0 y refl) (all_pass p xs (λ k x e. h (suc k) x e))
+
+-- a test that the element at no place passes finds nothing
+pub none_pass : {X : Type 0} (p : X → Bool) (xs : List X) → ((k : ℕ) (x : X) → slice_get xs k ≡ Some x → p x ≡ false) → find p xs ≡ None
+none_pass p [] h = refl
+none_pass p (x ∷ xs) h = ap (λ b. cond b (Some x) (find p xs)) (h 0 x refl) ∙ none_pass p xs (λ k y e. h (suc k) y e)
