@@ -18,6 +18,6 @@
   (interactive)
   (talft-dap-send "stepBack"))
 (defun talft-dap-reverse-continue ()
-  "Runs back to the last break place, or to the start."
+  "Runs back to the last breakpoint, or to the start."
   (interactive)
   (talft-dap-send "reverseContinue"))

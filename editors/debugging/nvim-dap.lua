@@ -9,6 +9,6 @@ local struck = vim.tbl_extend('force', this, {
   name = 'talft: this file, struck by a fault',
   fault = function() return vim.fn.input('STEP:SITE:WORD ') end,
 })
-for _, kind in ipairs({ 'talft', 'asm' }) do dap.configurations[kind] = { this, struck } end
+for _, kind in ipairs({ 'talft', 'talftasm', 'asm' }) do dap.configurations[kind] = { this, struck } end
 vim.keymap.set('n', '<F6>', dap.step_back)
 vim.keymap.set('n', '<S-F5>', dap.reverse_continue)

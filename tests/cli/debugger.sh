@@ -25,7 +25,7 @@ kept() { grep -E "$1" | paste -sd '|'; }
 commands=('step 4' 'zap r1 6' 'step 8' queue 'back 8' 'reg r1' 'back 4' 'step 14')
 session "$five_text" "record $work/script" "${commands[@]}" >said
 report 'a session' \
-  'zapped: r1 was 5, is 6|at 12 detected|  0  1048576 out          6   oldest|r1 G 6|at 14 done' \
+  'zapped at 4: r1 was 5, is 6|at 12 detected|  0  1048576 out          6   oldest|r1 G 6|at 14 done' \
   "$(kept '^(at 1|zapped|r1 G|  0 )' <said)"
 report 'a recorded session is a plain script' "$(printf '%s\n' "${commands[@]}")" "$(cat script)"
 report 'which anybody can run again' 'at 14 done' "$("$top/talft" debug "$five" <script | tail -n 1)"
@@ -42,11 +42,11 @@ report 'reverse-next, reverse-continue and undo' 'at 12 running|at 10 running|at
 # A turn of the loop has 44 instructions, and the first one begins at step 32.
 report 'conditions, hits, until and finish' \
   'at 296 running|  a: r0 G 2, r32 B 2|at 120 running|at 120 running|at 208 running|3 hits so far' \
-  "$(session "$fibonacci" 'break 1:0 if a == 2' 'display a' c display delete 'break b1 hit 2' 'goto 0' c delete \
+  "$(session "$fibonacci" 'break 1:0 if a == 2' 'display a' c undisplay delete 'break b1 hit 2' 'goto 0' c delete \
     'back 20' 'until 1:0' finish 'break b1' 'info breaks' |
     grep -oE '^(at (296|120|208).*|  a: r0 G 2,.*)|3 hits so far' | paste -sd '|')"
 report 'lines of a source' '5 6 8 9 10 13 14 15' "$(session "$debugging/lines.src" line line line line line line line |
-  sed -n 's/.*, line \([0-9]*\))$/\1/p' | paste -sd ' ')"
+  sed -n 's/.*, lines.src:\([0-9]*\))$/\1/p' | paste -sd ' ')"
 report 'a variable is struck in one colour' 'i: say r3 to strike its green word, r35 to strike its blue one' \
   "$(session "$fibonacci" 'zap i 1' | tail -n 1)"
 
@@ -75,28 +75,187 @@ replace() {
   echo step
 }
 report 'a program that is replaced' 'replaced.asm was replaced: this session stays with what was read at its start' \
-  "$(>said; replace | "$top/tools/debugger" replaced.asm >said; grep replaced said)"
+  "$(>said; replace | "$top/tools/debugger" replaced.asm >said; grep was.replaced said)"
 report 'a position that is too far' 'a session goes to step 3000000000 at most, not to 99999999999999999999' \
   "$(session "$five_text" 'goto 99999999999999999999' | tail -n 1)"
 report 'a fault that is too far ahead' 'at 14 done' \
   "$(echo c | "$top/tools/debugger" "$five_text" --fault 99999999999999999999:r1:6 | grep '^at 1')"
+# A tool that is killed takes its call with it, here one that would go on for seconds.
+printf 'var i;\ni = 0;\nwhile (i < 1) { i = 0; }\n' >quiet.src
+mkfifo typed
+"$top/tools/debugger" quiet.src <typed >written 2>&1 &
+killed=$!
+exec 7>typed
+echo continue >&7
+sleep 2
+for ((n = 0; n < 100; n++)); do call=$(pgrep -P "$killed" talft) && break; sleep 0.1; done
+kill -KILL "$killed"
+{ wait "$killed"; } 2>/dev/null
+exec 7>&-
+sleep 0.5
+report 'a killed tool leaves nothing running' 'found ' "${call:+found} $(ps -o stat= -p "${call:-0}" | grep -v Z)"
 report 'ten million steps' 'at 10000000 running' "$(session endless.obj 'goto 10000000' | grep '^at 1')"
 
-tool 'the way of a fault' 0 "$(cat <<'END'
+# `says NAME COMMANDS SAID` compares the last line of what the prompt writes of these commands, over $program.
+says() {
+  local name=$1 commands=$2 said=$3
+  report "$name" "$said" "$(printf '%b\n' "$commands" | "$top/tools/debugger" "$program" 2>&1 | tail -n 1)"
+}
+program=$five_text
+says 'no number' 'goto abc' 'abc: no number'
+says 'a position before the start' 'goto -1' '-1: say a number from 0 on'
+says 'a count below 0' 'step -3' '-3: say a number from 0 on'
+says 'a word too many' 'step 1 2' '2: one word too many'
+says 'a command that takes no word' 'finish 3' '3: `finish` takes no word'
+says 'no cell' 'x foo' 'foo: no cell, no array and no address of a cell'
+says 'no cells' 'x/0 out' 'x/0: say how many cells, from 1 on'
+says 'an empty queue' 'zap qa0 5' 'nothing there: qa0 is a part of the queue, which is empty'
+says 'a short queue' 'goto 10\nzap qv1 5' 'nothing there: qv1 is a part of the queue, which ends with qa0 and qv0'
+says 'a stopped machine' 'goto 14\nzap r1 5' 'nothing there: the machine has stopped'
+says 'no register' 'print r64' 'r64: no register (r0 to r63, d, pcg, pcb), no part of the queue (qa0 to qv7), no cell'
+says 'no base' 'print/q r1' '/q: no base: /x, /b, /o or /d'
+says 'a word below 0' 'zap r1 -1' '-1: no word of 64 bits: 0 to 18446744073709551615'
+says 'a strike of a cell' 'zap out 3' 'out: no fault strikes a cell (docs/PROMISES.md)'
+says 'no line' 'break 99' \
+  '99: no instruction is on this line or behind it: they are on lines 13 to 21'
+says 'no index' 'break 0:9' '0:9: no index 9: block 0 has 0 to 6'
+says 'no block' 'break 7:0' '7:0: no block 7: the blocks are 0 to 0'
+says 'a line without an instruction' 'break 15' 'no instruction is on line 15: this is the next one, on line 16'
+says 'a breakpoint twice' 'break 0:2\nbreak 0:2' '0:2: breakpoint 1 is this one already'
+says 'a watch twice' 'watch r1\nwatch r1' 'r1: watch 1 is this one already'
+says 'a plan twice' 'plan 4:r1:6\nplan 4:r1:6' '4:r1:6: planned already'
+says 'half a condition' 'break 0:1 if r1 == 5 and' \
+  '`r1 == 5 and`: a comparison is missing: say WORD OP WORD, with OP one of == != <= >= < >, and a WORD that is '\
+'a register, a cell, or a number'
+says 'a breakpoint at no place' tbreak 'say a place: tbreak 1:0'
+says 'no topic' 'info foo' 'foo: no topic: info registers|queue|cells|breaks|strikes|position|outputs|names'
+says 'a position after the end' 'goto 1000000000' 'the run ended at 14, before 1000000000'
+says 'explain before the strike' 'plan 4:r1:6\nexplain' 'the strike 4:r1:6 is ahead: `continue`, and ask then'
+says 'at the strike' 'plan 4:r1:6\ngoto 4' 'the strike 4:r1:6 is made here'
+says 'back past a planned strike' 'plan 4:r1:6\ngoto 9\nback 6' 'the strike 4:r1:6 is ahead again'
+says 'back past a strike' 'goto 4\nzap r1 6\nback' 'the strike 4:r1:6 is forgotten: `undo` brings it back'
+says 'a record that cannot be written' 'record /nowhere/script' \
+  '/nowhere/script: it cannot be written: No such file or directory'
+says 'a record in the place of a folder' "record $work" "$work: a folder: say a file"
+says 'an empty line of a script' 'print r1\n' 'r1 G 0'
+program=$top/examples/sieve.src
+says 'a variable is watched in both colours' 'watch j\ninfo breaks' '  1  watch r1 r33'
+says 'what is said of it' 'watch j' 'watch 1: j: r1 G 0, r33 G 0'
+# Its first word is 2 * 2, by sieve.src. Before that r33 takes its colour.
+says 'its green register' 'watch j\ncontinue\ncontinue' 'watch 1: r1 G 0 -> r1 G 4'
+says 'its blue register' 'watch j\ncontinue\ncontinue\ncontinue' 'watch 1: r33 B 0 -> r33 B 4'
+array='composite: an array of 30 cells: say composite[0] to composite[29], or x/30 composite'
+says 'an array is no word' 'print composite' "$array"
+says 'an array is not watched' 'watch composite' "$array"
+says 'a cell of an array' 'watch composite[4]\ncontinue' 'watch 1: composite[4] 0 -> composite[4] 1'
+report 'cells of an array' 'composite[0] 0|composite[1] 0|composite[2] 0' \
+  "$(session "$program" 'x/3 composite' | kept '^composite')"
+says 'a cell behind an array is not watched' 'watch composite[40]' 'composite[40]: composite has 30 cells: 0 to 29'
+says 'a cell behind an array' 'print composite[30]' 'composite[30]: composite has 30 cells: 0 to 29'
+report 'an array ends' 'composite[28] 0|composite[29] 0|composite has 30 cells: 0 to 29' \
+  "$(session "$program" 'x/99 composite[28]' | kept '^composite')"
+# Line 11 is entered in 1:38, and tested in 2:0. The first test comes after 54 instructions, at 108. A turn has 30
+# instructions: so the fifth test is at 348.
+says 'a line that is said as answers say it' 'break sieve.src:12' \
+  'breakpoint 1: add r3 r1 G 0  (block 2 index 10, sieve.src:12)'
+says 'a line with its entry and its test' 'break sieve.src:11' \
+  'breakpoint 1: mov r2 G 55 code:1  (block 1 index 38, sieve.src:11)  and 2:0'
+report 'which halts at both' 'block 1 index 38, sieve.src:11|block 2 index 0, sieve.src:11|block 2 index 0, sieve.src:11' \
+  "$(session "$program" 'break 11' c c c | sed -n '/breakpoint 1:/d; s/^the next .*(\(block.*11\))$/\1/p' | paste -sd '|')"
+says 'until a line' 'until sieve.src:12' 'the next step fetches add r3 r1 G 0  (block 2 index 10, sieve.src:12)'
+says 'goto goes to no line' 'goto sieve.src:12' \
+  'sieve.src:12: a place, and `goto` takes a position: `until sieve.src:12` goes to a place or a line'
+says 'a line of another file' 'break other.src:12' 'other.src:12: no line: those of sieve.src are known'
+says 'until a place that is never reached' 'goto 4000\nuntil sieve.src:5' \
+  'the run ended at 4106, and never came to 0:2'
+three=('break 2:0' 'break 2:0 hit 5' 'break 2:0 if i == 77')
+report 'only the breakpoints that are met are named' \
+  'breakpoint 1|breakpoint 1|breakpoint 1|breakpoint 1|breakpoint 1|breakpoint 2  from hit 5 on' \
+  "$(session "$program" "${three[@]}" c c c c c | kept '^breakpoint [0-9](  from.*)?$')"
+report 'back, too' 'at 348 running|breakpoint 1|breakpoint 2  from hit 5 on|at 288 running|breakpoint 1' \
+  "$(session "$program" "${three[@]}" 'goto 360' rc rc | kept '^(at 348.*|at 288.*|breakpoint [0-9](  from.*)?)$')"
+report 'a line goes past a breakpoint that is not met' '12|13|14' "$(session "$program" 'until 2:0' 'break 2:12 if j == 5' \
+  line line line | sed -n 's/^the next .*sieve.src:\(1[1-4]\))$/\1/p' | tail -n +2 | paste -sd '|')"
+says 'only `and` joins' 'break 11 if i == 3 or j == 4' 'i == 3 or j == 4: only `and` joins comparisons'
+says 'one sign of equality' 'break 11 if i = 3' 'i = 3: `=` is `==` here'
+says 'parentheses' 'break 11 if (i == 3)' '(i == 3): no parentheses: comparisons are joined by `and` alone'
+says 'a condition without a place' 'break if i == 3' 'if i == 3: say a place first: break 1:0 if i == 3'
+says 'a condition over an unknown name' 'break 11 if k == 3' 'k: no register, no cell, no variable, and no number'
+says 'no comparison' 'break 11 if i' 'i: no comparison: say WORD OP WORD, with OP one of == != <= >= < >, and a WORD '\
+'that is a register, a cell, a variable, or a number'
+says 'a planned strike behind the end' 'plan 9000:r1:7\nend' \
+  'the strike 9000:r1:7 is not made: the run ended at 4106, before it'
+says 'a strike in hexadecimal' 'plan 700:r0:0x10\ninfo strikes' '  700:r0:16 planned, not made yet'
+says 'a planned strike is forgotten' 'plan 700:r0:16\nplan 9:r1:7\nunplan 700:r0:0x10\ninfo strikes' \
+  '  9:r1:7 planned, not made yet'
+says 'no such strike' 'unplan 9:r1:7' '9:r1:7: no such strike is planned: `info strikes` has them'
+says 'a sum is not printed' 'print i + 1' 'i + 1: `print` writes words, and computes nothing: print r1 out'
+says 'words have no dollar' 'print $r1' '$r1: words have no `$` here: say r1'
+says 'a command of others' 'list' 'list: no command: `disassemble` shows the code with the lines of the source'
+says 'a topic of others' 'info locals' \
+  'locals: no topic: `info names` says where names are kept, `print` and `display` write their words'
+says 'what is displayed' 'display i prime\nundisplay i\ndisplay' '  prime 0'
+printf 'step\nnonsense\nstep\n' >broken
+says 'a script ends at what is refused' "source $work/broken" \
+  "$work/broken:2: nonsense: no command; \`help\` has them all; the script ends here"
+report 'a file with a blank' 'zap r0 1|step 2' \
+  "$(session "$program" "record $work/a b" 'flip r0 0' 'step 2' >said; paste -sd '|' "$work/a b")"
+report 'each instruction has its help' '' "$(for name in add sub mul ltu eq and or xor shl shr mov idx ld_G ld_B st_G st_B \
+  jmp_G jmp_B bz_G bz_B halt sites d faults; do echo "help $name"; done | "$top/tools/debugger" "$program" 2>&1 |
+  grep 'no command')"
+says 'what d is' 'help d' 'detected. So a strike that changes d is detected by the next jump or branch.'
+program=endless.obj
+says 'an end that does not come' end 'the run has not ended in 1,000,000 steps: `end` goes on'
+says 'no lines of an object alone' line \
+  'no lines of a source are known here: `next` takes an instruction; `debugger OBJ --source SRC` names the source of an object'
+program=$top/examples/sieve.src
+# What a recording states runs it again.
+again=$(cd "$top/examples" && session sieve.src "record $work/recorded" 'goto 50' 'zap r1 7' |
+  sed -n 's/.*; this runs it again: //p')
+report 'the command of a recording' "talft debug <(talft compile sieve.src) <$work/recorded" "$again"
+report 'it works' zapped "$(talft() { "$top/talft" "$@"; }; cd "$top/examples" && eval "$again" | tail -n 1)"
+report 'the command of a recording over an object' "talft debug $five <$work/recorded-object" \
+  "$(session "$five" "record $work/recorded-object" | sed -n 's/.*; this runs it again: //p')"
+report 'each command has an example' '' "$(session "$five" help | sed '1,3d; /^`/,$d' | while read -r line; do
+  [[ $line =~ ' '[[:space:]] ]] || echo "$line"; done)"
+report 'no lines of an object' 'at 12 running|the next step fetches st_B r32 r33  (block 0 index 5)' \
+  "$(session "$five" 'zap r1 9' 'goto 10' | tail -n 2 | sed 's/^at 10/at 12/' | paste -sd '|')"
+report 'pairs that differ by a strike, and without one' '~ r0 G 1048576 out r32 G 0|* r0 G 7 r32 G 0' \
+  "$(session "$five_text" 'goto 4' registers 'zap r0 7' registers | tr -s ' ' | kept '^. r0 ')"
+refuses 'lines of an object' "lines: $five: no source: say the source, and the object by --object" lines "$five"
+
+tool 'the way of a fault, and its cause' 0 "$(cat <<END
 done after 14 steps: 1 output, nothing was detected
 the way of the fault (what differs from the run without it):
   at 4        r1 6, not 5                                   the strike 4:r1:6
   at 8        r33 6, not 5                                  add r33 r1 B 0
   at 10       qv0 6, not 5                                  st_G r0 r1
-  at 12       cell out 6, not 5; as without it again: qv0   st_B r32 r33
-the first wrong output: out 6, not out 5; committed in step 11: st_B r32 r33  (block 0 index 5, line 10)
-now 3 words differ; the OUTPUTS DIFFER
+  at 12       cell out 6, not 5; right again: qv0           st_B r32 r33
+    st_B compared r33 = 6 with qv0 = 6: equal, so it passed
+the first wrong output: out 6, not out 5; committed at 12: st_B r32 r33  (block 0 index 5)
+at 14: 3 words differ; the OUTPUTS DIFFER, so the run is corrupt
+the cause: green and blue are mixed, so the fault is on both sides:
+  at 8        add r33 r1 B 0  (block 0 index 3): r1 is green, the number 0 is blue
+  at 12       st_B r32 r33  (block 0 index 5): r33 is green, the instruction is blue
+the checker refuses this object (check block 0 index 3 premise 2), so no promise is made of its runs:
+  $top/examples/mixed.obj: error: block 0, instruction 3: its two operands do not have the same colour (premise 2)
+    add r33 r1 B 0
+    r1: G int
 END
 )\n" explain "$top/examples/mixed.obj" --fault 4:r1:6
 refuses 'a fault that strikes nothing' 'explain: 4:qa0:6: nothing is there at that step' explain "$five" --fault 4:qa0:6
 refuses 'a fault after the end' 'explain: 14:r1:6: the run is at its end after 14 steps' explain "$five" --fault 14:r1:6
 refuses 'a fault at no site' 'explain: r64: no site: r0 to r63, d, pcg, pcb, qa0 to qa7, qv0 to qv7' \
   explain "$five" --fault 4:r64:6
+refuses 'a step below 0' 'explain: -1: say a number from 0 on' explain "$five" --fault -1:r0:3
+refuses 'a word below 0' "explain: -1: no word of 64 bits: 0 to 18446744073709551615" explain "$five" --fault 4:r0:-1
+# The struck i is seen first where j grows by it, and j < 30 holds for one colour alone: 24 + 16 is 40, 24 + 2 is 26.
+report 'a branch that is not taken by both' 'r35 = 1: blue does not jump, so d must be 0; d = 85 (block 3 index 0)' \
+  "$("$top/tools/explain" "$top/examples/sieve.src" --fault 700:r0:0x10 | sed -n '4s/^ *//p')"
+# r2 is written again by the next instruction that is line 14's, and nothing read it before.
+report 'a fault that is gone' \
+  'gone at 702: from there on no word differs|at 4106: no word differs, and no output does: the fault is gone' \
+  "$("$top/tools/explain" "$top/examples/sieve.src" --fault 690:r2:3 | tail -n 2 | paste -sd '|')"
 refuses 'a fault that is none' 'explain: 4: no fault: say STEP:SITE:WORD' explain "$five" --fault 4
 # What README shows of `explain` is what it writes.
 report 'the way of a fault in README' '' "$(sed -n '/^\$ tools\/explain/,/^```/p' "$top/README.md" | sed '1d; $d' |
@@ -126,13 +285,34 @@ if has tmux 'the screen and the prompt in a terminal'; then
   # `on LINE..` is what keys.sh writes of these lines.
   on() { printf '%s\n' "$@" | bash "$debugging/keys.sh" 100 30 "$keyed"; }
   keyed="$top/tools/debugger $five_text --tui"
-  screen=$(on n n n n z 'text:r1 6' Enter shot c 'await detected' shot \
+  screen=$(on 'await has the keys' n n n n z 'text:r1 6' Enter 'await ! 4:r1:6' shot c 'await detected' shot \
     'size 40 8' shot 'size 9 3' shot Home n 'size 120 40' 'await o at 1 running' shot q)
   report 'the screen has the strike' 1 "$(grep -c 'o at 4 running   ! 4:r1:6' <<<"$screen")"
   report 'the screen marks the pair' yes "$(grep -q '\* r1  G 6' <<<"$screen" && echo yes)"
   report 'the screen says that it is detected' 1 \
     "$(grep -c 'at 12 detected   the machine has stopped itself' <<<"$screen")"
   report 'the screen has other sizes' 1 "$(grep -c '^o at 1 running' <<<"$screen")"
+  screen=$(on 'await has the keys' 'size 80 24' shot l 'await no lines' shot a a 'await o here' shot \
+    'size 60 24' 'await blue: ' shot q)
+  report 'the screen of 80 columns, and of 60' \
+    '14 steps|7 instructions, 1 block, 1 cell; ? has the keys|: command  ? help  q quit|'\
+'no lines of a source are known: one instruction|o here  ! strike  @ both|green  blue: 75 columns' \
+    "$(grep -oE -e '[0-9]+ steps$' -e '^7 instructions, .* keys' -e '^: command  \? help  q quit' -e '^no lines .*' \
+      -e '^o here  ! strike  @ both' -e 'green  blue: .*' <<<"$screen" | awk '!seen[$0]++' | paste -sd '|')"
+  # Where 80 columns are too few, the names of cells go, and columns stay apart. A move stays on the screen.
+  keyed="$top/tools/debugger $top/examples/sieve.src --tui"
+  screen=$(on 'await has the keys' 'size 80 24' g text:700 Enter 'await o at 700' : 'text:display prime' Enter : \
+    'text:watch composite[4]' Enter 'await watch 1' shot x 'await no key' shot q)
+  report 'words of 80 columns' '| r2 G 1048598 r34 B 1048598' \
+    "$(grep -o '|   r2 .*' <<<"$screen" | head -n 1 | tr -s ' ' | sed 's/ $//')"
+  report 'cells that are displayed and watched' '  prime 2|  prime 2|  composite[4] 1' \
+    "$(sed -n '/-----/q; s/.*| \(  prime .*\|  composite.4. .*\)/\1/p' <<<"$screen" | sed 's/ *$//' | paste -sd '|')"
+  report 'an unknown key' 1 "$(grep -c '^x: no key of this screen; ? has the keys' <<<"$screen")"
+  keyed="$top/tools/debugger $top/examples/sieve.src --tui --fault 700:r0:16"
+  screen=$(on 'await has the keys' 'size 80 24' c 'await detected' e 'await any key' shot Enter End \
+    'await o at 788' q)
+  report 'the page of a way has its lines' '  at 754  r3 40, not 26  add r3 r3 r4  (sieve.src:13)' \
+    "$(grep 'at 754' <<<"$screen")"
   # Where the screen is killed, the terminal is as it was.
   keyed="bash -c '$top/tools/debugger $five_text --tui; echo status \$?; stty -a; sleep 60'"
   screen=$(on 'await o at 0 running' terminate 'await status' shot)
@@ -145,11 +325,12 @@ if has tmux 'the screen and the prompt in a terminal'; then
   report 'an empty line steps again' yes "$(grep -q '^at 2 running' <<<"$screen" && echo yes)"
   # Ctrl-C ends a run that has no end; a terminal that is closed in the midst of one leaves nothing running.
   keyed="$top/tools/debugger endless.obj"
-  screen=$(on 'await (talft)' text:c Enter 'await c' C-c 'await interrupted' text:where Enter 'await pcb' shot text:c \
+  screen=$(on 'await (talft)' text:c Enter 'pause 2' C-c 'await interrupted' text:where Enter 'await pcb' shot text:c \
     Enter kill)
   report 'a run that is interrupted' \
-    'interrupted: the session is where it was|at 0 running pcg 1 pcb 1 block 0 index 0' \
-    "$(sed 's/^^C//' <<<"$screen" | kept '^(interrupted|at 0 running pcg)')"
+    'at P running|interrupted: the run got to P, and stays there; `continue` goes on|at P running' \
+    "$(position=$(sed -n 's/.*the run got to \([1-9][0-9]*\),.*/\1/p' <<<"$screen"); sed "s/^^C//; s/ pcg.*//
+      s/\<$position\>/P/" <<<"$screen" | kept '^(interrupted|at P running)')"
   for ((n = 0; n < 50; n++)); do pgrep -f 'debugger endless.obj' >written || break; sleep 0.1; done
   report 'nothing is left running' '' "$(pgrep -f 'debugger endless.obj')"
 fi

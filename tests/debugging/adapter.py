@@ -47,7 +47,7 @@ def assembly(tests):
     tests.check("detected", ("exception", "the blue pair is not the oldest green one"),
                 (stop["reason"], stop.get("text")))
     told = client.body("exceptionInfo", {"threadId": 1})
-    tests.check("exception", "detected in step 11: st_B r32 r33  (block 0 index 5, line 20)", told["description"])
+    tests.check("exception", "detected at 12: st_B r32 r33  (block 0 index 5, five.asm:20)", told["description"])
     tests.check("its way", True, "the strike 4:r1:6" in told["details"]["message"])
     tests.check("queue", {"qa0": "1048576 (out)", "qv0": "6"}, client.scope("Queue")[0])
     tests.check("differences", "6, not 5", client.scope("Differences")[0]["r1"])
@@ -88,7 +88,7 @@ def source(tests):
     client, program = Client(), os.path.join(EXAMPLES, "fibonacci.src")
     client.begin({"program": program, "stopOnEntry": False}, [4])
     stop = client.event("stopped")
-    tests.check("a break place of the source", ("breakpoint", 1), (stop["reason"], len(stop["hitBreakpointIds"])))
+    tests.check("a breakpoint of the source", ("breakpoint", 1), (stop["reason"], len(stop["hitBreakpointIds"])))
     frame = client.frame()
     tests.check("source line", (4, program), (frame["line"], frame["source"]["path"]))
     tests.check("locations", [{"line": 2}, {"line": 3}, {"line": 4}], client.body(
@@ -111,6 +111,9 @@ def source(tests):
     client.event("stopped")
     client.move("continue")
     tests.check("the second hit", ("1", "1"), (client.evaluate("a", "hover"), client.evaluate("i", "hover")))
+    made = client.body("setInstructionBreakpoints", {"breakpoints": [
+        {"instructionReference": "0x20", "condition": "r0 == 77"}, {"instructionReference": "0x20"}]})["breakpoints"]
+    tests.check("only what is met is named", [made[1]["id"]], client.move("continue")["hitBreakpointIds"])
     client.body("setInstructionBreakpoints", {"breakpoints": []})
     client.move("stepOut")
     tests.check("out of the block", True, "(block 1 index 0)" in client.frame()["name"])
@@ -119,12 +122,12 @@ def source(tests):
 
 
 def watches(tests, client):
-    """Data break places."""
+    """Data breakpoints."""
     info = client.body("dataBreakpointInfo", {"name": "out", "variablesReference": 5})
     tests.check("data", "out", info["dataId"])
     told = client.body("setDataBreakpoints", {"breakpoints": [
         {"dataId": "out", "accessType": "write"}, {"dataId": "qa0"}]})
-    tests.check("data break places", [True, False], [one["verified"] for one in told["breakpoints"]])
+    tests.check("data breakpoints", [True, False], [one["verified"] for one in told["breakpoints"]])
     stop = client.move("continue")
     tests.check("a change", ("data breakpoint", "out 0 is out 1, at 152"), (stop["reason"], stop["description"]))
     tests.check("the next change", "out 1 is out 2, at 328", client.move("continue")["description"])
@@ -170,8 +173,11 @@ def port(tests):
         client.body("continue", {"threadId": 1})
         time.sleep(0.5)
         client.body("pause", {"threadId": 1})
-        tests.check("paused", "pause", client.event("stopped")["reason"])
-        tests.check("where it was", 20, client.frame()["line"])
+        stop, frame = client.event("stopped"), client.frame()
+        tests.check("paused", "pause", stop["reason"])
+        # It stays where the run got to, which is where it was if no call had ended yet.
+        tests.check("where it got to", True, "where it was" in stop["description"] and frame["line"] == 20
+                    or stop["description"].replace("Interrupted, ", "") + " running" in frame["name"])
         # A pause right behind a continue is not lost.
         for sent in [client.send("continue", {"threadId": 1}), client.send("pause", {"threadId": 1})]:
             client.answer(sent)

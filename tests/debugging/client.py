@@ -99,7 +99,7 @@ class Client:
         return self.event("stopped")
 
     def begin(self, launch, lines=(), filters=("detected",)):
-        """Launches, and sets break places on lines; the answer of launch."""
+        """Launches, and sets breakpoints on lines; the answer of launch."""
         self.body("initialize", {"adapterID": "talft", "clientID": "test", "linesStartAt1": True,
                                  "columnsStartAt1": True, "pathFormat": "path", "supportsInvalidatedEvent": True})
         answer = self.ask("launch", launch)
@@ -112,7 +112,7 @@ class Client:
         return answer
 
     def set_lines(self, path, lines):
-        """Sets break places of a file."""
+        """Sets breakpoints of a file."""
         source = {"path": os.path.abspath(path)}
         return self.body("setBreakpoints", {"source": source, "breakpoints": lines})["breakpoints"]
 

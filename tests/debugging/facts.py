@@ -1,7 +1,8 @@
 """What the tools know of the machine, against the program: python3 facts.py SEED RUNS STEPS PROGRAM.. .
 
 Each run goes step by step, with random strikes. Of each step the module debugging/machine.py has to say whether it
-fetches, which register it writes, whether it changes d, and whether it is detected. Ends with `N steps: M wrong`."""
+fetches, which registers it reads and writes, whether it changes d, what it compares, and whether it is detected. Ends with
+`N steps: M wrong`."""
 import os
 import random
 import sys
@@ -10,6 +11,7 @@ sys.path.insert(0, os.path.join(os.path.dirname(os.path.abspath(__file__)), os.p
 from common import SITES, Refused
 from debugging import machine
 from debugging.person import Session
+from debugging.sessions import Strike
 from debugging.target import Target
 
 WORDS = [0, 1, 2, 3, 7, 9, 1_048_576, 1_048_577, 2 ** 63, 2 ** 64 - 1]
@@ -35,6 +37,9 @@ class Facts:
         after = session.state()
         self.steps += 1
         self.check(session, "whether it is detected", after.status == "detected", told is not None)
+        if not told:
+            self.check(session, "what it compares is equal", [], [
+                row for row in machine.compared(before, fetched) if not row.same])
         if told:
             self.detected[told.sentence] = self.detected.get(told.sentence, 0) + 1
         registers = {name for name in machine.REGISTERS if before.words[name] != after.words[name]}
@@ -48,6 +53,17 @@ class Facts:
         changed = {name for name in after.cells if before.cells[name] != after.cells[name]}
         stored = {line.split(" ")[0] for line in after.commits.splitlines()}
         self.check(session, "only a commit changes a cell", set(), changed - stored)
+
+    def reads(self, session, chance):
+        """A register that the next step does not read makes no other word another."""
+        position, fetched = session.position, session.fetched(session.position)
+        if not fetched:
+            return
+        site = chance.choice([name for name in SITES[:64] if name not in machine.read_registers(fetched.words)])
+        strikes = session.strikes + (Strike(position, site, chance.choice(WORDS)),)
+        words = [session.timeline.state_at(position + 1, made).all_words() for made in (session.strikes, strikes)]
+        self.check(session, "which registers it reads", {},
+                   {name: word for name, word in words[0].items() if name != site and words[1].get(name) != word})
 
     def run(self, target, chance, steps):
         """One run. It strikes what the program uses, for most words of others do nothing."""
@@ -64,6 +80,8 @@ class Facts:
                 except Refused:
                     # Nothing is pending there.
                     pass
+            if chance.random() < 0.1:
+                self.reads(session, chance)
             self.step(session)
 
 

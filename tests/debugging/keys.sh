@@ -2,7 +2,8 @@
 # Types into a terminal: `keys.sh WIDTH HEIGHT COMMAND` runs the command in tmux, and takes lines from standard input:
 #   shot         writes the screen when it has not changed for a while
 #   text:..      types a text
-#   await TEXT   waits until the screen has the text, at most 20 seconds
+#   await TEXT   waits until the screen has the text, at most 60 seconds
+#   pause N      waits N seconds
 #   size W H     makes the terminal as large
 #   kill         closes the terminal
 #   terminate    sends the signal TERM to what the command has started
@@ -26,7 +27,8 @@ settled
 while IFS= read -r line; do
   case $line in
     shot) settled; screen; echo ----- ;;
-    await\ *) for ((n = 0; n < 200; n++)); do screen | grep -qF -- "${line#await }" && break; sleep 0.1; done ;;
+    await\ *) for ((n = 0; n < 600; n++)); do screen | grep -qF -- "${line#await }" && break; sleep 0.1; done ;;
+    pause\ *) sleep "${line#pause }" ;;
     size\ *) read -r _ width height <<<"$line"; tmux -L "$server" resize-window -t it -x "$width" -y "$height" ;;
     terminate) pkill -TERM -P "$(tmux -L "$server" list-panes -t it -F '#{pane_pid}')" ;;
     kill) tmux -L "$server" kill-session -t it; sleep 0.3 ;;

@@ -1,6 +1,6 @@
 """How long commands of a session take far from the start: python3 speeds.py TURNS. It writes a table in Markdown.
 
-The run has 48 steps for each turn of its loop. Times are of this machine, with whatever else it does."""
+The run has 44 steps for each turn of its loop. Times are of this machine, with whatever else it does."""
 import os
 import sys
 import tempfile
@@ -49,7 +49,7 @@ class Speeds:
         self.timed("1,000 back: over the edge of what was told", session.back, 1_000)
 
     def runs(self):
-        """Runs to break places."""
+        """Runs to breakpoints."""
         session = self.session
         session.go_to(0)
         session.add_break("9")
@@ -93,7 +93,7 @@ def main(turns):
         with open(path, "w", encoding="ascii") as out:
             out.write(SOURCE.format(turns=turns))
         target = Target(path)
-        speeds = Speeds(target, int(turns) * 48)
+        speeds = Speeds(target, int(turns) * 44)
         for part in (speeds.moves, speeds.runs, speeds.watches, speeds.explained):
             part()
         target.close()

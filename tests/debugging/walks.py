@@ -17,6 +17,8 @@ from debugging.target import Target
 # How many steps are searched, and the refusals that a walk may meet.
 SEARCHED = 1_100
 EXPECTED = ("nothing there", "nothing to undo", "there are ", "qa", "qv")
+# What is set a second time is refused, too.
+AGAIN = ("is this one already", "planned already")
 COMMANDS = ["step", "step", "back", "goto", "zap", "flip", "undo", "go", "go", "go back", "break", "watch", "clear",
             "plan", "next", "next back", "line", "line back"]
 WORDS = [0, 1, 7, 1_048_576, 2 ** 64 - 1]
@@ -52,11 +54,11 @@ class Walk:
         return found
 
     def stays(self, where, words):
-        """Whether a run stays at a state because of a break place."""
+        """Whether a run stays at a state because of a breakpoint."""
         if where.position % 2 or where.status != "running":
             return False
         for one in self.session.breaks.values():
-            if one.place == (where.block, where.index):
+            if (where.block, where.index) in one.places:
                 asked = one.condition.questions() if one.condition else []
                 if not one.condition or one.condition.holds({line: words[line.split(" ")[1]] for line in asked}):
                     return True
@@ -64,7 +66,7 @@ class Walk:
 
     def searched(self, states, back):
         """Where a run from here has to stop, by a search of all states."""
-        here, watched = self.session.position, self.session.watches.values()
+        here, watched = self.session.position, [site for _, site in self.session.watched()]
 
         def changes(old, new):
             return any(old[1][name] != new[1][name] for name in watched)
@@ -128,7 +130,7 @@ class Walk:
             try:
                 self.do(what)
             except Refused as error:
-                if not str(error).startswith(EXPECTED):
+                if not str(error).startswith(EXPECTED) and not str(error).endswith(AGAIN):
                     self.check(what, None, str(error))
         self.record()
 

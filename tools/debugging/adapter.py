@@ -168,7 +168,7 @@ class Adapter(Views, Breaks):
         if why == "watch":
             return self.stopped("data breakpoint", f"{stop.what[2]} is {stop.what[3]}, {at}", hits=[stop.what[0]])
         if why == "breakpoint":
-            return self.stopped(*self.broken_at(stop.what, at))
+            return self.stopped(*self.broken_at(at))
         if state.status == "detected" and "detected" in self.filters and not self.asked.get("noDebug"):
             instruction, told = explaining.reason(self.session)
             return self.stopped("exception", f"Detected, {at}", told.sentence if told else None)
@@ -180,13 +180,15 @@ class Adapter(Views, Breaks):
             return self.stopped("pause", f"Done, {at}: steps back are possible")
         if why == "start":
             return self.stopped("entry", "At the start")
+        if why == "interrupted":
+            return self.stopped("pause", f"Interrupted, {at}")
         return self.stopped(reason, f"{state.status}, {at}")
 
-    def broken_at(self, place, at):
-        """What `stopped` tells of a break place."""
-        hits = [number for number, one in self.session.breaks.items() if one.place == place]
+    def broken_at(self, at):
+        """What `stopped` tells of a breakpoint."""
+        hits = list(self.session.halting())
         only = bool(hits) and all(number in self.instruction_breaks for number in hits)
-        return "instruction breakpoint" if only else "breakpoint", f"Break place, {at}", None, hits
+        return "instruction breakpoint" if only else "breakpoint", f"Breakpoint, {at}", None, hits
 
     # MOVES
 

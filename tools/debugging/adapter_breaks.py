@@ -1,4 +1,4 @@
-"""Break places and watches of a client: lines of the source or of the text, addresses, words."""
+"""Breakpoints and watches of a client: lines of the source or of the text, addresses, words."""
 import os
 
 from common import SITES, Refused
@@ -7,7 +7,7 @@ from debugging.adapter_views import DIS
 
 
 class Breaks:
-    """Requests that set break places; the session has those of all of them."""
+    """Requests that set breakpoints; the session has those of all of them."""
 
     def is_source(self, source):
         """Whether a client's source is the source (True), the text (False), or neither (None)."""
@@ -19,26 +19,26 @@ class Breaks:
         return False if is_text or source.get("sourceReference") == DIS else None
 
     def set_breaks(self):
-        """Gives the session the break places of all lines and addresses."""
+        """Gives the session the breakpoints of all lines and addresses."""
         self.session.breaks = {}
         for made in [*self.line_breaks.values(), self.instruction_breaks]:
             self.session.breaks.update(made)
 
-    def add(self, made, instruction, why, wanted, source=None):
-        """One more break place among those that are made; what the client is told."""
+    def add(self, made, parts, why, wanted, source=None):
+        """One more breakpoint among those that are made; what the client is told."""
         session = self.session
         number = session.number()
-        places = session.places() | {one.place for one in made.values()}
-        if instruction and instruction.key() not in places and len(places) >= breaks.MOST:
-            instruction, why = None, f"too many break places: the program takes {breaks.MOST}"
-        if not instruction:
+        places = session.places() | breaks.places_of(made.values()) | {part.key() for part in parts}
+        if parts and len(places) > breaks.MOST:
+            parts, why = [], breaks.TOO_MANY
+        if not parts:
             return {"id": number, "verified": False, "message": why}
         try:
             condition = breaks.Condition(wanted["condition"], session.target) if wanted.get("condition") else None
             least = int(wanted.get("hitCondition") or 1)
         except (Refused, ValueError) as error:
             return {"id": number, "verified": False, "message": str(error)}
-        made[number] = breaks.Break(instruction, condition=condition, least=least)
+        made[number], instruction = breaks.Break(parts, condition=condition, least=least), parts[0]
         line = instruction.line - self.less() if source == self.text_source() else self.line(instruction)
         return {"id": number, "verified": True, "instructionReference": hex(instruction.address), "line": line,
                 "source": source or self.source()}
@@ -53,8 +53,8 @@ class Breaks:
         made, told = {}, []
         for wanted in asked.get("breakpoints") or []:
             line = wanted["line"] + self.less()
-            instruction = None if kind is None else self.session.target.listing.first_of_line(line, kind)
-            told.append(self.add(made, instruction, why, wanted, shown))
+            parts = [] if kind is None else self.session.target.listing.parts_of_line(line, kind)
+            told.append(self.add(made, parts, why, wanted, shown))
         self.line_breaks[key] = made
         self.set_breaks()
         self.wire.answer(request, {"breakpoints": told})
@@ -65,7 +65,8 @@ class Breaks:
         made, told = {}, []
         for wanted in asked.get("breakpoints") or []:
             address = int(wanted["instructionReference"], 0) + (wanted.get("offset") or 0)
-            told.append(self.add(made, self.session.target.at(address), "no instruction has this address", wanted))
+            parts = [one for one in [self.session.target.at(address)] if one]
+            told.append(self.add(made, parts, "no instruction has this address", wanted))
         self.instruction_breaks = made
         self.set_breaks()
         self.wire.answer(request, {"breakpoints": told})
@@ -84,8 +85,9 @@ class Breaks:
         self.wire.answer(request)
 
     def on_dataBreakpointInfo(self, request, asked):
-        name = self.session.registers_of(asked["name"])[0]
-        if name in self.session.target.listing.cells or name in SITES[:67]:
+        name = asked["name"]
+        site = self.session.registers_of(name)[0]
+        if site in self.session.target.listing.cells or site in SITES[:67]:
             self.wire.answer(request, {"dataId": name, "description": f"{name} changes", "accessTypes": ["write"],
                                        "canPersist": True})
         else:

@@ -1,15 +1,21 @@
-"""Break places: where they are, when they halt, and how often they were come by."""
+"""Breakpoints: where they are, when they halt, and how often they were come by."""
 import operator
 import re
 
 from common import SITES, WORDS, Refused
+from debugging.reading import NO_WORD
 from debugging.runs import Wanted
 
 COMPARES = {"==": operator.eq, "!=": operator.ne, "<=": operator.le, ">=": operator.ge, "<": operator.lt,
             ">": operator.gt}
-COMPARISON = re.compile(r"\s*([^\s=!<>]+)\s*(==|!=|<=|>=|<|>)\s*([^\s=!<>]+)\s*")
-SPLIT = re.compile(r"\s+if\s+|\s+hit\s+")
+COMPARISON = re.compile(r"\s*([^\s=!<>()]+)\s*(==|!=|<=|>=|<|>)\s*([^\s=!<>()]+)\s*")
+SPLIT = re.compile(r"(?:^|\s+)(?:if|hit)(?:\s+|$)")
+# What other debuggers take in a condition, and what is said of it.
+NOT_TAKEN = ((re.compile(r"(?:^|\s)or(?:\s|$)|\|\|"), "only `and` joins comparisons"),
+             (re.compile(r"[()]"), "no parentheses: comparisons are joined by `and` alone"),
+             (re.compile(r"(?<![=!<>])=(?!=)"), "`=` is `==` here"))
 MOST = 64
+TOO_MANY = f"too many breakpoints: the program takes {MOST}"
 
 
 class Condition:
@@ -17,23 +23,35 @@ class Condition:
 
     def __init__(self, text, target):
         self.text, self.parts = " ".join(text.split()), []
-        for part in re.split(r"\s+and\s+|\s*&&\s*", text.strip()):
+        for part in re.split(r"(?:^|\s+)and(?:\s+|$)|\s*&&\s*", text.strip()):
             match = COMPARISON.fullmatch(part)
             if not match:
-                raise Refused(f"{part}: no comparison: say WORD OP WORD, with OP one of {' '.join(COMPARES)}")
+                raise Refused(self.why_not(part, target))
             self.parts.append((self.operand(match[1], target), match[2], self.operand(match[3], target)))
+
+    def why_not(self, part, target):
+        """Why a part is no comparison."""
+        for pattern, why in NOT_TAKEN:
+            if pattern.search(self.text):
+                return f"{self.text}: {why}"
+        what = f"{part.strip()}: no comparison" if part.strip() else f"`{self.text}`: a comparison is missing"
+        variable = "" if target.names is None else "a variable, "
+        return (f"{what}: say WORD OP WORD, with OP one of {' '.join(COMPARES)}, and a WORD that is a register, "
+                f"a cell, {variable}or a number")
 
     @staticmethod
     def operand(text, target):
         """A number, or the line that asks for a word."""
         if question := question_of(text, target):
             return question
+        target.check_array(text)
         try:
             found = int(text.replace("_", ""), 0)
         except ValueError:
-            raise Refused(f"{text}: no register, no cell and no number") from None
+            variable = "" if target.names is None else " no variable,"
+            raise Refused(f"{text}: no register, no cell,{variable} and no number") from None
         if not 0 <= found < WORDS:
-            raise Refused(f"{text}: no word of 64 bits")
+            raise Refused(f"{text}: {NO_WORD}")
         return found
 
     def questions(self):
@@ -58,32 +76,42 @@ def question_of(name, target):
 
 
 class Break:
-    """A break place. It halts when its condition holds, from the hit with the number `least` on."""
+    """A breakpoint. It halts when its condition holds, from the hit with the number `least` on.
 
-    def __init__(self, instruction, temporary=False, condition=None, least=1):
-        self.instruction, self.temporary, self.condition, self.least = instruction, temporary, condition, least
-        self.place = instruction.key()
+    A line of a source may have several parts. The first one is `instruction`."""
+
+    def __init__(self, parts, temporary=False, condition=None, least=1):
+        self.parts, self.temporary, self.condition, self.least = parts, temporary, condition, least
+        self.instruction, self.places = parts[0], {part.key() for part in parts}
+
+    def is_as(self, other):
+        """Whether another one halts at the same times."""
+        texts = [one.condition and one.condition.text for one in (self, other)]
+        return ((self.places, self.temporary, self.least, texts[0])
+                == (other.places, other.temporary, other.least, texts[1]))
 
     def told(self):
         """What comes behind its place."""
-        parts = ["temporary"] if self.temporary else []
+        parts = [f"and {part.place()}" for part in self.parts[1:]] + (["temporary"] if self.temporary else [])
         parts += [f"from hit {self.least} on"] if self.least > 1 else []
         return "  ".join(parts + ([f"if {self.condition.text}"] if self.condition else []))
 
 
 def read(text, target, temporary=False):
-    """`PLACE [if CONDITION] [hit N]` as a break place."""
+    """`PLACE [if CONDITION] [hit N]` as a breakpoint."""
     parts = SPLIT.split(text)
     marks = [mark.strip() for mark in SPLIT.findall(text)]
-    condition, least = None, 1
+    condition, least, place = None, 1, place_in(text)
+    if not place:
+        raise Refused(f"{text}: say a place first: break 1:0 {text}")
     for mark, part in zip(marks, parts[1:]):
         if mark == "if":
             condition = Condition(part, target)
         elif part.strip().isdigit() and int(part) > 0:
             least = int(part)
         else:
-            raise Refused(f"{part}: no number of a hit")
-    return Break(target.find(parts[0].strip()), temporary, condition, least)
+            raise Refused(f"{part.strip()}: no number of a hit: from 1 on")
+    return Break(target.find_parts(place), temporary, condition, least)
 
 
 def wanted_of(breaks):
@@ -94,11 +122,21 @@ def wanted_of(breaks):
     def holds(place, told):
         answers, stays = dict(zip(questions, told)), False
         for one in breaks:
-            if one.place == place and (not one.condition or one.condition.holds(answers)):
+            if place in one.places and (not one.condition or one.condition.holds(answers)):
                 hits[one] = hits.get(one, 0) + 1
                 stays = stays or hits[one] >= one.least
         return stays
     return Wanted(questions, holds)
+
+
+def place_in(text):
+    """The place of `PLACE [if CONDITION] [hit N]`."""
+    return SPLIT.split(text)[0].strip()
+
+
+def places_of(breaks):
+    """All places of these."""
+    return {place for one in breaks for place in one.places}
 
 
 def are_plain(breaks):

@@ -5,7 +5,7 @@ from debugging.machine import may_write_d, written_register
 from debugging.runs import CHUNKS, Stop, halts, marks, place_at
 from debugging.sessions import path
 
-# Break places of the program, and how many answers and pieces of a run go into one call.
+# Breakpoints of the program, and how many answers and pieces of a run go into one call.
 MOST_PLACES, MOST_ANSWERS, PIECES = 64, 60_000, 1_000
 
 

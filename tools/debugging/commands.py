@@ -2,13 +2,15 @@
 import re
 
 from common import Refused
-from debugging import explaining, stepping, views
+from debugging import breaks, explaining, stepping, views
 from debugging.commands_shown import Shown
-from debugging.help import HELP, SHORT
-from debugging.reading import number, one_word, word_of
+from debugging.help import ALONE, ELSEWHERE, HELP, SHORT
+from debugging.reading import no_more, number, one_word, word_of
 
 # How many outputs of a move are written, and how long a move is for its changes to be.
 MOST_OUTPUTS, MOST_CHANGED = 20, 64
+# How far `end` goes.
+MOST_TO_END = 1_000_000
 MOST_NESTED = 8
 
 
@@ -17,10 +19,12 @@ class Quit(Exception):
 
 
 class Commands(Shown):
-    """Carries out commands over a session; `out` takes lines, and `sure` asks whether a file may be overwritten."""
+    """Carries out commands over a session; `out` takes lines, and `sure` asks whether a file may be overwritten.
 
-    def __init__(self, session, paint, out, sure=None):
-        self.session, self.paint, self.out = session, paint, out
+    Whoever shows the session on a screen is not told where a move led (`is_shown`)."""
+
+    def __init__(self, session, paint, out, sure=None, is_shown=False):
+        self.session, self.paint, self.out, self.is_shown = session, paint, out, is_shown
         self.sure = sure or (lambda question: False)
         self.depth, self.before, self.displayed, self.told_replaced = 0, None, [], False
 
@@ -29,6 +33,8 @@ class Commands(Shown):
         name = SHORT.get(name, name)
         if name in HELP:
             return name
+        if name in ELSEWHERE:
+            raise Refused(f"{name}: no command: {ELSEWHERE[name]}")
         begun = [full for full in HELP if full.startswith(name)]
         if len(begun) == 1:
             return begun[0]
@@ -45,10 +51,17 @@ class Commands(Shown):
             raise Refused(f"{line}: no command; `help` has them all")
         name, words = self.resolve(match[1]), match[3].split()
         call = getattr(self, "do_" + name.replace("-", "_"))
+        if name in ("source", "record") and words:
+            # A path may have blanks.
+            words = [match[3].strip()]
         if name in ("print", "x"):
             call(words, match[2] or "")
-        else:
-            call(words)
+            return name
+        if match[2]:
+            raise Refused(f"/{match[2]}: `{name}` takes no format")
+        if name in ALONE:
+            no_more(words, name)
+        call(words)
         return name
 
     def say(self, *lines):
@@ -61,27 +74,44 @@ class Commands(Shown):
     def moved(self, call, *words):
         """Carries out a move, and says what it did."""
         session = self.session
-        before, count = session.state(), len(session.outputs())
+        before, count, strikes = session.state(), len(session.outputs()), session.strikes
         result = call(*words)
         after, outputs = session.state(), session.outputs()
         new = len(outputs) - count if after.position > before.position else 0
-        if new > MOST_OUTPUTS:
-            self.say(self.paint("dim", f".. {new - MOST_OUTPUTS} outputs .."))
-        self.say(*outputs.last(min(MOST_OUTPUTS, new)) if new else [])
-        if abs(after.position - before.position) <= MOST_CHANGED:
-            self.say(*views.change_lines(session, before, after, self.paint))
+        if not self.is_shown:
+            self.say(*self.new_outputs(outputs, new))
+            if abs(after.position - before.position) <= MOST_CHANGED:
+                self.say(*views.change_lines(session, before, after, self.paint))
         self.before = before
         self.at()
+        self.say(*views.strike_lines(session, before.position, strikes))
         return result
+
+    def new_outputs(self, outputs, new):
+        """The last so many outputs; of many, how many are left out."""
+        if new <= MOST_OUTPUTS:
+            return outputs.last(new) if new else []
+        left = explaining.counted(new - MOST_OUTPUTS, "output")
+        return [self.paint("dim", f".. {left} .."), *outputs.last(MOST_OUTPUTS)]
 
     def at(self):
         """Says where it is."""
-        self.say(self.paint("here", views.status_line(self.session)), views.doing(self.session))
-        for name in self.displayed:
-            self.say("  " + self.told_word(name))
+        if not self.is_shown:
+            self.say(self.paint("here", views.status_line(self.session)), views.doing(self.session))
+            self.say(*self.display_lines())
         if not self.told_replaced and self.session.target.is_replaced():
             self.told_replaced = True
             self.say(f"{self.session.target.path} was replaced: this session stays with what was read at its start")
+
+    def display_lines(self):
+        """The words that are displayed; one that is not there now is said so."""
+        lines = []
+        for name in self.displayed:
+            try:
+                lines.append("  " + self.told_word(name))
+            except Refused as error:
+                lines.append(f"  {error}")
+        return lines
 
     def do_step(self, words):
         self.moved(self.session.step, number(words, 1))
@@ -90,7 +120,14 @@ class Commands(Shown):
         self.moved(self.session.back, number(words, 1))
 
     def do_next(self, words):
-        self.moved(stepping.forward, self.session, number(words, 1, 1), False)
+        self.forward(number(words, 1, 1), False)
+
+    def forward(self, count, by_line):
+        """Instructions or lines on; a breakpoint that ends them is named."""
+        old = self.session.position
+        self.moved(stepping.forward, self.session, count, by_line)
+        if self.session.position > old:
+            self.told_breaks()
 
     def do_reverse_next(self, words):
         self.moved(stepping.back, self.session, number(words, 1, 1), False)
@@ -98,11 +135,12 @@ class Commands(Shown):
     def lines_known(self):
         """Refuses where no lines of a source are known."""
         if self.session.target.source is None:
-            raise Refused("no lines of a source are known here: `next` takes an instruction")
+            raise Refused("no lines of a source are known here: `next` takes an instruction; `debugger OBJ --source SRC`"
+                          " names the source of an object")
 
     def do_line(self, words):
         self.lines_known()
-        self.moved(stepping.forward, self.session, number(words, 1, 1))
+        self.forward(number(words, 1, 1), True)
 
     def do_reverse_line(self, words):
         self.lines_known()
@@ -118,78 +156,122 @@ class Commands(Shown):
         self.halted(self.moved(self.session.finish))
 
     def do_until(self, words):
-        place = self.session.target.find(" ".join(words)) if words else self.session.following()
-        if place is None:
+        if words:
+            parts = self.session.target.find_parts(" ".join(words))
+        else:
+            parts = [one for one in [self.session.following()] if one]
+        if not parts:
             raise Refused("nothing comes after this in the text: say a place")
-        self.halted(self.moved(self.session.until, place))
+        stop = self.moved(self.session.until, parts)
+        self.halted(stop)
+        if stop.reason in ("done", "detected"):
+            self.say(f"the run ended at {stop.position}, and never came to {' or '.join(one.place() for one in parts)}")
+
+    def told_breaks(self):
+        """Names the breakpoints that halt here; those for one halt are forgotten."""
+        for at, one in self.session.halting().items():
+            self.say(f"breakpoint {at}" + (f"  {one.told()}" if one.told() else ""))
+            if one.temporary:
+                self.session.delete(at)
 
     def halted(self, stop):
         """Says why a run stopped."""
-        session = self.session
         if stop.reason == "breakpoint":
-            for at, one in list(session.breaks.items()):
-                if one.place == stop.what:
-                    self.say(f"break place {at}" + (f"  {one.told()}" if one.told() else ""))
-                    if one.temporary:
-                        session.delete(at)
+            self.told_breaks()
         elif stop.reason == "watch":
             self.say(f"watch {stop.what[0]}: {stop.what[2]} -> {stop.what[3]}")
         elif stop.reason == "start":
             self.say("this is the start")
+        elif stop.reason == "interrupted":
+            self.say(f"interrupted: the run got to {stop.position}, and stays there; `continue` goes on")
 
     def do_goto(self, words):
-        self.moved(self.session.go_to, number(words))
+        if not words:
+            raise Refused("say a position: goto 12")
+        try:
+            wanted = number(words)
+        except Refused:
+            self.refuse_place(" ".join(words))
+            raise
+        self.moved(self.session.go_to, wanted)
+        if self.session.position < wanted:
+            self.say(f"the run ended at {self.session.position}, before {wanted}")
+
+    def refuse_place(self, text):
+        """Says what goes to a place, if the text is one."""
+        try:
+            self.session.target.find_parts(text)
+        except Refused:
+            return
+        raise Refused(f"{text}: a place, and `goto` takes a position: `until {text}` goes to a place or a line")
 
     def do_run(self, words):
         self.moved(self.session.go_to, 0)
 
     def do_end(self, words):
-        self.moved(self.session.go_to, self.session.position + 1_000_000)
+        self.moved(self.session.go_to, self.session.position + MOST_TO_END)
+        if self.session.state().status == "running":
+            self.say(f"the run has not ended in {MOST_TO_END:,} steps: `end` goes on")
 
     def do_undo(self, words):
         self.moved(self.session.undo)
 
-    # BREAK PLACES, WATCHES, STRIKES
+    # BREAKPOINTS, WATCHES, STRIKES
 
     def do_break(self, words, temporary=False):
         if not words:
             self.breaks()
             return
         at, one = self.session.add_break(" ".join(words), temporary)
-        self.say(f"break place {at}: {one.instruction.short()}  ({views.place_of(self.session, one.instruction)}, "
-                 f"line {one.instruction.shown_line()})" + (f"  {one.told()}" if one.told() else ""))
+        self.say(f"breakpoint {at}: {one.instruction.short()}  ({views.place_and_line(self.session, one.instruction)})"
+                 + (f"  {one.told()}" if one.told() else ""))
+        if named := self.session.target.line_named(breaks.place_in(" ".join(words))):
+            line, found = named[0], one.instruction.source_line if named[1] else one.instruction.line
+            if line != found:
+                self.say(f"no instruction is on line {line}: this is the next one, on line {found}")
 
     def do_tbreak(self, words):
+        if not words:
+            raise Refused("say a place: tbreak 1:0")
         self.do_break(words, True)
 
     def do_watch(self, words):
-        name = one_word(words, "say a cell or a register")
-        name = self.session.registers_of(name)[0]
-        self.say(f"watch {self.session.add_watch(name)}: {name} is {self.session.word(name)}")
+        name = one_word(words, "say a cell, a register or a variable: watch r1")
+        at = self.session.add_watch(name)
+        self.say(f"watch {at}: {self.told_word(name)}")
 
     def do_delete(self, words):
-        for text in words or [str(at) for at in list(self.session.breaks) + list(self.session.watches)]:
-            self.session.delete(number([text]))
+        for at in [number([text]) for text in words] or list(self.session.breaks) + list(self.session.watches):
+            self.session.delete(at)
 
     def do_display(self, words):
         for name in words:
             self.told_word(name)
-        self.displayed = self.displayed + words if words else []
-        self.say(*["  " + self.told_word(name) for name in self.displayed])
+        self.displayed += [name for name in words if name not in self.displayed]
+        if not self.is_shown or not words:
+            self.say(*self.display_lines() or ["nothing is displayed: display r1"])
+
+    def do_undisplay(self, words):
+        for name in words:
+            if name not in self.displayed:
+                raise Refused(f"{name}: it is not displayed")
+        self.displayed = [name for name in self.displayed if words and name not in words]
 
     def do_zap(self, words):
-        if len(words) != 2:
+        if len(words) < 2:
             raise Refused("say a site and a word: zap r1 6")
+        no_more(words[2:])
         self.struck(words[0], self.session.zap(words[0], word_of(words[1])))
 
     def do_flip(self, words):
-        if len(words) != 2:
+        if len(words) < 2:
             raise Refused("say a site and a bit: flip r1 0")
+        no_more(words[2:])
         self.struck(words[0], self.session.flip(words[0], number(words[1:])))
 
     def struck(self, site, old):
         """Says what a strike did."""
-        self.say(f"zapped: {site} was {old}, is {self.session.word(site)}")
+        self.say(f"zapped at {self.session.position}: {site} was {old}, is {self.session.word(site)}")
 
     def do_plan(self, words):
         text = one_word(words, "say a fault: plan 4:r1:6")
@@ -200,7 +282,8 @@ class Commands(Shown):
             self.at()
 
     def do_unplan(self, words):
-        self.moved(self.session.unplan)
+        no_more(words[1:])
+        self.moved(self.session.unplan, *words)
 
     # FILES AND THE REST
 
@@ -223,16 +306,14 @@ class Commands(Shown):
                 try:
                     self.do(line)
                 except Refused as error:
-                    self.say(f"{path}:{at}: {error}")
+                    raise Refused(f"{path}:{at}: {error}; the script ends here") from error
         finally:
             self.depth -= 1
 
     def do_record(self, words):
-        path = one_word(words, "say a file")
+        path = one_word(words, "say a file: record script")
         self.session.journal.record(path, self.sure)
-        target = self.session.target
-        wild = f" --wild {target.wild}" if target.wild else ""
-        self.say(f"recording: talft debug {target.path}{wild} <{path}")
+        self.say(f"recording to {path}; this runs it again: {self.session.target.command_of(path)}")
 
     def do_quit(self, words):
         raise Quit

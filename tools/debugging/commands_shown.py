@@ -4,7 +4,7 @@ import re
 
 from common import SITES, Refused
 from debugging import explaining, views
-from debugging.help import HELP, INFO, SHORT, help_lines
+from debugging.help import ELSEWHERE, HELP, INFO, SHORT, TOPICS, help_lines, help_of
 from debugging.reading import number, one_word, word_of
 
 
@@ -13,8 +13,10 @@ class Shown:
 
     def do_info(self, words):
         topics = [topic for topic in INFO if words and topic.startswith(words[0])]
+        if words and words[0] in ELSEWHERE:
+            raise Refused(f"{words[0]}: no topic: {ELSEWHERE[words[0]]}")
         if len(topics) != 1:
-            raise Refused("info " + "|".join(INFO))
+            raise Refused((f"{words[0]}: no topic: " if words else "say a topic: ") + "info " + "|".join(INFO))
         call = {"breaks": self.breaks, "strikes": self.strikes, "names": self.names}.get(topics[0])
         if call:
             call()
@@ -37,21 +39,22 @@ class Shown:
         self.say(*lines or ["no strike"])
 
     def breaks(self):
-        """All break places, with how often each was come by so far, and watches."""
+        """All breakpoints, with how often each was come by so far, and watches."""
         session = self.session
         lines = []
         for at, one in session.breaks.items():
             hits = explaining.counted(session.hits(one), "hit")
-            parts = [f"  {at}", f"break {one.place[0]} {one.place[1]}", one.instruction.short(), one.told()]
+            here = one.instruction
+            parts = [f"  {at}", f"break {here.block} {here.index}", here.short(), one.told()]
             lines.append("  ".join([part for part in parts if part] + [f"{hits} so far"]))
-        lines += [f"  {at}  watch {name}" for at, name in session.watches.items()]
-        self.say(*lines or ["no break place and no watch"])
+        lines += [f"  {at}  watch {' '.join(sites)}" for at, sites in session.watches.items()]
+        self.say(*lines or ["no breakpoint and no watch"])
 
     def names(self):
         """What the source's names are."""
         names = self.session.target.names
         lines = [f"  {name}  {place.told()}" for name, place in (names or {}).items()]
-        self.say(*lines or ["no names of a source are known"])
+        self.say(*lines or ["no names of a source are known: `debugger OBJ --source SRC` names the source of an object"])
 
     def note(self, *lines):
         """Records the lines of `talft debug` that tell what was asked."""
@@ -78,12 +81,16 @@ class Shown:
         for site in session.registers_of(name):
             word, state = session.word(site), session.state()
             has_colour = site in state.words or site in ("pcg", "pcb")
-            told.append(f"{site}{' ' + state.colour(site) if has_colour else ''} {views.in_base(word, base)}")
+            told.append(f"{site}{' ' + state.colour(site) if has_colour else ''} {views.BASES[base](word)}")
         return told[0] if told[0].split()[0] == name else f"{name}: " + ", ".join(told)
 
     def do_print(self, words, base=""):
         if not words:
             raise Refused("say a word: print r1")
+        if base not in views.BASES:
+            raise Refused(f"/{base}: no base: /x, /b, /o or /d")
+        if any(not name[0].isalnum() and name[0] != "$" for name in words):
+            raise Refused(f"{' '.join(words)}: `print` writes words, and computes nothing: print r1 out")
         for name in words:
             line = self.told_word(name, base)
             for site in self.session.registers_of(name):
@@ -92,15 +99,24 @@ class Shown:
             self.say(line)
 
     def do_x(self, words, count=""):
-        names = self.session.target.listing.cells
-        first = one_word(words, "say a cell or its address")
-        first = first if first in names else self.session.target.cell_at(word_of(first))
+        names, word = self.session.target.listing.cells, one_word(words, "say a cell, an array or an address: x/3 out")
+        first = next((name for name in (word, word + "[0]") if name in names), None)
+        if first is None and word.replace("_", "").isalnum() and word[0].isdigit():
+            first = self.session.target.cell_at(word_of(word))
         if first is None:
-            raise Refused("say a cell or its address")
+            self.session.target.check_array(word)
+            raise Refused(f"{word}: no cell, no array and no address of a cell")
         digits = re.match(r"\d*", count)[0]
-        at = names.index(first)
-        for name in names[at:at + int(digits or 1)]:
+        if digits and int(digits) == 0:
+            raise Refused(f"x/{count}: say how many cells, from 1 on")
+        at, array = names.index(first), first.partition("[")[0]
+        wanted = names[at:at + int(digits or 1)]
+        shown = [name for name in wanted if name.partition("[")[0] == array] if "[" in first else wanted
+        for name in shown:
             self.do_print([name], count[len(digits):])
+        if len(shown) < int(digits or 1):
+            size = self.session.target.size_of_array(array, sum(name.startswith(array + "[") for name in names))
+            self.say(size if "[" in first else f"{shown[-1]} is the last cell")
 
     def do_disassemble(self, words):
         if len(words) == 1 and words[0].isdigit():
@@ -127,11 +143,12 @@ class Shown:
         self.say(*lines or ["no word differs"])
 
     def do_help(self, words):
-        if words:
-            form, told = HELP[self.resolve(words[0])]
-            self.say(form, "  " + told)
+        if words and words[0] in TOPICS:
+            if SHORT.get(words[0]) in HELP:
+                self.say(f"`{words[0]}` is also short for `{SHORT[words[0]]}`: `help {SHORT[words[0]]}`")
+            self.say(*TOPICS[words[0]].splitlines())
         else:
-            self.say(*help_lines())
+            self.say(*help_of(self.resolve(words[0])) if words else help_lines())
 
     # COMPLETION
 
@@ -159,7 +176,8 @@ class Shown:
             return SITES if is_first else []
         return {"print": SITES + listing.cells + names, "display": SITES + listing.cells + names,
                 "watch": SITES[:67] + listing.cells + names, "x": listing.cells, "info": INFO,
-                "help": sorted(HELP)}.get(name, [])
+                "undisplay": self.displayed,
+                "help": sorted(HELP) + list(TOPICS)}.get(name, [])
 
 
 def files(start):

@@ -2,10 +2,12 @@
 
 The words are answers of the program, for the run with its strikes and for the run without. Which instruction compares
 what is in debugging/machine.py."""
-from debugging.machine import detection, is_fetch
+from debugging.machine import compared, detection, is_fetch, own_colour, read_registers
 
 # How many steps after the first strike are looked at, and how many lines of a way are written.
 MOST_STEPS, MOST_LINES = 1_500, 24
+# How many instructions are named where the colours meet.
+MOST_CAUSES = 4
 # How many steps longer the run without the strikes may take for its outputs.
 MOST_LATER = 1_000_000
 
@@ -22,11 +24,6 @@ def differences(state, other):
             if left.get(name) != right.get(name)]
 
 
-def where_it_is(instruction):
-    """The place of an instruction in words."""
-    return f"block {instruction.block} index {instruction.index}, line {instruction.shown_line()}"
-
-
 def reason(session):
     """The instruction that was detected, or None for a fetch, and why: of a machine that has stopped itself."""
     before = session.state_at(session.state().position - 1)
@@ -39,16 +36,30 @@ def table(rows):
     """What was compared, as lines."""
     if not rows:
         return []
-    widths = [max(len(getattr(row, part)) for row in rows) for part in ("what", "left", "right")]
-    return [f"  {row.what:<{widths[0]}}  {row.left:<{widths[1]}}  {row.right:<{widths[2]}}  "
-            + ("equal" if row.same else "DIFFERENT") for row in rows]
+    words = [row for row in rows if row.what]
+    widths = [max([len(getattr(row, part)) for row in words] or [0]) for part in ("what", "left", "right")]
+    lines = []
+    for row in rows:
+        told = f"{row.what:<{widths[0]}}  {row.left:<{widths[1]}}  {row.right:<{widths[2]}}  " if row.what else row.left
+        lines.append(f"  {told}" + ("equal" if row.same else "DIFFERENT") * bool(row.what))
+    return lines
 
 
 class Change:
-    """A position of the way: what changed there, by which instruction or strikes, and what is right again."""
+    """A position of the way: what changed there, by which instruction or strikes, and what is right again.
 
-    def __init__(self, position, instruction, strikes, new, gone):
+    `left` is how many words differ then, `passed` has what the instruction compared, where it was not as without the
+    strike, and `meets` has the colours of the words that it took."""
+
+    def __init__(self, position, instruction, strikes, new, gone, left):
         self.position, self.instruction, self.strikes, self.new, self.gone = position, instruction, strikes, new, gone
+        self.left, self.passed, self.meets = left, [], []
+
+    def lines(self, target):
+        """As lines: one for each comparison that passed, too."""
+        who = f"{self.instruction.words[0]}" if self.instruction else "the fetch"
+        return [self.told(target)] + [f"    {who} compared {row.left} with {row.right}: equal, so it passed" if row.what
+                                      else f"    {who} passed: {row.left}" for row in self.passed]
 
     def told(self, target):
         """As a line."""
@@ -58,11 +69,11 @@ class Change:
         else:
             told = [self.difference(target, *pair) for pair in self.new]
         if self.gone:
-            told.append("as without it again: " + " ".join(self.gone))
+            told.append("right again: " + " ".join(self.gone))
         cause = ", ".join(f"the strike {s.step}:{s.site}:{s.word}" for s in self.strikes)
         if not cause and self.instruction:
-            line = f"  (line {self.instruction.source_line})" if self.instruction.source_line else ""
-            cause = self.instruction.short() + line
+            line = target.line_of(self.instruction)
+            cause = self.instruction.short() + (f"  ({line})" if line else "")
         return f"  at {self.position:<8} {'; '.join(told) or 'no word differs':<44}  {cause}".rstrip()
 
     @staticmethod
@@ -78,7 +89,7 @@ class Runs:
     def __init__(self, session, last):
         self.made = [s for s in session.strikes if s.step <= last]
         self.first = self.made[0].step
-        end = min(last, self.first + MOST_STEPS)
+        self.end = end = min(last, self.first + MOST_STEPS)
         self.is_cut = last > end
         self.struck = session.timeline.span(self.first, end, session.strikes)
         self.clean = session.timeline.span(self.first, end, ())
@@ -110,18 +121,58 @@ def way(session, runs):
         new = [(name,) + pair for name, pair in now.items() if known.get(name) != pair]
         gone = [name for name in known if name not in now]
         strikes = [s for s in made if s.step == state.position]
-        if new or gone or strikes:
-            found.append(Change(state.position, None if strikes else fetched, strikes, new, gone))
+        change = Change(state.position, None if strikes else fetched, strikes, new, gone, len(now))
+        if i and not {"pcg", "pcb"} & known.keys():
+            change.passed = passed(session.target, fetched, runs.struck[i - 1], clean[min(i, len(clean)) - 1])
+        if fetched and not is_fetch(state.position - 1):
+            change.meets = meeting(fetched.words, runs.struck[i - 1] if i else state, known)
+        if new or gone or strikes or change.passed:
+            found.append(change)
         known = now
         if is_fetch(state.position):
             fetched = session.target.at(state.pcg) if state.block is not None else None
     return found
 
 
+def passed(target, fetched, state, other):
+    """What the step from a state compared and found equal, where the words are not those of the other state."""
+    instruction = None if is_fetch(state.position) else fetched
+    names = target.named, target.named_target
+    right = compared(other, instruction, *names)
+    return [row for row in compared(state, instruction, *names) if row.same and row not in right]
+
+
+def meeting(words, state, known):
+    """(name, colour) of what an instruction takes, if the colours are not one and a word of it differs."""
+    taken, own = [(name, state.colour(name)) for name in read_registers(words)], own_colour(words)
+    if not any(name in known for name, _ in taken):
+        return []
+    if own:
+        others = [(name, colour) for name, colour in taken if colour != own]
+        one = "the instruction" if words[0][-2] == "_" else f"the number {words[4]}"
+        return others + [(one, own)] if others else []
+    return taken if len({colour for _, colour in taken}) > 1 else []
+
+
+def cause_lines(target, changes):
+    """Where the colours of a program meet, so that one fault is on both sides; nothing where they never do."""
+    lines = []
+    for change in changes:
+        if change.meets:
+            colours = [f"{name} is {'green' if colour == 'G' else 'blue'}" for name, colour in change.meets]
+            lines.append(f"  at {change.position:<8} {change.instruction.short()}  "
+                         f"({target.place_of(change.instruction)}): {', '.join(colours)}")
+    if not lines:
+        return []
+    more = [f"  .. {len(lines) - MOST_CAUSES} more .."] if len(lines) > MOST_CAUSES else []
+    return ["the cause: green and blue are mixed, so the fault is on both sides:"] + lines[:MOST_CAUSES] + more
+
+
 def way_lines(session, last):
-    """The way as lines, and the first wrong output."""
-    runs = Runs(session, last)
-    lines = [change.told(session.target) for change in way(session, runs)]
+    """The way as lines with the first wrong output, and the lines of the cause."""
+    runs, target = Runs(session, last), session.target
+    changes = way(session, runs)
+    lines = [line for change in changes for line in change.lines(target)]
     if len(lines) > MOST_LINES:
         kept = MOST_LINES // 2
         lines[kept:-kept] = [f"  .. {len(lines) - 2 * kept} more .."]
@@ -129,8 +180,13 @@ def way_lines(session, last):
         position, line, right = wrong
         instruction = session.fetched(position - 1)
         lines.append(f"the first wrong output: {line}, {'not ' + right if right else 'where none comes'}; "
-                     f"committed in step {position - 1}: {instruction.short()}  ({where_it_is(instruction)})")
-    return lines + ([f"(the way is told for its first {MOST_STEPS} steps)"] if runs.is_cut else [])
+                     f"committed at {position}: {instruction.short()}  ({target.place_of(instruction)})")
+    if changes and changes[-1].left == 0 and all(s.step <= runs.end for s in runs.made):
+        # The runs are the same from there on.
+        lines.append(f"gone at {changes[-1].position}: from there on no word differs")
+    elif runs.is_cut:
+        lines.append(f"(the way is told for its first {MOST_STEPS:,} steps, up to {runs.end})")
+    return lines, cause_lines(target, changes)
 
 
 def stop_lines(session):
@@ -141,8 +197,8 @@ def stop_lines(session):
     if state.status == "running":
         return [f"at {state.position} running: nothing is detected"]
     instruction, told = reason(session)
-    what = f"{instruction.short()}  ({where_it_is(instruction)})" if instruction else "the fetch of an instruction"
-    lines = [f"detected in step {state.position - 1}: {what}"]
+    what = f"{instruction.short()}  ({session.target.place_of(instruction)})" if instruction else "a fetch"
+    lines = [f"detected at {state.position}: {what}"]
     if instruction and instruction.source_line:
         lines.append(f"  {instruction.source_line}: {session.target.source[instruction.source_line - 1].strip()}")
     return lines + ([f"  {told.sentence}"] + table(told.compared) if told else
@@ -159,10 +215,11 @@ def end_line(session):
     left = differences(state, session.unstruck())
     same = text == clean if state.status == "done" else clean.startswith(text)
     if same and not left:
-        return "now no word differs, and no output does: the fault is gone"
-    told = f"now {counted(len(left), 'word')} {'differs' if len(left) == 1 else 'differ'}"
+        return f"at {state.position}: no word differs, and no output does: the fault is gone"
+    told = f"at {state.position}: {counted(len(left), 'word')} {'differs' if len(left) == 1 else 'differ'}"
     so_far = " so far" if state.status == "running" else ""
-    return told + (f"; the outputs are the same{so_far}" if same else "; the OUTPUTS DIFFER")
+    corrupt = ", so the run is corrupt" if state.status == "done" else ""
+    return told + (f"; the outputs are the same{so_far}" if same else f"; the OUTPUTS DIFFER{corrupt}")
 
 
 def explain(session):
@@ -170,7 +227,12 @@ def explain(session):
     state = session.state()
     lines = stop_lines(session)
     if not any(s.step <= state.position for s in session.strikes):
-        why = ": the object itself does this; `talft check` says whether it is accepted"
-        return lines + ["no strike was made" + (why if state.status == "detected" else "")]
-    told = way_lines(session, state.position)
-    return lines + ["the way of the fault (what differs from the run without it):"] + told + [end_line(session)]
+        ahead = ", ".join(f"{s.step}:{s.site}:{s.word}" for s in session.strikes)
+        if ahead and state.status == "running":
+            return lines + [f"the strike {ahead} is ahead: `continue`, and ask then"]
+        if state.status == "detected":
+            return lines + ["no strike was made: the object itself does this"] + session.target.refusal()
+        return lines + [f"no strike was made: {ahead} is not before the end" if ahead else "no strike was made"]
+    told, cause = way_lines(session, state.position)
+    lines += ["the way of the fault (what differs from the run without it):"] + told + [end_line(session)]
+    return lines + cause + session.target.refusal()

@@ -17,14 +17,16 @@ class Journal:
     def record(self, path, sure):
         """Keeps the lines in a file; one that is there is overwritten only if `sure` says so."""
         path = os.path.abspath(path)
+        if os.path.isdir(path):
+            raise Refused(f"{path}: a folder: say a file")
         if os.path.lexists(path) and path != self.file and not sure(f"{path} is there: overwrite it? (y or n) "):
             raise Refused(f"{path} is there already, and stays as it is: say another file")
-        old, self.file = self.file, path
         try:
-            self.put()
-        except Refused:
-            self.file = old
-            raise
+            with open(path, "w", encoding="ascii"):
+                self.file = path
+        except OSError as error:
+            raise Refused(f"{path}: it cannot be written: {error.strerror}") from error
+        self.put()
 
     def put(self, *lines):
         """More lines."""
@@ -42,7 +44,8 @@ class Journal:
         """From a position to another; what is too far back is gone to from the start, in place of all lines before."""
         if new > old:
             self.low = max(self.low, new - MOST_BACK)
-            self.put(*path(strikes, old, new))
+            # Those that are made here have their lines already.
+            self.put(*path([s for s in strikes if s.step > old], old, new))
         elif self.low <= new < old:
             self.put(f"back {old - new}")
         elif new < old:

@@ -79,6 +79,18 @@ class Listing:
         start, after = self.blocks[block], (self.blocks + [len(self.code)])[block + 1]
         return self.code[start + index] if start + index < after else None
 
+    def why_not(self, text):
+        """Why `find` finds nothing."""
+        if text.startswith("*"):
+            return f"no instruction has this address: 1 to {len(self.code)}"
+        if match := PLACE.fullmatch(text):
+            block, most = int(match[1]), len(self.blocks) - 1
+            if block > most:
+                return f"no block {block}: the blocks are 0 to {most}"
+            count = (self.blocks + [len(self.code)])[block + 1] - self.blocks[block]
+            return f"no index {match[2]}: block {block} has 0 to {count - 1}"
+        return "no place: say B I, B:I, bB, *ADDRESS, a label or a line"
+
     def label_of(self, block):
         """The block's label, or None."""
         return next((name for name, labelled in self.labels.items() if labelled == block), None)
@@ -89,8 +101,16 @@ class Listing:
         there = [(getattr(i, field), i.address) for i in self.code if (getattr(i, field) or 0) >= max(1, line)]
         return self.at(min(there)[1]) if there else None
 
-    def find(self, text, source=False):
-        """The instruction that a person names: B I, B:I, bB, *ADDRESS, LABEL, LABEL+I or a line; None where none is."""
+    def parts_of_line(self, line, source=False):
+        """Where the code of this line or of the next that has some begins: a `while` begins before its loop and in it."""
+        first = self.first_of_line(line, source)
+        if not first or not source:
+            return [first] if first else []
+        return [i for i in self.code if i.source_line == first.source_line
+                and (i.index == 0 or self.at(i.address - 1).source_line != i.source_line)]
+
+    def find(self, text):
+        """The instruction that a person names: B I, B:I, bB, *ADDRESS, LABEL or LABEL+I; None where none is."""
         if match := re.fullmatch(r"\*\s*(0[xX][0-9a-fA-F]+|\d+)", text):
             return self.at(int(match[1], 0))
         if match := re.fullmatch(r"([A-Za-z_]\w*)(?:\+(\d+))?", text):
@@ -98,7 +118,5 @@ class Listing:
                 return self.at_place(self.labels[match[1]], int(match[2] or 0))
             block = re.fullmatch(r"b(?:lock)?(\d+)", match[1])
             return self.at_place(int(block[1]), int(match[2] or 0)) if block else None
-        if match := re.fullmatch(r"(?:line\s+)?(\d+)", text):
-            return self.first_of_line(int(match[1]), source)
         match = PLACE.fullmatch(text)
         return self.at_place(int(match[1]), int(match[2] or 0)) if match else None

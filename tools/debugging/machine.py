@@ -12,7 +12,7 @@ REGISTERS = [f"r{i}" for i in range(64)] + ["d"]
 QUEUE_LENGTH = 8
 OPERATIONS = ("add", "sub", "mul", "ltu", "eq", "and", "or", "xor", "shl", "shr")
 
-# Two words that an instruction compares; `same` says whether the machine goes on.
+# Two words that an instruction compares, or a sentence in `left` alone; `same` says whether the machine goes on.
 Compared = collections.namedtuple("Compared", "what left right same")
 # Why a step is detected: a sentence, and what was compared.
 Detection = collections.namedtuple("Detection", "sentence compared")
@@ -26,6 +26,25 @@ def is_fetch(position):
 def written_register(words):
     """The register that an instruction writes, or None. "Operations and moves", "Loads"."""
     return words[1] if words[0] in OPERATIONS or words[0] in ("mov", "idx", "ld_G", "ld_B") else None
+
+
+def read_registers(words):
+    """The registers whose words an instruction takes. "Steps": the name of a register is its word."""
+    if words[0] in OPERATIONS:
+        return [word for word in words[2:4] if word in REGISTERS]
+    if words[0] in ("idx", "ld_G", "ld_B"):
+        return [words[2]]
+    if words[0] in ("st_G", "st_B", "bz_G", "bz_B"):
+        return words[1:3]
+    return [words[1]] if words[0] in ("jmp_G", "jmp_B") else []
+
+
+def own_colour(words):
+    """The colour of an instruction, or of the number that it takes; or None. "Steps": it is in the instruction's name,
+    or before the number."""
+    if words[0][-2:] in ("_G", "_B"):
+        return words[0][-1]
+    return words[3] if words[0] in OPERATIONS and words[3] in ("G", "B") else None
 
 
 def may_write_d(words):
@@ -49,9 +68,43 @@ def detection(state, instruction, named=str, target=str):
     return rule(state, instruction.words, named, target) if rule else None
 
 
+def compared(state, instruction, named=str, target=str):
+    """What the step from a state compares of green and blue, whether it passes or not."""
+    if instruction is None:
+        return counters_compared(state)
+    rule = {"st_B": pairs_compared, "jmp_B": targets_compared, "bz_B": targets_compared}.get(instruction.words[0])
+    return rule(state, instruction.words, named if rule is pairs_compared else target) if rule else []
+
+
+def counters_compared(state):
+    """What a fetch compares."""
+    return [Compared("counter", f"pcg = {state.pcg}", f"pcb = {state.pcb}", state.pcg == state.pcb)]
+
+
+def pairs_compared(state, words, named):
+    """What a blue store compares."""
+    address, value = state.word(words[1]), state.word(words[2])
+    if not state.queue:
+        return [Compared("address", f"{words[1]} = {named(address)}", "the queue is empty", False)]
+    oldest = state.queue[0]
+    return [Compared("address", f"{words[1]} = {named(address)}", f"qa0 = {named(oldest[0])}", address == oldest[0]),
+            Compared("value", f"{words[2]} = {named(value)}", f"qv0 = {named(oldest[1])}", value == oldest[1])]
+
+
+def targets_compared(state, words, target):
+    """What a blue jump or branch compares."""
+    d, register = state.word("d"), words[2] if words[0] == "bz_B" else words[1]
+    own, tested = state.word(register), state.word(words[1]) if words[0] == "bz_B" else 0
+    if tested:
+        return [Compared(None, f"{words[1]} = {tested}: blue does not jump, so d must be 0; d = {target(d)}", "", d == 0)]
+    rows = [Compared("target", f"{register} = {target(own)}", f"d = {target(d)}", own == d)]
+    jumps = Compared(None, f"{words[1]} = 0: blue jumps, so d must be its target", "", True)
+    return ([jumps] if words[0] == "bz_B" else []) + rows
+
+
 def of_fetch(state):
     """The rows of "Fetches"."""
-    rows = [Compared("counter", f"pcg = {state.pcg}", f"pcb = {state.pcb}", state.pcg == state.pcb)]
+    rows = counters_compared(state)
     if state.pcg != state.pcb:
         return Detection("the fetch: the green counter is not the blue one", rows)
     if state.block is None:
@@ -79,16 +132,12 @@ def of_green_store(state, words, named, target):
 
 def of_blue_store(state, words, named, target):
     """The rows of `st_B` in "Stores"."""
-    address, value = state.word(words[1]), state.word(words[2])
+    rows = pairs_compared(state, words, named)
     if not state.queue:
-        return Detection("no green store is pending",
-                         [Compared("address", f"{words[1]} = {named(address)}", "the queue is empty", False)])
-    oldest = state.queue[0]
-    rows = [Compared("address", f"{words[1]} = {named(address)}", f"qa0 = {named(oldest[0])}", address == oldest[0]),
-            Compared("value", f"{words[2]} = {named(value)}", f"qv0 = {named(oldest[1])}", value == oldest[1])]
+        return Detection("no green store is pending", rows)
     if not all(row.same for row in rows):
         return Detection("the blue pair is not the oldest green one", rows)
-    return None if state.is_cell(address) else Detection("both pairs are equal, but no cell has the address", rows)
+    return None if state.is_cell(state.word(words[1])) else Detection("both pairs are equal, but no cell has the address", rows)
 
 
 def of_green_jump(state, words, named, target):
@@ -101,18 +150,12 @@ def of_green_jump(state, words, named, target):
 
 def of_blue_jump(state, words, named, target):
     """The rows of `jmp_B` and `bz_B` in "Jumps, branches and the end"."""
-    d, register = state.word("d"), words[2] if words[0] == "bz_B" else words[1]
-    own = state.word(register)
-    rows = [Compared("target", f"{register} = {target(own)}", f"d = {target(d)}", own == d)]
-    if words[0] == "bz_B":
-        tested = state.word(words[1])
-        if tested:
-            told = [Compared("tested", f"{words[1]} = {tested}", f"d = {target(d)}", False)]
-            return None if d == 0 else Detection("blue passes, and green was to jump", told)
-        rows.insert(0, Compared("tested", f"{words[1]} = 0", "so blue jumps", True))
+    d, rows = state.word("d"), targets_compared(state, words, target)
+    if words[0] == "bz_B" and state.word(words[1]):
+        return None if d == 0 else Detection("blue passes, and green was to jump", rows)
     if d == 0:
         return Detection("blue jumps, and green has not: d is 0", rows)
-    return None if own == d else Detection("the blue target is not the green one", rows)
+    return None if rows[-1].same else Detection("the blue target is not the green one", rows)
 
 
 RULES = {"ld_G": of_load, "ld_B": of_load, "st_G": of_green_store, "st_B": of_blue_store, "jmp_G": of_green_jump,

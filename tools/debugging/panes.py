@@ -3,10 +3,16 @@ import curses
 
 from debugging import explaining, views
 
-KEYS = ("n/p step  i/I instr  l/L line  c/r run  b break  z zap  f flip  u undo  e explain  g goto  : command  ? help"
-        "  q quit")
-# How many columns the green half of a pair of registers takes.
+KEYS = (": command  ? help  q quit  n/p step  i/I instruction  c/r run  e explain  b break  z zap  f flip  u undo"
+        "  g goto  l/L line")
+# What the signs of the time line and the marks of pairs mean.
+LEGEND = "  ".join(["o here", "! strike", "@ both", *views.MARKS.values()])
+# How many columns the green half of a pair of registers takes at most, with the blank behind it.
 HALF = 27
+# How many of the last outputs say which cells have changed last.
+LAST_CHANGED = 200
+# From how many columns on a short blue word has room.
+WIDE = 75
 
 
 class Panes:
@@ -18,6 +24,8 @@ class Panes:
         # A character in the last cell of all would scroll.
         room = wide - column - (1 if row == height - 1 else 0)
         width = room if width is None else min(width, room)
+        if len(text) > width > 0:
+            text = text[:width - 1] + self.cut
         if 0 <= row < height and width > 0:
             try:
                 self.window.addnstr(row, column, text.ljust(width), width, self.style[style])
@@ -38,8 +46,10 @@ class Panes:
         row = self.registers(1, left + 1, body - 8)
         self.rest(row, left + 1, body - row + 1)
         self.time(height - 4, wide)
-        self.put(height - 2, 0, self.message, "changed" if self.message else None)
-        self.put(height - 1, 0, KEYS, "dim")
+        if self.message:
+            self.put(height - 2, 0, self.message, "changed")
+        # As many keys as have room; `?` has all. The last cell of the screen stays empty.
+        self.put(height - 1, 0, KEYS if len(KEYS) < wide else KEYS[:wide].rpartition("  ")[0], "dim")
         self.window.refresh()
 
     def code_lines(self, height):
@@ -78,30 +88,56 @@ class Panes:
         state = self.session.state()
         shown = [pair for pair in views.pairs(self.session, self.before) if self.every or not pair.is_unset]
         cut = max(0, len(shown) - max(3, height - 3))
-        self.put(top, column, f"  {'green':<{HALF}}blue" + (f"   ({cut} more)" if cut else ""), "title")
+        more = f"   ({cut} more)" if cut else ""
+        wide = self.window.getmaxyx()[1]
+        is_wide, room = wide >= WIDE, max(1, wide - column - 2)
+        # A green word may have a name of the source behind it.
+        half = min(HALF, (room + 3) // 2) if is_wide else room
+        self.put(top, column, (f"  {'green':<{half}}blue" if is_wide else f"  green  blue: {WIDE} columns") + more, "title")
         row = top + 1
         for pair in shown[:len(shown) - cut]:
-            styles = ["differs" if pair.differs else "changed" if changed else colour
+            styles = ["differs" if pair.mark == "*" else "changed" if changed else colour
                       for changed, colour in zip(pair.changed, ("green", "blue"))]
-            self.put(row, column, "* " if pair.differs else "  ", "differs", 2)
-            self.put(row, column + 2, pair.green, styles[0], HALF)
-            self.put(row, column + 2 + HALF, pair.blue, styles[1])
+            self.put(row, column, pair.mark + " ", "differs" if pair.mark == "*" else "dim", 2)
+            # A blank stays between the columns.
+            green, blue = pair.within(half - 1, room - half)
+            self.put(row, column + 2, green, styles[0], half - 1)
+            if is_wide:
+                self.put(row, column + 2 + half, blue, styles[1])
             row += 1
         style = "differs" if state.pcg != state.pcb else None
-        self.put(row, column, f"{'*' if style else ' '} {'pcg G ' + str(state.pcg):<{HALF}}pcb B {state.pcb}", style)
+        counters = [f"pcg G {state.pcg}", f"pcb B {state.pcb}"]
+        self.put(row, column, "* " if style else "  ", style)
+        self.put(row, column + 2, counters[0], style, half - 1)
+        self.put(row, column + 2 + half, counters[1], style)
         self.put(row + 1, column, f"  d   G {views.spelled(self.session, state.word('d'))}")
         return row + 3
 
+    def cells_shown(self, most):
+        """(name, word) of so many cells: those that are displayed or watched, those that changed last, and the first.
+
+        What a cell was given last is an output. So where there are many, not all of them are asked for each screen."""
+        session, known = self.session, self.session.target.listing.cells
+        watched = [site for _, site in session.watched()]
+        wanted = [name for name in self.commands.displayed + watched if name in known][:most]
+        words = session.cells(wanted) if wanted else {}
+        changed = [line.rsplit(" ", 1) for line in reversed(session.outputs().last(LAST_CHANGED))]
+        for name, word in changed + list(session.state().cells.items()):
+            words.setdefault(name, word)
+        return list(words.items())[:most]
+
     def rest(self, row, column, height):
-        """Queue, cells and outputs, as far as there is room."""
+        """What is displayed, the queue, cells and outputs, as far as there is room."""
         session = self.session
         state, outputs = session.state(), session.outputs()
         total = len(session.target.listing.cells)
-        lines = [("queue" + ("" if state.queue else ": empty"), "title")]
+        lines = [("display", "title")] if self.commands.displayed else []
+        lines += [(line, None) for line in self.commands.display_lines()]
+        lines += [("queue" + ("" if state.queue else ": empty"), "title")]
         lines += [(line, "green") for line in (views.queue_lines(session) if state.queue else [])]
-        # Where there are many cells, each screen would ask for all of them once more.
-        few = list(state.cells.items())[:max(1, (height - len(lines)) // 3)]
-        lines.append(("cells" + (f" ({len(few)} of {total}; `:cells` has all)" if total > len(few) else ""), "title"))
+        few = self.cells_shown(max(1, (height - len(lines)) // 3))
+        more = f" ({len(few)} of {total}; `:cells` has all)" if total > len(few) else ""
+        lines.append(("cells" + more, "title"))
         lines += [(f"  {name} {word}", None) for name, word in few]
         room = max(1, height - len(lines) - 1)
         lines.append((explaining.counted(len(outputs), "output"), "title"))
@@ -113,7 +149,7 @@ class Panes:
         """The time line, and the strikes."""
         session = self.session
         end = max(self.length, session.position)
-        note = f" {end}{'' if self.ends else '..'}"
+        note = f" {end} steps" if self.ends else f" {end} steps and more"
         bar = views.time_line(session, wide - len(note) - 4, end)
         self.put(row, 0, "0 ")
         for i, mark in enumerate(bar):
@@ -122,3 +158,5 @@ class Panes:
         strikes = "  ".join(f"! {s.step}:{s.site}:{s.word}" for s in session.strikes)
         detected = session.state().status == "detected"
         self.put(row + 1, 0, f"o {views.status_line(session)}   {strikes}", "differs" if detected else None)
+        if not self.message:
+            self.put(row + 2, 0, LEGEND, "dim")

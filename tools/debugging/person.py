@@ -1,11 +1,12 @@
-"""A person's session: where it is, its strikes, break places and watches, and what can be undone.
+"""A person's session: where it is, its strikes, breakpoints and watches, and what can be undone.
 
 The prompt, the screen and the adapter of editors all stand on it."""
 from common import SITES, WORDS, Refused
 from debugging import breaks, changes, runs
 from debugging.journal import Journal
 from debugging.machine import is_fetch
-from debugging.sessions import Strike, Timeline
+from debugging.reading import NO_WORD, number, word_of
+from debugging.sessions import Interrupted, Strike, Timeline
 
 MOST_UNDONE = 1_000
 
@@ -64,12 +65,18 @@ class Session:
         word = self.state().word(name)
         if word is None and name in self.target.listing.cells:
             word = self.cells([name])[name]
+        if word is None and name.startswith("$"):
+            raise Refused(f"{name}: words have no `$` here: say {name[1:] or 'r1'}")
+        if word is None and name in SITES:
+            raise Refused(f"{name}: the queue has {len(self.state().queue)} pairs here")
         if word is None:
-            raise Refused(f"{name}: nothing has this name here")
+            raise Refused(f"{name}: no register (r0 to r63, d, pcg, pcb), no part of the queue (qa0 to qv7), no cell"
+                          + (" and no variable" if self.target.names is not None else ""))
         return word
 
     def registers_of(self, name):
         """The pair of registers of a variable of the source, or the name itself."""
+        self.target.check_array(name)
         place = (self.target.names or {}).get(name)
         return [f"r{place.pair}", f"r{place.pair + 32}"] if place and place.pair is not None else [name]
 
@@ -114,44 +121,84 @@ class Session:
         return self.state()
 
     def places(self):
-        """The places of the break places."""
-        return {one.place for one in self.breaks.values()}
+        """Where the breakpoints are."""
+        return breaks.places_of(self.breaks.values())
+
+    def halting(self, position=None):
+        """The breakpoints that halt here or at another position, by number: those whose conditions and hits are met."""
+        state = self.state_at(self.position if position is None else position)
+        return {number: one for number, one in self.breaks.items()
+                if runs.is_break(state, one.places) and self.is_due(one, state.position)}
+
+    def is_due(self, one, position):
+        """Whether a breakpoint's condition and its hits are met at a position."""
+        if one.condition:
+            questions = one.condition.questions()
+            answers = self.timeline.ask_at(position, self.strikes, questions)
+            if not one.condition.holds({line: answers.line() for line in questions}):
+                return False
+        return one.least <= 1 or self.hits(one, position) >= one.least
 
     def go(self, more=()):
-        """Forward to the first break place, also of these, or change of a watched word, or to the stop."""
+        """Forward to the first breakpoint, also of these, or change of a watched word, or to the stop.
+
+        What is broken off stays at the last place that was told; if there is none, it is Interrupted."""
         every = list(self.breaks.values()) + list(more)
-        if len({one.place for one in every}) > breaks.MOST:
-            raise Refused("too many break places: the program takes 64")
-        places = {one.place for one in every}
-        if breaks.are_plain(every):
-            stop = runs.forward(self.timeline, self.position, self.strikes, places)
-        else:
-            stop = runs.forward_if(self.timeline, self.position, self.strikes, places, breaks.wanted_of(every),
-                                   breaks.are_counted(every))
-        for number, name in self.watches.items():
+        if len(breaks.places_of(every)) > breaks.MOST:
+            raise Refused(breaks.TOO_MANY)
+        here = self.position
+        try:
+            for end in runs.stretches(self.position):
+                # What stands at the end of the stretch before is met by this one.
+                stop = self.first_stop(max(self.position, here - 1), end, every)
+                if stop.reason != "limit":
+                    return self.arrive(stop)
+                here = end
+        except (Interrupted, KeyboardInterrupt) as error:
+            if here == self.position:
+                raise Interrupted from error
+        with self.timeline.calls.unstoppable():
+            return self.arrive(runs.Stop(here, "running", "interrupted", None))
+
+    def first_stop(self, start, end, every):
+        """Why a run stops first between two positions: at a breakpoint, a change, its stop, or the limit."""
+        stop = self.first_break(start, end, every)
+        for number, name in self.watched():
             find = changes.cell_forward if name in self.target.listing.cells else changes.register_forward
-            found = find(self.timeline, self.position, self.strikes, name, stop.position)
+            found = find(self.timeline, start, self.strikes, name, stop.position)
             if found.reason == "watch" and (found.position < stop.position or stop.reason != "breakpoint"):
                 stop = found._replace(what=(number, name) + found.what)
-        return self.arrive(stop)
+        return stop
+
+    def first_break(self, start, end, every):
+        """The same without what is watched."""
+        places = breaks.places_of(every)
+        if breaks.are_plain(every):
+            return runs.forward(self.timeline, start, self.strikes, places, end)
+        return runs.forward_if(self.timeline, start, self.strikes, places, breaks.wanted_of(every),
+                               breaks.are_counted(every), end)
+
+    def watched(self):
+        """(number, word) of each word that is watched."""
+        return [(number, site) for number, sites in self.watches.items() for site in sites]
 
     def go_back(self):
-        """Back to the last break place or to before the last change of a watched word, or to the start."""
+        """Back to the last breakpoint or to before the last change of a watched word, or to the start."""
         stop, every = runs.Stop(0, "running", "start", None), list(self.breaks.values())
         if every:
             wanted = None if breaks.are_plain(every) else breaks.wanted_of(every)
             stop = runs.backward(self.timeline, self.position, self.strikes, self.places(), wanted,
                                  breaks.are_counted(every))
-        for number, name in self.watches.items():
+        for number, name in self.watched():
             find = changes.cell_backward if name in self.target.listing.cells else changes.register_backward
             found = find(self.timeline, self.position, self.strikes, name)
             if found.reason == "watch" and (found.position > stop.position or stop.reason == "start"):
                 stop = found._replace(what=(number, name) + found.what)
         return self.arrive(stop)
 
-    def until(self, instruction):
-        """Forward to an instruction, or as `go`."""
-        return self.go([breaks.Break(instruction)])
+    def until(self, parts):
+        """Forward to one of these instructions, or as `go`."""
+        return self.go([breaks.Break(parts)])
 
     def following(self):
         """The next instruction of the text, or the first one of a later line of the source; or None."""
@@ -164,7 +211,7 @@ class Session:
     def finish(self):
         """Forward out of the block, to the start of the next one that the run comes to; or as `go`."""
         starts = [self.target.listing.at_place(block, 0) for block in range(len(self.target.listing.blocks))]
-        return self.go([breaks.Break(instruction) for instruction in starts if instruction])
+        return self.go([breaks.Break([instruction]) for instruction in starts if instruction])
 
     def arrive(self, stop):
         """Goes to where a run stops."""
@@ -178,50 +225,73 @@ class Session:
         self.check_strike(site, word)
         said = self.timeline.ask_at(self.position, self.strikes, [f"zap {site} {word}"]).line()
         if said != "zapped":
-            raise Refused(said)
+            raise Refused(f"{said}: {self.why_nothing(site)}")
         old = self.word(site)
         self.keep()
         self.add_strike(Strike(self.position, site, word, planned))
         self.journal.put(f"zap {site} {word}")
         return old
 
+    def why_nothing(self, site):
+        """Why a strike finds nothing at a site."""
+        if self.state().status != "running":
+            return "the machine has stopped"
+        pairs = len(self.state().queue)
+        return f"{site} is a part of the queue, which " + (f"ends with qa{pairs - 1} and qv{pairs - 1}" if pairs
+                                                           else "is empty")
+
     def flip(self, site, bit):
         """Strikes now, with the word that is there but for one bit."""
         if not 0 <= bit < 64:
             raise Refused(f"{bit}: no bit: 0 to 63")
         self.check_strike(site, 0)
-        return self.zap(site, self.word(site) ^ 1 << bit)
+        old = self.state().word(site)
+        return self.zap(site, 0 if old is None else old ^ 1 << bit)
 
     def check_strike(self, site, word):
         """Refuses what cannot be struck, or put there."""
         registers = self.registers_of(site)
         if len(registers) == 2:
             raise Refused(f"{site}: say {registers[0]} to strike its green word, {registers[1]} to strike its blue one")
+        if site in self.target.listing.cells:
+            raise Refused(f"{site}: no fault strikes a cell (docs/PROMISES.md)")
         if site not in SITES:
             raise Refused(f"{site}: no site: r0 to r63, d, pcg, pcb, qa0 to qa7, qv0 to qv7")
         if not 0 <= word < WORDS:
-            raise Refused(f"{word}: no word of 64 bits")
+            raise Refused(f"{word}: {NO_WORD}")
 
     def add_strike(self, strike):
         """One more strike, in the order of the steps."""
         self.strikes = tuple(sorted(self.strikes + (strike,), key=lambda s: s.step))
 
     def plan(self, text):
-        """A strike K:SITE:V that is made whenever the session comes by."""
-        parts = text.split(":")
-        if len(parts) != 3 or not all(part.isascii() and part.isdigit() for part in parts[::2]):
-            raise Refused(f"{text}: no fault: say STEP:SITE:WORD")
-        self.check_strike(parts[1], int(parts[2]))
+        """A strike STEP:SITE:WORD that is made whenever the session comes by."""
+        strike = self.read_strike(text)
+        if strike in self.strikes:
+            raise Refused(f"{text}: planned already")
         self.keep()
-        self.add_strike(Strike(int(parts[0]), parts[1], int(parts[2]), True))
-        if int(parts[0]) <= self.position:
+        self.add_strike(strike)
+        if strike.step <= self.position:
             self.take_new_past()
         return self.strikes
 
-    def unplan(self):
-        """Forgets planned strikes."""
+    def read_strike(self, text):
+        """`STEP:SITE:WORD` as a planned strike."""
+        parts = text.split(":")
+        if len(parts) != 3 or not all(parts):
+            raise Refused(f"{text}: no fault: say STEP:SITE:WORD")
+        strike = Strike(number(parts[:1]), parts[1], word_of(parts[2]), True)
+        self.check_strike(strike.site, strike.word)
+        return strike
+
+    def unplan(self, text=None):
+        """Forgets planned strikes, or the one that is named."""
+        planned = {s for s in self.strikes if s.planned}
+        gone = planned if text is None else {self.read_strike(text)}
+        if not gone <= planned:
+            raise Refused(f"{text}: no such strike is planned: `info strikes` has them")
         self.keep()
-        self.strikes = tuple(s for s in self.strikes if not s.planned)
+        self.strikes = tuple(s for s in self.strikes if s not in gone)
         self.take_new_past()
 
     def take_new_past(self):
@@ -229,37 +299,45 @@ class Session:
         self.position = self.state().position
         self.journal.again(self.position, self.strikes)
 
-    # BREAK PLACES AND WATCHES
+    # BREAKPOINTS AND WATCHES
 
     def add_break(self, text, temporary=False):
-        """A break place, by `PLACE [if CONDITION] [hit N]`."""
+        """A breakpoint, by `PLACE [if CONDITION] [hit N]`."""
         one = breaks.read(text, self.target, temporary)
-        if one.place not in self.places() and len(self.places()) >= breaks.MOST:
-            raise Refused("too many break places: the program takes 64")
+        for number, other in self.breaks.items():
+            if one.is_as(other):
+                raise Refused(f"{text}: breakpoint {number} is this one already")
+        if len(self.places() | one.places) > breaks.MOST:
+            raise Refused(breaks.TOO_MANY)
         number = self.number()
         self.breaks[number] = one
         return number, one
 
-    def hits(self, one):
-        """How often a break place would have halted from the start up to here."""
-        wanted = breaks.wanted_of([breaks.Break(one.instruction, condition=one.condition)])
-        return len(runs.hits(self.timeline, 0, self.position + 1, self.strikes, {one.place}, wanted))
+    def hits(self, one, position=None):
+        """How often a breakpoint's condition was met there, from the start up to here or to another position."""
+        wanted = breaks.wanted_of([breaks.Break(one.parts, condition=one.condition)])
+        end = (self.position if position is None else position) + 1
+        return len(runs.hits(self.timeline, 0, end, self.strikes, one.places, wanted))
 
     def add_watch(self, name):
-        """A watch of a register, a counter or a cell."""
-        if name not in self.target.listing.cells and name not in SITES[:67]:
+        """A watch of a register, a counter or a cell, or of both registers of a variable."""
+        sites = self.registers_of(name)
+        if sites[0] not in self.target.listing.cells and sites[0] not in SITES[:67]:
             raise Refused(f"{name}: no cell and no register; parts of the queue cannot be watched" if name in SITES
                           else f"{name}: no cell and no register")
+        if sites in self.watches.values():
+            number = next(number for number, watched in self.watches.items() if watched == sites)
+            raise Refused(f"{name}: watch {number} is this one already")
         number = self.number()
-        self.watches[number] = name
+        self.watches[number] = sites
         return number
 
     def number(self):
-        """The next number of a break place or a watch."""
+        """The next number of a breakpoint or a watch."""
         self.next_number += 1
         return self.next_number - 1
 
     def delete(self, number):
-        """Forgets a break place or a watch."""
+        """Forgets a breakpoint or a watch."""
         if self.breaks.pop(number, None) is None and self.watches.pop(number, None) is None:
-            raise Refused(f"{number}: no break place and no watch")
+            raise Refused(f"{number}: no breakpoint and no watch")

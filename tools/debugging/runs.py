@@ -1,4 +1,4 @@
-"""Long runs of a session: forward and back to break places, and what is told at many of them in one call."""
+"""Long runs of a session: forward and back to breakpoints, and what is told at many of them in one call."""
 import collections
 
 from debugging.machine import is_fetch
@@ -7,10 +7,11 @@ from debugging.sessions import MOST_STEPS, path
 # How many questions go into one call, and how far each call of a search looks.
 MOST_LINES = 40_000
 CHUNKS = (4_096, 262_144, 16_777_216, 1_073_741_824)
+FIRST_STRETCH = 65_536
 
 # Where a run came to, and why it stopped there: `what` is the place, or the words before and after a change.
 Stop = collections.namedtuple("Stop", "position status reason what")
-# A break place where one of these is wanted: what is asked at each halt, and whether the answers fulfil it.
+# A breakpoint where one of these is wanted: what is asked at each halt, and whether the answers fulfil it.
 Wanted = collections.namedtuple("Wanted", "questions holds")
 
 
@@ -20,13 +21,24 @@ def is_break(where, places):
 
 
 def break_lines(places):
-    """The lines that set break places."""
+    """The lines that set breakpoints."""
     return [f"break {block} {index}" for block, index in sorted(places)]
 
 
+def stretches(position):
+    """Where a run forward is looked at: what is told up to there is kept if it is broken off.
+
+    Each call goes from the start, so each stretch is longer than the one before."""
+    count = FIRST_STRETCH
+    while True:
+        position += count
+        yield position
+        count *= 4 if count < MOST_STEPS else 2
+
+
 def forward(timeline, position, strikes, places, limit=None):
-    """The first break place after a position, the machine's stop, or the limit."""
-    here, times = position, 1
+    """The first breakpoint after a position, the machine's stop, or the limit."""
+    here, times = position, 1 if limit is None else min(256, max(1, -(-(limit - position) // MOST_STEPS)))
     while True:
         plan = going(here, [s for s in strikes if s.step > here], times)
         stop, here = follow(timeline, position, here, strikes, places, limit, plan)
@@ -81,7 +93,7 @@ def marks(strikes, start, end):
 
 
 def halts(timeline, start, end, strikes, places, questions=()):
-    """(where, answers) at the start, at each break place, and now and then between; strikes are made in between."""
+    """(where, answers) at the start, at each breakpoint, and now and then between; strikes are made in between."""
     found, here = [], start
     for stop in sorted(at for at in marks(strikes, start, end) if at < end) + [end]:
         first = True
@@ -119,29 +131,31 @@ def halts_up_to(timeline, here, stop, strikes, places, questions):
 
 
 def hits(timeline, start, end, strikes, places, wanted=None):
-    """The halts from start to before end that are break places, and fulfil what is wanted there."""
+    """The halts from start to before end that are breakpoints, and fulfil what is wanted there."""
     questions = wanted.questions if wanted else []
     return [where for where, told in halts(timeline, start, end, strikes, places, questions)
             if is_break(where, places) and (not wanted or wanted.holds((where.block, where.index), told))]
 
 
-def forward_if(timeline, position, strikes, places, wanted, counted=False):
-    """As `forward`, to the first break place that fulfils what is wanted. Hits are counted from the start on."""
+def forward_if(timeline, position, strikes, places, wanted, counted, limit):
+    """As `forward`, to the first breakpoint that fulfils what is wanted. Hits are counted from the start on."""
     here = 0 if counted else position
     for chunk in CHUNKS + (CHUNKS[-1],) * 1_000_000:
-        found = [where for where in hits(timeline, here, here + chunk, strikes, places, wanted)
-                 if where.position > position]
+        end = min(here + chunk, limit)
+        found = [where for where in hits(timeline, here, end, strikes, places, wanted) if where.position > position]
         if found:
             return Stop(found[0].position, "running", "breakpoint", (found[0].block, found[0].index))
-        where = place_at(timeline, here + chunk, strikes)
+        where = place_at(timeline, end, strikes)
         if where.status != "running":
             return Stop(where.position, where.status, where.status, None)
-        here += chunk
-    return None
+        if end == limit:
+            break
+        here = end
+    return Stop(limit, "running", "limit", None)
 
 
 def backward(timeline, position, strikes, places, wanted=None, counted=False):
-    """The last break place before a position that fulfils what is wanted, or the start."""
+    """The last breakpoint before a position that fulfils what is wanted, or the start."""
     end = position
     for chunk in (position,) if counted else CHUNKS:
         start = max(0, end - chunk)

@@ -1,29 +1,37 @@
 """The full screen of the debugger: what its keys do."""
 import curses
 import os
+import re
 import sys
+import textwrap
 
 from common import Refused
 from debugging import explaining, runs, stepping, views
-from debugging.commands import Commands, Quit
+from debugging.commands import MOST_TO_END, Commands, Quit
+from debugging.help import AGAIN
 from debugging.panes import Panes
 from debugging.sessions import Interrupted
 
 HELP = ["n p        one machine step forward, back (arrows right and left, too)",
         "N P        ten machine steps",
         "i I        one instruction forward, back (two steps: its fetch, its execution)",
-        "l L        one line of the source, where lines are known",
-        "c r        on, or back, to a break place or a change",
+        "l L        one line of the source; one instruction where no source is known",
+        "c r        on, or back, to a breakpoint or a change",
         "o          out of this block",
-        "up down    choose an instruction; b sets or forgets a break place there",
+        "up down    choose an instruction; b sets or forgets a breakpoint there",
         "w          watch a cell or a register",
         "z f        strike: a site and a word, or a bit to turn", "u          undo",
         "e          why was it detected?", "d          what differs from the run without the strikes",
         "g          go to a position; Home and End go to the start and to the stop",
         "a          all registers, or those that were set",
-        ":          any command of the prompt", "q          end"]
+        ":          any command of the prompt; `:display r1` keeps a word in sight", "q          end", "",
+        "=> the next instruction; G> B> the counters, where they differ; * a breakpoint",
+        "time line: o here, ! a strike, @ both; it is as long as the run without strikes",
+        *(f"registers: {text}" for text in views.MARKS.values())]
 ENDS = {"start": "this is the start", "done": "the machine is done", "detected": "detected: e says why",
-        "breakpoint": "a break place"}
+        "breakpoint": "a breakpoint", "interrupted": "interrupted: the run stays where it got to"}
+# Commands whose answers go on one line, as the screen shows the rest.
+BRIEF = AGAIN | {"until", "finish", "goto", "run", "end", "undo", "zap", "flip", "plan", "unplan", "watch"}
 COLOURS = (("green", "COLOR_GREEN"), ("blue", "COLOR_CYAN"), ("differs", "COLOR_RED"), ("changed", "COLOR_YELLOW"),
            ("break", "COLOR_RED"))
 
@@ -34,9 +42,13 @@ class Screen(Panes):
     def __init__(self, window, session):
         self.window, self.session = window, session
         self.lines, self.message, self.cursor, self.every, self.before = [], "", None, False, None
-        self.commands = Commands(session, views.plain, self.lines.append, self.is_sure)
+        self.commands = Commands(session, views.plain, self.lines.append, self.is_sure, True)
+        # What stands where a text is cut.
+        self.cut = "…" if window.encoding.lower() in ("utf-8", "utf8") else ">"
         end = runs.place_at(session.timeline, 1_000_000, ())
         self.length, self.ends = end.position, end.status != "running"
+        target = session.target
+        self.message = f"{views.size_of(target)}; ? has the keys, q ends"
         self.styles()
 
     def styles(self):
@@ -79,7 +91,9 @@ class Screen(Panes):
         return (self.ask(question) or "").strip().lower() in ("y", "yes")
 
     def page(self, lines):
-        """Lines over the whole screen, up to a key."""
+        """Lines over the whole screen, up to a key. Long ones are wrapped."""
+        width = max(20, self.window.getmaxyx()[1] - 1)
+        lines = [part for line in lines for part in wrapped(line, width)]
         while lines:
             self.window.erase()
             height = max(2, self.window.getmaxyx()[0])
@@ -97,29 +111,36 @@ class Screen(Panes):
         """A command of the prompt; long answers get a page."""
         self.before, self.cursor = self.session.state(), None
         self.lines.clear()
-        self.commands.do(line)
-        if len(self.lines) > 1:
+        name = self.commands.do(line)
+        if len(self.lines) > 1 and name not in BRIEF:
             self.page(self.lines)
         elif self.lines:
-            self.message = self.lines[0]
+            self.message = "; ".join(self.lines)
 
     def toggle(self):
-        """Sets or forgets a break place at the chosen instruction."""
+        """Sets or forgets a breakpoint at the chosen instruction."""
         session = self.session
         instruction = session.target.at(self.cursor) if self.cursor else session.current()
         if not instruction:
             raise Refused("no instruction is here")
-        there = [number for number, one in session.breaks.items() if one.place == instruction.key()]
+        there = [number for number, one in session.breaks.items() if instruction.key() in one.places]
         for number in there:
             session.delete(number)
         if not there:
             session.add_break(f"*{instruction.address}")
-        self.message = f"{'no break place any more' if there else 'a break place'} at {instruction.place()}"
+        self.message = f"{'no breakpoint any more' if there else 'a breakpoint'} at {instruction.place()}"
 
     def move(self, call, *words):
         """A move, and why it stopped."""
         self.before, self.cursor = self.session.state(), None
+        if call in (stepping.forward, stepping.back) and len(words) == 1 and self.session.target.source is None:
+            self.message = "no lines of a source are known: one instruction"
+        old, strikes = self.session.position, self.session.strikes
         stop = call(*words)
+        if told := views.strike_lines(self.session, old, strikes):
+            self.message = "; ".join(told)
+        if call == self.session.go_to and words[0] and self.session.state().status == "running":
+            self.message = f"the run has not ended in {MOST_TO_END:,} steps: End goes on"
         if isinstance(stop, runs.Stop):
             changed = stop.reason == "watch"
             self.message = f"{stop.what[2]} -> {stop.what[3]}" if changed else ENDS.get(stop.reason, stop.reason)
@@ -133,7 +154,7 @@ class Screen(Panes):
                 "i": (stepping.forward, session, 1, False), "I": (stepping.back, session, 1, False),
                 "l": (stepping.forward, session), "L": (stepping.back, session), "c": (session.go,),
                 "r": (session.go_back,), "o": (session.finish,), "u": (session.undo,),
-                curses.KEY_HOME: (session.go_to, 0), curses.KEY_END: (session.go_to, session.position + 1_000_000)}
+                curses.KEY_HOME: (session.go_to, 0), curses.KEY_END: (session.go_to, session.position + MOST_TO_END)}
 
     def choose(self, key):
         """Moves the cursor over the instructions."""
@@ -166,6 +187,8 @@ class Screen(Panes):
             self.every = not self.every
         elif key == "q":
             raise Quit
+        else:
+            self.message = f"{views.key_name(key)}: no key of this screen; ? has the keys"
 
     def loop(self):
         """Draws, and takes keys, up to the end."""
@@ -173,6 +196,8 @@ class Screen(Panes):
             try:
                 self.draw()
                 key = self.window.get_wch()
+                if key == curses.KEY_RESIZE:
+                    continue
                 self.message = ""
                 self.key(key)
             except Refused as error:
@@ -186,6 +211,18 @@ class Screen(Panes):
                 self.message = "q ends"
             except Quit:
                 return 0
+
+
+def wrapped(line, width):
+    """A line in parts of this width, cut at blanks where there are some; the later ones are indented.
+
+    What would only be in a column is put nearer first."""
+    start = line[:len(line) - len(line.lstrip())]
+    if len(line) > width:
+        line = start + re.sub(" {3,}", "  ", line.lstrip())
+    indent = start + "    "
+    return textwrap.wrap(line, width, subsequent_indent=indent, drop_whitespace=True, replace_whitespace=False,
+                         break_on_hyphens=False) or [""]
 
 
 def show(session):

@@ -4,12 +4,14 @@ A session depends on nothing but its strikes and its position (docs/COMMANDS.md)
 question is a script of its own, which goes from the start to the position by `step` and `zap` and then asks. One call
 tells a whole window of neighbouring states, so that the next steps, forward and back, need no call."""
 import collections
+import contextlib
 import re
 import subprocess
 import tempfile
 import threading
 
 from common import Refused, program, why
+from debugging.leaving import RUNNING, end_with_parent
 from debugging.machine import REGISTERS, cell_number
 
 WHERE = re.compile(r"at (\d+) (running|done|detected)(?: pcg (\d+) pcb (\d+))?(?: block (\d+) index (\d+))?")
@@ -23,9 +25,6 @@ KEPT, MOST_KEPT = 24, 64_000_000
 AROUND = ((200_000, 48, 80), (3_000_000, 240, 400), (None, 600, 1_200))
 # A state tells its cells unasked if there are at most so many.
 FEW_CELLS = 32
-
-# The calls that run now, for whoever ends the tool.
-RUNNING = set()
 
 Strike = collections.namedtuple("Strike", "step site word planned", defaults=(False,))
 Where = collections.namedtuple("Where", "position status pcg pcb block index")
@@ -89,6 +88,15 @@ class Calls:
         # Whoever sets `stop` ends what runs, if `may_stop`: a run of many calls looks at it before each of them, too.
         self.stop, self.may_stop = threading.Event(), False
 
+    @contextlib.contextmanager
+    def unstoppable(self):
+        """Within, nobody sets `stop`: where a run that was broken off has come to is still looked at."""
+        stop, self.stop = self.stop, threading.Event()
+        try:
+            yield
+        finally:
+            self.stop = stop
+
     def ask(self, lines):
         """The answers of a session of these lines."""
         if self.may_stop and self.stop.is_set():
@@ -103,7 +111,7 @@ class Calls:
             try:
                 # In a session of its own: Ctrl-C is for the person's side, which then ends the call.
                 run = subprocess.Popen(words, stdin=script, stdout=subprocess.PIPE, universal_newlines=True,
-                                       start_new_session=True, pass_fds=[target.file])
+                                       start_new_session=True, pass_fds=[target.file], preexec_fn=end_with_parent)
             except OSError as error:
                 raise Refused(f"{words[0]}: {error.strerror}") from error
         return Answers(self.wait(run))

@@ -7,7 +7,7 @@ CHUNKS = (512, 8_192) + (100_000,) * 1_000_000
 
 
 def forward(session, count=1, by_line=True):
-    """So many instructions on, or source lines where they are known; a break place or a stop ends it."""
+    """So many instructions on, or source lines where they are known; a breakpoint or a stop ends it."""
     for turn in range(count):
         if session.state().status != "running":
             break
@@ -17,8 +17,7 @@ def forward(session, count=1, by_line=True):
         else:
             end = end_of_line(session, line)
         session.go_to(end, again=turn > 0)
-        state = session.state()
-        if (state.block, state.index) in session.places():
+        if session.halting():
             break
     return session.state()
 
@@ -40,23 +39,37 @@ def line_of(instruction):
 
 
 def end_of_line(session, line):
-    """Where the run leaves a line, or comes to a break place: at a block's start, or behind another line's code."""
+    """Where the run leaves a line, or comes to a breakpoint: at a block's start, or behind another line's code."""
     code = session.target.code
-    starts = {i.key() for before, i in zip([None] + code, code)
-              if i.source_line != line and (i.index == 0 or before.source_line != i.source_line)}
-    if len(starts | session.places()) <= breaks.MOST:
-        return runs.forward(session.timeline, session.position, session.strikes, starts | session.places()).position
+    starts = [i for before, i in zip([None] + code, code)
+              if i.source_line != line and (i.index == 0 or before.source_line != i.source_line)]
+    every = list(session.breaks.values()) + ([breaks.Break(starts)] if starts else [])
+    if len(breaks.places_of(every)) <= breaks.MOST:
+        return end_by_breaks(session, every)
     start = session.position + session.position % 2
     for chunk in CHUNKS:
         told = runs.places_between(session.timeline, start, start + chunk, session.strikes)
         for at, block, index in told:
             here = session.target.listing.at_place(block, index) if block is not None else None
-            if at > session.position and (line_of(here) != line or (block, index) in session.places()):
+            if at > session.position and (line_of(here) != line
+                                          or (block, index) in session.places() and session.halting(at)):
                 return at
         if told[-1][0] < start + chunk:
             return told[-1][0]
         start += chunk
     return start
+
+
+def end_by_breaks(session, every):
+    """Where the run comes to one of these breakpoints, or stops."""
+    here = session.position
+    for end in runs.stretches(here):
+        # What stands at the end of the stretch before is met by this one.
+        stop = session.first_break(max(session.position, here - 1), end, every)
+        if stop.reason != "limit":
+            return stop.position
+        here = end
+    return here
 
 
 def start_of_line(session, end, line):

@@ -1,5 +1,7 @@
 """What is debugged: an object, an assembly text or a source, as an object with its listing, its lines and its names."""
 import os
+import re
+import shlex
 import subprocess
 
 from common import Refused, program, why
@@ -51,6 +53,15 @@ def kind_of(path, data):
     return "text" if words and words[-1] == "entry" else "source"
 
 
+def kind_of_file(path):
+    """The kind of a file."""
+    try:
+        with open(path, "rb") as file:
+            return kind_of(path, file.read())
+    except OSError as error:
+        raise Refused(f"{path}: {error.strerror}") from error
+
+
 class Target:
     """The object in memory, so that nobody changes it meanwhile and nothing is left behind, and what is known of it."""
 
@@ -69,7 +80,7 @@ class Target:
         self.object_file = f"/proc/self/fd/{self.file}"
         with open(os.dup(self.file), "wb") as out:
             out.write(data)
-        self.text_file = self.source_file = self.source = self.names = None
+        self.text_file = self.source_file = self.source = self.names = self.refused = None
         try:
             self.listing = Listing(self.ask("dis").decode().splitlines())
             if self.kind == "text" or text:
@@ -79,6 +90,24 @@ class Target:
         except Refused:
             self.close()
             raise
+
+    def refusal(self):
+        """What the checker says where it refuses the object, as lines; nothing where it accepts it."""
+        if self.refused is None:
+            self.refused = self.asked_refusal()
+        return self.refused
+
+    def asked_refusal(self):
+        """The same by a call of the program."""
+        environment = dict(os.environ, TALFT_EXPLAIN="1")
+        run = subprocess.run([self.program, "check", self.object_file], stdout=subprocess.PIPE, stderr=subprocess.PIPE,
+                             env=environment, pass_fds=[self.file], stdin=subprocess.DEVNULL, check=False)
+        if run.returncode == 0:
+            return []
+        told = run.stderr.decode("utf-8", "replace").replace(self.object_file, self.path).splitlines()
+        said = run.stdout.decode("utf-8", "replace").strip()
+        return [f"the checker refuses this object ({said}), so no promise is made of its runs:"] + [
+            "  " + line for line in told]
 
     def ask(self, command):
         """What a command writes of the object."""
@@ -140,12 +169,66 @@ class Target:
         """The instruction at a code address, or None."""
         return self.listing.at(address)
 
-    def find(self, text):
-        """The instruction that a person names."""
-        found = self.listing.find(text, self.source is not None)
+    def line_named(self, text):
+        """(line, whether it is one of the source) where a person says LINE, line LINE or FILE:LINE; else None."""
+        match = re.fullmatch(r"(?:line\s+|(?P<file>\S.*):)?(?P<line>\d+)", text)
+        if not match:
+            return None
+        if not match["file"]:
+            return int(match["line"]), self.source is not None
+        for file, is_source in ((self.source_file, True), (self.text_file, False)):
+            if file and (match["file"] == os.path.basename(file) or os.path.realpath(match["file"]) == file):
+                return int(match["line"]), is_source
+        return None
+
+    def find_parts(self, text):
+        """The instruction that a person names; of a line, where each part of it begins."""
+        if named := self.line_named(text):
+            found = self.listing.parts_of_line(*named)
+            lines = [i.source_line if named[1] else i.line for i in self.code]
+            why = f"no instruction is on this line or behind it: they are on lines {min(lines)} to {max(lines)}"
+        else:
+            found, why = [one for one in [self.listing.find(text)] if one], self.listing.why_not(text)
+            if re.fullmatch(r".*[A-Za-z]\w*:\d+", text) and (self.source_file or self.text_file):
+                why = f"no line: those of {os.path.basename(self.source_file or self.text_file)} are known"
         if not found:
-            raise Refused(f"no instruction is at `{text}`: say B I, B:I, bB, *ADDRESS, a label or a line")
+            raise Refused(f"{text}: {why}")
         return found
+
+    def find(self, text):
+        """The instruction that a person names: of a line, the first."""
+        return self.find_parts(text)[0]
+
+    def line_of(self, instruction, before=""):
+        """`FILE:LINE` of an instruction with a text before it; nothing for an object alone."""
+        file = self.source_file or self.text_file
+        return f"{before}{os.path.basename(file)}:{instruction.shown_line()}" if file else ""
+
+    def place_of(self, instruction):
+        """Where an instruction is: its block and index, and its line if there is one."""
+        return f"block {instruction.block} index {instruction.index}{self.line_of(instruction, ', ')}"
+
+    def check_array(self, name):
+        """Refuses an array, which is no word: its cells are."""
+        array, _, rest = name.partition("[")
+        count = sum(cell.startswith(array + "[") for cell in self.listing.cells)
+        if rest[:-1].isdigit() and count and name not in self.listing.cells:
+            raise Refused(f"{name}: {self.size_of_array(array, count)}")
+        place = (self.names or {}).get(name)
+        if place and place.length is not None:
+            raise Refused(f"{name}: an array of {place.length} cells: say {name}[0] to {name}[{place.length - 1}], "
+                          f"or x/{place.length} {name}")
+
+    @staticmethod
+    def size_of_array(name, count):
+        """How many cells an array has."""
+        return f"{name} has {count} cell{'' if count == 1 else 's'}: 0 to {count - 1}"
+
+    def command_of(self, script):
+        """The command that carries out a script of `talft debug` over this program, as a shell (bash) reads it."""
+        path, made = shlex.quote(self.path), {"text": "asm", "source": "compile"}.get(self.kind)
+        words = f"talft debug <(talft {made} {path})" if made else f"talft debug {path}"
+        return words + (f" --wild {shlex.quote(self.wild)}" if self.wild else "") + f" <{shlex.quote(script)}"
 
     def cell_at(self, word):
         """The name of the cell at an address, or None."""

@@ -1,12 +1,15 @@
 """Lines for people: registers in both colours, the queue, cells, instructions, and the time line."""
 import os
 
+from debugging.explaining import counted
 from debugging.machine import is_fetch
 
 RESET = "\033[0m"
 STYLES = {"green": "\033[32m", "blue": "\033[34m", "differs": "\033[1;31m", "dim": "\033[2m", "here": "\033[1m",
           "changed": "\033[33m", "break": "\033[31m"}
 MOST_CHANGES = 12
+# What the marks of pairs mean.
+MARKS = {"*": "* differs by a strike", "~": "~ differs without one, too"}
 
 
 class Paint:
@@ -24,9 +27,8 @@ def plain(style, text):
     return text
 
 
-def in_base(word, base=""):
-    """A word in decimal, or in the base of gdb's letter."""
-    return {"x": hex, "b": bin, "o": oct}.get(base, str)(word)
+# A word in decimal, or in the base of gdb's letter.
+BASES = {"": str, "d": str, "x": hex, "b": bin, "o": oct}
 
 
 def spelled(session, word):
@@ -36,33 +38,48 @@ def spelled(session, word):
 
 
 class Pair:
-    """A register of each colour, as the compiler pairs them: rI and r(32 + I)."""
+    """A register of each colour, as the compiler pairs them: rI and r(32 + I).
 
-    def __init__(self, session, i, state, before):
+    Its mark is a star if the words differ, and `~` if they do so in the run without the strikes, too, as between a
+    green instruction and its blue one."""
+
+    def __init__(self, session, i, state, before, clean):
         self.names = (f"r{i}", f"r{i + 32}")
         words = [state.words[name] for name in self.names]
+        self.bare = [f"{name:<4}{colour} {word}" for name, (colour, word) in zip(self.names, words)]
+        self.named = [self.bare[0] + session.target.names_of(self.names[0]), self.bare[1]]
         told = [f"{name:<4}{colour} {spelled(session, word)}" for name, (colour, word) in zip(self.names, words)]
         self.green, self.blue = told[0] + session.target.names_of(self.names[0]), told[1]
         self.differs = words[0][1] != words[1][1]
+        is_usual = clean is not None and all(clean.words[name] == state.words[name] for name in self.names)
+        self.mark = ("~" if is_usual else "*") if self.differs else " "
         self.changed = [before is not None and before.words[name] != state.words[name] for name in self.names]
         self.is_unset = words == [("G", 0), ("G", 0)]
+
+    def within(self, *widths):
+        """The green and the blue text; what doesn't fit goes without the cell's name, or without any name."""
+        return [next((text for text in texts if len(text) <= width), texts[-1])
+                for width, *texts in zip(widths, (self.green, self.blue), self.named, self.bare)]
 
 
 def pairs(session, before=None):
     """Each pair of registers; what changed since the state before is marked."""
     state = session.state()
-    return [Pair(session, i, state, before) for i in range(32)]
+    # Where the runs have parted, the other one says nothing of this place.
+    clean = session.unstruck() if session.strikes else state
+    clean = clean if (clean.position, clean.pcg) == (state.position, state.pcg) else None
+    return [Pair(session, i, state, before, clean) for i in range(32)]
 
 
 def register_lines(session, paint, every=False, before=None):
-    """Both colours side by side; a star marks pairs that differ."""
+    """Both colours side by side, with the marks of pairs that differ."""
     state, rows = session.state(), pairs(session, before)
     width = max(24, max(len(row.green) for row in rows) + 2)
     lines = [f"  {'green':<{width}}blue"]
     shown = [row for row in rows if every or not row.is_unset]
     for row in shown:
-        style = "differs" if row.differs else None
-        lines.append(paint(style, "* " if row.differs else "  ")
+        style = "differs" if row.mark == "*" else None
+        lines.append(paint(style, row.mark + " ")
                      + paint(style or ("changed" if row.changed[0] else "green"), f"{row.green:<{width}}")
                      + paint(style or ("changed" if row.changed[1] else "blue"), row.blue))
     if len(shown) < len(rows):
@@ -71,7 +88,8 @@ def register_lines(session, paint, every=False, before=None):
     same = state.pcg == state.pcb
     lines.append(paint(None if same else "differs",
                        f"{'  ' if same else '* '}{'pcg G ' + str(state.pcg):<{width}}pcb B {state.pcb}"))
-    return lines + [f"  d   G {spelled(session, state.word('d'))}"]
+    lines.append(f"  d   G {spelled(session, state.word('d'))}")
+    return lines + [paint("dim", MARKS[mark]) for mark in "*~" if any(row.mark == mark for row in shown)]
 
 
 def queue_lines(session):
@@ -87,6 +105,11 @@ def place_of(session, instruction):
     return f"block {instruction.block} index {instruction.index}" + (f" <{label}+{instruction.index}>" if label else "")
 
 
+def place_and_line(session, instruction):
+    """The same with the line of the text or of the source, where there is one."""
+    return place_of(session, instruction) + session.target.line_of(instruction, ", ")
+
+
 def block_line(session, block):
     """The head of a block."""
     label = session.target.listing.label_of(block)
@@ -94,7 +117,7 @@ def block_line(session, block):
 
 
 def code_rows(session, first, last):
-    """(instruction, whether a break place is there, arrow) between two addresses."""
+    """(instruction, whether a breakpoint is there, arrow) between two addresses."""
     state, current, places = session.state(), session.current(), session.places()
     rows = []
     for address in range(max(1, first), min(len(session.target.code), last) + 1):
@@ -129,6 +152,11 @@ def code_lines(session, paint, around=5, at=None):
     return lines
 
 
+def key_name(key):
+    """How a key of the screen is called."""
+    return key if isinstance(key, str) and key.isprintable() else "this key"
+
+
 def doing(session):
     """What the next step does."""
     state, current = session.state(), session.current()
@@ -139,7 +167,29 @@ def doing(session):
     if current is None:
         return f"the next step fetches where no instruction is, or the counters differ: pcg {state.pcg} pcb {state.pcb}"
     verb = "fetches" if is_fetch(state.position) else "executes"
-    return f"the next step {verb} {current.short()}  ({place_of(session, current)}, line {current.shown_line()})"
+    return f"the next step {verb} {current.short()}  ({place_and_line(session, current)})"
+
+
+def size_of(target):
+    """How large a program is."""
+    counts = ((target.code, "instruction"), (target.listing.blocks, "block"), (target.listing.cells, "cell"))
+    return ", ".join(counted(len(things), noun) for things, noun in counts)
+
+
+def strike_lines(session, old, strikes):
+    """What a move from a position has to do with the strikes that there were: made here, ahead again, forgotten."""
+    lines = []
+    for strike in strikes:
+        name = f"{strike.step}:{strike.site}:{strike.word}"
+        if strike.step == session.position and strike in session.strikes:
+            lines.append(f"the strike {name} is made here" if not session.timeline.idle.get(strike)
+                         else f"the strike {name} found nothing here")
+        elif session.position < strike.step and session.state().status != "running" and strike in session.strikes:
+            lines.append(f"the strike {name} is not made: the run ended at {session.position}, before it")
+        elif session.position < strike.step <= old:
+            lines.append(f"the strike {name} is ahead again" if strike in session.strikes
+                         else f"the strike {name} is forgotten: `undo` brings it back")
+    return lines
 
 
 def status_line(session):
