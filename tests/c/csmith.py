@@ -7,11 +7,9 @@ import os
 import re
 import subprocess
 import sys
-import tempfile
 
-here = os.path.dirname(os.path.abspath(__file__))
-top = os.path.join(here, "..", "..")
-LEVELS = "-O0", "-O1", "-O2", "-O3", "-Os", "-Oz"
+from tries import compiled, lines_of, try_each
+
 SMALL = ("--no-argc --no-checksum --no-float --concise --max-funcs 4 --max-block-size 3 --max-block-depth 3 "
          "--max-expr-complexity 6 --max-array-dim 2 --max-array-len-per-dim 5 --max-pointer-depth 2 "
          "--max-struct-fields 4 --max-union-fields 3").split()
@@ -66,34 +64,20 @@ def native(source, folder):
     return done.stdout if done.returncode == 0 else None
 
 
-def tried(seed, folder):
+def tried(seed, level, folder):
     source, made = program(seed, folder), os.path.join(folder, "object")
     wanted = native(source, folder)
     if wanted is None:
         return "left out", None
-    run = subprocess.run([os.path.join(top, "tools", "cc"), source, LEVELS[seed % len(LEVELS)], "-w", "-fwrapv",
-                          "-fno-strict-aliasing", "-I/usr/include/csmith", "--stack", "1024", "-o", made],
-                         stdout=subprocess.PIPE, stderr=subprocess.PIPE, text=True)
-    if run.returncode:
-        why = run.stderr.strip().splitlines()[-1]
-        return "refused", re.sub(r".*(function \S+: offset \S+: |\.c: )", "", why)[-160:]
-    if "; verified: " not in run.stderr:
-        return "not verified", run.stderr.strip().splitlines()[-1][-200:]
-    talft = os.environ.get("TALFT", os.path.join(top, "talft"))
-    lines = subprocess.run([talft, "run", made], stdout=subprocess.PIPE, text=True).stdout.splitlines()
-    same = [line for line in lines if line.startswith("csmith_sink_ ")] == wanted.splitlines()
+    failed = compiled(source, level, made, "-w", "-fwrapv", "-fno-strict-aliasing", "-I/usr/include/csmith")
+    if failed:
+        return failed[0], re.sub(r".*(function \S+: offset \S+: |\.c: )", "", failed[1])[-160:]
+    same = lines_of(made, ("csmith_sink_",)) == wanted.splitlines()
     return ("same", None) if same else ("wrong", "its lines are not those of gcc")
 
 
 def main(first, count):
-    counts = {}
-    with tempfile.TemporaryDirectory() as folder:
-        for seed in range(int(first), int(first) + int(count)):
-            word, why = tried(seed, folder)
-            counts[word] = counts.get(word, 0) + 1
-            if why:
-                print(f"{seed} {LEVELS[seed % len(LEVELS)]}: {word}: {why}", flush=True)
-    print(f"{count} programs: " + ", ".join(f"{word} {n}" for word, n in sorted(counts.items())))
+    try_each(tried, range(int(first), int(first) + int(count)))
 
 
 if __name__ == "__main__":

@@ -2,19 +2,19 @@
 """Has tools/cc make the examples at each level, strikes each 1,000 times, and prints a table: `kernels.py [LEVEL ..]`.
 
 The lines must be those of answers.py, the object accepted and verified, and no fault corrupt. The ratio is that of the
-instructions that the object runs, in both colours, to those that the module runs."""
+instructions that the object runs, in both colours, to those that the module runs. The example in Rust is among them if
+$RUSTC, or rustc, can compile for wasm32."""
 import glob
 import math
 import os
 import re
+import shutil
 import subprocess
 import sys
 import tempfile
 
-here = os.path.dirname(os.path.abspath(__file__))
-top = os.path.join(here, "..", "..")
-TALFT = os.environ.get("TALFT", os.path.join(top, "talft"))
-LEVELS = "-O0", "-O1", "-O2", "-O3", "-Os", "-Oz"
+from tries import LEVELS, TALFT, here, top
+
 DIVIDE = "divide", "kalman"
 SAID = re.compile(r"accepted: (\d+) instructions, .* (\d+) cells; (?:.*; )?verified: (\d+) stores in (\d+) steps "
                   r"are those of the module, which ran (\d+) instructions")
@@ -35,10 +35,22 @@ def struck(made, folder, steps):
     return verdict and verdict.groups()[1:], (said + why).strip()[-200:]
 
 
+def of_rust(name, level, folder):
+    """The module that rustc makes of an example, as the example's own head tells; or None where it makes none."""
+    module = os.path.join(folder, "module.wasm")
+    run(os.environ.get("RUSTC", "rustc"), "--target", "wasm32-unknown-unknown", "--crate-type", "cdylib", "-C",
+        "opt-level=" + level[2:], "-C", "panic=abort", "-C", "linker=wasm-ld", "-C", "link-arg=--emit-relocs",
+        "-C", "link-arg=-zstack-size=512", os.path.join(top, "examples", "rust", name), "-o", module)
+    return module if os.path.exists(module) else None
+
+
 def tried(name, level, folder):
     """The row of a program, or what is wrong with it."""
-    made = os.path.join(folder, "object")
-    _, said = run(os.path.join(top, "tools", "cc"), os.path.join(top, "examples", "c", name + ".c"), level, "-o", made)
+    made, words = os.path.join(folder, "object"), [os.path.join(top, "examples", "c", name + ".c"), level]
+    if name.endswith(".rs"):
+        words = [of_rust(name, level, folder)]
+        name = name[:-3]
+    _, said = run(os.path.join(top, "tools", "cc"), *words, "-o", made)
     found = SAID.search(said)
     if not found:
         return None, said.strip()[-300:]
@@ -56,9 +68,18 @@ def tried(name, level, folder):
     return (instructions, cells, ran, steps, steps / 2 / ran, stores, spills, *map(int, verdict)), None
 
 
-def main(levels):
-    wrong = 0
+def programs():
+    """The names of the examples."""
     names = sorted(os.path.basename(path)[:-2] for path in glob.glob(os.path.join(top, "examples", "c", "*.c")))
+    with tempfile.TemporaryDirectory() as folder:
+        if shutil.which(os.environ.get("RUSTC", "rustc")) and of_rust("crc32.rs", "-O2", folder):
+            return names + ["crc32.rs"]
+    print("rustc for wasm32 is not there: crc32.rs is left out")
+    return names
+
+
+def main(levels):
+    wrong, names = 0, programs()
     for level in levels or LEVELS:
         print(f"\n`{level}`\n\n| program | instructions | cells | the module runs | steps | ratio | stores | others | "
               "masked | detected |\n" + "|---" * 10 + "|")
@@ -67,7 +88,8 @@ def main(levels):
             with tempfile.TemporaryDirectory() as folder:
                 row, why = tried(name, level, folder)
             if row:
-                ratios[name] = row[4]
+                if not name.endswith(".rs"):
+                    ratios[name] = row[4]
                 print(f"| {name} | " + " | ".join(f"{n:.2f}" if isinstance(n, float) else f"{n:,}" for n in row) + " |")
             else:
                 wrong += 1

@@ -7,12 +7,11 @@ import os
 import random
 import subprocess
 import sys
-import tempfile
 
-here = os.path.dirname(os.path.abspath(__file__))
-TOOLS = os.path.join(here, "..", "..", "tools")
+from tries import compiled, here, lines_of, try_each
+
 TYPES = "uint8_t", "int8_t", "uint16_t", "int16_t", "uint32_t", "int32_t", "uint64_t", "int64_t"
-LEVELS = "-O0", "-O1", "-O2", "-O3", "-Os", "-Oz"
+NAMES = "out", "other"
 
 
 class Program:
@@ -137,41 +136,23 @@ class Program:
         return "\n".join(lines + ["#ifndef __wasm__", "  return 0;", "#endif", "}", ""])
 
 
-def outputs(text):
-    return [line for line in text.splitlines() if line.split(" ")[0] in ("out", "other")]
-
-
-def tried(seed, folder):
+def tried(seed, level, folder):
     """A word on how it went, and what is wrong with that."""
-    source, made = os.path.join(folder, "program.c"), os.path.join(folder, "program.obj")
+    source, made, native = (os.path.join(folder, name) for name in ("program.c", "program.obj", "native"))
     with open(source, "w", encoding="ascii") as out:
         out.write(Program(seed).text())
     quiet = ["-w", "-fwrapv", "-I" + os.path.join(here, "..", "..", "examples", "c")]
-    level = LEVELS[seed % len(LEVELS)]
-    subprocess.run(["gcc", "-O1", *quiet, "-o", os.path.join(folder, "native"), source], check=True)
-    native = subprocess.run([os.path.join(folder, "native")], stdout=subprocess.PIPE, text=True, check=True).stdout
-    run = subprocess.run([os.path.join(TOOLS, "cc"), source, level, *quiet, "-o", made, "--stack", "1024"],
-                         stdout=subprocess.PIPE, stderr=subprocess.PIPE, text=True)
-    if run.returncode != 0:
-        return "refused", run.stderr.strip()
-    if "; verified: " not in run.stderr:
-        return "not verified", run.stderr.strip()
-    talft = os.environ.get("TALFT", os.path.join(here, "..", "..", "talft"))
-    lines = subprocess.run([talft, "run", made, "--steps", "1000000"], stdout=subprocess.PIPE, text=True).stdout
-    if outputs(lines) != outputs(native):
-        return "wrong", "its lines are not those of gcc"
-    return "same", None
+    subprocess.run(["gcc", "-O1", *quiet, "-o", native, source], check=True)
+    wanted = subprocess.run([native], stdout=subprocess.PIPE, text=True, check=True).stdout.splitlines()
+    failed = compiled(source, level, made, *quiet)
+    if failed:
+        return failed
+    same = lines_of(made, NAMES) == [line for line in wanted if line.split(" ")[0] in NAMES]
+    return ("same", None) if same else ("wrong", "its lines are not those of gcc")
 
 
 def main(first, count):
-    counts = {}
-    with tempfile.TemporaryDirectory() as folder:
-        for seed in range(int(first), int(first) + int(count)):
-            word, why = tried(seed, folder)
-            counts[word] = counts.get(word, 0) + 1
-            if why:
-                print(f"{seed} {LEVELS[seed % len(LEVELS)]}: {word}: {why[-300:]}", flush=True)
-    print(f"{count} programs: " + ", ".join(f"{word} {n}" for word, n in sorted(counts.items())))
+    try_each(tried, range(int(first), int(first) + int(count)))
 
 
 if __name__ == "__main__":

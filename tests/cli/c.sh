@@ -25,7 +25,7 @@ report 'a wrong translation' "accepted; and the module's crc 2212294583: the tra
 made control
 mkdir cycles
 cp control.obj cycles
-cycles=$(TALFT=$top/talft bash "$top/examples/c/ten_cycles" cycles 2>&1)
+cycles=$(TALFT=$top/talft bash "$top/examples/c/ten_cycles" cycles 2>said)
 report 'ten cycles of control.wasm' "$(answers control)" "$(grep -v '^struck' <<<"$cycles")"
 report 'the cycle that is struck' 'struck: status 1 after 2 of 3 lines' "$(grep '^struck' <<<"$cycles")"
 

@@ -7,7 +7,9 @@ build                           functions to graphs of values (ir, fold, words):
                                 floating point (floats)
 opt, bits, ranges, narrow       folding, bits that may be 1 and that matter, ranges of words (loops: counters), and
                                 their uses
-layout, split                   the order of blocks; blocks end with their calls
-subroutines, alloc, spill       registers, of one function after the other
-emit, turn, nodes, text         instructions in two colours, code types and substitutions, and the text
+layout, invariant, split        the order of blocks; what does not change in a loop goes before it; blocks end with
+                                their calls
+subroutines, early, alloc,      registers, of one function after the other; copies come before the branch back
+spill
+emit, pins, turn, nodes, text   instructions in two colours, code types and substitutions, and the text
 """

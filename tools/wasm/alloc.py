@@ -10,14 +10,26 @@ def has_register(v):
 
 
 def last_uses(b):
-    """What the end of a block uses itself."""
+    """What the end of a block uses itself. Before the blocks are split the end of a function tells no values."""
     op = b.term[0]
-    words = [b.term[1]] if op == "bz" else b.term[2] if op in ("call", "ret") else []
-    return [x for x in [*words, b.term[1].back if op == "ret" else None] if isinstance(x, Value)]
+    if op == "bz":
+        return [b.term[1]] if isinstance(b.term[1], Value) else []
+    if len(b.term) < 3:
+        return []
+    return [x for x in [*b.term[2], b.term[1].back if op == "ret" else None] if isinstance(x, Value)]
 
 
 def used(v):
-    return [x for x in (v.a, v.b) if isinstance(x, Value) and x.op != "ref"]
+    return [x for x in (v.a, v.b) if x.__class__ is Value and x.op != "ref"]
+
+
+def needs_of(b):
+    """What a block uses that was there before, and what it makes."""
+    needs = set(last_uses(b))
+    for v in reversed(b.insts):
+        needs.discard(v)
+        needs.update(used(v))
+    return needs, set(b.insts)
 
 
 def liveness(blocks):
@@ -25,25 +37,21 @@ def liveness(blocks):
     take."""
     start = {b: set() for b in blocks}
     end = {b: set() for b in blocks}
-    changed = True
+    needs = {b: needs_of(b) for b in blocks}
+    todo, changed = list(reversed(blocks)), True
     while changed:
         changed = False
-        for b in reversed(blocks):
+        for b in todo:
             live = set()
             for e in b.edges():
                 wanted = start[e.to]
                 live |= wanted.difference(e.to.params)
                 for p, x in zip(e.to.params, e.args):
-                    if p in wanted and isinstance(x, Value):
+                    if p in wanted and x.__class__ is Value:
                         live.add(x)
-            if live != end[b]:
-                end[b] = set(live)
-                changed = True
-            live.update(last_uses(b))
-            for v in reversed(b.insts):
-                live.discard(v)
-                live.update(used(v))
-            if live != start[b]:
+            end[b], (first, made) = live, needs[b]
+            live = live - made | first
+            if len(live) != len(start[b]):
                 start[b] = live
                 changed = True
     return start, end
@@ -83,6 +91,7 @@ def moves_of(blocks, start):
             for p, x in zip(e.to.params, e.args):
                 if p in start[e.to] and isinstance(x, Value) and x is not p:
                     moves.append((10 ** min(b.depth, 6), p, x))
+        moves += [(10 ** min(b.depth, 6), v, v.a) for v in b.insts if v.op == "copy" and isinstance(v.a, Value)]
     return sorted(moves, key=lambda m: (-m[0], m[1].id, m[2].id))
 
 
@@ -124,27 +133,54 @@ class Colouring:
         return v
 
     def coalesce(self):
-        adj, again = self.adj, True
-        while again:
-            again = False
-            for _, p, x in self.moves:
-                a, b = self.of(p), self.of(x)
-                if a is b or b in adj[a]:
+        """Puts values that move into one another into one group, where the group still finds a register."""
+        left, self.high = self.moves, {v for v, near in self.adj.items() if len(near) >= self.count}
+        while True:
+            kept = []
+            for move in left:
+                a, b = self.of(move[1]), self.of(move[2])
+                if a is b or b in self.adj[a]:
                     continue
-                both, taken = adj[a] | adj[b], self.taken[a] | self.taken[b]
-                if len(taken) > max(len(self.taken[a]), len(self.taken[b])) and len(both) + len(taken) >= K:
-                    continue
-                heavy = sum(1 for n in both if len(adj[n]) - (n in adj[a] and n in adj[b]) >= self.count)
-                if heavy >= self.count and not all(len(adj[n]) < self.count or n in adj[b] for n in adj[a]) \
-                        and not all(len(adj[n]) < self.count or n in adj[a] for n in adj[b]):
-                    continue
-                self.group[b], self.taken[a] = a, taken
-                self.members[a] += self.members.pop(b)
-                for n in adj.pop(b):
-                    adj[n].discard(b)
-                    adj[n].add(a)
-                    adj[a].add(n)
-                again = True
+                if self.fits(a, b):
+                    self.join(a, b)
+                else:
+                    kept.append(move)
+            if len(kept) == len(left):
+                return
+            left = kept
+
+    def fits(self, a, b):
+        """Whether two groups as one still find a register: by the rule of Briggs, or that of George."""
+        adj, high, count = self.adj, self.high, self.count
+        near_a, near_b = adj[a], adj[b]
+        taken = len(self.taken[a] | self.taken[b])
+        if taken > max(len(self.taken[a]), len(self.taken[b])) and len(near_a | near_b) + taken >= K:
+            return False
+        high_a, high_b = near_a & high, near_b & high
+        heavy = len(high_a | high_b)
+        if heavy < count or high_a <= near_b or high_b <= near_a:
+            return True
+        return heavy - sum(1 for n in high_a & high_b if len(adj[n]) == count) < count
+
+    def join(self, a, b):
+        """Group b becomes a part of group a."""
+        adj, high = self.adj, self.high
+        self.group[b] = a
+        self.taken[a] = self.taken[a] | self.taken[b]
+        self.members[a] += self.members.pop(b)
+        mine = adj[a]
+        for n in adj.pop(b):
+            near = adj[n]
+            near.discard(b)
+            if a in near:
+                if len(near) < self.count:
+                    high.discard(n)
+            else:
+                near.add(a)
+                mine.add(n)
+        high.discard(b)
+        if len(mine) >= self.count:
+            high.add(a)
 
     def costs(self):
         cost = {}

@@ -92,7 +92,7 @@ class Arith(Divide):
             return bits - a.bit_length()
         for shift in (1, 2, 4, 8, 16, 32)[:5 if bits == 32 else 6]:
             a = mk("or", a, mk("shr", a, shift))
-        return mk("sub", bits, self._popcnt(a))
+        return self._popcnt(mk("xor", a, M64 if bits == 64 else M32))
 
     def _popcnt(self, a):
         mk = self.mk

@@ -4,6 +4,38 @@ from .narrow import use_ranges
 from .opt import clean, find, resolve
 from .words import M32, M64, PURE, low_bit, ones_after, ones_of, smear
 
+NONE = frozenset()
+
+
+def readers_of(blocks):
+    """For each value the blocks that must be looked at again when more of its bits may be 1: those that use it, but its
+    own, and those that take it as an argument."""
+    home, readers = {v: b for b in blocks for v in b.insts}, {}
+    for b in blocks:
+        for v in b.insts:
+            for x in (v.a, v.b):
+                if x.__class__ is Value and home.get(x) is not b:
+                    readers.setdefault(x, set()).add(b)
+        for e in b.edges():
+            for x in e.args:
+                if x.__class__ is Value:
+                    readers.setdefault(x, set()).add(e.to)
+    return readers
+
+
+def grown(p, i, ways, turn):
+    """The bits of a parameter that may be 1. Where they grow for long, all that may come are taken at once."""
+    ones = p.ones
+    for _, e in ways:
+        ones |= ones_of(e.args[i])
+    ones &= p.most
+    if ones != p.ones and turn > 2:
+        step = low_bit(ones)
+        ones = smear(ones)
+        ones = M32 if turn > 4 and ones <= M32 else M64 if turn > 4 else ones
+        ones &= p.most & -step
+    return ones
+
 
 def known_ones(blocks, preds):
     """For each value the bits that may be 1, from nothing upwards."""
@@ -12,28 +44,25 @@ def known_ones(blocks, preds):
             p.ones = 0 if preds[b] else p.full
         for v in b.insts:
             v.ones = 0 if v.op in PURE else v.full
+    readers, waiting = readers_of(blocks), set(blocks)
     for turn in range(200):
-        changed = False
+        if not waiting:
+            return
         for b in blocks:
+            if b not in waiting:
+                continue
+            waiting.discard(b)
             for i, p in enumerate(b.params):
-                ones = p.ones
-                for _, e in preds[b]:
-                    ones |= ones_of(e.args[i])
-                ones &= p.most
+                ones = grown(p, i, preds[b], turn)
                 if ones != p.ones:
-                    if turn > 2:
-                        step = low_bit(ones)
-                        ones = smear(ones)
-                        ones = M32 if turn > 4 and ones <= M32 else M64 if turn > 4 else ones
-                        ones &= p.most & -step
-                    p.ones, changed = ones, True
+                    p.ones = ones
+                    waiting |= readers.get(p, NONE)
             for v in b.insts:
                 if v.op in PURE:
                     ones = v.ones | ones_after(v.op, v.a, v.b)
                     if ones != v.ones:
-                        v.ones, changed = ones, True
-        if not changed:
-            return
+                        v.ones = ones
+                        waiting |= readers.get(v, NONE)
     for b in blocks:    # did not settle: nothing is known
         for v in b.params + b.insts:
             v.ones = M64
@@ -131,6 +160,24 @@ def drop_masks(blocks, preds, length):
     return changed
 
 
+def share_sums(blocks, preds, length):
+    """Sums of a value with two constants that differ where it does not matter become one."""
+    need = demanded(blocks, preds, length)
+    changed = False
+    for b in blocks:
+        sums = {}
+        for v in b.insts:
+            if v.op == "add" and isinstance(v.b, int):
+                sums.setdefault(v.a, []).append(v)
+        for some in sums.values():
+            for v in some if len(some) > 1 else ():
+                bits = smear(need.get(v, 0))
+                like = next((w for w in some if w.b != v.b and not (w.b ^ v.b) & bits and need.get(w, 0) & ~bits), None)
+                if like:
+                    v.b, changed = like.b, True
+    return changed
+
+
 def optimise(g, length, rounds=12):
     """Folds, finds ranges, and drops masks, until nothing changes."""
     g.length = length
@@ -141,7 +188,7 @@ def optimise(g, length, rounds=12):
             use_ranges(blocks, preds)
         blocks, preds = clean(g)
         known_ones(blocks, preds)
-        changed = drop_masks(blocks, preds, length)
+        changed = drop_masks(blocks, preds, length) or share_sums(blocks, preds, length)
         for b in blocks:
             for p in b.params:      # without their masks words may have other bits
                 p.most = M64

@@ -2,7 +2,7 @@
 i; both do the same, and share nothing. Nodes mirror the instructions, so that each form that is compared is compared
 with itself."""
 from .alloc import K
-from .ir import Value
+from .ir import Block, Value
 from .nodes import Nodes
 from .turn import loops_to_turn
 from .words import M64
@@ -12,9 +12,9 @@ FIRST = 1 << 20
 
 
 class Emitter:
-    def __init__(self, program, length, pins=()):
+    def __init__(self, program, length, pins=(), scopes=None):
         """pins: constants that have a pair of their own in all blocks: ("ref", cell), ("word", w) or ("code",
-        block)."""
+        block). scopes: for blocks of loops those that they have there, each with its pair."""
         self.pairs, self.start, self.length, self.entry = program.pairs, program.start, length, program.main.entry
         self.program, self.backs, blocks = program, program.backs, program.blocks
         self.returns = {b.after: b for b in reversed(blocks) if b.after}
@@ -22,7 +22,8 @@ class Emitter:
         self.memory = self.nodes.make("memory")
         self.pins = dict(zip(pins, self.free()))
         self.types, self.type_keys = {None: 0}, [None]
-        self.uses, self.depth = {}, 0
+        self.scopes, self.here = scopes or {}, {}
+        self.uses, self.depth, self.block = {}, 0, None
         self.code = []           # instructions as tuples; a label is ("code", block)
         self.heads = []          # (block, first instruction, type)
         self.place, self.todo = {}, []
@@ -40,6 +41,7 @@ class Emitter:
         inside = self.rotated[head]
         turn = inside is other.to
         self.depth = head.depth
+        self.enter(head)
         for v in head.insts:
             if v is cond and turn and v.op in ("eq", "xor", "sub"):
                 b = ("word", v.b) if isinstance(v.b, int) else self.pairs[v.b]
@@ -61,6 +63,8 @@ class Emitter:
         kinds = {"idx": "ref:int", "return": block.home}
         rows = [(self.pairs[v], kinds.get(v.op, "int")) for v in self.start[block]]
         rows += [(pair, "int") for pair in (block.home.kept if block.home else ())]
+        rows += [(pair, {"ref": "ref:int", "word": "int"}.get(pin[0]) or pin[1])
+                 for pin, pair in self.scopes.get(block, {}).items()]
         assert len({r for r, _ in rows}) == len(rows), "two live values in a pair"
         return tuple(sorted(rows, key=lambda r: r[0]))
 
@@ -81,7 +85,8 @@ class Emitter:
         """The rows of a type: (pair, kind)."""
         if key is None:
             return []
-        rows = [(pair, kind if isinstance(kind, str) else self.return_code(kind)) for pair, kind in key]
+        rows = [(pair, kind if isinstance(kind, str) else ("code", self.type_of(kind)) if isinstance(kind, Block)
+                 else self.return_code(kind)) for pair, kind in key]
         rows += [(pair, self.return_code(shared)) for shared, pair in self.backs.items()]
         rows += [(pair, "int") for pair in self.program.stack or ()]
         for pin, pair in self.pins.items():
@@ -100,9 +105,10 @@ class Emitter:
 
     def constant(self, pin):
         """The pair of a constant: its own, or the spare."""
-        if pin in self.pins:
-            return self.pins[pin]
-        self.uses[pin] = self.uses.get(pin, 0) + 10 ** min(self.depth, 6)
+        own = self.pins.get(pin, self.here.get(pin))
+        if own is not None:
+            return own
+        self.count(pin)
         if self.spare != pin:
             self.put(pin, SPARE)
             self.spare = pin
@@ -115,8 +121,31 @@ class Emitter:
         else:
             self.move_word(pair, FIRST + pin[1] if pin[0] == "ref" else pin[1], "ref:int" if pin[0] == "ref" else "int")
 
+    def count(self, pin):
+        """A use of a constant that has no pair of its own."""
+        key = self.block, pin
+        self.uses[key] = self.uses.get(key, 0) + 10 ** min(self.depth, 6)
+
+    def enter(self, block):
+        """Puts what a loop keeps into its pairs, on the way into it."""
+        kept, fresh = self.scopes.get(block, {}), {}
+        for pin, pair in kept.items():
+            if self.here.get(pin) != pair:
+                self.put(pin, pair)
+                fresh[pin] = pair
+        if fresh:
+            old = {pin: pair for pin, pair in self.here.items() if pair not in fresh.values()}
+            self.here = {**old, **fresh}
+
+    def enters(self, before, block):
+        """Whether there are more constants in a block than in the one before."""
+        had = self.scopes.get(before, {})
+        return any(had.get(pin) != pair for pin, pair in self.scopes.get(block, {}).items())
+
     def pair_of(self, v):
-        return self.pins.get(("word", v.a), self.pairs[v]) if v.op == "const" else self.pairs[v]
+        if v.op == "const":
+            return self.pins.get(("word", v.a), self.here.get(("word", v.a), self.pairs[v]))
+        return self.pairs[v]
 
     def put_return(self, pair, shared, tail):
         """The address to which a function is to come back."""
@@ -167,11 +196,13 @@ class Emitter:
             return
         pair = self.pairs[v]
         if v.op == "const":
-            if ("word", v.a) not in self.pins:
-                self.uses["word", v.a] = self.uses.get(("word", v.a), 0) + 10 ** min(self.depth, 6)
+            if ("word", v.a) not in self.pins and ("word", v.a) not in self.here:
+                self.count(("word", v.a))
                 self.move_word(pair, v.a)
-        elif v.op == "get":
-            come = self.after.results[v.a]
+        elif v.op == "copy" and isinstance(v.a, int):
+            self.move_word(pair, v.a)
+        elif v.op in ("get", "copy"):
+            come = self.after.results[v.a] if v.op == "get" else self.pairs[v.a]
             if come != pair:
                 self.copy(pair, come)
         elif v.op == "idx":
@@ -208,6 +239,7 @@ class Emitter:
         return self.constant(("code", block))
 
     def jump(self, block):
+        self.enter(block)
         pair = self.to_block(block)
         self.code.append(("jmp", "G", pair))
         self.code.append(("jmp", "B", pair, *self.rows(block)))
@@ -290,7 +322,7 @@ class Emitter:
         while block not in seen and not block.insts and block.term[0] == "jmp" and block is not self.entry:
             seen.add(block)
             edge = block.term[1]
-            if edge.to is block or self.moves_for(edge):
+            if edge.to is block or self.moves_for(edge) or self.enters(block, edge.to):
                 break
             block = edge.to
         return block
@@ -304,7 +336,7 @@ class Emitter:
         self.mem, self.depth, self.after, self.spare = self.memory, block.depth, block.after, None
         self.begin(block)
         while block:
-            self.depth = block.depth
+            self.depth, self.block, self.here = block.depth, block, self.scopes.get(block, {})
             for v in block.insts:
                 self.instruction(v)
             block = self.end(block)
@@ -352,12 +384,6 @@ class Emitter:
             else:
                 self.jump(self.skip(edge.to))
         return None
-
-    def wishes(self):
-        """The constants that loops use, as many as there are free pairs."""
-        free = len(self.free())
-        order = sorted((p for p, n in self.uses.items() if n >= 10), key=lambda p: -self.uses[p])
-        return order[:free]
 
     def run(self, first_spill):
         self.first_spill = first_spill

@@ -157,6 +157,10 @@ class Folding:
             return self.mk("eq", a, 0)
         if a.op == "add" and deep and smear(ones_of(a.a)) + a.b <= M64:
             return self.mk("ltu", a.a, c - a.b) if c > a.b else 0
+        if a.op == "add" and deep and a.a.op == "and" and a.a.b == M32 and c + (-a.b & M64) <= M32:
+            x = a.a.a       # with 32 bits, too, a difference that goes round is not below c
+            if not isinstance(x, int) and x.op == "add" and isinstance(x.b, int):
+                return self.mk("ltu", self.mk("and", self.mk("add", x, a.b), M32), c)
         if a.op == "xor" and deep and a.b == c and c & (c - 1) == 0 and ones_of(a.a) < 2 * c:
             return self.mk("shr", a.a, c.bit_length() - 1)      # whether the highest bit is 1
         return None

@@ -73,7 +73,7 @@ class Graph(Folding):
         return value
 
     def keyed(self, op, a, b=None, ones=M64):
-        key = (op, a if isinstance(a, int) else (a,), b if isinstance(b, int) or b is None else (b,))
+        key = op, a, b
         found = self.at.cse.get(key)
         if found is None:
             found = self.at.cse[key] = self.new(op, a, b, ones)

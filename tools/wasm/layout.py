@@ -1,5 +1,6 @@
 """Pass 4: which branch goes on without a jump, tests turned where that helps, words put into registers where an
 instruction takes no word there, and edges with moves made blocks."""
+from .invariant import hoist_all
 from .ir import Block, Edge, Value
 from .opt import dominators, order, preds_of, sweep
 
@@ -19,10 +20,12 @@ def turned(block, cond):
 def depths(blocks, preds):
     """How many loops each block is in: a loop is what reaches a jump back to its head without passing the head."""
     idom = dominators(blocks, preds)
-    loops = {}
+    loops, number = {}, {b: i for i, b in enumerate(blocks)}
     for b in blocks:
         b.depth = 0
         for e in b.edges():
+            if number[e.to] > number[b]:
+                continue
             up = b
             while up is not e.to and idom[up] is not up:
                 up = idom[up]
@@ -51,6 +54,7 @@ def place(g):
         if not one_other and (one_zero or other.to.depth > zero.to.depth):
             b.term = ("bz", turned(b, cond), other, zero)
     sweep(blocks, preds)
+    hoist_all(blocks, preds)
     for b in blocks:
         insts = []
         for v in b.insts:

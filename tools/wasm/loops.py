@@ -30,9 +30,11 @@ def step_of(param, arg, width=M64):
 
 def find_loops(blocks, preds, idom):
     """The loops, by their heads: what reaches a jump back to the head without passing it."""
-    found = {}
+    found, number = {}, {b: i for i, b in enumerate(blocks)}
     for b in blocks:
         for e in b.edges():
+            if number[e.to] > number[b]:
+                continue
             up = b
             while up is not e.to and idom[up] is not up:
                 up = idom[up]

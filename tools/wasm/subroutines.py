@@ -1,6 +1,7 @@
 """Pass 5b: registers of the program and of its shared functions. A function has its registers before those that call
 it: what they keep across the call is in others, which pass through the function's code types."""
 from .alloc import K, allocate
+from .early import copy_early
 from .ir import Block, Edge, Value
 from .split import split
 
@@ -62,6 +63,7 @@ class Program:
             self.prepare(s)
         for s in self.order:
             blocks = self.blocks_of[s]
+            copy_early(blocks)
             inner = [b.term[3].to for b in blocks if b.term[0] == "call" and self.is_inner(s, b.term[1])]
             pairs, start, cells, framed = allocate(blocks, first_cell + self.cells, frozenset(reserved), inner)
             self.frame = max(self.frame, framed)

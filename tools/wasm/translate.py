@@ -11,6 +11,7 @@ from .memory import MOST_CELLS, Memory
 from .names import exported_symbols, linked_symbols, read_map
 from .module import Module
 from .opcodes import FLOATS, I32
+from .pins import choose
 from .refused import Refused, plain
 from .subroutines import Program
 from .text import Text, return_name
@@ -132,8 +133,7 @@ def emitted(program, memory, cells, options):
     emitter = Emitter(program, memory.length)
     emitter.run(cells)
     if options.pins > 0:
-        pins = emitter.wishes()[:options.pins]
-        emitter = Emitter(program, memory.length, pins)
+        emitter = Emitter(program, memory.length, *choose(emitter, options.pins))
         emitter.run(cells)
     return emitter
 

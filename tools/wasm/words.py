@@ -28,7 +28,7 @@ def apply(op, a, b):
 
 
 def ones_of(x):
-    return x if isinstance(x, int) else x.ones
+    return x if x.__class__ is int else x.ones
 
 
 def smear(n):
@@ -39,22 +39,21 @@ def low_bit(n):
     return n & -n
 
 
+def ones_of_sum(oa, ob, _):
+    return oa | ob if not oa & ob else smear(oa + ob) & M64 & -low_bit(oa | ob)
+
+
+def ones_of_product(oa, ob, _):
+    return smear(oa * ob) & M64 & -(low_bit(oa) * low_bit(ob))
+
+
+# What a result may have, of the bits that the operands may have, and the second operand.
+ONES = {"and": lambda oa, ob, _: oa & ob, "or": lambda oa, ob, _: oa | ob, "xor": lambda oa, ob, _: oa | ob,
+        "add": ones_of_sum, "sub": lambda oa, ob, _: M64 & -low_bit(oa | ob), "mul": ones_of_product,
+        "ltu": lambda oa, ob, _: 1, "eq": lambda oa, ob, _: 1,
+        "shl": lambda oa, ob, b: (oa << b if b.__class__ is int else smear(oa << min(ob, 64))) & M64,
+        "shr": lambda oa, ob, b: oa >> b if b.__class__ is int else smear(oa)}
+
+
 def ones_after(op, a, b):
-    oa, ob = ones_of(a), ones_of(b)
-    if op == "and":
-        return oa & ob
-    if op in ("or", "xor"):
-        return oa | ob
-    if op == "add":
-        return oa | ob if not oa & ob else smear(oa + ob) & M64 & -low_bit(oa | ob)
-    if op == "sub":
-        return M64 & -low_bit(oa | ob)
-    if op == "mul":
-        return smear(oa * ob) & M64 & -(low_bit(oa) * low_bit(ob))
-    if op in ("ltu", "eq"):
-        return 1
-    if op == "shl":
-        return (oa << b) & M64 if isinstance(b, int) else smear(oa << min(ob, 64)) & M64
-    if op == "shr":
-        return oa >> b if isinstance(b, int) else smear(oa)
-    return M64
+    return ONES[op](a if a.__class__ is int else a.ones, b if b.__class__ is int else b.ones, b)

@@ -1,0 +1,41 @@
+"""What the tests of many programs share: a call of tools/cc, the lines of an object, and the count of how they went."""
+import os
+import subprocess
+import tempfile
+
+here = os.path.dirname(os.path.abspath(__file__))
+top = os.path.join(here, "..", "..")
+TALFT = os.environ.get("TALFT", os.path.join(top, "talft"))
+LEVELS = "-O0", "-O1", "-O2", "-O3", "-Os", "-Oz"
+
+
+def ran(*words, **more):
+    return subprocess.run(words, stdout=subprocess.PIPE, stderr=subprocess.PIPE, text=True, **more)
+
+
+def compiled(source, level, made, *words):
+    """What tools/cc says of a program, after a word on how it went, or None where its object is verified."""
+    done = ran(os.path.join(top, "tools", "cc"), source, level, *words, "--stack", "1024", "-o", made)
+    said = done.stderr.strip().splitlines()[-1] if done.stderr.strip() else ""
+    if done.returncode:
+        return ("clang refuses" if "clang refuses" in said else "wrong" if "report it" in said else "refused"), said
+    return None if "; verified: " in done.stderr else ("not verified", said)
+
+
+def lines_of(made, names):
+    """The lines that an object's run writes of cells with these names."""
+    lines = ran(TALFT, "run", made, "--steps", "1000000").stdout.splitlines()
+    return [line for line in lines if line.split(" ")[0] in names]
+
+
+def try_each(tried, numbers):
+    """Prints what is wrong with each, and the counts of how they went."""
+    counts = {}
+    with tempfile.TemporaryDirectory() as folder:
+        for number in numbers:
+            level = LEVELS[number % len(LEVELS)]
+            word, why = tried(number, level, folder)
+            counts[word] = counts.get(word, 0) + 1
+            if why:
+                print(f"{number} {level}: {word}: {why[-300:]}", flush=True)
+    print(f"{len(numbers)} programs: " + ", ".join(f"{word} {n}" for word, n in sorted(counts.items())))
