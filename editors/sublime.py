@@ -1,14 +1,18 @@
 #!/usr/bin/env python3
-"""Writes the TextMate grammar as the form that bat and Sublime Text read: editors/talft.sublime-syntax."""
+"""Writes a TextMate grammar as the form that bat and Sublime Text read: `sublime.py talft | talft-asm`."""
 import json
 import os
+import sys
 
-with open(os.path.join(os.path.dirname(__file__), "vscode/talft.tmLanguage.json"), encoding="utf-8") as file:
+kind = sys.argv[1]
+with open(os.path.join(os.path.dirname(__file__), f"vscode/{kind}.tmLanguage.json"), encoding="utf-8") as file:
     grammar = json.load(file)
 print("%YAML 1.2\n---")
-print("# Made by editors/sublime.py from editors/vscode/talft.tmLanguage.json.")
+print(f"# Made by editors/sublime.py from editors/vscode/{kind}.tmLanguage.json.")
 print(f"name: {grammar['name']}")
-print(f"file_extensions: [{', '.join(grammar['fileTypes'])}]")
+# Other languages have files of the same names: the first line decides, or a setting of the project.
+print("file_extensions: []")
+print(f"first_line_match: '{grammar['firstLineMatch']}'")
 print(f"scope: {grammar['scopeName']}")
 print("contexts:\n  main:")
 for pattern in grammar["patterns"]:

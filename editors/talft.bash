@@ -72,7 +72,7 @@ _talft_files() {
   compopt -o filenames 2>/dev/null
 }
 
-# The site in K:SITE:V, with the colon after it.
+# The site in STEP:SITE:WORD, with the colon after it.
 _talft_site() {
   local step=${word%%:*} site=${word#*:} number sites='d pcg pcb'
   [[ $word == *:* && $site != *:* ]] || return
@@ -84,4 +84,24 @@ _talft_site() {
   compopt -o nospace 2>/dev/null
 }
 
+# The tools: their options, as --help tells them, and files. Other programs have the names `cc` and `build`, and `set` is a word
+# of the shell: of these only what lies beside the tool `campaign` is a tool. The others keep their own completion.
+_talft_tool() {
+  local word=${COMP_WORDS[COMP_CWORD]} at
+  COMPREPLY=()
+  at=$(type -P -- "$1")
+  if [[ ${1##*/} == set && $1 != */* ]]; then
+    COMPREPLY=($(compgen -A setopt -- "$word"))
+  elif [[ ! -x ${at%/*}/campaign ]]; then
+    complete -r -- "${1##*/}" 2>/dev/null
+    declare -F _completion_loader >/dev/null && _completion_loader "$1"
+    return 124
+  elif [[ $word == -* ]]; then
+    COMPREPLY=($(compgen -W "$("$1" --help 2>/dev/null </dev/null | grep -o -- '--[a-z][a-z-]*' | sort -u)" -- "$word"))
+  else
+    compopt -o default 2>/dev/null
+  fi
+}
+
 complete -F _talft talft
+complete -F _talft_tool build campaign cc dap debugger ending explain faults lines plot report set wasm2asm

@@ -61,8 +61,9 @@ def classes(text):
     return found
 
 
-def by_textmate(text, folder):
-    with open(f"{EDITORS}/vscode/talft.tmLanguage.json", encoding="utf-8") as file:
+def scopes_of(text, grammar):
+    """The scope of each byte, as an editor finds it by a TextMate grammar."""
+    with open(f"{EDITORS}/vscode/{grammar}.tmLanguage.json", encoding="utf-8") as file:
         patterns = [(re.compile(it["match"]), it["name"]) for it in json.load(file)["patterns"]]
     found = []
     for line in text.splitlines(True):
@@ -76,14 +77,19 @@ def by_textmate(text, folder):
             scopes += [""] * (start - at) + [name] * (end - start)
             at = end
         found += scopes + [""] * (len(line) - at)
-    return [scope_class(it) for it in found]
+    return found
+
+
+def by_textmate(text, folder):
+    return [scope_class(it) for it in scopes_of(text, "talft")]
 
 
 def scope_class(scope):
     return next((kind for kind, (name, _) in CLASSES.items() if name and scope.startswith(name)), "blank")
 
 
-def by_vim(text, folder):
+def groups_of(file_name, folder):
+    """The name that Vim gives to the syntax of each byte of a file, and an empty one for each end of a line."""
     script, told = f"{folder}/script.vim", f"{folder}/told"
     with open(script, "w", encoding="utf-8") as file:
         file.write(
@@ -98,10 +104,14 @@ def by_vim(text, folder):
             "qall!\n"
         )
     words = ["vim", "-es", "-u", "NONE", "-N", "-i", "NONE", "-c", f"set rtp^={EDITORS}/vim", "-c", "filetype on"]
-    words += ["-c", "syntax on", "-c", f"edit {folder}/text.src", "-c", f"source {script}"]
-    subprocess.run(words, stdin=subprocess.DEVNULL, timeout=60)
+    words += ["-c", "syntax on", "-c", f"edit {file_name}", "-c", f"source {script}"]
+    subprocess.run(words, stdin=subprocess.DEVNULL, timeout=60, check=False)
     with open(told, encoding="utf-8") as file:
-        names = file.read().splitlines()
+        return file.read().splitlines()
+
+
+def by_vim(text, folder):
+    names = groups_of(f"{folder}/text.src", folder)
     groups = {group: kind for kind, (_, group) in CLASSES.items()}
     return [groups[it] for it in names]
 
@@ -127,7 +137,7 @@ def by_bat(text, folder):
     cache = f"{folder}/cache"
     how = {"check": True, "stdout": subprocess.PIPE, "timeout": 60}
     subprocess.run([program, "cache", "--build", "--source", f"{folder}/from", "--target", cache], **how)
-    words = [program, "--no-config", "--theme", "classes", "--tabs", "0", "-p", "--color", "always", "--paging", "never"]
+    words = [program, "--no-config", "--theme", "classes", "--tabs", "0", "-p", "--color", "always", "--paging", "never", "-l", "talft"]
     environment = {**os.environ, "BAT_CACHE_PATH": cache, "COLORTERM": "truecolor"}
     said = subprocess.run([*words, f"{folder}/text.src"], env=environment, **how).stdout.decode()
     kinds, found, kind = {str(at): it for at, it in enumerate(CLASSES, 1)}, [], "blank"

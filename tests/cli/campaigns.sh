@@ -28,7 +28,7 @@ campaign() {
 # A program that writes down which parts it is given, and waits, fails, lies or dies at one of them.
 cat >watched <<END
 #!/usr/bin/env bash
-if [ "\$1" != debug ]; then
+if [ "\$1" != debug ] && [ "\$1" != --version ]; then
   echo "\$4" >>"$work/given"
   case \$4 in
     000001.*)

@@ -37,6 +37,70 @@ completes 'a further answer' '7,stop' 'talft run five.obj --wild 7,s'
 completes 'an option behind a fault' '--steps --wild' 'talft run five.obj --fault 4:r1:6 --'
 cd "$work" || exit 2
 
+# `completes_tool NAME WANTED TOOL WORD` completes the first word after a tool.
+completes_tool() {
+  report "completion of $1" "$2" "$(bash --norc -c '
+    . "$1/editors/talft.bash"
+    COMP_WORDS=("$2" "$3") COMP_CWORD=1
+    _talft_tool "$2"
+    status=$?
+    echo "${COMPREPLY[*]}$([ $status -eq 0 ] || echo "status $status")"' bash "$top" "$3" "$4" 2>&1)"
+}
+completes_tool 'the options of cc' '--stack --steps' "$top/tools/cc" --st
+completes_tool 'the options of set' '--from' "$top/tools/set" --f
+completes_tool 'the options of build' '--unchecked' "$top/tools/build" --u
+completes_tool 'the options of the shell' 'noclobber' set nocl
+ln -s "$(type -P true)" cc
+completes_tool 'another cc' 'status 124' ./cc --st
+report 'each tool is completed' '' "$(grep -lE '^#!' "$top"/tools/* 2>/dev/null | sed 's|.*/||' |
+  grep -vxFf <(sed -n 's/^complete -F _talft_tool //p' "$top/editors/talft.bash" | tr ' ' '\n'))"
+
 report 'the grammar of TextMate' '0 wrong' \
   "$(python3 "$top/tests/editors.py" textmate "$top"/examples/*.src "$top/tests/sources/tokens.src" 2>&1 | tail -n 1 | sed 's/.*, //')"
-report 'the syntax for bat' '' "$(python3 "$top/editors/sublime.py" | diff - "$top/editors/talft.sublime-syntax")"
+cat >words.asm <<'END'
+  # r1 is here, G too
+cell r1x ref:code:7 5
+cell a[0] int 0
+cell r64 int 18446744073709551615
+node 0 add 3 4
+	mov r63 B 05 ref:ref:int
+END
+report 'the grammar of assembly' '0 wrong' \
+  "$(python3 -B "$top/tests/editors_assembly.py" textmate "$top"/examples/*.asm words.asm 2>&1 | tail -n 1 | sed 's/.*, //')"
+if has vim 'the colours of assembly in Vim' && vim --version | grep -q '+syntax'; then
+  report 'the colours of assembly in Vim' '0 wrong' \
+    "$(python3 -B "$top/tests/editors_assembly.py" vim "$top/examples/five.asm" words.asm 2>&1 | tail -n 1 | sed 's/.*, //')"
+fi
+for kind in talft talft-asm; do
+  report "the syntax $kind for bat" '' \
+    "$(python3 "$top/editors/sublime.py" $kind | diff - "$top/editors/$kind.sublime-syntax")"
+done
+
+# No editor takes each file of a name: the first line decides, the same for VS Code, bat and Sublime Text.
+kinds() {
+  python3 - "$top/editors" <<'END'
+import json, re, sys
+with open(sys.argv[1] + "/vscode/package.json") as file:
+    languages = json.load(file)["contributes"]["languages"]
+for it in languages:
+    with open(f"{sys.argv[1]}/vscode/{it['id']}.tmLanguage.json") as file:
+        grammar = json.load(file)
+    if "extensions" in it or grammar["fileTypes"] or grammar["firstLineMatch"] != it["firstLine"]:
+        print(it["id"] + " takes other files")
+for line in ("cell out = 0;", "var a; var b;", "cell a[3] = 0;", "# a talft source", "cell out int 0", "node 0 memory",
+             "cell p ref:code:1 5", "# talft assembly", "cell (int x) {", "int main() {", "mov eax, 1", "# something"):
+    print(f"{line}:", *(it["id"] for it in languages if re.search(it["firstLine"], line)))
+END
+}
+report 'which first lines are of which kind' "cell out = 0;: talft
+var a; var b;: talft
+cell a[3] = 0;: talft
+# a talft source: talft
+cell out int 0: talft-asm
+node 0 memory: talft-asm
+cell p ref:code:1 5: talft-asm
+# talft assembly: talft-asm
+cell (int x) {:
+int main() {:
+mov eax, 1:
+# something:" "$(kinds)"

@@ -35,13 +35,13 @@ for program in fibonacci sieve; do
   "$top/talft" compile "$top/examples/$program.src" >"$program.obj"
   "$top/tools/faults" "$program.obj" --sample 0 2>said
   length=$(sed -n 's/.* of \([0-9]*\)$/\1/p' said)
-  "$top/talft" run "$program.obj" --steps "$length" >written
+  "$top/talft" run "$program.obj" --steps "$length" >written 2>errors
   report "the length of the run of $program" 0 $?
-  "$top/talft" run "$program.obj" --steps $((length - 1)) >written
+  "$top/talft" run "$program.obj" --steps $((length - 1)) >written 2>errors
   report "one step less of the run of $program" 9 $?
 done
 tool 'a run that is cut' 0 '5:r0:1\n' faults "$five" --most 6 --steps 5: --sites r0 --values 1
-report 'what is said of a run that is cut' 'faults: the run is cut: it goes on after 6 steps' "$(head -n 1 said)"
+report 'what is said of a run that is cut' 'faults: the run is still running after 6 steps: raise --most to strike later ones' "$(head -n 1 said)"
 
 refuses 'a site that is none' "faults: --sites: 'r64': there is no site r64" faults "$five" --sites r0,r64
 refuses 'a range of sites across kinds' "faults: --sites: 'd-r3' is no site and no range of them" \

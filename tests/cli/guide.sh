@@ -1,9 +1,24 @@
-# The guide, run by what it says. A chapter that needs what is not installed is left out, and named.
+# The guide, run by what it says. A chapter that needs what is not installed is left out, and named. A program in place of
+# talft counts the calls.
 
-guide=$(python3 "$top/tests/guide.py" "$top/docs/GUIDE.md" "$top" 2>&1)
+mkdir guide
+ln -s "$top/tools" "$top/examples" guide
+cat >guide/talft <<END
+#!/usr/bin/env bash
+echo "\$1" >>"$work/guide.calls"
+exec "$top/talft" "\$@"
+END
+chmod +x guide/talft
+guide=$(TALFT=$work/guide/talft python3 "$top/tests/guide.py" "$top/docs/GUIDE.md" "$work/guide" 2>&1)
 commands=$(grep -c '^\$ ' "$top/docs/GUIDE.md")
 files=$(grep -c '^```text .' "$top/docs/GUIDE.md")
 left=$(sed -n 's/^left out: \([0-9]*\) commands.*/\1/p' <<<"$guide")
 [ -z "$left" ] || skip 'a chapter of the guide' "$(grep '^left out' <<<"$guide")"
 asked=$((commands + files - ${left:-0}))
 report 'the guide' "$asked of $asked commands write what the guide says" "$(grep -v '^left out' <<<"$guide")"
+if [ -z "$left" ]; then
+  calls=$(wc -l <guide.calls)
+  told=$(tr '\n' ' ' <"$top/docs/GUIDE.md" | grep -o 'makes some [0-9]* calls' | tr -dc 0-9)
+  report "the calls that the guide makes, some $told" yes \
+    "$([ $((calls - told)) -le 10 ] && [ $((told - calls)) -le 10 ] && echo yes || echo "$calls")"
+fi

@@ -26,19 +26,33 @@ draws() {
 if has gnuplot 'the pictures'; then
   draws few 'masked 230 detected 115 idle 92 corrupt 23 of 10 48' \
     '5 detected: half of them within 3 steps, the last one after 3 steps'
-  draws cell 'masked 40 detected 0 idle 0 corrupt 6 of 2 24' 'No fault was detected\.'
+  draws cell 'masked 32 detected 0 idle 0 corrupt 14 of 2 24' 'No fault was detected\.'
+  report 'a ring around the only corrupt fault' 1 "$(grep -c "<path stroke='rgb(213,  94,   0)'" cell.svg)"
   python3 -c 'import sys, xml.etree.ElementTree as tree; tree.parse(sys.argv[1])' few.svg
   report 'an SVG is in the grammar of XML' 0 $?
-  # The cells are 100 dots wide in the PNG; the frame and the legend take and add some.
+  # The cells are 76 dots wide in the PNG; the frame and the legend take and add some.
   report 'the cells of few.png' '10 4 1' \
-    "$(dots few.png | awk '{ printf "%.0f %.0f %.0f", $2 / 2300, $6 / 2300, $8 / 2300 }')"
+    "$(dots few.png | awk '{ printf "%.0f %.0f %.0f", $2 / 1748, $6 / 1748, $8 / 1748 }')"
   tool 'only a PNG' 0 '' plot few.lines cell.lines --title 'one & <two>' --out pair.png
   report 'no SVG' 'pair.png' "$(echo pair.*)"
   tool 'a title with signs' 0 '' plot few.lines --title "it's one & <two>" --out pair.svg
   report 'the title' "it's one & <two>" "$(python3 -c 'import html, sys; print(html.unescape(sys.stdin.read()))' \
     < <(sed -n 's/.*<text>\(.*two.*\)<.text>/\1/p' pair.svg))"
 
-  # The same faults on code that is accepted, and on code whose blue stores read the green registers.
+    # What a legend and the axes say, and rows that are folded. No picture is wider than the page of a repository.
+  texts() { sed -n 's/.*<text>\(.*\)<.text>.*/\1/p; s/.*<text><tspan[^>]*>\([^<]*\)<.*/\1/p' "$1"; }
+  report 'no fault of the list is in the legend' 1 "$(texts few.svg | grep -c 'no fault of the list')"
+  report 'the axis says what a column is' 1 "$(grep -c 'step before which the fault strikes (one column: 1 step)' few.svg)"
+  report 'the shares of the verdicts' 1 "$(grep -c 'masked 10 (50.0%)' few.svg)"
+  report 'the picture is 860 dots wide' 860 "$(sed -n 's/^<svg *//; s/^ *width="\([0-9]*\)".*/\1/p' few.svg | head -n 1)"
+  tool 'a picture with the object' 0 '' plot few.lines --object "$top/examples/five.obj" --out used.svg
+  report 'both registers are used' 0 "$(grep -c '>unused<' used.svg)"
+  sed 's/r1:/r9:/' few.lines >unused.lines
+  tool 'a picture with an unused register' 0 '' plot unused.lines --object "$top/examples/five.obj" --out unused.svg
+  report 'its faults are told apart' 1 "$(grep -c 'of 10 faults; 10 more in unused registers' unused.svg)"
+  report 'they are left out of the shares' 1 "$(grep -c 'masked 10 (100%)' unused.svg)"
+
+# The same faults on code that is accepted, and on code whose blue stores read the green registers.
   "$top/talft" compile "$top/examples/fibonacci.src" >fibonacci.obj
   python3 "$top/tests/unpaired.py" fibonacci.obj >unpaired.obj
   "$top/tools/faults" fibonacci.obj --sites r0-r7,r32-r39,d,pcg,pcb,qa0,qv0 >list 2>said
@@ -137,7 +151,7 @@ if command -v gnuplot >/dev/null && has $browser 'a page in a browser'; then
     echo document.title
     echo 'document.getElementById("command").textContent'
     echo 'document.querySelector(".totals").innerText.replace(/\s+/g, " ")'
-    echo 'document.querySelector("img").naturalWidth > 1000'
+    echo 'document.querySelector("img").naturalWidth === 860'
     choose r1 corrupt
     choose r33 corrupt
     choose r0 detected
@@ -150,6 +164,8 @@ if command -v gnuplot >/dev/null && has $browser 'a page in a browser'; then
     echo location.hash
   } | timeout 100 python3 "$top/tests/browser.py" page.html page.png 2>errors | tr -d , >browsed
   IFS=': ' read -r step site word verdict < <(grep ':r1:.* corrupt' unpaired.lines)
+  old=$(printf 'step %d\nreg r1\n' "$step" | "$top/talft" debug unpaired.obj | sed -n '$s/.* //p')
+  hex() { [ "$1" -lt 10 ] && echo "$1" || printf '%d (0x%x)\n' "$1" "$1"; }
   where=$(printf 'step %d\nwhere\n' "$step" | "$top/talft" debug unpaired.obj | sed -n '$s/.* block/block/p')
   {
     echo 'unpaired: faults'
@@ -162,7 +178,7 @@ if command -v gnuplot >/dev/null && has $browser 'a page in a browser'; then
     chosen '' ''
     echo 200
     chosen r1 corrupt
-    echo "$step $site $word $verdict (before its $([ $((step % 2)) -eq 0 ] && echo fetch || echo execution) $where) why"
+    echo "$step $site $(hex "$old") $(hex "$word") 0 $verdict (before its $([ $((step % 2)) -eq 0 ] && echo fetch || echo execution) $where) why"
     echo 'explain unpaired/object --fault '"$step:$site:$word"
     "$top/tools/explain" unpaired.obj --fault "$step:$site:$word" | head -n 1 | tr -d ,
     echo '#site=r1&verdict=corrupt'

@@ -1,0 +1,98 @@
+# What a newcomer meets beside the program's answers: objects built in place, campaigns that were cut, one notation.
+
+cp "$top/examples/five.asm" built.asm
+tool 'an object is built' 0 '' build built.asm
+expect 'the object that was built' 0 'out 5\n' run built.obj
+cp built.obj old.obj
+echo 'cell out = 0; out = x;' >built.src
+refuses 'a source that is refused' 'build: built.src: source 7 20' build built.src
+report 'the old object stays' '' "$(cmp built.obj old.obj 2>&1)"
+cp "$top/examples/mixed.obj" wrong.obj
+"$top/talft" dis wrong.obj >wrong.asm
+refuses 'an object that is not accepted' 'build: wrong.obj: check block 0 index 3 premise 2' build wrong.asm
+report 'nothing is left over' '' "$(ls ./*.new 2>&1 | grep -v 'No such file')"
+refuses 'a name of another kind' 'build: built.txt: expected a name that ends with .src, .asm or .map' build built.txt
+
+# Of five.obj, 14 steps long, a run of 12 steps is cut. Both faults strike, and the second is detected in step 11.
+printf '0:r9:1\n4:r1:6\n' >cut.faults
+tool 'a campaign that is cut' 0 '0:r9:1 masked\n4:r1:6 detected 11\nfaults 2 masked 1 detected 1 idle 0 corrupt 0\n' \
+  campaign "$top/examples/five.obj" --faults cut.faults --steps 12 --dir cut.kept
+report 'how many struck runs were cut' 'campaign: 1 struck run was still running after 12 steps: raise --steps' \
+  "$(tail -n 1 said)"
+tool 'a campaign that is not cut' 0 '0:r9:1 masked\n4:r1:6 detected 11\nfaults 2 masked 1 detected 1 idle 0 corrupt 0\n' \
+  campaign "$top/examples/five.obj" --faults cut.faults --steps 14 --dir whole.kept
+report 'nothing is said of it' 0 "$(grep -c 'still running' said)"
+
+report 'one notation of strikes' '' "$(grep -rlI 'K:SITE:V\|STEP:SITE:V\b' "$top"/docs "$top/README.md" "$top/editors" "$top/examples" \
+  "$top/man" $(find "$top/tools" -maxdepth 1 -type f ! -name debugger) 2>/dev/null)"
+
+# The manual stands alone: no file of the repository, no word of the proofs, and each page that it names is there.
+for page in "$top"/man/talft*.[157]; do
+  report "what ${page##*/} cannot explain" '' \
+    "$(tail -n +4 "$page" | grep -E 'crates/|tests/|\.antt|\.md\b|\b([Cc]lauses?|[Ss]hel(f|ves)|[Ss]inks?|puts?)\b')"
+done
+report 'the pages that are named' '' "$(grep -ohE 'talft(\\?-[a-z0-9]+)?(\\f[A-Z])? ?\([157]\)' "$top"/man/talft*.[157] |
+  sed 's/\\f[A-Z]//; s/\\//g; s/ //; s/(\(.\))/.\1/' | sort -u | while read -r page; do [ -f "$top/man/$page" ] || echo "$page"; done)"
+for script in $(grep -lE '^#!' "$top"/tools/* 2>/dev/null); do
+  report "the page of ${script##*/}" 1 "$(grep -c "^.SH SYNOPSIS" "$top/man/talft-${script##*/}.1" 2>&1)"
+done
+# Each premise has an entry of what fails and of what to do.
+report 'the premises and what to do' 18 "$(sed -n '/^.SH PREMISES/,/^.SH RULES/p' "$top/man/talft-typing.7" |
+  grep -c 'what to do:')"
+for part in STRIKES CAMPAIGNS 'SESSIONS OF THE DEBUGGER'; do
+  report "$part in talft-faults(5)" 1 "$(grep -c "^.SH $part" "$top/man/talft-faults.5")"
+done
+for part in SYNOPSIS EXAMPLES ENVIRONMENT 'EXIT STATUS'; do
+  report "$part in talft(1)" 1 "$(grep -c "^.SH $part" "$top/man/talft.1")"
+done
+
+# Vim takes a file by its text, not by its name alone.
+kind_in_vim() {
+  timeout 60 vim -es -u NONE -N -i NONE -c "set rtp^=$top/editors/vim" -c 'filetype on' -c "edit $1" \
+    -c "call writefile([&filetype], 'kind') | qall!" </dev/null >errors 2>&1
+  cat kind
+}
+if has vim 'the kinds of files in Vim' && vim --version | grep -q '+syntax'; then
+  echo 'some other language' >other.src
+  echo 'mov eax, 1' >other.asm
+  report 'a source in Vim' talft "$(kind_in_vim "$top/examples/sum.src")"
+  report 'an assembly text in Vim' talftasm "$(kind_in_vim "$top/examples/five.asm")"
+  report 'another source in Vim' no "$(kind_in_vim other.src | grep -q talft && echo yes || echo no)"
+  report 'another assembly text in Vim' no "$(kind_in_vim other.asm | grep -q talft && echo yes || echo no)"
+fi
+
+# Ctrl-C before the proof, with a stand-in for the kit that starts a process of its own, as the kit starts compilers.
+mkdir -p unproved/crates/talft/src kit left
+cp -r "$top/build" "$top/talft" "$top/crates.txt" "$top/VERSION" unproved
+mkdir unproved/docs && cp "$top/docs/PROMISES.md" unproved/docs
+cat >kit/rt <<END
+#!/usr/bin/env bash
+[ "\$1" != version ] || exec "$(command -v rt)" version
+sleep 1000 &
+echo \$! >"$work/left/one"
+sleep 1000
+END
+chmod +x kit/rt
+cat >ctrl_c.py <<'END'
+import os, signal, subprocess, sys, time
+
+def own():
+    # A shell that is not interactive has its jobs ignore Ctrl-C.
+    signal.signal(signal.SIGINT, signal.SIG_DFL)
+
+call = subprocess.Popen(sys.argv[2:], start_new_session=True, preexec_fn=own, stderr=subprocess.DEVNULL)
+for turn in range(200):
+    if os.path.exists(sys.argv[1]) and os.path.getsize(sys.argv[1]):
+        break
+    time.sleep(0.05)
+os.killpg(call.pid, signal.SIGINT)
+status = call.wait(timeout=30)
+time.sleep(0.2)
+with open(sys.argv[1]) as left:
+    number = left.read().strip()
+alive = os.path.exists(f"/proc/{number}") and "Z" not in open(f"/proc/{number}/stat").read().split()[2]
+print(status, "still runs" if alive else "nothing runs")
+END
+report 'Ctrl-C before the proof' '130 nothing runs' \
+  "$(TMPDIR=$work/left PATH=$work/kit:$PATH timeout 60 python3 ctrl_c.py left/one unproved/talft run "$top/examples/five.obj" 2>&1)"
+report 'the files that the call left' one "$(ls left)"

@@ -1,0 +1,137 @@
+"""What runs the parts of a campaign: this machine, GNU parallel or Slurm; and how far they are."""
+import os
+import re
+import signal
+import subprocess
+import sys
+import time
+
+from parts import remove, write
+
+MOST_TASKS = 1_000
+
+
+class Progress:
+    """Tells how far the campaign is: on a terminal at once, else every ten seconds."""
+
+    def __init__(self, campaign):
+        self.campaign, self.all = campaign, sum(campaign.counts)
+        self.before, self.start, self.last = self.done(), time.monotonic(), -10.0
+
+    def done(self):
+        return self.all - sum(self.campaign.counts[part] for part in self.campaign.left())
+
+    def tell(self, over=False):
+        now, terminal = time.monotonic() - self.start, sys.stderr.isatty()
+        if not over and now - self.last < (0.5 if terminal else 10):
+            return
+        self.last, done = now, self.done()
+        new = done - self.before
+        rest = f", {now / new * (self.all - done):.0f} s left" if new and done < self.all else ""
+        line = f"campaign: {done} of {self.all} faults{rest}"
+        end = "\n" if over or not terminal else ""
+        print(f"\r\033[K{line}" if terminal else line, end=end, file=sys.stderr, flush=True)
+
+
+def end(process):
+    """Ends a process, and what it started."""
+    try:
+        os.killpg(process.pid, signal.SIGTERM)
+    except ProcessLookupError:
+        pass
+
+
+def local(campaign, asked, progress):
+    """So many parts at once on this machine."""
+    waiting, running, jobs = campaign.left(), {}, asked.jobs or os.cpu_count()
+    try:
+        while waiting or running:
+            while waiting and len(running) < jobs:
+                part = waiting.pop(0)
+                running[part] = subprocess.Popen(["sh", "-c", campaign.job(f"{part:06}")], cwd=campaign.folder,
+                                                 start_new_session=True)
+            for part, process in list(running.items()):
+                if process.poll() is not None:
+                    del running[part]
+                    campaign.failures[part] = f"no answer came (the shell's status: {process.returncode})"
+                    campaign.take(part)
+            progress.tell()
+            time.sleep(0.02)
+    finally:
+        for process in running.values():
+            end(process)
+            process.wait()
+
+
+def spread(campaign, progress, command, stop, grace=0):
+    """Runs an engine's command, and takes the answers as they come; after its end it waits for those on their way."""
+    waiting, ended = campaign.left(), None
+    out = os.path.join(campaign.folder, f"{campaign.run}.engine")
+    with open(out, "wb") as told:
+        engine = subprocess.Popen(command, cwd=campaign.folder, stdin=subprocess.DEVNULL, stdout=told,
+                                  start_new_session=True)
+    try:
+        while waiting:
+            ended = ended or (time.monotonic() if engine.poll() is not None else None)
+            for part in waiting:
+                campaign.take(part)
+            waiting = [part for part in campaign.left() if part not in campaign.failures]
+            progress.tell()
+            if ended and time.monotonic() >= ended + grace:
+                break
+            time.sleep(0.1)
+        engine.wait()
+    except BaseException:
+        stop(engine, out)
+        raise
+    remove(out)
+    for part in waiting:
+        campaign.failures[part] = ("no answer came: a machine may have gone away "
+                                   f"(the engine's status: {engine.returncode})")
+
+
+def parallel(campaign, asked, progress):
+    """GNU parallel, here or on other machines."""
+    words = ["parallel"] + (["--jobs", str(asked.jobs)] if asked.jobs else [])
+    if asked.hosts:
+        words += ["--sshlogin", asked.hosts, "--workdir", "...", "--cleanup", "--retries", "3",
+                  "--transferfile", "object", "--transferfile", "{}.faults"]
+        words += [word for kind in ("out", "err", "status") for word in ("--return", f"{{}}.{campaign.run}.{kind}")]
+    write(os.path.join(campaign.folder, "jobs"), "".join(f"{part:06}\n" for part in campaign.left()).encode())
+
+    def stop(engine, _):
+        # At the first signal it begins no further job, at the second it ends those that run.
+        end(engine)
+        time.sleep(0.1)
+        end(engine)
+        engine.wait()
+
+    spread(campaign, progress, [*words, campaign.job("{}"), "::::", "jobs"], stop)
+
+
+def slurm(campaign, asked, progress):
+    """An array of jobs, each of which does some of the parts."""
+    parts = campaign.left()
+    tasks = min(len(parts), MOST_TASKS)
+    write(os.path.join(campaign.folder, "jobs"), "".join(f"{part:06}\n" for part in parts).encode())
+    script = f"""#!/bin/sh
+for part in $(awk -v task="$SLURM_ARRAY_TASK_ID" 'NR % {tasks} == task' jobs); do
+  {campaign.job('$part')}
+done
+"""
+    write(os.path.join(campaign.folder, "task"), script.encode())
+    array = f"0-{tasks - 1}" + (f"%{asked.jobs}" if asked.jobs else "")
+
+    def stop(engine, out):
+        with open(out, encoding="ascii") as told:
+            number = re.match(r"\d+", told.read())
+        if number:
+            subprocess.run(["scancel", number[0]], check=False)
+        engine.terminate()
+        engine.wait()
+
+    words = ["sbatch", "--wait", "--parsable", f"--array={array}", "--job-name=campaign", "--output=/dev/null", "task"]
+    spread(campaign, progress, words, stop, grace=10)
+
+
+ENGINES = {"local": local, "parallel": parallel, "slurm": slurm}

@@ -1,0 +1,64 @@
+"""What a campaign leaves beside its lines: the object, the steps of its runs, and whether they were cut."""
+import collections
+import json
+import os
+import re
+import subprocess
+
+from common import SITES, Refused, program
+from debugging.sessions import length_of_run
+
+Kept = collections.namedtuple("Kept", "object words wild command faults version began is_cut steps")
+
+
+def kept_in(folder):
+    """What the tool `campaign` keeps in a folder."""
+    file = os.path.join(folder, "campaign.json")
+    with open(file, encoding="utf-8") as text:
+        try:
+            told = json.load(text)
+            words = told["words"]
+            return Kept(os.path.join(folder, "object"), words, told["wild"], told["asked"], told["faults"],
+                        told.get("version"), told.get("began"), told.get("cut"), int(words[words.index("--steps") + 1]))
+        except (ValueError, KeyError, IndexError) as error:
+            raise Refused(f"{file}: not a file of the tool `campaign`") from error
+
+
+def is_cut(object_file, steps, wild=None):
+    """Whether the run without a fault goes on after so many steps."""
+    return not length_of_run(object_file, steps, wild)[1]
+
+
+def version():
+    """What `talft --version` says, or None where it does not say it."""
+    try:
+        said = subprocess.run([program(), "--version"], stdin=subprocess.DEVNULL, capture_output=True, text=True,
+                              errors="replace", check=False)
+    except OSError:
+        return None
+    found = re.search(r"\b\d+\.\d+\.\d+\S*", said.stderr)
+    return found[0] if found else None
+
+
+def used_registers(object_file):
+    """The registers that instructions of an object name; d is not among them."""
+    done = subprocess.run([program(), "dis", object_file], stdin=subprocess.DEVNULL, capture_output=True, text=True,
+                          check=False)
+    if done.returncode != 0:
+        raise Refused(f"{object_file}: {(done.stdout + done.stderr).strip() or 'not an object'}")
+    registers, found = set(SITES[:64]), set()
+    for line in done.stdout.splitlines():
+        words = line.split()
+        # Other lines have types of registers, and names that may look like a register.
+        if words and words[0] not in ("cell", "node", "type", "block", "entry", "reg"):
+            found.update(registers.intersection(words[1:]))
+    return found
+
+
+def told_of_cut(count, most, steps):
+    """How many struck runs were still running, and what to do about it; or nothing."""
+    if not most:
+        return None
+    number = f"{count:,}" if count == most else f"{count:,} to {most:,}" if count else f"up to {most:,}"
+    runs = "run was" if most == 1 else "runs were"
+    return f"{number} struck {runs} still running after {steps:,} steps"
