@@ -138,5 +138,5 @@ script_row("dense", "lines `step 1000000`, every fourth step stores", "", lambda
 script_row("history", "times 4,096 steps forth and back, with 1,024 cells", "", same(0, "at 0 running"), data=storing(1024),
            full=100, unit="turns", make=lambda n: "step 4096\nback 4096\n" * n)
 MANY = spell(memory(), b"".join(mov(k % 32, GREEN, k) for k in range(65535)) + HALT)
-script_row("breaks", "times `go 4000` and back, with 64 break places", "", same(0, "at 0 running"), data=MANY, full=1000,
+script_row("breaks", "times `go 4000` and back, with 64 breakpoints", "", same(0, "at 0 running"), data=MANY, full=1000,
            unit="times", make=lambda n: "".join(f"break 0 {5000 + k}\n" for k in range(64)) + "go 4000\nback 4000\n" * n)

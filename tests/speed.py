@@ -1,8 +1,10 @@
 """The inputs of speed.sh, and its table. `speed.py inputs FOLDER TALFT` writes the sources, maps and faults of all rows
 into the folder, and has the program make their objects and texts. `speed.py table ROWS COUNTS DOCUMENT` puts the counts
-into the table of the document that begins with `| row |`.
+into the table of the document that begins with `| row |`. `speed.py times ROWS TALFT PLAIN DOCUMENT` runs each row twenty
+times with both programs in turn, and puts the medians into the table that begins with `| timed row |`.
 """
 import os
+import statistics
 import subprocess
 import sys
 
@@ -12,7 +14,7 @@ from limits_objects import HALT, memory, pair, spell  # noqa: E402
 ASSIGNMENTS, CHOICES, VARIABLES = 10_921, 2_900, 20
 MODULES, BLOCKS = 8, 1_024
 FAULTS, STEPS = 2_048, 15_000
-
+TURNS = 20
 
 
 def assignments(count):
@@ -71,20 +73,47 @@ def write_inputs(folder, talft):
     put("faults", faults())
 
 
+def read_rows(rows):
+    with open(rows, encoding="ascii") as lines:
+        return [line.strip().split(" ", 1) for line in lines]
+
+
+def put_table(document, table):
+    """Puts a table in the place of the one in the document that begins with the same name of a column."""
+    head = table[0].split("|")[1]
+    with open(document, encoding="utf-8") as text:
+        lines = text.read().split("\n")
+    first = next(k for k, line in enumerate(lines) if line.startswith(f"|{head}|"))
+    lines[first:lines.index("", first)] = table
+    put(document, "\n".join(lines))
+
+
 def write_table(rows, counts, document):
     with open(counts, encoding="ascii") as lines:
         counts_of = (line.split() for line in lines if line[0] != "#")
         found = {name: (int(ours), int(plain)) for name, ours, plain in counts_of}
     table = ["| row | words | machine instructions | plain Rust | ratio |", "|---|---|---|---|---|"]
-    with open(rows, encoding="ascii") as lines:
-        for name, words in (line.strip().split(" ", 1) for line in lines):
-            ours, plain = found[name]
-            table.append(f"| {name} | `{words}` | {ours:,} | {plain:,} | {ours / plain if plain else 0:.2f} |")
-    with open(document, encoding="utf-8") as text:
-        lines = text.read().split("\n")
-    first = next(k for k, line in enumerate(lines) if line.startswith("| row |"))
-    lines[first:lines.index("", first)] = table
-    put(document, "\n".join(lines))
+    for name, words in read_rows(rows):
+        ours, plain = found[name]
+        table.append(f"| {name} | `{words}` | {ours:,} | {plain:,} | {ours / plain if plain else 0:.2f} |")
+    put_table(document, table)
 
 
-{"inputs": write_inputs, "table": write_table}[sys.argv[1]](*sys.argv[2:])
+def seconds(words):
+    """The processor time of one call, in seconds."""
+    quiet = [(os.POSIX_SPAWN_OPEN, fd, os.devnull, os.O_RDWR, 0) for fd in range(3)]
+    _, _, usage = os.wait4(os.posix_spawnp(words[0], words, os.environ, file_actions=quiet), 0)
+    return usage.ru_utime + usage.ru_stime
+
+
+def write_times(rows, talft, plain, document):
+    table = ["| timed row | ours | plain Rust | ratio |", "|---|---|---|---|"]
+    for name, words in read_rows(rows):
+        pairs = [(seconds([talft, *words.split()]), seconds([*plain.split(), *words.split()])) for _ in range(TURNS)]
+        ours, plainly = (statistics.median(times) for times in zip(*pairs))
+        table.append(f"| {name} | {ours * 1000:.1f} ms | {plainly * 1000:.1f} ms | {plainly / ours:.2f} |")
+        print(table[-1], flush=True)
+    put_table(document, table)
+
+
+{"inputs": write_inputs, "table": write_table, "times": write_times}[sys.argv[1]](*sys.argv[2:])

@@ -5,20 +5,26 @@
 # another version of it are not compared.
 #
 #     bash tests/speed.sh [--write] [ROW..]
+#     PLAIN=.. bash tests/speed.sh --times
+#
+# Calls are counted without explanations: to tell what a run met, it is run again, which no other program does.
 #
 # PLAIN names another program, with words that come before those of a row. Then its counts are taken, too; else those
-# that are kept are shown. With --write the counts become those that are kept, and docs/SPEED.md shows them.
+# that are kept are shown. With --write the counts become those that are kept, and docs/SPEED.md shows them. With --times
+# both programs run each row twenty times in turn, and docs/SPEED.md shows the medians of their times: let nothing else run.
 set -u
 top=$(cd "$(dirname "$0")/.." && pwd)
 . "$top/tests/report.sh"
 kept=$top/tests/speed.counts
 program=$top/crates/talft/out/talft
-write=no
+write=no times=no
 [ "${1-}" = --write ] && write=yes && shift
+[ "${1-}" = --times ] && times=yes && shift
+export TALFT_EXPLAIN=0
 export GLIBC_TUNABLES=glibc.cpu.hwcaps=-AVX2,-AVX2_Usable,-AVX_Fast_Unaligned_Load,-AVX512F,-AVX512VL,-ERMS,-FSRM
 library=$(getconf GNU_LIBC_VERSION)
 has valgrind 'the counts of machine instructions' || { close; exit; }
-if [ "$write" = no ] && ! grep -qs "^# $library\$" "$kept"; then
+if [ "$write$times" = nono ] && ! grep -qs "^# $library\$" "$kept"; then
   skip 'the counts of machine instructions' "they were not taken with $library"
   close
   exit
@@ -62,6 +68,11 @@ count() {
 
 cd "$work" || exit 2
 python3 "$top/tests/speed.py" inputs . "$program" || exit 1
+if [ "$times" = yes ]; then
+  rows >rows
+  env -u GLIBC_TUNABLES python3 "$top/tests/speed.py" times rows "$program" "${PLAIN:?names the program to compare with}" "$top/docs/SPEED.md"
+  exit
+fi
 names=() jobs=0
 while read -r name words; do
   [ $# -eq 0 ] || [[ " $* " == *" $name "* ]] || continue
