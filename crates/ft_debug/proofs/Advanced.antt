@@ -1,12 +1,13 @@
 -- Steps of the debugger, and what they put.
 use Rattle.std.proofs.Common.{◌≡◌, ℕ, zero, suc, ◌+◌, ◌-◌, ◌<◌, ◌≤◌, Bool, true, false, not, ◌&&◌, min, List, [], ◌∷◌, ◌++◌, map, drop, Option, Some, None, Result, Ok, Err, refl, ap, sym, ◌∙◌, subst, append_assoc, append-nil, arith}
 use Rattle.std.specs.Option.{option_to_list}
-use Rattle.std.specs.Prelude.{if◌then◌else◌, IsErr}
+use Rattle.std.specs.Prelude.{if◌then◌else◌, IsErr, OnOk}
 use Rattle.ft_edge.specs.declared.failed.Failed.{Failed}
 use Rattle.ft_isa.specs.declared.output.Output.{Output}
 use Rattle.ft_isa.specs.declared.plan.Wild.{Wild}
-use Rattle.ft_edge.specs.Puts.{PutsLines, BreaksOff}
-use Rattle.ft_edge.proofs.PutLines.{puts_none, puts_then, breaks_then, breaks_before}
+use Rattle.ft_edge.specs.Lines.{BreaksOff, Puts, end_of_puts, with_lines}
+use Rattle.ft_edge.specs.Logs.{SinkLog}
+use Rattle.ft_edge.proofs.Lines.{lines_none, lines_then, breaks_then, breaks_before}
 use Rattle.ft_types.specs.declared.object.Object.{Object}
 use Rattle.ft_semantics.specs.declared.status.Status.{Status}
 use Rattle.ft_semantics.specs.declared.status.Status.TheVariants as status
@@ -20,8 +21,32 @@ use Rattle.ft_debug.specs.declared.moment.Moment.{Moment}
 use Rattle.ft_debug.specs.declared.debugger.Debugger.{Debugger}
 use Rattle.ft_debug.specs.Kept.{IsFull}
 use Rattle.ft_debug.specs.Sessions.{Session, Reply, present, stays, after_lines, further, step_lines, walks}
-use Rattle.ft_debug.specs.Inside.{Holds, Puts, Does, committed_lines, advances}
+use Rattle.ft_debug.specs.Inside.{Holds, IsReplied, Does, committed_lines, advances}
 use Rattle.ft_debug.proofs.Held.{holds_further}
+
+-- THE EXIT OF A FAILED PUT
+
+-- what is so is so where the call went well
+pub on_ok : {T E P : Type 0} (r : Result T E) → P → OnOk r P
+on_ok (Ok x) p = p
+on_ok (Err e) p = tt
+
+-- a call that failed put its reply up to a put that failed
+exit : (o : Object) (w : List Wild) (q : Reply) (e : Debugger) (r : Result (Unit {0}) Failed) (old new : SinkLog)
+    → IsErr r → BreaksOff q.lines old new → IsReplied o w q e r old new
+exit o w q e (Ok u) old new is h = absurd (cc)
+exit o w q e (Err f) old new is h = (tt, h)
+
+-- what a failed part put is what the whole put, which would have put more
+pub does_err : (go whole : List Wild → Session → Reply) (o : Object) (d e : Debugger) (failed : Failed)
+    (r : Result (Unit {0}) Failed) (old new : SinkLog)
+    → ((w : List Wild) (s : Session) → Holds o w s d
+    → (more : List (List ℕ)) × ((whole w s).lines ≡ (go w s).lines ++ more)) → IsErr r
+    → Does go o d e (Err failed) old new → Does whole o d e r old new
+does_err go whole o d e failed r old new longer is does = λ w s h.
+    let x = longer w s h in
+    exit o w (whole w s) e r old new is (subst (λ (ls : List (List ℕ)). BreaksOff ls old new) (sym x.1)
+    (breaks_before (go w s).lines x.0 old new (does w s h).1))
 
 -- ONE STEP
 
@@ -46,12 +71,13 @@ pub record Advances (o : Object) (d e : Debugger) (stepped : Stepped) : Type 0 w
   pub count : e.history.count ≡ min (d.history.count + 1) 4096
   pub breaks : e.breaks ≡ d.breaks
 
-pub does_advance : (o : Object) (d e : Debugger) (stepped : Stepped) (r : Result (Unit {0}) Failed) (old new : Option (List ℕ)) (before now : Option (List (List ℕ))) → Advances o d e stepped → Puts r (committed_lines o stepped) old new before now → Does (advances o) o d e r old new before now
-does_advance o d e stepped (Ok done) old new before now a p = λ w s h. (
-  holds_further o w s d e a.full h a.takes.state_is a.takes.wild_is a.position a.items a.count a.breaks,
-  subst (λ (ls : List (List ℕ)). PutsLines ls old new before now) (step_puts o w s d e stepped h a.takes) p,
+pub does_advance : (o : Object) (d e : Debugger) (stepped : Stepped) (r : Result (Unit {0}) Failed) (old new : SinkLog)
+    → Advances o d e stepped → Puts (end_of_puts r) (committed_lines o stepped) old new
+    → Does (advances o) o d e r old new
+does_advance o d e stepped r old new a p = λ w s h. (
+  on_ok r (holds_further o w s d e a.full h a.takes.state_is a.takes.wild_is a.position a.items a.count a.breaks),
+  subst (λ (ls : List (List ℕ)). Puts (end_of_puts r) ls old new) (step_puts o w s d e stepped h a.takes) p,
 )
-does_advance o d e stepped (Err failed) old new before now a p = λ w s h. subst (λ (ls : List (List ℕ)). BreaksOff ls old new before now) (step_puts o w s d e stepped h a.takes) p
 
 -- MANY STEPS
 
@@ -86,19 +112,24 @@ walk_takes o w halts (suc n) s l e =
     ∙ ap (λ m. after_lines (step_lines o (present o w s)) (walks o w halts m (further s))) same
 
 -- after so many of the steps, the rest of the walk is left
-abbrev pub Walked : Object → (State → Bool) → ℕ → ℕ → Debugger → Debugger → Option (List ℕ) → Option (List ℕ) → Option (List (List ℕ)) → Option (List (List ℕ)) → Type 0
-Walked o halts n k d e old new before now = (w : List Wild) (s : Session) → Holds o w s d → (t : Session) × (ls : List (List ℕ)) × Holds o w t e × PutsLines ls old new before now × (walks o w halts n s ≡ after_lines ls (walks o w halts (n - k) t))
+abbrev pub Walked : Object → (State → Bool) → ℕ → ℕ → Debugger → Debugger → SinkLog → SinkLog → Type 0
+Walked o halts n k d e old new =
+    (w : List Wild) (s : Session) → Holds o w s d → (t : Session) × (ls : List (List ℕ)) × Holds o w t e ×
+    (new ≡ with_lines ls old) × (walks o w halts n s ≡ after_lines ls (walks o w halts (n - k) t))
 
-pub walked_none : (o : Object) (halts : State → Bool) (n : ℕ) (d : Debugger) (old : Option (List ℕ)) (before : Option (List (List ℕ))) → Walked o halts n 0 d d old old before before
-walked_none o halts n d old before = λ w s h. let same : n ≡ n - 0 = omega arith in (s, [], h, puts_none old before, ap (λ m. walks o w halts m s) same)
+pub walked_none : (o : Object) (halts : State → Bool) (n : ℕ) (d : Debugger) (old : SinkLog)
+    → Walked o halts n 0 d d old old
+walked_none o halts n d old = λ w s h.
+    let same : n ≡ n - 0 = omega arith in (s, [], h, lines_none old, ap (λ m. walks o w halts m s) same)
 
 goes_on_there : (o : Object) (w : List Wild) (halts : State → Bool) (t : Session) (e : Debugger) (b : Bool) → Holds o w t e → (not (halts e.present.machine) && is_running e.present.machine.status) ≡ b → (not (halts (present o w t).state) && is_running (present o w t).state.status) ≡ b
 goes_on_there o w halts t e b h g = sym (ap (λ (m : Moment). not (halts m.machine) && is_running m.machine.status) h.present) ∙ g
 
 -- one more step
-pub walked_more : (o : Object) (halts : State → Bool) (n k : ℕ) (d e f : Debugger) (old mid new : Option (List ℕ)) (a b c : Option (List (List ℕ))) → k < n → (not (halts e.present.machine) && is_running e.present.machine.status) ≡ true
-    → Walked o halts n k d e old mid a b → Does (advances o) o e f (Ok tt) mid new b c → Walked o halts n (k + 1) d f old new a c
-walked_more o halts n k d e f old mid new a b c l g walked does = λ w s h.
+pub walked_more : (o : Object) (halts : State → Bool) (n k : ℕ) (d e f : Debugger) (old mid new : SinkLog) → k < n
+    → (not (halts e.present.machine) && is_running e.present.machine.status) ≡ true
+    → Walked o halts n k d e old mid → Does (advances o) o e f (Ok tt) mid new → Walked o halts n (k + 1) d f old new
+walked_more o halts n k d e f old mid new l g walked does = λ w s h.
     let x = walked w s h in
     let t = x.0 in
     let y = does w t x.2 in
@@ -106,41 +137,49 @@ walked_more o halts n k d e f old mid new a b c l g walked does = λ w s h.
       further t,
       x.1 ++ step_lines o (present o w t),
       y.0,
-      puts_then x.1 (step_lines o (present o w t)) old mid new a b c x.3 y.1,
+      lines_then x.1 (step_lines o (present o w t)) old mid new x.3 y.1,
       x.4 ∙ ap (after_lines x.1) (walk_takes o w halts (n - k) t (omega arith) (goes_on_there o w halts t e true x.2 g))
           ∙ ap (λ m. after_lines x.1 (after_lines (step_lines o (present o w t)) (walks o w halts m (further t)))) next
           ∙ ap (λ ls. record { session = (walks o w halts (n - (k + 1)) (further t)).session; lines = ls }) (sym (append_assoc x.1 (step_lines o (present o w t)) (walks o w halts (n - (k + 1)) (further t)).lines)),
     )
 
-ended : (o : Object) (w : List Wild) (e : Debugger) (t : Session) (ls : List (List ℕ)) (r : Reply) (old new : Option (List ℕ)) (a b : Option (List (List ℕ))) → Holds o w t e → PutsLines ls old new a b → r ≡ after_lines ls (stays t) → Holds o w r.session e × PutsLines r.lines old new a b
-ended o w e t ls r old new a b h p eq = subst (λ (q : Reply). Holds o w q.session e × PutsLines q.lines old new a b) (ap (λ l. record { session = t; lines = l }) (sym (append-nil ls)) ∙ sym eq) (h, p)
+ended : (o : Object) (w : List Wild) (e : Debugger) (t : Session) (ls : List (List ℕ)) (r : Reply) (old new : SinkLog)
+    → Holds o w t e → new ≡ with_lines ls old → r ≡ after_lines ls (stays t) → IsReplied o w r e (Ok tt) old new
+ended o w e t ls r old new h p eq =
+    subst (λ (q : Reply). IsReplied o w q e (Ok tt) old new)
+    (ap (λ l. record { session = t; lines = l }) (sym (append-nil ls)) ∙ sym eq) (h, p)
 
 -- the walk ended where the machine is not to go on
-pub walk_halts : (o : Object) (halts : State → Bool) (n k : ℕ) (d e : Debugger) (old new : Option (List ℕ)) (a b : Option (List (List ℕ))) → (not (halts e.present.machine) && is_running e.present.machine.status) ≡ false → Walked o halts n k d e old new a b → Does (λ w. walks o w halts n) o d e (Ok tt) old new a b
-walk_halts o halts n k d e old new a b g walked = λ w s h.
+pub walk_halts : (o : Object) (halts : State → Bool) (n k : ℕ) (d e : Debugger) (old new : SinkLog)
+    → (not (halts e.present.machine) && is_running e.present.machine.status) ≡ false → Walked o halts n k d e old new
+    → Does (λ w. walks o w halts n) o d e (Ok tt) old new
+walk_halts o halts n k d e old new g walked = λ w s h.
     let x = walked w s h in
-    ended o w e x.0 x.1 (walks o w halts n s) old new a b x.2 x.3 (x.4 ∙ ap (after_lines x.1) (walk_stays o w halts (n - k) x.0 (goes_on_there o w halts x.0 e false x.2 g)))
+    ended o w e x.0 x.1 (walks o w halts n s) old new x.2 x.3
+    (x.4 ∙ ap (after_lines x.1) (walk_stays o w halts (n - k) x.0 (goes_on_there o w halts x.0 e false x.2 g)))
 
 -- the walk ended after its last step
-pub walk_ends : (o : Object) (halts : State → Bool) (n k : ℕ) (d e : Debugger) (old new : Option (List ℕ)) (a b : Option (List (List ℕ))) → n ≤ k → Walked o halts n k d e old new a b → Does (λ w. walks o w halts n) o d e (Ok tt) old new a b
-walk_ends o halts n k d e old new a b l walked = λ w s h.
+pub walk_ends : (o : Object) (halts : State → Bool) (n k : ℕ) (d e : Debugger) (old new : SinkLog) → n ≤ k
+    → Walked o halts n k d e old new → Does (λ w. walks o w halts n) o d e (Ok tt) old new
+walk_ends o halts n k d e old new l walked = λ w s h.
     let x = walked w s h in
     let none : n - k ≡ 0 = omega arith in
-    ended o w e x.0 x.1 (walks o w halts n s) old new a b x.2 x.3 (x.4 ∙ ap (λ m. after_lines x.1 (walks o w halts m x.0)) none ∙ ap (after_lines x.1) (none_walked o w halts x.0))
+    ended o w e x.0 x.1 (walks o w halts n s) old new x.2 x.3
+    (x.4 ∙ ap (λ m. after_lines x.1 (walks o w halts m x.0)) none ∙ ap (after_lines x.1) (none_walked o w halts x.0))
 
 -- a put failed on the way
-pub walk_breaks : (o : Object) (halts : State → Bool) (n k : ℕ) (d e f : Debugger) (failed : Failed) (old mid new : Option (List ℕ)) (a b c : Option (List (List ℕ))) → k < n → (not (halts e.present.machine) && is_running e.present.machine.status) ≡ true
-    → Walked o halts n k d e old mid a b → Does (advances o) o e f (Err failed) mid new b c → Does (λ w. walks o w halts n) o d f (Err failed) old new a c
-walk_breaks o halts n k d e f failed old mid new a b c l g walked does = λ w s h.
+pub walk_breaks : (o : Object) (halts : State → Bool) (n k : ℕ) (d e f : Debugger) (failed : Failed)
+    (r : Result (Unit {0}) Failed) (old mid new : SinkLog) → IsErr r → k < n
+    → (not (halts e.present.machine) && is_running e.present.machine.status) ≡ true
+    → Walked o halts n k d e old mid → Does (advances o) o e f (Err failed) mid new
+    → Does (λ w. walks o w halts n) o d f r old new
+walk_breaks o halts n k d e f failed r old mid new is l g walked does = λ w s h.
     let x = walked w s h in
     let t = x.0 in
     let rest = walks o w halts (n - k - 1) (further t) in
-    subst (λ (r : Reply). BreaksOff r.lines old new a c) (sym (x.4 ∙ ap (after_lines x.1) (walk_takes o w halts (n - k) t (omega arith) (goes_on_there o w halts t e true x.2 g))))
-    (breaks_then x.1 (step_lines o (present o w t) ++ rest.lines) old mid new a b c x.3 (breaks_before (step_lines o (present o w t)) rest.lines mid new b c (does w t x.2)))
-
--- THE EXIT OF A FAILED PUT
-
--- what a failed part did is what the whole did
-pub does_err : (go : List Wild → Session → Reply) (o : Object) (d e : Debugger) (r : Result (Unit {0}) Failed) (failed : Failed) (old new : Option (List ℕ)) (a b : Option (List (List ℕ))) → IsErr r → Does go o d e (Err failed) old new a b → Does go o d e r old new a b
-does_err go o d e (Ok u) failed old new a b h does = absurd (cc)
-does_err go o d e (Err f) failed old new a b h does = does
+    let whole = x.4 ∙ ap (after_lines x.1) (walk_takes o w halts (n - k) t (omega arith)
+    (goes_on_there o w halts t e true x.2 g)) in
+    exit o w (walks o w halts n s) f r old new is
+    (subst (λ (r : Reply). BreaksOff r.lines old new) (sym whole)
+    (breaks_then x.1 (step_lines o (present o w t) ++ rest.lines) old mid new x.3
+    (breaks_before (step_lines o (present o w t)) rest.lines mid new (does w t x.2).1)))

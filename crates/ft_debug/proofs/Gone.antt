@@ -1,16 +1,18 @@
 -- Walks that stop at break places.
 use Rattle.std.proofs.Common.{◌≡◌, ℕ, zero, suc, ◌-◌, Bool, true, false, List, Option, Result, Ok, Err, refl, ap, sym, ◌∙◌, subst, arith}
-use Rattle.std.specs.Prelude.{if◌then◌else◌}
+use Rattle.std.specs.Prelude.{if◌then◌else◌, IsErr}
 use Rattle.ft_edge.specs.declared.failed.Failed.{Failed}
 use Rattle.ft_isa.specs.declared.plan.Wild.{Wild}
-use Rattle.ft_edge.specs.Puts.{PutsLines, BreaksOff}
-use Rattle.ft_edge.proofs.PutLines.{puts_none, puts_then, breaks_then, breaks_before}
+use Rattle.ft_edge.specs.Lines.{Puts, end_of_puts}
+use Rattle.ft_edge.specs.Logs.{SinkLog}
+use Rattle.ft_edge.proofs.Lines.{lines_none, puts_then, made_by}
 use Rattle.ft_types.specs.declared.object.Object.{Object}
 use Rattle.ft_semantics.specs.Strike.{is_running}
 use Rattle.ft_debug.specs.declared.moment.Moment.{Moment}
 use Rattle.ft_debug.specs.declared.debugger.Debugger.{Debugger}
 use Rattle.ft_debug.specs.Sessions.{Session, Reply, present, stays, after_lines, further, step_lines, walks, goes, is_at_break}
-use Rattle.ft_debug.specs.Inside.{Holds, Does, advances}
+use Rattle.ft_debug.specs.Inside.{Holds, IsReplied, Does, advances}
+use Rattle.ft_debug.proofs.Advanced.{does_err}
 
 -- GO
 
@@ -33,32 +35,40 @@ runs_there : (o : Object) (w : List Wild) (s : Session) (d : Debugger) (b : Bool
 runs_there o w s d b h e = sym (ap (λ (m : Moment). is_running m.machine.status) h.present) ∙ e
 
 -- nothing is done
-pub does_nothing : (go : List Wild → Session → Reply) (o : Object) (d : Debugger) (old : Option (List ℕ)) (a : Option (List (List ℕ))) → ((w : List Wild) (s : Session) → Holds o w s d → go w s ≡ stays s) → Does go o d d (Ok tt) old old a a
-does_nothing go o d old a e = λ w s h. subst (λ (r : Reply). Holds o w r.session d × PutsLines r.lines old old a a) (sym (e w s h)) (h, puts_none old a)
+pub does_nothing : (go : List Wild → Session → Reply) (o : Object) (d : Debugger) (old : SinkLog)
+    → ((w : List Wild) (s : Session) → Holds o w s d → go w s ≡ stays s) → Does go o d d (Ok tt) old old
+does_nothing go o d old e = λ w s h.
+    subst (λ (r : Reply). IsReplied o w r d (Ok tt) old old) (sym (e w s h)) (h, lines_none old)
 
-pub go_none : (o : Object) (n : ℕ) (d : Debugger) (old : Option (List ℕ)) (a : Option (List (List ℕ))) → n ≡ 0 → Does (λ w. goes o w n) o d d (Ok tt) old old a a
-go_none o n d old a e = does_nothing (λ w. goes o w n) o d old a (λ w s h. none_gone o w n s e)
+pub go_none : (o : Object) (n : ℕ) (d : Debugger) (old : SinkLog) → n ≡ 0 → Does (λ w. goes o w n) o d d (Ok tt) old old
+go_none o n d old e = does_nothing (λ w. goes o w n) o d old (λ w s h. none_gone o w n s e)
 
-pub go_stopped : (o : Object) (n : ℕ) (d : Debugger) (old : Option (List ℕ)) (a : Option (List (List ℕ))) → is_running d.present.machine.status ≡ false → Does (λ w. goes o w n) o d d (Ok tt) old old a a
-go_stopped o n d old a e = does_nothing (λ w. goes o w n) o d old a (λ w s h. stopped_gone o w n s (runs_there o w s d false h e))
+pub go_stopped : (o : Object) (n : ℕ) (d : Debugger) (old : SinkLog) → is_running d.present.machine.status ≡ false
+    → Does (λ w. goes o w n) o d d (Ok tt) old old
+go_stopped o n d old e =
+    does_nothing (λ w. goes o w n) o d old (λ w s h. stopped_gone o w n s (runs_there o w s d false h e))
 
-pub go_breaks : (o : Object) (n : ℕ) (d e : Debugger) (failed : Failed) (old new : Option (List ℕ)) (a b : Option (List (List ℕ))) → ¬ (n ≡ 0) → is_running d.present.machine.status ≡ true → Does (advances o) o d e (Err failed) old new a b → Does (λ w. goes o w n) o d e (Err failed) old new a b
-go_breaks o n d e failed old new a b ne run does = λ w s h.
-    subst (λ (r : Reply). BreaksOff r.lines old new a b) (sym (first_gone o w n s ne (runs_there o w s d true h run)))
-    (breaks_before (step_lines o (present o w s)) (walks o w (is_at_break s.breaks) (n - 1) (further s)).lines old new a b (does w s h))
+pub go_breaks : (o : Object) (n : ℕ) (d e : Debugger) (failed : Failed) (r : Result (Unit {0}) Failed)
+    (old new : SinkLog) → IsErr r → ¬ (n ≡ 0) → is_running d.present.machine.status ≡ true
+    → Does (advances o) o d e (Err failed) old new → Does (λ w. goes o w n) o d e r old new
+go_breaks o n d e failed r old new is ne run does =
+    does_err (advances o) (λ w. goes o w n) o d e failed r old new
+    (λ w s h. (
+      (walks o w (is_at_break s.breaks) (n - 1) (further s)).lines,
+      ap (λ (q : Reply). q.lines)
+          (first_gone o w n s ne (runs_there o w s d true h run)),
+    )) is does
 
-same_breaks : (o : Object) (w : List Wild) (s : Session) (d e : Debugger) → Holds o w s d → e.breaks ≡ d.breaks → e.breaks ≡ s.breaks
-same_breaks o w s d e h eb = eb ∙ h.breaks
-
-pub go_on : (o : Object) (n : ℕ) (d e f : Debugger) (r : Result (Unit {0}) Failed) (old mid new : Option (List ℕ)) (a b c : Option (List (List ℕ))) → ¬ (n ≡ 0) → is_running d.present.machine.status ≡ true → e.breaks ≡ d.breaks
-    → Does (advances o) o d e (Ok tt) old mid a b → Does (λ w. walks o w (is_at_break e.breaks) (n - 1)) o e f r mid new b c → Does (λ w. goes o w n) o d f r old new a c
-go_on o n d e f (Ok u) old mid new a b c ne run eb first rest = λ w s h.
+pub go_on : (o : Object) (n : ℕ) (d e f : Debugger) (r : Result (Unit {0}) Failed) (old mid new : SinkLog) → ¬ (n ≡ 0)
+    → is_running d.present.machine.status ≡ true → e.breaks ≡ d.breaks
+    → Does (advances o) o d e (Ok tt) old mid → Does (λ w. walks o w (is_at_break e.breaks) (n - 1)) o e f r mid new
+    → Does (λ w. goes o w n) o d f r old new
+go_on o n d e f r old mid new ne run eb first rest = λ w s h.
     let x = first w s h in
-    let y = subst (λ (l : List ℕ). Holds o w (walks o w (is_at_break l) (n - 1) (further s)).session f × PutsLines (walks o w (is_at_break l) (n - 1) (further s)).lines mid new b c) (same_breaks o w s d e h eb) (rest w (further s) x.0) in
-    subst (λ (r : Reply). Holds o w r.session f × PutsLines r.lines old new a c) (sym (first_gone o w n s ne (runs_there o w s d true h run)))
-    (y.0, puts_then (step_lines o (present o w s)) (walks o w (is_at_break s.breaks) (n - 1) (further s)).lines old mid new a b c x.1 y.1)
-go_on o n d e f (Err failed) old mid new a b c ne run eb first rest = λ w s h.
-    let x = first w s h in
-    let y = subst (λ (l : List ℕ). BreaksOff (walks o w (is_at_break l) (n - 1) (further s)).lines mid new b c) (same_breaks o w s d e h eb) (rest w (further s) x.0) in
-    subst (λ (r : Reply). BreaksOff r.lines old new a c) (sym (first_gone o w n s ne (runs_there o w s d true h run)))
-    (breaks_then (step_lines o (present o w s)) (walks o w (is_at_break s.breaks) (n - 1) (further s)).lines old mid new a b c x.1 y)
+    let more = λ (l : List ℕ). walks o w (is_at_break l) (n - 1) (further s) in
+    let y = subst (λ (l : List ℕ). IsReplied o w (more l) f r mid new) (eb ∙ h.breaks) (rest w (further s) x.0) in
+    subst (λ (q : Reply). IsReplied o w q f r old new) (sym (first_gone o w n s ne (runs_there o w s d true h run))) (
+      y.0,
+      puts_then (end_of_puts r) (step_lines o (present o w s)) (more s.breaks).lines old mid new (made_by r) x.1
+          y.1,
+    )

@@ -1,6 +1,6 @@
 -- Cells by name, and entries of the store queue.
-use Rattle.std.proofs.Common.{◌≡◌, ℕ, suc, ◌+◌, ◌<◌, ◌≤◌, Bool, true, false, cond, List, [], ◌∷◌, ◌++◌, length, map, take, drop, get_or, Option, Some, None, Result, Ok, Err, nat_lt, refl, ap, sym, ◌∙◌, subst, ⊎_elim, arith}
-use Rattle.std.specs.Prelude.{slice_get, IsErr}
+use Rattle.std.proofs.Common.{◌≡◌, ℕ, suc, ◌+◌, ◌<◌, ◌≤◌, Bool, true, false, cond, List, [], ◌∷◌, ◌++◌, length, map, take, drop, get_or, Option, Some, None, nat_lt, refl, ap, sym, ◌∙◌, subst, ⊎_elim, arith}
+use Rattle.std.specs.Prelude.{slice_get}
 use Rattle.std.specs.List.{position_or_len}
 use Rattle.std.specs.Option.{option_map}
 use Rattle.std.proofs.Math.Seq.{split_at}
@@ -11,17 +11,16 @@ use Rattle.std.proofs.lemmas.List.{take_more, take_all, map-append}
 use Rattle.std.proofs.lemmas.List.Elements.{All-get_or}
 use Rattle.std.proofs.lemmas.List.Sums.{position_or_len_is}
 use Rattle.std.proofs.lemmas.Option.{get_or_from_slice_get, slice_get_within}
-use Rattle.ft_edge.specs.declared.failed.Failed.{Failed}
 use Rattle.ft_isa.specs.Pending.{Pending}
 use Rattle.ft_isa.specs.declared.basic.Base.TheVariants.{Int}
-use Rattle.ft_edge.specs.Puts.{PutsLines, BreaksOff}
-use Rattle.ft_edge.proofs.PutLines.{puts_then, breaks_then, breaks_before}
+use Rattle.ft_edge.specs.Lines.{BreaksOff, with_lines}
+use Rattle.ft_edge.specs.Logs.{SinkLog}
+use Rattle.ft_edge.proofs.Lines.{lines_then, breaks_then, breaks_before}
 use Rattle.ft_types.specs.declared.object.Object.{Object}
 use Rattle.ft_types.specs.declared.object.Cell.{Cell}
 use Rattle.ft_types.specs.Objects.{name_of}
 use Rattle.ft_types.specs.Spellable.{IsSpellable, IsCell}
 use Rattle.ft_debug.specs.Sessions.{is_named, named_cell, entry_line, queue_lines}
-use Rattle.ft_debug.specs.Inside.{Puts}
 
 -- CELLS
 
@@ -73,28 +72,32 @@ no_name o name k le none =
 -- THE QUEUE
 
 -- the lines of the first i entries were put
-abbrev pub PutsEntries : Pending → ℕ → Option (List ℕ) → Option (List ℕ) → Option (List (List ℕ)) → Option (List (List ℕ)) → Type 0
-PutsEntries q i old new before now = PutsLines (map entry_line (take i q)) old new before now
+abbrev pub PutsEntries : Pending → ℕ → SinkLog → SinkLog → Type 0
+PutsEntries q i old new = new ≡ with_lines (map entry_line (take i q)) old
 
-pub entries_more : (q : Pending) (i : ℕ) (e : ℕ × ℕ) (old mid new : Option (List ℕ)) (a b c : Option (List (List ℕ))) → slice_get q i ≡ Some e → PutsEntries q i old mid a b → PutsLines (entry_line e ∷ []) mid new b c → PutsEntries q (i + 1) old new a c
-entries_more q i e old mid new a b c there before here =
+pub entries_more : (q : Pending) (i : ℕ) (e : ℕ × ℕ) (old mid new : SinkLog) → slice_get q i ≡ Some e
+    → PutsEntries q i old mid
+    → new ≡ with_lines (entry_line e ∷ []) mid → PutsEntries q (i + 1) old new
+entries_more q i e old mid new there before here =
     let next : take (i + 1) q ≡ take i q ++ e ∷ [] = take_more q i e (slice_get_within q i e there) ∙ ap (λ x. take i q ++ x ∷ []) (get_or_from_slice_get q i e e there) in
-    subst (λ (ls : List (List ℕ)). PutsLines ls old new a c) (sym (ap (map entry_line) next ∙ map-append entry_line (take i q) (e ∷ []))) (puts_then (map entry_line (take i q)) (entry_line e ∷ []) old mid new a b c before here)
+    lines_then (map entry_line (take i q)) (entry_line e ∷ []) old mid new before here
+    ∙ ap (λ ls. with_lines ls old) (sym (ap (map entry_line) next ∙ map-append entry_line (take i q) (e ∷ [])))
 
 some_lines : (q : Pending) → ¬ (q ≡ []) → queue_lines q ≡ map entry_line q
 some_lines [] ne = absurd (ne refl)
 some_lines (e ∷ q) ne = refl
 
-pub entries_break : (q : Pending) (i : ℕ) (e : ℕ × ℕ) (old mid new : Option (List ℕ)) (a b c : Option (List (List ℕ))) → ¬ (q ≡ []) → slice_get q i ≡ Some e → PutsEntries q i old mid a b → BreaksOff (entry_line e ∷ []) mid new b c → BreaksOff (queue_lines q) old new a c
-entries_break q i e old mid new a b c ne there before here =
+pub entries_break : (q : Pending) (i : ℕ) (e : ℕ × ℕ) (old mid new : SinkLog) → ¬ (q ≡ []) → slice_get q i ≡ Some e
+    → PutsEntries q i old mid
+    → BreaksOff (entry_line e ∷ []) mid new → BreaksOff (queue_lines q) old new
+entries_break q i e old mid new ne there before here =
     let whole : q ≡ take i q ++ e ∷ drop (suc i) q = split_at q i e (slice_get_within q i e there) ∙ ap (λ x. take i q ++ x ∷ drop (suc i) q) (get_or_from_slice_get q i e e there) in
-    subst (λ (ls : List (List ℕ)). BreaksOff ls old new a c) (sym (some_lines q ne ∙ ap (map entry_line) whole ∙ map-append entry_line (take i q) (e ∷ drop (suc i) q)))
-    (breaks_then (map entry_line (take i q)) (entry_line e ∷ map entry_line (drop (suc i) q)) old mid new a b c before (breaks_before (entry_line e ∷ []) (map entry_line (drop (suc i) q)) mid new b c here))
+    let more = map entry_line (drop (suc i) q) in
+    let lines = some_lines q ne ∙ ap (map entry_line) whole ∙ map-append entry_line (take i q) (e ∷ drop (suc i) q) in
+    subst (λ ls. BreaksOff ls old new) (sym lines) (breaks_then (map entry_line (take i q)) (entry_line e ∷ more) old
+    mid new before (breaks_before (entry_line e ∷ []) more mid new here))
 
-pub entries_all : (q : Pending) (i : ℕ) (old new : Option (List ℕ)) (a b : Option (List (List ℕ))) → ¬ (q ≡ []) → length q ≤ i → PutsEntries q i old new a b → PutsLines (queue_lines q) old new a b
-entries_all q i old new a b ne le h = subst (λ (ls : List (List ℕ)). PutsLines ls old new a b) (sym (some_lines q ne ∙ ap (map entry_line) (sym (take_all i q le)))) h
-
--- what was put of one line, where its put failed
-pub broke : (r : Result (Unit {0}) Failed) (lines : List (List ℕ)) (failed : Failed) (old new : Option (List ℕ)) (a b : Option (List (List ℕ))) → IsErr r → BreaksOff lines old new a b → Puts r lines old new a b
-broke (Ok u) lines failed old new a b h e = absurd (cc)
-broke (Err f) lines failed old new a b h e = e
+pub entries_all : (q : Pending) (i : ℕ) (old new : SinkLog) → ¬ (q ≡ []) → length q ≤ i → PutsEntries q i old new
+    → new ≡ with_lines (queue_lines q) old
+entries_all q i old new ne le h =
+    h ∙ ap (λ ls. with_lines ls old) (sym (some_lines q ne ∙ ap (map entry_line) (sym (take_all i q le))))

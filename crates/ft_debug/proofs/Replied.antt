@@ -6,8 +6,9 @@ use Rattle.std.proofs.lemmas.List.{map-append, take_more, take_all}
 use Rattle.std.proofs.Math.Seq.{split_at}
 use Rattle.ft_edge.specs.declared.failed.Failed.{Failed}
 use Rattle.ft_isa.specs.declared.plan.Wild.{Wild}
-use Rattle.ft_edge.specs.Puts.{PutsLines, BreaksOff}
-use Rattle.ft_edge.proofs.PutLines.{puts_none, puts_then, breaks_then, breaks_before}
+use Rattle.ft_edge.specs.Lines.{BreaksOff, with_lines}
+use Rattle.ft_edge.specs.Logs.{SinkLog}
+use Rattle.ft_edge.proofs.Lines.{lines_none, lines_then, breaks_then, breaks_before}
 use Rattle.ft_types.specs.declared.object.Object.{Object}
 use Rattle.ft_semantics.specs.State.{State}
 use Rattle.ft_semantics.specs.Strike.{is_running, is_there}
@@ -74,23 +75,36 @@ reply_within o w Bad s h = omega arith
 -- ONE AFTER THE OTHER
 
 -- after the first of some commands: the session that is held, what was put, and what the rest put
-pub record Replied (o : Object) (w : List Wild) (xs : List read.Command) (i : ℕ) (d : Debugger) (old new : Option (List ℕ)) (before now : Option (List (List ℕ))) : Type 0 where
+pub record Replied (o : Object) (w : List Wild) (xs : List read.Command) (i : ℕ) (d : Debugger)
+    (old new : SinkLog) : Type 0 where
   pub session : Session
   pub holds : Holds o w session d
   pub lines : List (List ℕ)
-  pub puts : PutsLines lines old new before now
+  pub puts : new ≡ with_lines lines old
   pub rest : (cs : List Command) → replies o w (map command_of (take i xs) ++ cs) first_session ≡ lines ++ replies o w cs session
   pub within : session.position ≤ 1000000 * i
 
-pub replied_none : (o : Object) (w : List Wild) (xs : List read.Command) (d : Debugger) (old : Option (List ℕ)) (a : Option (List (List ℕ))) → Holds o w first_session d → Replied o w xs 0 d old old a a
-replied_none o w xs d old a h = record { session = first_session; holds = h; lines = []; puts = puts_none old a; rest = λ cs. refl; within = omega arith }
+pub replied_none : (o : Object) (w : List Wild) (xs : List read.Command) (d : Debugger) (old : SinkLog)
+    → Holds o w first_session d → Replied o w xs 0 d old old
+replied_none o w xs d old h =
+    record {
+      session = first_session;
+      holds = h;
+      lines = [];
+      puts = lines_none old;
+      rest = λ cs. refl;
+      within = omega
+          arith;
+    }
 
 next_command : (xs : List read.Command) (i : ℕ) (x : read.Command) → i < length xs → x ≡ get_or xs i x → map command_of (take (i + 1) xs) ≡ map command_of (take i xs) ++ command_of x ∷ []
 next_command xs i x l e = ap (map command_of) (take_more xs i x l ∙ ap (λ y. take i xs ++ y ∷ []) (sym e)) ∙ map-append command_of (take i xs) (x ∷ [])
 
-pub replied_more : (o : Object) (w : List Wild) (xs : List read.Command) (i : ℕ) (x : read.Command) (d e : Debugger) (old mid new : Option (List ℕ)) (a b c : Option (List (List ℕ))) → i < length xs → x ≡ get_or xs i x → IsSmall (command_of x)
-    → Replied o w xs i d old mid a b → Does (λ v. reply o v (command_of x)) o d e (Ok tt) mid new b c → Replied o w xs (i + 1) e old new a c
-replied_more o w xs i x d e old mid new a b c l at small h does =
+pub replied_more : (o : Object) (w : List Wild) (xs : List read.Command) (i : ℕ) (x : read.Command) (d e : Debugger)
+    (old mid new : SinkLog) → i < length xs → x ≡ get_or xs i x → IsSmall (command_of x)
+    → Replied o w xs i d old mid → Does (λ v. reply o v (command_of x)) o d e (Ok tt) mid new
+    → Replied o w xs (i + 1) e old new
+replied_more o w xs i x d e old mid new l at small h does =
     let s = h.session in
     let y = does w s h.holds in
     let r = reply o w (command_of x) s in
@@ -100,7 +114,7 @@ replied_more o w xs i x d e old mid new a b c l at small h does =
       session = r.session;
       holds = y.0;
       lines = h.lines ++ r.lines;
-      puts = puts_then h.lines r.lines old mid new a b c h.puts y.1;
+      puts = lines_then h.lines r.lines old mid new h.puts y.1;
       rest = λ cs.
           ap (λ l. replies o w (l ++ cs) first_session) (next_command xs i x l at) ∙ ap (λ l. replies o w l first_session) (append_assoc (map command_of (take i xs)) (command_of x ∷ []) cs)
           ∙ h.rest (command_of x ∷ cs) ∙ sym (append_assoc h.lines r.lines (replies o w cs r.session));
@@ -112,20 +126,26 @@ all_lines o w xs i s lines le rest =
     ap (λ l. replies o w (map command_of l) first_session) (sym (take_all i xs le)) ∙ ap (λ l. replies o w l first_session) (sym (append-nil (map command_of (take i xs)))) ∙ rest [] ∙ append-nil lines
 
 -- all commands were answered
-pub replied_all : (o : Object) (w : List Wild) (xs : List read.Command) (i : ℕ) (d : Debugger) (old new : Option (List ℕ)) (a b : Option (List (List ℕ))) → length xs ≤ i → Replied o w xs i d old new a b → PutsLines (session_lines o w (map command_of xs)) old new a b
-replied_all o w xs i d old new a b le h = subst (λ (ls : List (List ℕ)). PutsLines ls old new a b) (sym (all_lines o w xs i h.session h.lines le h.rest)) h.puts
+pub replied_all : (o : Object) (w : List Wild) (xs : List read.Command) (i : ℕ) (d : Debugger) (old new : SinkLog)
+    → length xs ≤ i → Replied o w xs i d old new → new ≡ with_lines (session_lines o w (map command_of xs)) old
+replied_all o w xs i d old new le h =
+    h.puts ∙ ap (λ ls. with_lines ls old) (sym (all_lines o w xs i h.session h.lines le h.rest))
 
 -- a put failed in the answer to a command
-pub replied_breaks : (o : Object) (w : List Wild) (xs : List read.Command) (i : ℕ) (x : read.Command) (d e : Debugger) (failed : Failed) (old mid new : Option (List ℕ)) (a b c : Option (List (List ℕ))) → i < length xs → x ≡ get_or xs i x
-    → Replied o w xs i d old mid a b → Does (λ v. reply o v (command_of x)) o d e (Err failed) mid new b c → BreaksOff (session_lines o w (map command_of xs)) old new a c
-replied_breaks o w xs i x d e failed old mid new a b c l at h does =
+pub replied_breaks : (o : Object) (w : List Wild) (xs : List read.Command) (i : ℕ) (x : read.Command) (d e : Debugger)
+    (failed : Failed) (old mid new : SinkLog) → i < length xs → x ≡ get_or xs i x
+    → Replied o w xs i d old mid → Does (λ v. reply o v (command_of x)) o d e (Err failed) mid new
+    → BreaksOff (session_lines o w (map command_of xs)) old new
+replied_breaks o w xs i x d e failed old mid new l at h does =
     let s = h.session in
     let r = reply o w (command_of x) s in
     let cs = map command_of (drop (suc i) xs) in
     let whole : map command_of xs ≡ map command_of (take i xs) ++ command_of x ∷ cs =
     ap (map command_of) (split_at xs i x l ∙ ap (λ y. take i xs ++ y ∷ drop (suc i) xs) (sym at)) ∙ map-append command_of (take i xs) (x ∷ drop (suc i) xs) in
-    subst (λ (ls : List (List ℕ)). BreaksOff ls old new a c) (sym (ap (λ l. replies o w l first_session) whole ∙ h.rest (command_of x ∷ cs)))
-    (breaks_then h.lines (r.lines ++ replies o w cs r.session) old mid new a b c h.puts (breaks_before r.lines (replies o w cs r.session) mid new b c (does w s h.holds)))
+    subst (λ (ls : List (List ℕ)). BreaksOff ls old new)
+    (sym (ap (λ l. replies o w l first_session) whole ∙ h.rest (command_of x ∷ cs)))
+    (breaks_then h.lines (r.lines ++ replies o w cs r.session) old mid new h.puts
+    (breaks_before r.lines (replies o w cs r.session) mid new (does w s h.holds).1))
 
 -- SCRIPTS
 

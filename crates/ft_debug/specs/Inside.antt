@@ -1,11 +1,11 @@
 -- What the debugger's parts hold, against the session of the definition: private to the code.
-use Rattle.std.specs.Prelude.{◌≡◌, ℕ, ◌+◌, ◌-◌, ◌<◌, ◌≤◌, Bool, true, false, ◌&&◌, not, List, [], ◌∷◌, length, slice_get, All, Option, Some, Result, Ok, Err}
+use Rattle.std.specs.Prelude.{◌≡◌, ℕ, ◌+◌, ◌-◌, ◌<◌, ◌≤◌, Bool, true, false, ◌&&◌, not, List, [], ◌∷◌, length, slice_get, All, Some, Result, OnOk}
 use Rattle.std.specs.List.{AllByRecursion}
-use Rattle.ft_edge.specs.Causes.{Rose}
 use Rattle.ft_edge.specs.declared.failed.Failed.{Failed}
 use Rattle.ft_isa.specs.declared.plan.Strike.{Strike}
 use Rattle.ft_isa.specs.declared.plan.Wild.{Wild}
-use Rattle.ft_edge.specs.Puts.{PutsLines, BreaksOff}
+use Rattle.ft_edge.specs.Lines.{Puts, end_of_puts}
+use Rattle.ft_edge.specs.Logs.{SinkLog}
 use Rattle.ft_types.specs.declared.object.Object.{Object}
 use Rattle.ft_semantics.specs.State.{State, HasCells}
 use Rattle.ft_semantics.specs.Strike.{is_running}
@@ -52,20 +52,14 @@ pub record Holds (o : Object) (w : List Wild) (s : Session) (d : Debugger) : Typ
   pub breaks : d.breaks ≡ s.breaks
   pub made : AllByRecursion (IsMadeBy s.position) s.strikes
 
--- these lines were put, up to one whose put failed
-abbrev pub Puts : Result (Unit {0}) Failed → List (List ℕ) → Option (List ℕ) → Option (List ℕ) → Option (List (List ℕ)) → Option (List (List ℕ)) → Type 0
-Puts (Ok done) lines old new before now = PutsLines lines old new before now
-Puts (Err failed) lines old new before now = BreaksOff lines old new before now
+-- a reply was put, up to a put that failed; where none failed, the session after it is held
+abbrev pub IsReplied : Object → List Wild → Reply → Debugger → Result (Unit {0}) Failed → SinkLog → SinkLog → Type 0
+IsReplied o w r e result old new = OnOk result (Holds o w r.session e) × Puts (end_of_puts result) r.lines old new
 
--- whatever session was held, its reply was put, and the session after it is held
-abbrev pub Does : (List Wild → Session → Reply) → Object → Debugger → Debugger → Result (Unit {0}) Failed → Option (List ℕ) → Option (List ℕ) → Option (List (List ℕ)) → Option (List (List ℕ)) → Type 0
-Does go o d e (Ok done) old new before now = (w : List Wild) (s : Session) → Holds o w s d → Holds o w (go w s).session e × PutsLines (go w s).lines old new before now
-Does go o d e (Err failed) old new before now = (w : List Wild) (s : Session) → Holds o w s d → BreaksOff (go w s).lines old new before now
-
--- only a count that rose excuses a failed put
-abbrev pub Excused : Result (Unit {0}) Failed → ℕ → ℕ → Type 0
-Excused (Ok done) before now = now ≡ before
-Excused (Err failed) before now = Rose before now
+-- the same of whatever session was held
+abbrev pub Does : (List Wild → Session → Reply) → Object → Debugger → Debugger → Result (Unit {0}) Failed → SinkLog
+    → SinkLog → Type 0
+Does go o d e result old new = (w : List Wild) (s : Session) → Holds o w s d → IsReplied o w (go w s) e result old new
 
 -- one step, of a machine that runs
 abbrev pub advances : Object → List Wild → Session → Reply

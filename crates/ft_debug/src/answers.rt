@@ -1,18 +1,19 @@
 //! What each command does and puts.
 ghost use Rattle.std.specs.Prelude.{◌≡◌, ◌≤◌, ◌<◌, ◌+◌, ◌^◌, ◌∷◌, [], length, IfSome};
+ghost use Rattle.ft_edge.specs.Lines.{Puts, end_of_puts};
+ghost use Rattle.ft_edge.specs.Logs.{sink_log};
 ghost use Rattle.ft_types.specs.Spellable.{IsSpellable};
 ghost use Rattle.ft_types.specs.declared.object.Object.{Object};
 ghost use Rattle.ft_script.specs.Commands as commands;
 ghost use Rattle.ft_script.specs.Reads.{command_of};
 ghost use Rattle.ft_debug.specs.Kept.{IsFull};
 ghost use Rattle.ft_debug.specs.Sessions.{reply, coloured_in, at_line, named_cell, queue_lines};
-ghost use Rattle.ft_debug.specs.Inside.{Ready, Puts, Does, Excused, IsSmall};
+ghost use Rattle.ft_debug.specs.Inside.{Ready, Does, IsSmall};
 
 use crate::code_places::break_address;
 use crate::debugger::Debugger;
 use crate::lines::{at_line, entry_line, register_line, where_line, word_line};
-use crate::put::put_text;
-use ft_edge::{Failed, Sink};
+use ft_edge::{Failed, Sink, put_line};
 use ft_isa::{Colour, Coloured, Site};
 use ft_queue::StoreQueue;
 use ft_script::{Command, Register};
@@ -35,18 +36,16 @@ fn named_cell<P: Program>(program: &P, name: &[u8]) -> Option<u32>
 
 /// Puts a line for each pending store, oldest first.
 fn put_queue<K: Sink>(queue: &StoreQueue, out: &mut K) -> Result<(), Failed>
-    ensures puts { Puts result (queue_lines queue.now) (K.written out.old) (K.written out.new) (K.pieces out.old) (K.pieces out.new) }
-    ensures count { K.failures out.old ≤ K.failures out.new }
-    ensures cause { Excused result (K.failures out.old) (K.failures out.new) }
+    ensures { Puts (end_of_puts result) (queue_lines queue.now) (sink_log K.Sink out.old) (sink_log K.Sink out.new) }
 {
     if queue.is_empty() {
-        return put_text(b"empty\n", out);
+        return put_line(b"empty\n", out);
     }
     for i in 0..queue.len() {
         let Some(entry) = queue.get(i) else {
             unreachable!();
         };
-        put_text(entry_line(entry).as_bytes(), out)?;
+        put_line(entry_line(entry).as_bytes(), out)?;
     }
     Ok(())
 }
@@ -76,11 +75,10 @@ impl<'w> Debugger<'w> {
 
     /// Puts the position.
     fn put_at<K: Sink>(&self, out: &mut K) -> Result<(), Failed>
-        ensures puts { Puts result (at_line self.now.present.position self.now.present.machine ∷ []) (K.written out.old) (K.written out.new) (K.pieces out.old) (K.pieces out.new) }
-        ensures count { K.failures out.old ≤ K.failures out.new }
-        ensures cause { Excused result (K.failures out.old) (K.failures out.new) }
+        ensures { Puts (end_of_puts result) (at_line self.now.present.position self.now.present.machine ∷ [])
+            (sink_log K.Sink out.old) (sink_log K.Sink out.new) }
     {
-        put_text(at_line(&self.present).as_bytes(), out)
+        put_line(at_line(&self.present).as_bytes(), out)
     }
 
     /// Takes so many steps, up to the stop.
@@ -94,9 +92,8 @@ impl<'w> Debugger<'w> {
         requires ready { Ready (P.object program.now) self.old }
         requires room { self.old.present.position + count < 2 ^ 63 }
         ensures ready { Ready (P.object program.now) self.new }
-        ensures does { Does (λ w. reply (P.object program.now) w (commands.Step count)) (P.object program.now) self.old self.new result (K.written out.old) (K.written out.new) (K.pieces out.old) (K.pieces out.new) }
-        ensures count { K.failures out.old ≤ K.failures out.new }
-        ensures cause { Excused result (K.failures out.old) (K.failures out.new) }
+        ensures does { Does (λ w. reply (P.object program.now) w (commands.Step count))
+            (P.object program.now) self.old self.new result (sink_log K.Sink out.old) (sink_log K.Sink out.new) }
     {
         self.walk(program, false, count, out)?;
         self.put_at(out)
@@ -113,9 +110,8 @@ impl<'w> Debugger<'w> {
         requires ready { Ready (P.object program.now) self.old }
         requires room { self.old.present.position + count < 2 ^ 63 }
         ensures ready { Ready (P.object program.now) self.new }
-        ensures does { Does (λ w. reply (P.object program.now) w (commands.Go count)) (P.object program.now) self.old self.new result (K.written out.old) (K.written out.new) (K.pieces out.old) (K.pieces out.new) }
-        ensures count { K.failures out.old ≤ K.failures out.new }
-        ensures cause { Excused result (K.failures out.old) (K.failures out.new) }
+        ensures does { Does (λ w. reply (P.object program.now) w (commands.Go count))
+            (P.object program.now) self.old self.new result (sink_log K.Sink out.old) (sink_log K.Sink out.new) }
     {
         self.go(program, count, out)?;
         self.put_at(out)
@@ -125,12 +121,11 @@ impl<'w> Debugger<'w> {
     fn answer_back<K: Sink>(&mut self, count: u64, out: &mut K) -> Result<(), Failed>
         requires { IsFull self.old.history }
         ensures ready { (o : Object) → Ready o self.old → Ready o self.new }
-        ensures does { (o : Object) → Does (λ w. reply o w (commands.Back count)) o self.old self.new result (K.written out.old) (K.written out.new) (K.pieces out.old) (K.pieces out.new) }
-        ensures count { K.failures out.old ≤ K.failures out.new }
-        ensures cause { Excused result (K.failures out.old) (K.failures out.new) }
+        ensures does { (o : Object) → Does (λ w. reply o w (commands.Back count)) o self.old self.new result
+            (sink_log K.Sink out.old) (sink_log K.Sink out.new) }
     {
         if count > self.history.len() as u64 {
-            return put_text(b"no history\n", out);
+            return put_line(b"no history\n", out);
         }
         self.rewind(count);
         self.put_at(out)
@@ -140,32 +135,29 @@ impl<'w> Debugger<'w> {
     fn answer_zap<K: Sink>(&mut self, site: Site, value: u64, out: &mut K) -> Result<(), Failed>
         requires { IsFull self.old.history }
         ensures ready { (o : Object) → Ready o self.old → Ready o self.new }
-        ensures does { (o : Object) → Does (λ w. reply o w (commands.Zap site value)) o self.old self.new result (K.written out.old) (K.written out.new) (K.pieces out.old) (K.pieces out.new) }
-        ensures count { K.failures out.old ≤ K.failures out.new }
-        ensures cause { Excused result (K.failures out.old) (K.failures out.new) }
+        ensures does { (o : Object) → Does (λ w. reply o w (commands.Zap site value)) o self.old self.new result
+            (sink_log K.Sink out.old) (sink_log K.Sink out.new) }
     {
         if self.zap(site, value) {
-            put_text(b"zapped\n", out)
+            put_line(b"zapped\n", out)
         } else {
-            put_text(b"nothing there\n", out)
+            put_line(b"nothing there\n", out)
         }
     }
 
     /// Shows a register.
     fn answer_reg<K: Sink>(&self, register: Register, out: &mut K) -> Result<(), Failed>
-        ensures does { (o : Object) → Does (λ w. reply o w (commands.Reg register)) o self.now self.now result (K.written out.old) (K.written out.new) (K.pieces out.old) (K.pieces out.new) }
-        ensures count { K.failures out.old ≤ K.failures out.new }
-        ensures cause { Excused result (K.failures out.old) (K.failures out.new) }
+        ensures { (o : Object) → Does (λ w. reply o w (commands.Reg register)) o self.now self.now result
+            (sink_log K.Sink out.old) (sink_log K.Sink out.new) }
     {
         let line = register_line(register, self.coloured(register));
-        put_text(line.as_bytes(), out)
+        put_line(line.as_bytes(), out)
     }
 
     /// Shows the pending stores.
     fn answer_queue<K: Sink>(&self, out: &mut K) -> Result<(), Failed>
-        ensures does { (o : Object) → Does (λ w. reply o w commands.Queue) o self.now self.now result (K.written out.old) (K.written out.new) (K.pieces out.old) (K.pieces out.new) }
-        ensures count { K.failures out.old ≤ K.failures out.new }
-        ensures cause { Excused result (K.failures out.old) (K.failures out.new) }
+        ensures { (o : Object) → Does (λ w. reply o w commands.Queue) o self.now self.now result
+            (sink_log K.Sink out.old) (sink_log K.Sink out.new) }
     {
         put_queue(self.present.machine.queue(), out)
     }
@@ -179,27 +171,25 @@ impl<'w> Debugger<'w> {
     ) -> Result<(), Failed>
         requires spellable { IsSpellable (P.object program.now) }
         requires ready { Ready (P.object program.now) self.now }
-        ensures does { Does (λ w. reply (P.object program.now) w (commands.Cell name.now)) (P.object program.now) self.now self.now result (K.written out.old) (K.written out.new) (K.pieces out.old) (K.pieces out.new) }
-        ensures count { K.failures out.old ≤ K.failures out.new }
-        ensures cause { Excused result (K.failures out.old) (K.failures out.new) }
+        ensures { Does (λ w. reply (P.object program.now) w (commands.Cell name.now))
+            (P.object program.now) self.now self.now result (sink_log K.Sink out.old) (sink_log K.Sink out.new) }
     {
         match named_cell(program, name) {
             Some(k) => {
                 let word = self.present.machine.cell(k);
-                put_text(word_line(name, word).as_bytes(), out)
+                put_line(word_line(name, word).as_bytes(), out)
             }
-            None => put_text(b"no cell\n", out),
+            None => put_line(b"no cell\n", out),
         }
     }
 
     /// Shows where the machine is.
     fn answer_where<P: Program, K: Sink>(&self, program: &P, out: &mut K) -> Result<(), Failed>
         requires { IsSpellable (P.object program.now) }
-        ensures does { Does (λ w. reply (P.object program.now) w commands.Where) (P.object program.now) self.now self.now result (K.written out.old) (K.written out.new) (K.pieces out.old) (K.pieces out.new) }
-        ensures count { K.failures out.old ≤ K.failures out.new }
-        ensures cause { Excused result (K.failures out.old) (K.failures out.new) }
+        ensures { Does (λ w. reply (P.object program.now) w commands.Where)
+            (P.object program.now) self.now self.now result (sink_log K.Sink out.old) (sink_log K.Sink out.new) }
     {
-        put_text(where_line(program, &self.present).as_bytes(), out)
+        put_line(where_line(program, &self.present).as_bytes(), out)
     }
 
     /// Sets a break place.
@@ -213,21 +203,20 @@ impl<'w> Debugger<'w> {
         requires spellable { IsSpellable (P.object program.now) }
         requires ready { Ready (P.object program.now) self.old }
         ensures ready { Ready (P.object program.now) self.new }
-        ensures does { Does (λ w. reply (P.object program.now) w (commands.Break block index)) (P.object program.now) self.old self.new result (K.written out.old) (K.written out.new) (K.pieces out.old) (K.pieces out.new) }
-        ensures count { K.failures out.old ≤ K.failures out.new }
-        ensures cause { Excused result (K.failures out.old) (K.failures out.new) }
+        ensures does { Does (λ w. reply (P.object program.now) w (commands.Break block index))
+            (P.object program.now) self.old self.new result (sink_log K.Sink out.old) (sink_log K.Sink out.new) }
     {
         let Some(address) = break_address(program, block, index) else {
-            return put_text(b"no place\n", out);
+            return put_line(b"no place\n", out);
         };
         if self.breaks.contains(address) {
-            return put_text(b"break set\n", out);
+            return put_line(b"break set\n", out);
         }
         if self.breaks.is_full() {
-            return put_text(b"too many breaks\n", out);
+            return put_line(b"too many breaks\n", out);
         }
         self.breaks.add(address);
-        put_text(b"break set\n", out)
+        put_line(b"break set\n", out)
     }
 
     /// Does what a command asks, and puts what it answers. After a put that failed nothing is put.
@@ -242,9 +231,8 @@ impl<'w> Debugger<'w> {
         requires room { self.old.present.position < 2 ^ 62 }
         requires small { IsSmall (command_of command) }
         ensures ready { Ready (P.object program.now) self.new }
-        ensures does { Does (λ w. reply (P.object program.now) w (command_of command.entry)) (P.object program.now) self.old self.new result (K.written out.old) (K.written out.new) (K.pieces out.old) (K.pieces out.new) }
-        ensures count { K.failures out.old ≤ K.failures out.new }
-        ensures cause { Excused result (K.failures out.old) (K.failures out.new) }
+        ensures does { Does (λ w. reply (P.object program.now) w (command_of command.entry))
+            (P.object program.now) self.old self.new result (sink_log K.Sink out.old) (sink_log K.Sink out.new) }
     {
         match command {
             Command::Step(count) => self.answer_step(program, count, out),
@@ -256,7 +244,7 @@ impl<'w> Debugger<'w> {
             Command::Cell(name) => self.answer_cell(program, name, out),
             Command::Where => self.answer_where(program, out),
             Command::Break { block, index } => self.answer_break(program, block, index, out),
-            Command::Bad => put_text(b"bad command\n", out),
+            Command::Bad => put_line(b"bad command\n", out),
         }
     }
 }

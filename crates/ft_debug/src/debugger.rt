@@ -1,6 +1,7 @@
 //! The debugger: what a session is at, and what it keeps.
 ghost use Rattle.std.specs.Prelude.{◌≡◌, ◌≤◌, ◌<◌, ◌+◌, ◌^◌, ℕ, List, ◌∷◌, [], length, IfOk, IfSome};
-ghost use Rattle.ft_edge.specs.Causes.{Rose};
+ghost use Rattle.ft_edge.specs.Lines.{Puts, end_of_puts};
+ghost use Rattle.ft_edge.specs.Logs.{sink_log};
 ghost use Rattle.ft_isa.specs.declared.plan.Wild.{Wild as Answer};
 ghost use Rattle.ft_types.specs.Spellable.{IsSpellable};
 ghost use Rattle.ft_debug.specs.Sessions.{Session, first_session, is_at_break, walks, goes, goes_back, earlier, zaps, sets_break, break_address};
@@ -8,15 +9,14 @@ ghost use Rattle.ft_types.specs.declared.object.Object.{Object};
 ghost use Rattle.ft_semantics.specs.Strike.{is_running, is_there};
 ghost use Rattle.ft_isa.specs.declared.output.Output as outputs;
 ghost use Rattle.ft_debug.specs.Kept.{IsFull};
-ghost use Rattle.ft_debug.specs.Inside.{Ready, Holds, Puts, Does, Excused, committed_lines, advances, halting, goes_on};
+ghost use Rattle.ft_debug.specs.Inside.{Ready, Holds, Does, committed_lines, advances, halting, goes_on};
 
 use crate::break_places::BreakPlaces;
 use crate::code_places::break_address;
 use crate::history::History;
 use crate::lines::output_line;
 use crate::moment::Moment;
-use crate::put::put_text;
-use ft_edge::{Failed, Sink};
+use ft_edge::{Failed, Sink, put_line};
 use ft_isa::{Colour, NoMemory, Site, Wild};
 use ft_machine::Stepped;
 use ft_semantics::Status;
@@ -85,11 +85,9 @@ impl<'w> Debugger<'w> {
         requires running { self.old.present.machine.status ≡ Status.Running }
         requires room { self.old.present.position < 2 ^ 63 }
         ensures ready { Ready (P.object program.now) self.new }
-        ensures does { Does (advances (P.object program.now)) (P.object program.now) self.old self.new result (K.written out.old) (K.written out.new) (K.pieces out.old) (K.pieces out.new) }
+        ensures does { Does (advances (P.object program.now)) (P.object program.now) self.old self.new result (sink_log K.Sink out.old) (sink_log K.Sink out.new) }
         ensures breaks { self.new.breaks ≡ self.old.breaks }
         ensures position { self.new.present.position ≡ self.old.present.position + 1 }
-        ensures count { K.failures out.old ≤ K.failures out.new }
-        ensures cause { Excused result (K.failures out.old) (K.failures out.new) }
     {
         self.history.keep(&self.present);
         let stepped = self.present.step(program);
@@ -108,9 +106,8 @@ impl<'w> Debugger<'w> {
         requires ready { Ready (P.object program.now) self.old }
         requires room { self.old.present.position + count < 2 ^ 63 }
         ensures ready { Ready (P.object program.now) self.new }
-        ensures does { Does (λ w. walks (P.object program.now) w (halting halts self.old.breaks) count) (P.object program.now) self.old self.new result (K.written out.old) (K.written out.new) (K.pieces out.old) (K.pieces out.new) }
-        ensures count { K.failures out.old ≤ K.failures out.new }
-        ensures cause { Excused result (K.failures out.old) (K.failures out.new) }
+        ensures does { Does (λ w. walks (P.object program.now) w (halting halts self.old.breaks) count)
+            (P.object program.now) self.old self.new result (sink_log K.Sink out.old) (sink_log K.Sink out.new) }
     {
         for _ in 0..count {
             if !self.goes_on(halts) {
@@ -132,9 +129,7 @@ impl<'w> Debugger<'w> {
         requires ready { Ready (P.object program.now) self.old }
         requires room { self.old.present.position + count < 2 ^ 63 }
         ensures ready { Ready (P.object program.now) self.new }
-        ensures does { Does (λ w. goes (P.object program.now) w count) (P.object program.now) self.old self.new result (K.written out.old) (K.written out.new) (K.pieces out.old) (K.pieces out.new) }
-        ensures count { K.failures out.old ≤ K.failures out.new }
-        ensures cause { Excused result (K.failures out.old) (K.failures out.new) }
+        ensures does { Does (λ w. goes (P.object program.now) w count) (P.object program.now) self.old self.new result (sink_log K.Sink out.old) (sink_log K.Sink out.new) }
     {
         if count == 0 {
             return Ok(());
@@ -174,12 +169,11 @@ fn put_output<P: Program, K: Sink>(program: &P, stepped: Stepped, out: &mut K) -
     requires spellable { IsSpellable (P.object program.now) }
     requires low { (output : outputs.Output) → stepped ≡ Stepped.Commit output → 1048576 ≤ output.addr }
     requires high { (output : outputs.Output) → stepped ≡ Stepped.Commit output → output.addr < 1048576 + length (P.object program.now).cells }
-    ensures puts { Puts result (committed_lines (P.object program.now) stepped) (K.written out.old) (K.written out.new) (K.pieces out.old) (K.pieces out.new) }
-    ensures count { K.failures out.old ≤ K.failures out.new }
-    ensures cause { Excused result (K.failures out.old) (K.failures out.new) }
+    ensures { Puts (end_of_puts result) (committed_lines (P.object program.now) stepped)
+        (sink_log K.Sink out.old) (sink_log K.Sink out.new) }
 {
     match stepped {
-        Stepped::Commit(output) => put_text(output_line(program, output).as_bytes(), out),
+        Stepped::Commit(output) => put_line(output_line(program, output).as_bytes(), out),
         Stepped::Quiet | Stepped::Done | Stepped::Detected => Ok(()),
     }
 }

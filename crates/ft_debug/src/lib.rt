@@ -16,7 +16,6 @@ mod history;
 mod laws;
 mod lines;
 mod moment;
-mod put;
 mod sessions;
 
 pub use debug_end::DebugEnd;

@@ -1,11 +1,13 @@
 //! Whole sessions.
 ghost use Rattle.std.specs.Prelude.{◌≡◌, ◌≤◌, ◌<◌, length, map};
 ghost use Rattle.std.specs.List.{AllByRecursion};
+ghost use Rattle.ft_edge.specs.Lines.{Puts, end_of_puts};
+ghost use Rattle.ft_edge.specs.Logs.{sink_log};
 ghost use Rattle.ft_types.specs.Spellable.{IsSpellable};
 ghost use Rattle.ft_script.specs.Reads.{command_of};
-ghost use Rattle.ft_debug.specs.Ends.{EndsAs, IsExcused};
+ghost use Rattle.ft_debug.specs.Ends.{EndsAs};
 ghost use Rattle.ft_debug.specs.Sessions.{session_lines, first_session};
-ghost use Rattle.ft_debug.specs.Inside.{Ready, Holds, Puts, Excused, IsSmall};
+ghost use Rattle.ft_debug.specs.Inside.{Ready, Holds, IsSmall};
 
 use crate::debug_end::DebugEnd;
 use crate::debugger::Debugger;
@@ -28,9 +30,8 @@ fn answer_all<P: Program, K: Sink>(
     requires holds { Holds (P.object program.now) wild.now first_session debugger.old }
     requires small { AllByRecursion IsSmall (map command_of commands.now) }
     requires few { length commands.now ≤ 1048576 }
-    ensures puts { Puts result (session_lines (P.object program.now) wild.now (map command_of commands.now)) (K.written out.old) (K.written out.new) (K.pieces out.old) (K.pieces out.new) }
-    ensures count { K.failures out.old ≤ K.failures out.new }
-    ensures cause { Excused result (K.failures out.old) (K.failures out.new) }
+    ensures { Puts (end_of_puts result) (session_lines (P.object program.now) wild.now (map command_of commands.now))
+        (sink_log K.Sink out.old) (sink_log K.Sink out.new) }
 {
     for command in commands {
         debugger.answer(program, *command, out)?;
@@ -55,9 +56,8 @@ pub fn session<P: Program, K: Sink>(
 ) -> DebugEnd
     requires spellable { IsSpellable (P.object program.now) }
     requires short { length script.now ≤ 1048576 }
-    ensures ends { EndsAs result (P.object program.now) wild.now script.now (K.written out.old) (K.written out.new) (K.pieces out.old) (K.pieces out.new) }
-    ensures count { K.failures out.old ≤ K.failures out.new }
-    ensures cause { IsExcused result (K.failures out.old) (K.failures out.new) }
+    ensures ends { EndsAs result (P.object program.now) wild.now script.now
+        (sink_log K.Sink out.old) (sink_log K.Sink out.new) }
 {
     let Ok(commands) = read_script(alloc, script) else {
         return DebugEnd::NoMemory;

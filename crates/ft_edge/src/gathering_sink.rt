@@ -1,5 +1,5 @@
 //! A sink that gathers what it takes and hands it to a writer in large pieces.
-ghost use Rattle.std.specs.Prelude.{◌≡◌, ◌≤◌, [], length, drop, None, IsTrue, IfOk, OnOk, OnErr};
+ghost use Rattle.std.specs.Prelude.{◌≡◌, ◌≢◌, ◌≤◌, [], length, drop, None, IsTrue, IfOk, IfErr, OnOk, OnErr};
 ghost use Rattle.std.specs.Io.KnownBytes.{Appends, Keeps};
 ghost use Rattle.ft_edge.specs.Calls.{next_count};
 ghost use Rattle.ft_edge.specs.Streams.{AppendsFront};
@@ -41,10 +41,12 @@ impl<W: Write + Drop> GatheringSink<W> {
         }
     }
 
-    /// Hands on what is gathered. What was not written stays gathered.
+    /// Hands on what is gathered, and tells whether the writer took all. What it did not take stays
+    /// gathered.
     fn hand_on(&mut self) -> bool
         ensures kept { Keeps (written_to W.contents self.old) (written_to W.contents self.new) }
         ensures all { IsTrue result → self.new.gathered.items ≡ [] }
+        ensures some { self.new.gathered.items ≡ [] → IsTrue result }
         ensures count { self.new.failures ≡ self.old.failures }
     {
         let done = write_front(&mut self.out, self.gathered.as_slice());
@@ -52,11 +54,15 @@ impl<W: Write + Drop> GatheringSink<W> {
         self.gathered.is_empty()
     }
 
-    /// Hands on what is gathered, and gives the writer back.
+    /// Hands on what is gathered, and gives the writer back. It does not fail where nothing is gathered.
     pub fn finish(self) -> Result<W, Failed>
-        ensures { IfOk result (λ writer. Keeps (written_to W.contents self) (W.contents writer)) }
+        ensures ok { IfOk result (λ writer. Keeps (written_to W.contents self) (W.contents writer)) }
+        ensures err { IfErr result (λ _. self.gathered.items ≢ []) }
     {
         let mut sink = self;
+        if sink.gathered.is_empty() {
+            return Ok(sink.discard());
+        }
         if !sink.hand_on() {
             return Err(Failed);
         }

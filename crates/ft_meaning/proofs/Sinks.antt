@@ -1,50 +1,39 @@
 -- What a sink has after one more line, and where a put fails.
-use Rattle.std.proofs.Common.{◌≡◌, ℕ, zero, suc, ◌+◌, ◌-◌, ◌<◌, ◌≤◌, max, take, add-one, List, [], ◌∷◌, ◌++◌, length, map, get_or, Option, Vec, Global, refl, sym, ap, ◌∙◌, subst, arith}
+use Rattle.std.proofs.Common.{◌≡◌, ℕ, zero, suc, ◌+◌, ◌-◌, ◌<◌, ◌≤◌, max, take, add-one, List, [], ◌∷◌, ◌++◌, length, map, get_or, Vec, Global, refl, sym, ap, ◌∙◌, subst, arith}
 use Rattle.std.proofs.lemmas.List.{map-append}
 use Rattle.std.proofs.Math.Seq.{take-suc}
-use Rattle.std.specs.Io.KnownBytes.{append_known}
 use Rattle.ft_isa.specs.Words.{cell_address, line}
 use Rattle.ft_isa.specs.declared.output.Output.{Output}
-use Rattle.ft_edge.specs.Causes.{AddsPrefix}
-use Rattle.ft_edge.specs.Told.{append_told}
-use Rattle.ft_edge.specs.Puts.{PutsLines, BreaksOff}
-use Rattle.ft_edge.proofs.PutLines.{puts_none, puts_one, puts_then, breaks_one, breaks_then, breaks_before}
+use Rattle.ft_edge.specs.Lines.{BreaksOff, with_lines}
+use Rattle.ft_edge.specs.Logs.{SinkLog}
+use Rattle.ft_edge.proofs.Lines.{lines_then, breaks_then, breaks_before}
 use Rattle.ft_meaning.specs.Lines.{name_of, line_of, output_lines}
 use Rattle.ft_meaning.specs.Begins.{Begins}
 use Rattle.ft_meaning.specs.Room.{HasRoom}
-use Rattle.ft_meaning.specs.Runs.{Told, told}
-
--- a sink that has these lines is one that they were put to
-pub told_puts : (names : List (List ℕ)) (first now : Told) (o : List Output) → now ≡ told names first o → PutsLines (output_lines names o) first.written now.written first.pieces now.pieces
-told_puts names first now o h = record { written = ap (λ (t : Told). t.written) h; pieces = ap (λ (t : Told). t.pieces) h }
-
-puts_told : (names : List (List ℕ)) (first now : Told) (o : List Output) → PutsLines (output_lines names o) first.written now.written first.pieces now.pieces → now ≡ told names first o
-puts_told names first now o h = let a = h.written in let b = h.pieces in λ i. record { written = a i; pieces = b i }
-
--- nothing was put yet
-pub told_nothing : (names : List (List ℕ)) (first : Told) → first ≡ told names first []
-told_nothing names first = puts_told names first first [] (puts_none first.written first.pieces)
+use Rattle.ft_meaning.specs.Runs.{told}
 
 -- a line was put
-pub told_push : (names : List (List ℕ)) (first before after : Told) (o : List Output) (x : Output) → before ≡ told names first o → after.written ≡ append_known before.written (line_of names x) → after.pieces ≡ append_told before.pieces (line_of names x ∷ []) → after ≡ told names first (o ++ x ∷ [])
-told_push names first before after o x h w p =
-    puts_told names first after (o ++ x ∷ [])
-    (subst (λ ls. PutsLines ls first.written after.written first.pieces after.pieces) (sym (map-append (line_of names) o (x ∷ [])))
-    (puts_then (output_lines names o) (line_of names x ∷ []) first.written before.written after.written first.pieces before.pieces after.pieces (told_puts names first before o h)
-    (puts_one (line_of names x) before.written after.written before.pieces after.pieces w p)))
+pub told_push : (names : List (List ℕ)) (first before after : SinkLog) (o : List Output) (x : Output)
+    → before ≡ told names first o
+    → after ≡ with_lines (line_of names x ∷ []) before → after ≡ told names first (o ++ x ∷ [])
+told_push names first before after o x h p =
+    lines_then (output_lines names o) (line_of names x ∷ []) first before after h p
+    ∙ ap (λ ls. with_lines ls first) (sym (map-append (line_of names) o (x ∷ [])))
 
 -- a put failed
-pub breaks_here : (names : List (List ℕ)) (first before after : Told) (o outputs : List Output) (x : Output) → before ≡ told names first o → AddsPrefix before.written after.written (line_of names x) → after.pieces ≡ append_told before.pieces (line_of names x ∷ []) → outputs ≡ o ++ x ∷ [] → BreaksOff (output_lines names outputs) first.written after.written first.pieces after.pieces
-breaks_here names first before after o outputs x h a p e =
-    subst (λ ls. BreaksOff ls first.written after.written first.pieces after.pieces) (sym (map-append (line_of names) o (x ∷ [])) ∙ ap (output_lines names) (sym e))
-    (breaks_then (output_lines names o) (line_of names x ∷ []) first.written before.written after.written first.pieces before.pieces after.pieces (told_puts names first before o h)
-    (breaks_one (line_of names x) before.written after.written before.pieces after.pieces a p))
+pub breaks_here : (names : List (List ℕ)) (first before after : SinkLog) (o : List Output) (x : Output)
+    → before ≡ told names first o
+    → BreaksOff (line_of names x ∷ []) before after → BreaksOff (output_lines names (o ++ x ∷ [])) first after
+breaks_here names first before after o x h b =
+    subst (λ ls. BreaksOff ls first after) (sym (map-append (line_of names) o (x ∷ [])))
+    (breaks_then (output_lines names o) (line_of names x ∷ []) first before after h b)
 
 -- more outputs change nothing of a put that failed
-pub breaks_longer : (names : List (List ℕ)) (old new : Option (List ℕ)) (before now : Option (List (List ℕ))) (xs ys : List Output) → BreaksOff (output_lines names xs) old new before now → Begins xs ys → BreaksOff (output_lines names ys) old new before now
-breaks_longer names old new before now xs ys b more =
-    subst (λ ls. BreaksOff ls old new before now) (sym (map-append (line_of names) xs more.0) ∙ ap (output_lines names) more.1)
-    (breaks_before (output_lines names xs) (output_lines names more.0) old new before now b)
+pub breaks_longer : (names : List (List ℕ)) (old new : SinkLog) (xs ys : List Output)
+    → BreaksOff (output_lines names xs) old new → Begins xs ys → BreaksOff (output_lines names ys) old new
+breaks_longer names old new xs ys b more =
+    subst (λ ls. BreaksOff ls old new) (sym (map-append (line_of names) xs more.0) ∙ ap (output_lines names) more.1)
+    (breaks_before (output_lines names xs) (output_lines names more.0) old new b)
 
 -- the name of a cell is the one that the code finds
 pub name_found : (xs : List (Vec ℕ Global)) (k : ℕ) (d : Vec ℕ Global) → k < length xs → name_of (map (λ n. n.items) xs) k ≡ (get_or xs k d).items

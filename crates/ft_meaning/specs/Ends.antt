@@ -1,7 +1,5 @@
 -- What is answered of a meaning, and what is put of it.
-use Rattle.std.specs.Prelude.{◌≡◌, ℕ, List, Option}
-use Rattle.ft_edge.specs.Causes.{Rose}
-use Rattle.ft_edge.specs.Puts.{PutsLines, BreaksOff, PutsNothing}
+use Rattle.ft_edge.specs.Lines.{PutEnd, AllPut, PutFailed, NothingPut}
 use Rattle.ft_meaning.specs.declared.mean_end.MeanEnd.{MeanEnd}
 use Rattle.ft_meaning.specs.declared.mean_end.MeanEnd.TheVariants as ends
 use Rattle.ft_meaning.specs.Meaning.{Outcome, Ended, Cut}
@@ -15,16 +13,9 @@ EndsAs ends.Cut (Cut s) = Unit {0}
 EndsAs ends.WriteFault r = Unit {0}
 EndsAs ends.NoMemory r = Unit {0}
 
--- all lines were put, by one put each, or a put failed, which was the last, or nothing was put when out of memory
-abbrev pub Puts : MeanEnd → List (List ℕ) → Option (List ℕ) → Option (List ℕ) → Option (List (List ℕ)) → Option (List (List ℕ)) → Type 0
-Puts ends.Ended lines old new before now = PutsLines lines old new before now
-Puts ends.Cut lines old new before now = PutsLines lines old new before now
-Puts ends.WriteFault lines old new before now = BreaksOff lines old new before now
-Puts ends.NoMemory lines old new before now = PutsNothing old new before now
-
--- only a count that rose excuses a failed put, and where no put failed the count stays
-abbrev pub IsExcused : MeanEnd → ℕ → ℕ → Type 0
-IsExcused ends.Ended before now = now ≡ before
-IsExcused ends.Cut before now = now ≡ before
-IsExcused ends.WriteFault before now = Rose before now
-IsExcused ends.NoMemory before now = now ≡ before
+-- all lines were put, or a put of them failed, or nothing was put
+abbrev pub put_end : MeanEnd → PutEnd
+put_end ends.Ended = AllPut
+put_end ends.Cut = AllPut
+put_end ends.WriteFault = PutFailed
+put_end ends.NoMemory = NothingPut

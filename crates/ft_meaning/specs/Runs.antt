@@ -1,14 +1,13 @@
 -- What running statements does to the code's words and to the sink: private to the code.
-use Rattle.std.specs.Prelude.{◌≡◌, ℕ, ◌-◌, ◌≤◌, List, length, Option, Result, Ok, Err}
-use Rattle.std.specs.List.{concat}
-use Rattle.std.specs.Io.KnownBytes.{append_known}
-use Rattle.ft_edge.specs.Causes.{Rose}
-use Rattle.ft_edge.specs.Told.{append_told}
-use Rattle.ft_edge.specs.Puts.{BreaksOff}
+use Rattle.std.specs.Prelude.{◌≡◌, ℕ, ◌-◌, ◌≤◌, List, length, Result, Ok, Err}
+use Rattle.ft_edge.specs.Lines.{BreaksOff, with_lines}
+use Rattle.ft_edge.specs.Logs.{SinkLog}
 use Rattle.ft_isa.specs.declared.output.Output.{Output}
 use Rattle.ft_meaning.specs.declared.run.Run.{Run}
 use Rattle.ft_meaning.specs.declared.run.Stop.{Stop}
 use Rattle.ft_meaning.specs.declared.run.Stop.TheVariants as stops
+use Rattle.ft_meaning.specs.declared.mean_end.MeanEnd.{MeanEnd}
+use Rattle.ft_meaning.specs.declared.mean_end.MeanEnd.TheVariants as ends
 use Rattle.ft_meaning.specs.Meaning.{State, Outcome, Ended, Cut, outputs}
 use Rattle.ft_meaning.specs.Lines.{output_lines}
 use Rattle.ft_meaning.specs.Room.{HasRoom}
@@ -17,18 +16,9 @@ use Rattle.ft_meaning.specs.Room.{HasRoom}
 abbrev pub state : Run → List Output → ℕ → State
 state r out w = record { vars = r.vars.items; cells = r.cells.items; out = out; left = r.left; work = w }
 
--- what a sink has and the pieces that it was asked to put, where it tells them
-pub record Told : Type 0 where
-  pub written : Option (List ℕ)
-  pub pieces : Option (List (List ℕ))
-
--- a sink that has this, of these pieces
-abbrev pub sink_of : Option (List ℕ) → Option (List (List ℕ)) → Told
-sink_of written pieces = record { written = written; pieces = pieces }
-
--- what a sink has after the lines of these outputs, each put as one piece
-abbrev pub told : List (List ℕ) → Told → List Output → Told
-told names first out = record { written = append_known first.written (concat (output_lines names out)); pieces = append_told first.pieces (output_lines names out) }
+-- what a sink tells after the lines of these outputs, each put as one piece
+abbrev pub told : List (List ℕ) → SinkLog → List Output → SinkLog
+told names first out = with_lines (output_lines names out) first
 
 -- the code's words have the shape that they had, and no turn came back
 pub record Keeps (r q : Run) : Type 0 where
@@ -45,13 +35,19 @@ pub record Ready (names : List (List ℕ)) (r : Run) : Type 0 where
   pub room : HasRoom names (length r.line.items - 22)
 
 -- whatever was put and worked before, the code does what the definition does
-abbrev pub RunsTo : (State → Outcome) → List (List ℕ) → Run → Run → Told → Told → Result (Unit {0}) Stop → Type 0
-RunsTo go names r q before after (Ok u) = (first : Told) (o : List Output) (w : ℕ) → before ≡ told names first o → (p : List Output) × (v : ℕ) × (go (state r o w) ≡ Ended (state q p v)) × (after ≡ told names first p)
-RunsTo go names r q before after (Err stops.Cut) = (first : Told) (o : List Output) (w : ℕ) → before ≡ told names first o → (p : List Output) × (v : ℕ) × (go (state r o w) ≡ Cut (state q p v)) × (after ≡ told names first p)
-RunsTo go names r q before after (Err stops.WriteFault) = (first : Told) (o : List Output) (w : ℕ) → before ≡ told names first o → BreaksOff (output_lines names (outputs (go (state r o w)))) first.written after.written first.pieces after.pieces
+abbrev pub RunsTo : (State → Outcome) → List (List ℕ) → Run → Run → SinkLog → SinkLog → Result (Unit {0}) Stop → Type 0
+RunsTo go names r q before after (Ok u) =
+    (first : SinkLog) (o : List Output) (w : ℕ) → before ≡ told names first o → (p : List Output) × (v : ℕ) ×
+    (go (state r o w) ≡ Ended (state q p v)) × (after ≡ told names first p)
+RunsTo go names r q before after (Err stops.Cut) =
+    (first : SinkLog) (o : List Output) (w : ℕ) → before ≡ told names first o → (p : List Output) × (v : ℕ) ×
+    (go (state r o w) ≡ Cut (state q p v)) × (after ≡ told names first p)
+RunsTo go names r q before after (Err stops.WriteFault) =
+    (first : SinkLog) (o : List Output) (w : ℕ) → before ≡ told names first o → BreaksOff
+    (output_lines names (outputs (go (state r o w)))) first after
 
--- only a count that rose excuses a failed put
-abbrev pub Excused : Result (Unit {0}) Stop → ℕ → ℕ → Type 0
-Excused (Ok u) before now = now ≡ before
-Excused (Err stops.Cut) before now = now ≡ before
-Excused (Err stops.WriteFault) before now = Rose before now
+-- how a meaning ended whose run ended so
+abbrev pub end_of_run : Result (Unit {0}) Stop → MeanEnd
+end_of_run (Ok u) = ends.Ended
+end_of_run (Err stops.Cut) = ends.Cut
+end_of_run (Err stops.WriteFault) = ends.WriteFault

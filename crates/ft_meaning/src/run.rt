@@ -1,13 +1,14 @@
 //! A run of a program, which puts its outputs as they come.
 ghost use Rattle.std.specs.Prelude.{◌≡◌, ◌<◌, ◌≤◌, length, map, slice_index};
+ghost use Rattle.ft_edge.specs.Logs.{sink_log};
 ghost use Rattle.ft_isa.specs.Words.{apply};
 ghost use Rattle.ft_syntax.specs.Plain.{none, plain_expression, plain_statement, plain_list};
 ghost use Rattle.ft_scope.specs.Size.{same_slot, SlotFits, RunFits, ExpressionFits, StatementsFit};
 ghost use Rattle.ft_scope.specs.declared.slot.Slot.TheVariants.{Cell};
 ghost use Rattle.ft_meaning.specs.Meaning.{indexed_cell, value, assigned, loops, run, Ended};
-ghost use Rattle.ft_meaning.specs.Runs.{sink_of, Keeps, Ready, RunsTo, Excused};
+ghost use Rattle.ft_meaning.specs.Runs.{Keeps, Ready, RunsTo};
 
-use crate::output_line::put_line;
+use crate::output_line::put_output;
 use ft_edge::Sink;
 use ft_isa::{Op, apply};
 use ft_scope::Slot;
@@ -114,12 +115,10 @@ impl Run {
     ) -> Result<(), Stop>
         requires fits { k < length self.old.cells.items }
         requires ready { Ready (map (λ n. n.items) names.now) self.old }
-        ensures runs { RunsTo (λ s. Ended (assigned (Cell k) word s)) (map (λ n. n.items) names.now) self.old self.new (sink_of (K.written out.old) (K.pieces out.old)) (sink_of (K.written out.new) (K.pieces out.new)) result }
+        ensures runs { RunsTo (λ s. Ended (assigned (Cell k) word s)) (map (λ n. n.items) names.now) self.old self.new (sink_log K.Sink out.old) (sink_log K.Sink out.new) result }
         ensures keeps { Keeps self.old self.new }
-        ensures count { K.failures out.old ≤ K.failures out.new }
-        ensures cause { Excused result (K.failures out.old) (K.failures out.new) }
     {
-        match put_line(&names[k], word, &mut self.line, out) {
+        match put_output(&names[k], word, &mut self.line, out) {
             Ok(()) => {}
             Err(_) => return Err(Stop::WriteFault),
         }
@@ -137,10 +136,8 @@ impl Run {
     ) -> Result<(), Stop>
         requires fits { SlotFits (length self.old.cells.items) (length self.old.vars.items) to }
         requires ready { Ready (map (λ n. n.items) names.now) self.old }
-        ensures runs { RunsTo (λ s. Ended (assigned to word s)) (map (λ n. n.items) names.now) self.old self.new (sink_of (K.written out.old) (K.pieces out.old)) (sink_of (K.written out.new) (K.pieces out.new)) result }
+        ensures runs { RunsTo (λ s. Ended (assigned to word s)) (map (λ n. n.items) names.now) self.old self.new (sink_log K.Sink out.old) (sink_log K.Sink out.new) result }
         ensures keeps { Keeps self.old self.new }
-        ensures count { K.failures out.old ≤ K.failures out.new }
-        ensures cause { Excused result (K.failures out.old) (K.failures out.new) }
     {
         match to {
             Slot::Cell(k) => self.assign_cell(names, k as usize, word, out),
@@ -162,10 +159,8 @@ impl Run {
     ) -> Result<(), Stop>
         requires fits { StatementsFit (length self.old.cells.items) (length self.old.vars.items) (plain_list same_slot all.now) }
         requires ready { Ready (map (λ n. n.items) names.now) self.old }
-        ensures runs { RunsTo (run (plain_list same_slot all.now)) (map (λ n. n.items) names.now) self.old self.new (sink_of (K.written out.old) (K.pieces out.old)) (sink_of (K.written out.new) (K.pieces out.new)) result }
+        ensures runs { RunsTo (run (plain_list same_slot all.now)) (map (λ n. n.items) names.now) self.old self.new (sink_log K.Sink out.old) (sink_log K.Sink out.new) result }
         ensures keeps { Keeps self.old self.new }
-        ensures count { K.failures out.old ≤ K.failures out.new }
-        ensures cause { Excused result (K.failures out.old) (K.failures out.new) }
     {
         for s in all {
             if let Err(stop) = self.statement(names, s, out) {
@@ -185,10 +180,8 @@ impl Run {
     ) -> Result<(), Stop>
         requires fits { StatementsFit (length self.old.cells.items) (length self.old.vars.items) (plain_statement same_slot s.now none) }
         requires ready { Ready (map (λ n. n.items) names.now) self.old }
-        ensures runs { RunsTo (run (plain_statement same_slot s.now none)) (map (λ n. n.items) names.now) self.old self.new (sink_of (K.written out.old) (K.pieces out.old)) (sink_of (K.written out.new) (K.pieces out.new)) result }
+        ensures runs { RunsTo (run (plain_statement same_slot s.now none)) (map (λ n. n.items) names.now) self.old self.new (sink_log K.Sink out.old) (sink_log K.Sink out.new) result }
         ensures keeps { Keeps self.old self.new }
-        ensures count { K.failures out.old ≤ K.failures out.new }
-        ensures cause { Excused result (K.failures out.old) (K.failures out.new) }
     {
         match s {
             Stmt::Assign { to, value } => {
@@ -223,10 +216,8 @@ impl Run {
         requires test { ExpressionFits (length self.old.cells.items) (length self.old.vars.items) (plain_expression same_slot test.now) }
         requires body { StatementsFit (length self.old.cells.items) (length self.old.vars.items) (plain_list same_slot body.now) }
         requires ready { Ready (map (λ n. n.items) names.now) self.old }
-        ensures runs { RunsTo (loops self.old.left (plain_expression same_slot test.now) (run (plain_list same_slot body.now))) (map (λ n. n.items) names.now) self.old self.new (sink_of (K.written out.old) (K.pieces out.old)) (sink_of (K.written out.new) (K.pieces out.new)) result }
+        ensures runs { RunsTo (loops self.old.left (plain_expression same_slot test.now) (run (plain_list same_slot body.now))) (map (λ n. n.items) names.now) self.old self.new (sink_log K.Sink out.old) (sink_log K.Sink out.new) result }
         ensures keeps { Keeps self.old self.new }
-        ensures count { K.failures out.old ≤ K.failures out.new }
-        ensures cause { Excused result (K.failures out.old) (K.failures out.new) }
     {
         while self.word(test) != 0 {
             if self.left == 0 {

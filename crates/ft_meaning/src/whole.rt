@@ -1,10 +1,12 @@
 //! A program's meaning.
-ghost use Rattle.std.specs.Prelude.{◌≡◌, ◌≤◌, length, map, replicate, IfOk};
+ghost use Rattle.std.specs.Prelude.{◌≡◌, length, map, replicate, IfOk};
+ghost use Rattle.ft_edge.specs.Lines.{Puts};
+ghost use Rattle.ft_edge.specs.Logs.{sink_log};
 ghost use Rattle.ft_scope.specs.ProgramOf.{program_of};
 ghost use Rattle.ft_meaning.specs.Meaning.{meaning, outputs};
 ghost use Rattle.ft_meaning.specs.Lines.{output_lines};
-ghost use Rattle.ft_meaning.specs.Ends.{EndsAs, Puts, IsExcused};
-ghost use Rattle.ft_meaning.specs.Runs.{Ready};
+ghost use Rattle.ft_meaning.specs.Ends.{EndsAs, put_end};
+ghost use Rattle.ft_meaning.specs.Runs.{Ready, end_of_run};
 
 use crate::mean_end::MeanEnd;
 use crate::output_line::longest;
@@ -33,6 +35,17 @@ fn start(alloc: Global, prog: &Prog<'_>, names: &[Vec<u8>], turns: u64) -> Resul
     })
 }
 
+/// How a meaning ended whose run ended so.
+fn end_of_run(run: Result<(), Stop>) -> MeanEnd
+    ensures { result ≡ end_of_run run }
+{
+    match run {
+        Ok(()) => MeanEnd::Ended,
+        Err(Stop::Cut) => MeanEnd::Cut,
+        Err(Stop::WriteFault) => MeanEnd::WriteFault,
+    }
+}
+
 /// Gives a program's meaning with this many loop turns over the whole run. It puts a line for each
 /// output, each in one put, and tells how the meaning ended. `Cut` comes exactly when a loop's test is
 /// not 0 with no turn left. `WriteFault` comes only where a put failed, after which nothing is put.
@@ -42,9 +55,8 @@ fn start(alloc: Global, prog: &Prog<'_>, names: &[Vec<u8>], turns: u64) -> Resul
 /// nest in the source.
 pub fn mean<K: Sink>(alloc: Global, prog: &Prog<'_>, turns: u64, out: &mut K) -> MeanEnd
     ensures ends { EndsAs result (meaning (program_of prog.now) turns) }
-    ensures lines { Puts result (output_lines (program_of prog.now).names (outputs (meaning (program_of prog.now) turns))) (K.written out.old) (K.written out.new) (K.pieces out.old) (K.pieces out.new) }
-    ensures count { K.failures out.old ≤ K.failures out.new }
-    ensures cause { IsExcused result (K.failures out.old) (K.failures out.new) }
+    ensures lines { Puts (put_end result) (output_lines (program_of prog.now).names (outputs (meaning (program_of prog.now) turns)))
+        (sink_log K.Sink out.old) (sink_log K.Sink out.new) }
 {
     let Ok(names) = prog.cell_names(alloc) else {
         return MeanEnd::NoMemory;
@@ -52,9 +64,5 @@ pub fn mean<K: Sink>(alloc: Global, prog: &Prog<'_>, turns: u64, out: &mut K) ->
     let Ok(mut state) = start(alloc, prog, &names, turns) else {
         return MeanEnd::NoMemory;
     };
-    match state.statements(&names, &prog.body, out) {
-        Ok(()) => MeanEnd::Ended,
-        Err(Stop::Cut) => MeanEnd::Cut,
-        Err(Stop::WriteFault) => MeanEnd::WriteFault,
-    }
+    end_of_run(state.statements(&names, &prog.body, out))
 }

@@ -1,4 +1,5 @@
 mod Mapped
+mod Bridged
 mod Answered
 mod OverFiles
 mod Recovered

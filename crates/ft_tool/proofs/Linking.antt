@@ -6,6 +6,7 @@ use Rattle.std.proofs.lemmas.Option.{none-some}
 use Rattle.ft_edge.specs.Causes.{Rose}
 use Rattle.ft_edge.specs.Loads.{Files}
 use Rattle.ft_edge.specs.Told.{append_told}
+use Rattle.ft_edge.specs.Logs.{SinkLog, ShelfLog, LoadFails}
 use Rattle.ft_types.specs.declared.object.Object.{Object}
 use Rattle.ft_typing.specs.Accepted.{IsAccepted, refusal}
 use Rattle.ft_typing.specs.Accepted as refusals
@@ -32,38 +33,19 @@ use Rattle.ft_command.specs.Commands.{Links}
 use Rattle.ft_tool.specs.declared.load.ObjectFault.{ObjectFault}
 use Rattle.ft_tool.specs.declared.load.ObjectFault.TheVariants.{Refused, Failed, NoMemory as no_memory}
 use Rattle.ft_tool.specs.declared.ending.Ending.{Ending}
-use Rattle.ft_tool.specs.declared.ending.Ending.TheVariants as endings
 use Rattle.ft_tool.specs.Replies.{Answer, IsToldFile}
 use Rattle.ft_tool.specs.Objects.{UpgradesObject}
-use Rattle.ft_tool.specs.Links.{IsMap, EndsAtMap, bad_line, line_twice, unlinked, EndsAtObject, not_accepted, not_added, no_object, no_module, LinksObject, LinksUnless, LinksAdded, LinksFiles, LinksText, LinksFile}
+use Rattle.ft_tool.specs.Links.{IsMap, EndsAtMap, bad_line, line_twice, unlinked, EndsAtObject, not_accepted, not_added, no_object, no_module, LinksObject, LinksUnless, LinksAdded, LinksFiles, LinksText, LinksFile, ComesInTurn}
 use Rattle.ft_tool.specs.LinkTurns.{EndsWithFile, AddsFile, AddsObject, HasAdded, FailsInTurn, MakesInTurn, MakesOfText}
 use Rattle.ft_tool.specs.Calls.{LoadList, asked_after, HasMade, object_load, map_load, EndsAtFile, LoadsInTurn, LoadsLink}
 use Rattle.ft_tool.specs.Answers.{FailsIn}
 use Rattle.ft_tool.specs.Told.{OfFiles}
 use Rattle.ft_tool.specs.Files.{LoadsObject, IsRefusedBy, IsNotAccepted, IsMapRefused, IsUnlinkedBy}
-use Rattle.ft_tool.specs.Logs.{SinkLog}
-use Rattle.ft_tool.specs.Endings.{Ends, ends_early}
+use Rattle.ft_tool.specs.Endings.{Ends}
 use Rattle.ft_tool.proofs.Answered.{Ends-map}
 use Rattle.ft_tool.proofs.Mapped.{some_files}
 
 -- ENDINGS
-
--- a call that ends has an answer, or ends early
-pub answered_or_early : (e : Ending) (P : Answer → Type 0) (old new : SinkLog) (L : Type 0) → Ends e P old new L → ((a : Answer) × P a) ⊎ IsTrue (ends_early e)
-answered_or_early endings.Done P old new L h = inl (h.answer, h.is)
-answered_or_early endings.Detected P old new L h = inl (h.answer, h.is)
-answered_or_early endings.Usage P old new L h = inl (h.answer, h.is)
-answered_or_early endings.LoadFailed P old new L h = inr refl
-answered_or_early endings.WriteFailed P old new L h = inl (h.1.answer, h.1.is)
-answered_or_early endings.NoMemory P old new L h = inr refl
-answered_or_early endings.SourceRefused P old new L h = inl (h.answer, h.is)
-answered_or_early endings.ObjectRefused P old new L h = inl (h.answer, h.is)
-answered_or_early endings.NotAccepted P old new L h = inl (h.answer, h.is)
-answered_or_early endings.OutOfSteps P old new L h = inl (h.answer, h.is)
-answered_or_early endings.Corrupt P old new L h = inl (h.answer, h.is)
-answered_or_early endings.ListRefused P old new L h = inl (h.answer, h.is)
-answered_or_early endings.TextRefused P old new L h = inl (h.answer, h.is)
-answered_or_early endings.LinkRefused P old new L h = inl (h.answer, h.is)
 
 -- an error whose ending says the same of an answer that is known less well
 pub err_ends : {T : Type 0} (r : Result T Ending) (P Q : Answer → Type 0) (old new : SinkLog) (L M : Type 0) → ((a : Answer) → P a → Q a) → (L → M)
@@ -180,9 +162,11 @@ pub ends_in_turn : (told : Option Files) (linkage : LinkMap) (modules : List Obj
 ends_in_turn told linkage modules name names asked between h a g = h.answers a (g.0, (g.1.0, inl g.1.1))
 
 -- its load failed
-pub fails_in_turn : (told : Option Files) (linkage : LinkMap) (modules : List Object) (name : Word) (names : List Word) (asked between : Option LoadList) (before now : ℕ) (failed : Option (List ℕ))
-    → HasAdded told linkage modules (name ∷ names) asked between → Rose before now × (failed ≡ Some name) → FailsInTurn told linkage before now failed
-fails_in_turn told linkage modules name names asked between before now failed h g = (name, (h.comes name (inl refl), g))
+fails_in_turn : (linkage : LinkMap) (modules : List Object) (name : Word) (names : List Word)
+    (shelf between shelf' : ShelfLog)
+    → HasAdded shelf.files linkage modules (name ∷ names) shelf.asked between.asked → LoadFails name shelf shelf'
+    → FailsInTurn linkage shelf shelf'
+fails_in_turn linkage modules name names shelf between shelf' h g = (name, (h.comes name (inl refl), g))
 
 -- the loads of a link that ended there
 pub makes_to_end : (told : Option Files) (linkage : LinkMap) (modules : List Object) (name : Word) (names : List Word) (asked between asked' : Option LoadList) (early : Bool) → HasAdded told linkage modules (name ∷ names) asked between
@@ -222,11 +206,15 @@ ends_next told again linkage modules files i file name asked between e f within 
     ends_in_turn told linkage modules file (drop (i + 1) files) asked between (at_file told linkage modules files i file asked between within is h) a (same_end told again modules file name e f a g)
 
 -- its load failed
-pub fails_next : (told : Option Files) (linkage : LinkMap) (modules : List Object) (files : List Word) (i : ℕ) (file name : Word) (asked between : Option LoadList) (before before' now : ℕ) (failed : Option (List ℕ)) → name ≡ file
-    → i < length files → file ≡ get_or files i file → HasAdded told linkage modules (drop i files) asked between → before' ≡ before → Rose before' now × (failed ≡ Some name) → FailsInTurn told linkage before now failed
-fails_next told linkage modules files i file name asked between before before' now failed f within is h e g =
-    fails_in_turn told linkage modules file (drop (i + 1) files) asked between before now failed (at_file told linkage modules files i file asked between within is h)
-    (subst (λ b. Rose b now) e g.0, g.1 ∙ ap Some f)
+pub fails_next : (linkage : LinkMap) (modules : List Object) (files : List Word) (i : ℕ) (file name : Word)
+    (shelf between shelf' : ShelfLog) → name ≡ file
+    → i < length files → file ≡ get_or files i file
+    → HasAdded shelf.files linkage modules (drop i files) shelf.asked between.asked → between.failures ≡ shelf.failures
+    → LoadFails name between shelf' → FailsInTurn linkage shelf shelf'
+fails_next linkage modules files i file name shelf between shelf' f within is h e g =
+    fails_in_turn linkage modules file (drop (i + 1) files) shelf between shelf'
+    (at_file shelf.files linkage modules files i file shelf.asked between.asked within is h)
+    (subst (λ b. Rose b shelf'.failures) e g.0, g.1 ∙ ap Some f)
 
 -- the loads up to there
 pub makes_next : (told again : Option Files) (linkage : LinkMap) (modules : List Object) (files : List Word) (i : ℕ) (file name : Word) (asked between asked' : Option LoadList) (early : Bool) → again ≡ told → name ≡ file
@@ -317,28 +305,34 @@ loads_of_text told name text early asked between asked' file made (inr x) = inr 
 })
 
 -- a load of a module failed
-failed_module : (told : Option Files) (name : Word) (text : List ℕ) (before now : ℕ) (failed : Option (List ℕ)) → IsToldFile told name text
-    → (linkage : LinkMap) × (IsMap text linkage × FailsInTurn told linkage before now failed) → OfFiles told (λ files. FailsIn (Links name) told files before now failed)
-failed_module told name text before now failed file x =
-    let m = some_files told in (
-      m.0,
-      (
-        m.1.0,
-        record {
-          rose = x.1.1.1.1.0;
-          file = x.1.1.0;
-          comes = inr (record { text = text; is_file = file; linkage = x.0; is_map = x.1.0; in_turn = x.1.1.1.0 });
-          name = x.1.1.1.1.1;
-        },
-      ),
-    )
+failed_module : (name : Word) (text : List ℕ) (shelf shelf' : ShelfLog) → IsToldFile shelf.files name text
+    → (linkage : LinkMap) × (IsMap text linkage × FailsInTurn linkage shelf shelf')
+    → OfFiles shelf.files (λ files. FailsIn (Links name) files shelf shelf')
+failed_module name text shelf shelf' file x =
+    let m = some_files shelf.files in
+    let comes = inr (record { text = text; is_file = file; linkage = x.0; is_map = x.1.0; in_turn = x.1.1.1.0 }) in
+    (m.0, (m.1.0, record { file = x.1.1.0; comes = comes; fails = x.1.1.1.1 }))
 
 -- the same where the files are told, and the text lent, after the load of the map
-pub failed_between : (told again : Option Files) (name : Word) (text lent : List ℕ) (before before' now : ℕ) (failed : Option (List ℕ)) → again ≡ told → lent ≡ text → before' ≡ before → IsToldFile told name text
-    → (linkage : LinkMap) × (IsMap lent linkage × FailsInTurn again linkage before' now failed) → OfFiles told (λ files. FailsIn (Links name) told files before now failed)
-failed_between told again name text lent before before' now failed e f b file x =
-    failed_module told name text before now failed file
-    (x.0, (subst (λ t. IsMap t x.0) f x.1.0, subst (λ t. FailsInTurn t x.0 before now failed) e (subst (λ n. FailsInTurn again x.0 n now failed) b x.1.1)))
+pub failed_between : (name : Word) (text lent : List ℕ) (shelf between shelf' : ShelfLog) → between.files ≡ shelf.files
+    → lent ≡ text → between.failures ≡ shelf.failures → IsToldFile shelf.files name text
+    → (linkage : LinkMap) × (IsMap lent linkage × FailsInTurn linkage between shelf')
+    → OfFiles shelf.files (λ files. FailsIn (Links name) files shelf shelf')
+failed_between name text lent shelf between shelf' e f b file x =
+    let t = x.1.1 in
+    failed_module name text shelf shelf' file (
+      x.0,
+      (
+        subst (λ t. IsMap t x.0) f x.1.0,
+        (
+          t.0,
+          (
+            subst (λ told. ComesInTurn told [] x.0.files t.0) e t.1.0,
+            (subst (λ n. Rose n shelf'.failures) b t.1.1.0, t.1.1.1),
+          ),
+        ),
+      ),
+    )
 
 pub links_between : (told again : Option Files) (name : Word) (text lent : List ℕ) → again ≡ told → lent ≡ text → IsToldFile told name text → (a : Answer) → LinksText again lent a → LinksFile told name a
 links_between told again name text lent e f file a h = (text, (file, subst (λ t. LinksText t text a) e (subst (λ b. LinksText again b a) f h)))

@@ -1,6 +1,7 @@
 -- What is answered of the text of a source.
-use Rattle.std.proofs.Common.{◌≡◌, ◌≢◌, ℕ, List, Option, Err, inl, inr, refl, ap}
-use Rattle.ft_edge.specs.Puts.{PutsLines, BreaksOff as LinesBreakOff}
+use Rattle.std.proofs.Common.{◌≡◌, ◌≢◌, ℕ, List, Err, inl, inr, refl, ap}
+use Rattle.ft_edge.specs.Lines.{with_lines, BreaksOff as LinesBreakOff}
+use Rattle.ft_edge.specs.Logs.{SinkLog}
 use Rattle.ft_syntax.specs.Syntax.{SyntaxTree}
 use Rattle.ft_syntax.specs.Refusal.{IsSource}
 use Rattle.ft_syntax.specs.declared.source_error.SourceError.{SourceError}
@@ -22,20 +23,25 @@ tree_refused turns text t e source err a is = inr (e, (inr (t, source, err is.na
 
 -- the lines of a meaning that ended were put
 pub meaning_ended : (turns : ℕ) (text : List ℕ) (p : Program) → IsProgramOf text p → (r : Outcome) → r ≡ meaning p turns → EndsAs ends.Ended r
-    → (old new : Option (List ℕ)) (before now : Option (List (List ℕ))) → PutsLines (output_lines p.names (outputs r)) old new before now → Concludes (OverText (MeansProgram turns) text) 0 old new before now
-meaning_ended turns text p is (Ended s) e ended old new before now put =
+    → (old new : SinkLog) → new ≡ with_lines (output_lines p.names (outputs r)) old
+    → Concludes (OverText (MeansProgram turns) text) 0 old new
+meaning_ended turns text p is (Ended s) e ended old new put =
     record { answer = meant p (Ended s); is = inl (p, (is, ap (meant p) e)); put = put; status_is = refl }
-meaning_ended turns text p is (Cut s) e ended old new before now put = absurd ended
+meaning_ended turns text p is (Cut s) e ended old new put = absurd ended
 
 -- the lines of a meaning that was cut were put
 pub meaning_cut : (turns : ℕ) (text : List ℕ) (p : Program) → IsProgramOf text p → (r : Outcome) → r ≡ meaning p turns → EndsAs ends.Cut r
-    → (old new : Option (List ℕ)) (before now : Option (List (List ℕ))) → PutsLines (output_lines p.names (outputs r)) old new before now → Concludes (OverText (MeansProgram turns) text) 9 old new before now
-meaning_cut turns text p is (Ended s) e ended old new before now put = absurd ended
-meaning_cut turns text p is (Cut s) e ended old new before now put =
+    → (old new : SinkLog) → new ≡ with_lines (output_lines p.names (outputs r)) old
+    → Concludes (OverText (MeansProgram turns) text) 9 old new
+meaning_cut turns text p is (Ended s) e ended old new put = absurd ended
+meaning_cut turns text p is (Cut s) e ended old new put =
     record { answer = meant p (Cut s); is = inl (p, (is, ap (meant p) e)); put = put; status_is = refl }
 
 -- a put of a meaning's lines failed
 pub meaning_broken : (turns : ℕ) (text : List ℕ) (p : Program) → IsProgramOf text p → (r : Outcome) → r ≡ meaning p turns
-    → (old new : Option (List ℕ)) (before now : Option (List (List ℕ))) → LinesBreakOff (output_lines p.names (outputs r)) old new before now → BreaksOff (OverText (MeansProgram turns) text) old new before now
-meaning_broken turns text p is (Ended s) e old new before now broken = record { answer = meant p (Ended s); is = inl (p, (is, ap (meant p) e)); broken = broken }
-meaning_broken turns text p is (Cut s) e old new before now broken = record { answer = meant p (Cut s); is = inl (p, (is, ap (meant p) e)); broken = broken }
+    → (old new : SinkLog) → LinesBreakOff (output_lines p.names (outputs r)) old new
+    → BreaksOff (OverText (MeansProgram turns) text) old new
+meaning_broken turns text p is (Ended s) e old new broken =
+    record { answer = meant p (Ended s); is = inl (p, (is, ap (meant p) e)); broken = broken }
+meaning_broken turns text p is (Cut s) e old new broken =
+    record { answer = meant p (Cut s); is = inl (p, (is, ap (meant p) e)); broken = broken }

@@ -4,10 +4,11 @@ use Rattle.std.specs.Prelude.{◌⊎◌, IfSome}
 use Rattle.std.specs.Io.KnownBytes.{Consumes, IsAtEnd}
 use Rattle.ft_edge.specs.Causes.{Rose}
 use Rattle.ft_edge.specs.Loads.{Files}
-use Rattle.ft_edge.specs.Puts.{PutsLines, BreaksOff as LinesBreakOff}
+use Rattle.ft_edge.specs.Lines.{with_lines, BreaksOff as LinesBreakOff, AllPut, PutFailed}
+use Rattle.ft_edge.specs.Logs.{SinkLog, ShelfLog, LoadFails, SourceLog}
 use Rattle.ft_isa.specs.declared.plan.Wild.{Wild}
 use Rattle.ft_types.specs.declared.object.Object.{Object}
-use Rattle.ft_debug.specs.Ends.{Finishes, Stops}
+use Rattle.ft_debug.specs.Ends.{PutsSession}
 use Rattle.ft_debug.specs.Sessions.{session_lines}
 use Rattle.ft_format.specs.Format.{AreBytes}
 use Rattle.ft_format.specs.Broken.{object_of, version_at}
@@ -45,22 +46,24 @@ longer_script (Some text) None taken h long = absurd h
 longer_script (Some text) (Some rest) taken h long = let e : length text ≡ length (taken ++ rest) = ap length h in (text, (refl, omega (arith, e, length-append {A = ℕ}, long)))
 
 -- a session whose lines were put
-pub session_concludes : (d : Debugging) (o : Object) (w : List Wild) (text : List ℕ) (old new : Option (List ℕ)) (before now : Option (List (List ℕ))) → length text ≤ 1048576 → w ≡ d.wild
-    → Finishes o w text old new before now → Concludes (DebugsObject d text o) 0 old new before now
-session_concludes d o w text old new before now short is h = record {
+pub session_concludes : (d : Debugging) (o : Object) (w : List Wild) (text : List ℕ) (old new : SinkLog)
+    → length text ≤ 1048576 → w ≡ d.wild
+    → PutsSession AllPut o w text old new → Concludes (DebugsObject d text o) 0 old new
+session_concludes d o w text old new short is h = record {
   answer = record { pieces = session_lines o d.wild h.commands; status = 0 };
   is = debugged short h.commands h.given refl;
-  put = subst (λ ws. PutsLines (session_lines o ws h.commands) old new before now) is h.lines;
+  put = h.lines ∙ ap (λ ws. with_lines (session_lines o ws h.commands) old) is;
   status_is = refl;
 }
 
 -- a session of whose lines a put failed
-pub session_breaks_off : (d : Debugging) (o : Object) (w : List Wild) (text : List ℕ) (old new : Option (List ℕ)) (before now : Option (List (List ℕ))) → length text ≤ 1048576 → w ≡ d.wild
-    → Stops o w text old new before now → BreaksOff (DebugsObject d text o) old new before now
-session_breaks_off d o w text old new before now short is h = record {
+pub session_breaks_off : (d : Debugging) (o : Object) (w : List Wild) (text : List ℕ) (old new : SinkLog)
+    → length text ≤ 1048576 → w ≡ d.wild
+    → PutsSession PutFailed o w text old new → BreaksOff (DebugsObject d text o) old new
+session_breaks_off d o w text old new short is h = record {
   answer = record { pieces = session_lines o d.wild h.commands; status = 0 };
   is = debugged short h.commands h.given refl;
-  broken = subst (λ ws. LinesBreakOff (session_lines o ws h.commands) old new before now) is h.lines;
+  broken = subst (λ ws. LinesBreakOff (session_lines o ws h.commands) old new) is h.lines;
 }
 
 -- the answer over the text of a script is one over the script
@@ -93,18 +96,20 @@ over_undebugged d told left Failed h a is = absurd is
 over_undebugged d told left NoMemory h a is = absurd is
 
 -- a session came to its script, and a take of it failed
-pub script_failed : (d : Debugging) (told : Option Files) (bytes : List ℕ) (before now x y : ℕ) (failed' : Option (List ℕ)) → LoadsObject told d.object (Ok bytes) → Rose before now
-    → OfFiles told (λ files. FailsIn (Debugs d) told files x y failed' ⊎ FailsAtScript d files before now)
-script_failed d told bytes before now x y failed' h rose =
-    let m = spells_file told d.object bytes h in
+pub script_failed : (d : Debugging) (bytes : List ℕ) (shelf shelf' : ShelfLog) (script script' : SourceLog)
+    → LoadsObject shelf.files d.object (Ok bytes) → Rose script.failures script'.failures
+    → OfFiles shelf.files (λ files. FailsIn (Debugs d) files shelf shelf' ⊎ FailsAtScript d files script script')
+script_failed d bytes shelf shelf' script script' h rose =
+    let m = spells_file shelf.files d.object bytes h in
     (m.0, (m.1.0, inr (record { rose = rose; comes = m.1.1 })))
 
 -- a session's load of its object failed
-pub session_failed : (d : Debugging) (told : Option Files) (before now x y : ℕ) (failed' : Option (List ℕ)) → Rose x y × (failed' ≡ Some d.object)
-    → OfFiles told (λ files. FailsIn (Debugs d) told files x y failed' ⊎ FailsAtScript d files before now)
-session_failed d told before now x y failed' h =
-    let m = some_files told in
-    (m.0, (m.1.0, inl (record { rose = h.0; file = d.object; comes = refl; name = h.1 })))
+pub session_failed : (d : Debugging) (shelf shelf' : ShelfLog) (script script' : SourceLog)
+    → LoadFails d.object shelf shelf'
+    → OfFiles shelf.files (λ files. FailsIn (Debugs d) files shelf shelf' ⊎ FailsAtScript d files script script')
+session_failed d shelf shelf' script script' h =
+    let m = some_files shelf.files in
+    (m.0, (m.1.0, inl (record { file = d.object; comes = refl; fails = h })))
 
 -- a take that failed
 pub take_failed : (V : Type 0) (before now : ℕ) (e : ScriptFault) → TakeCause {V = V} before now (Err e) → e ≡ faults.Failed → Rose before now

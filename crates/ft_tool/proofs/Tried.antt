@@ -5,6 +5,7 @@ use Rattle.std.proofs.Math.Nat.{lt_of_not-le}
 use Rattle.std.proofs.lemmas.Option.{same_Some}
 use Rattle.ft_edge.specs.Causes.{Rose}
 use Rattle.ft_edge.specs.Loads.{Files}
+use Rattle.ft_edge.specs.Logs.{SinkLog, ShelfLog, LoadFails}
 use Rattle.ft_isa.specs.declared.plan.Strike.{Strike}
 use Rattle.ft_types.specs.declared.object.Object.{Object}
 use Rattle.ft_typing.specs.Accepted.{Refusal, refusal}
@@ -33,6 +34,7 @@ use Rattle.ft_tool.specs.Calls.{LoadList, asked_after, HasMade, object_load, lis
 use Rattle.ft_tool.specs.Lists.{status_of, AnyVerdicts, NoneCorrupt, OverFaults, tried, refused_list, listed}
 use Rattle.ft_tool.specs.Told.{OfFiles, IsListOf, OverListOf, CampaignsListOf, LoadsOther}
 use Rattle.ft_tool.specs.Files.{LoadsObject, GetsList, ListCause, IsRefusedBy, IsListRefusedBy}
+use Rattle.ft_tool.proofs.Bridged.{all_put, broken_off}
 use Rattle.ft_tool.proofs.Mapped.{files_with, files_with_both}
 
 -- a number that is not above another is at most it
@@ -40,23 +42,31 @@ pub at_most : (n m : ℕ) → (n < m → ⊥) → m ≤ n
 at_most n m h = omega (arith, lt_of_not-le {n = suc n} {m = m} h)
 
 -- a campaign that came to its end
-pub tried_concludes : (Promised : List Verdict → Type 0) (c : Campaign) (o : Object) (faults : List Strike) (totals : Totals) (status : ℕ) (old new : Option (List ℕ)) (before now : Option (List (List ℕ)))
-    → Finishes totals o faults c.wild c.steps old new before now → length faults * c.steps ≤ 1000000000 → ((vs : List Verdict) → AreVerdicts o faults c.wild c.steps vs → Promised vs)
-    → ((vs : List Verdict) → totals ≡ totals_of vs → status ≡ status_of vs) → Concludes (OverFaults Promised c o faults) status old new before now
-tried_concludes Promised c o faults totals status old new before now h few keeps is = record {
+pub tried_concludes : (Promised : List Verdict → Type 0) (c : Campaign) (o : Object) (faults : List Strike)
+    (totals : Totals) (status : ℕ) (old new : SinkLog)
+    → Finishes totals o faults c.wild c.steps old.written new.written old.pieces new.pieces
+    → new.failures ≡ old.failures → length faults * c.steps ≤ 1000000000
+    → ((vs : List Verdict) → AreVerdicts o faults c.wild c.steps vs → Promised vs)
+    → ((vs : List Verdict) → totals ≡ totals_of vs → status ≡ status_of vs)
+    → Concludes (OverFaults Promised c o faults) status old new
+tried_concludes Promised c o faults totals status old new h same few keeps is = record {
   answer = record { pieces = campaign_lines faults h.found; status = status_of h.found };
   is = tried few h.found h.verdicts (keeps h.found h.verdicts) refl;
-  put = h.lines;
+  put = all_put _ old new h.lines same;
   status_is = is h.found h.totals_are;
 }
 
 -- a campaign of whose lines a front was written
-pub tried_breaks_off : (Promised : List Verdict → Type 0) (c : Campaign) (o : Object) (faults : List Strike) (old new : Option (List ℕ)) (before now : Option (List (List ℕ)))
-    → Stops o faults c.wild c.steps old new before now → length faults * c.steps ≤ 1000000000 → ((vs : List Verdict) → AreVerdicts o faults c.wild c.steps vs → Promised vs) → BreaksOff (OverFaults Promised c o faults) old new before now
-tried_breaks_off Promised c o faults old new before now h few keeps = record {
+pub tried_breaks_off : (Promised : List Verdict → Type 0) (c : Campaign) (o : Object) (faults : List Strike)
+    (old new : SinkLog)
+    → Stops o faults c.wild c.steps old.written new.written old.pieces new.pieces → old.failures ≤ new.failures
+    → Rose old.failures new.failures → length faults * c.steps ≤ 1000000000
+    → ((vs : List Verdict) → AreVerdicts o faults c.wild c.steps vs → Promised vs)
+    → BreaksOff (OverFaults Promised c o faults) old new
+tried_breaks_off Promised c o faults old new h count rose few keeps = record {
   answer = record { pieces = campaign_lines faults h.found; status = status_of h.found };
   is = tried few h.found h.verdicts (keeps h.found h.verdicts) refl;
-  broken = h.lines;
+  broken = broken_off _ old new h.lines count rose;
 }
 
 -- the run of the object of a demonstration is never detected without a fault
@@ -160,18 +170,46 @@ alone : (Comes Own Early : Type 0) → (Comes → ⊥) ⊎ Early → (Comes → 
 alone Comes Own Early (inl none) = inl (λ comes. absurd (none comes))
 alone Comes Own Early (inr early) = inr early
 
--- a load of the fault list failed
-pub survey_failed : (c : Campaign) (told : Option Files) (bytes : List ℕ) (before now : ℕ) (failed' : Option (List ℕ)) → LoadsObject told c.object (Ok bytes) → Rose before now × (failed' ≡ Some c.faults)
-    → OfFiles told (λ files. FailsIn (Surveys c) told files before now failed')
-survey_failed c told bytes before now failed' h f =
-    let m = spells_file told c.object bytes h in
-    (m.0, (m.1.0, record { rose = f.0; file = c.faults; comes = inr (refl, m.1.1); name = f.1 }))
+-- a load of the fault list failed, after that of the object
+fails_later : (name : Word) (shelf between shelf' : ShelfLog) → between.failures ≡ shelf.failures
+    → LoadFails name between shelf' → LoadFails name shelf shelf'
+fails_later name shelf between shelf' same h = (subst (λ n. Rose n shelf'.failures) same h.0, h.1)
 
-pub campaign_failed : (c : Campaign) (told : Option Files) (bytes : List ℕ) (before now : ℕ) (failed' : Option (List ℕ)) → LoadsObject told c.object (Ok bytes)
-    → Rose before now × (failed' ≡ Some c.faults) × (refusal (object_of bytes) ≡ None) → OfFiles told (λ files. FailsIn (Campaigns c) told files before now failed')
-campaign_failed c told bytes before now failed' h f =
-    let m = spells_accepted told c.object bytes h f.2 in
-    (m.0, (m.1.0, record { rose = f.0; file = c.faults; comes = inr (refl, m.1.1); name = f.1 }))
+pub survey_failed : (c : Campaign) (bytes : List ℕ) (shelf between shelf' : ShelfLog)
+    → LoadsObject shelf.files c.object (Ok bytes) → between.failures ≡ shelf.failures
+    → LoadFails c.faults between shelf'
+    → OfFiles shelf.files (λ files. FailsIn (Surveys c) files shelf shelf')
+survey_failed c bytes shelf between shelf' h same f =
+    let m = spells_file shelf.files c.object bytes h in (
+      m.0,
+      (
+        m.1.0,
+        record {
+          file = c.faults;
+          comes = inr (refl, m.1.1);
+          fails = fails_later c.faults shelf between shelf'
+              same f;
+        },
+      ),
+    )
+
+pub campaign_failed : (c : Campaign) (bytes : List ℕ) (shelf between shelf' : ShelfLog)
+    → LoadsObject shelf.files c.object (Ok bytes) → between.failures ≡ shelf.failures
+    → LoadFails c.faults between shelf' × (refusal (object_of bytes) ≡ None)
+    → OfFiles shelf.files (λ files. FailsIn (Campaigns c) files shelf shelf')
+campaign_failed c bytes shelf between shelf' h same f =
+    let m = spells_accepted shelf.files c.object bytes h f.1 in (
+      m.0,
+      (
+        m.1.0,
+        record {
+          file = c.faults;
+          comes = inr (refl, m.1.1);
+          fails = fails_later c.faults shelf between shelf'
+              same f.0;
+        },
+      ),
+    )
 
 -- the loads of a campaign that does not come to its list, or ends early
 pub object_alone : (c : Campaign) (told : Option Files) (Comes : Files → Type 0) (Early : Type 0) (asked asked' : Option LoadList) → OfFiles told (λ files. (Comes files → ⊥) ⊎ Early)
@@ -206,5 +244,6 @@ campaign_unloaded c told Early asked asked' m h =
     object_alone c told (λ files. SpellsAccepted files c.object) Early asked asked' (m.0, (m.1.0, unaccepted_file (SpellsFile m.0 c.object) (SpellsAccepted m.0 c.object) Early (λ s. (s.0, (s.1.0, (s.1.1.0, s.1.1.1.0)))) m.1.1)) h
 
 -- a load of a list that failed
-pub list_failed : (V : Type 0) (before now : ℕ) (failed failed' : Option (List ℕ)) (name : Word) (e : ListFault) → ListCause {V = V} before now failed failed' name (Err e) → e ≡ list_faults.Failed → Rose before now × (failed' ≡ Some name)
-list_failed V before now failed failed' name e h is = subst (λ f. ListCause {V = V} before now failed failed' name (Err f)) is h
+pub list_failed : (V : Type 0) (name : Word) (e : ListFault) (old new : ShelfLog)
+    → ListCause {V = V} name (Err e) old new → e ≡ list_faults.Failed → LoadFails name old new
+list_failed V name e old new h is = subst (λ f. ListCause {V = V} name (Err f) old new) is h

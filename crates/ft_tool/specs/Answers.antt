@@ -2,8 +2,9 @@
 use Rattle.std.specs.Prelude.{◌≡◌, ◌⊎◌, ℕ, List, [], ◌∷◌, ◌++◌, Option, Some, None, Bool, ◌==◌, codes}
 use Rattle.std.specs.List.{list_any}
 use Rattle.ft_edge.specs.Causes.{Rose}
-use Rattle.ft_edge.specs.Puts.{PutsLines, BreaksOff as LinesBreakOff}
 use Rattle.ft_edge.specs.Loads.{Files}
+use Rattle.ft_edge.specs.Logs.{SinkLog, ShelfLog, LoadFails, SourceLog}
+use Rattle.ft_edge.specs.Lines.{with_lines, BreaksOff as LinesBreakOff}
 use Rattle.ft_isa.specs.declared.plan.Strike.{Strike}
 use Rattle.ft_isa.specs.declared.plan.Wild.{Wild}
 use Rattle.ft_types.specs.declared.object.Object.{Object}
@@ -182,17 +183,17 @@ pub record IsAnswer (words : List Word) (told : Option Files) (left : Option (Li
   pub answers : Answers request told files script a
 
 -- all pieces of an answer were put, by one put each, and this is its status
-pub record Concludes (Is : Answer → Type 0) (status : ℕ) (old new : Option (List ℕ)) (before now : Option (List (List ℕ))) : Type 0 where
+pub record Concludes (Is : Answer → Type 0) (status : ℕ) (old new : SinkLog) : Type 0 where
   pub answer : Answer
   pub is : Is answer
-  pub put : PutsLines answer.pieces old new before now
+  pub put : new ≡ with_lines answer.pieces old
   pub status_is : status ≡ answer.status
 
 -- the put of a piece of an answer failed, and it was the last put
-pub record BreaksOff (Is : Answer → Type 0) (old new : Option (List ℕ)) (before now : Option (List (List ℕ))) : Type 0 where
+pub record BreaksOff (Is : Answer → Type 0) (old new : SinkLog) : Type 0 where
   pub answer : Answer
   pub is : Is answer
-  pub broken : LinesBreakOff answer.pieces old new before now
+  pub broken : LinesBreakOff answer.pieces old new
 
 -- the file of a name spells an object
 abbrev pub SpellsFile : Files → Word → Type 0
@@ -222,36 +223,35 @@ ComesTo (Disassembles object) told files file = file ≡ object
 ComesTo (Schedules object) told files file = file ≡ object
 ComesTo (Links name) told files file = (file ≡ name) ⊎ ComesToModule told name file
 
--- a request came to load a file; that load was the last that failed, and the count of failed loads rose
-pub record FailsIn (request : Request) (told : Option Files) (files : Files) (before now : ℕ) (failed : Option (List ℕ)) : Type 0 where
-  pub rose : Rose before now
+-- a request came to load a file, and that load failed
+pub record FailsIn (request : Request) (files : Files) (old new : ShelfLog) : Type 0 where
   pub file : Word
-  pub comes : ComesTo request told files file
-  pub name : failed ≡ Some file
+  pub comes : ComesTo request old.files files file
+  pub fails : LoadFails file old new
 
 -- the words ask for a command that came to load a file, by the files that are told or by some files of bytes, and that load
 -- failed
-pub record FailedToLoad (words : List Word) (told : Option Files) (before now : ℕ) (failed : Option (List ℕ)) : Type 0 where
+pub record FailedToLoad (words : List Word) (old new : ShelfLog) : Type 0 where
   pub request : Request
   pub asks : Asks words request
   pub files : Files
-  pub are_files : AreFiles told files
-  pub fails : FailsIn request told files before now failed
+  pub are_files : AreFiles old.files files
+  pub fails : FailsIn request files old new
 
 -- a request came to its script: no earlier step of it refuses; a take of the script failed, and the count of failed
 -- takes rose
-pub record FailsAtScript (d : Debugging) (files : Files) (before now : ℕ) : Type 0 where
-  pub rose : Rose before now
+pub record FailsAtScript (d : Debugging) (files : Files) (old new : SourceLog) : Type 0 where
+  pub rose : Rose old.failures new.failures
   pub comes : SpellsFile files d.object
 
 -- the words ask for a session that came to its script, by the files that are told or by some files of bytes, and a take of
 -- the script failed
-pub record FailedToTake (words : List Word) (told : Option Files) (before now : ℕ) : Type 0 where
+pub record FailedToTake (words : List Word) (told : Option Files) (old new : SourceLog) : Type 0 where
   pub debugging : Debugging
   pub asks : Asks words (Debugs debugging)
   pub files : Files
   pub are_files : AreFiles told files
-  pub fails : FailsAtScript debugging files before now
+  pub fails : FailsAtScript debugging files old new
 
 -- the statuses that there are
 abbrev pub is_status : ℕ → Bool

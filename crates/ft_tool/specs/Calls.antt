@@ -2,6 +2,7 @@
 use Rattle.std.specs.Prelude.{◌≡◌, ◌≢◌, ◌⊎◌, ℕ, ◌==◌, Bool, ◌||◌, List, [], ◌∷◌, ◌++◌, Option}
 use Rattle.ft_edge.specs.Loads.{Files}
 use Rattle.ft_edge.specs.Told.{append_told}
+use Rattle.ft_edge.specs.Logs.{ShelfLog, SourceLog}
 use Rattle.ft_edge.specs.Streams.{TakesAtMost}
 use Rattle.ft_command.specs.Options.{Word}
 use Rattle.ft_command.specs.Commands.{Campaign, Debugging, Request, Usage, Checks, Runs, Trials, Campaigns, Surveys, Compiles, Executes, Means, Debugs, Demonstrates, Upgrades, Assembles, Disassembles, Asks, Schedules, Recovers, Links}
@@ -117,20 +118,20 @@ LoadsFor (Schedules object) told files Early asked asked' = HasMade (object_load
 LoadsFor (Links name) told files Early asked asked' = LoadsLink told name Early asked asked'
 
 -- the loads of the request that words ask for, by the files that are told or by some files of bytes
-pub record Loads (words : List Word) (told : Option Files) (Early : Type 0) (asked asked' : Option LoadList) : Type 0 where
+pub record Loads (words : List Word) (Early : Type 0) (old new : ShelfLog) : Type 0 where
   pub request : Request
   pub asks : Asks words request
   pub files : Files
-  pub are_files : AreFiles told files
-  pub made : LoadsFor request told files Early asked asked'
+  pub are_files : AreFiles old.files files
+  pub made : LoadsFor request old.files files Early old.asked new.asked
 
 -- the words ask for a session, and the file of its object spells one, by the files that are told or by some files of bytes;
 -- at most 1,048,577 bytes of the script were taken, and each take but the last gave some, so none was made after the end or
 -- after a failure
-pub record TakesFrom (words : List Word) (told : Option Files) (takes takes' left left' : Option (List ℕ)) : Type 0 where
+pub record TakesFrom (words : List Word) (told : Option Files) (old new : SourceLog) : Type 0 where
   pub debugging : Debugging
   pub asks : Asks words (Debugs debugging)
   pub files : Files
   pub are_files : AreFiles told files
   pub comes : SpellsFile files debugging.object
-  pub taken : TakesAtMost 1048577 takes takes' left left'
+  pub taken : TakesAtMost 1048577 old.takes new.takes old.left new.left

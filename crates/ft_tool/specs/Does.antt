@@ -2,15 +2,15 @@
 use Rattle.std.specs.Prelude.{◌≡◌, ◌≢◌, ◌⊎◌, ℕ, Bool, IsTrue, List, [], ◌∷◌, Option}
 use Rattle.ft_edge.specs.Loads.{Files}
 use Rattle.ft_edge.specs.Streams.{TakesAtMost}
+use Rattle.ft_edge.specs.Logs.{SinkLog, ShelfLog, NoLoadFails, SourceLog}
 use Rattle.ft_command.specs.Options.{Word}
 use Rattle.ft_command.specs.Commands.{Debugging, Request, Debugs}
 use Rattle.ft_tool.specs.declared.ending.Ending.{Ending}
-use Rattle.ft_tool.specs.declared.ending.Ending.TheVariants.{LoadFailed, WriteFailed}
+use Rattle.ft_tool.specs.declared.ending.Ending.TheVariants.{LoadFailed}
 use Rattle.ft_tool.specs.Replies.{Answer, IsFile}
 use Rattle.ft_tool.specs.Answers.{Answers, ComesTo, FailsIn, SpellsFile, FailsAtScript}
 use Rattle.ft_tool.specs.Calls.{LoadList, HasMade, LoadsFor}
 use Rattle.ft_tool.specs.Told.{OfFiles, OfScript}
-use Rattle.ft_tool.specs.Logs.{SinkLog}
 use Rattle.ft_tool.specs.Endings.{Ends, ends_early}
 
 -- the answer to a request, over the files and the script that are told; of what is not told, over some
@@ -18,29 +18,29 @@ abbrev pub AnswersTo : Request → Option Files → Option (List ℕ) → Answer
 AnswersTo r told left a = OfFiles told (λ files. OfScript left (λ script. Answers r told files script a))
 
 -- a request came to load a file, and that load failed
-abbrev pub FailsLoading : Request → Option Files → ℕ → ℕ → Option (List ℕ) → Type 0
-FailsLoading r told before now failed = OfFiles told (λ files. FailsIn r told files before now failed)
+abbrev pub FailsLoading : Request → ShelfLog → ShelfLog → Type 0
+FailsLoading r old new = OfFiles old.files (λ files. FailsIn r files old new)
 
 -- a request for a session came to its script, and a take of it failed
-pub record FailsTaking (r : Request) (told : Option Files) (before now : ℕ) : Type 0 where
+pub record FailsTaking (r : Request) (told : Option Files) (old new : SourceLog) : Type 0 where
   pub debugging : Debugging
   pub is : r ≡ Debugs debugging
-  pub fails : OfFiles told (λ files. FailsAtScript debugging files before now)
+  pub fails : OfFiles told (λ files. FailsAtScript debugging files old new)
 
 -- a request for a session over an object took this of its script
-pub record TakesFor (r : Request) (told : Option Files) (takes takes' left left' : Option (List ℕ)) : Type 0 where
+pub record TakesFor (r : Request) (told : Option Files) (old new : SourceLog) : Type 0 where
   pub debugging : Debugging
   pub is : r ≡ Debugs debugging
   pub comes : OfFiles told (λ files. SpellsFile files debugging.object)
-  pub taken : TakesAtMost 1048577 takes takes' left left'
+  pub taken : TakesAtMost 1048577 old.takes new.takes old.left new.left
 
--- what is done for a request: the answer that was put, up to a failed put, or the load or the take that failed; the counts of
--- failures, which stay where nothing failed; and the loads that were made
-pub record Does (r : Request) (e : Ending) (told : Option Files) (left : Option (List ℕ)) (old new : SinkLog) (x y : ℕ) (failed failed' : Option (List ℕ)) (asked asked' : Option LoadList) (Takes : Type 0) : Type 0 where
-  pub ends : Ends e (AnswersTo r told left) old new (FailsLoading r told x y failed' ⊎ Takes)
-  pub failures : e ≢ WriteFailed → new.failures ≡ old.failures
-  pub load_failures : e ≢ LoadFailed → (y ≡ x) × (failed' ≡ failed)
-  pub made : OfFiles told (λ files. LoadsFor r told files (IsTrue (ends_early e)) asked asked')
+-- what is done for a request, over a shelf and a script: the answer that was put, up to a failed put, or the load or the
+-- take that failed; that no load failed, where the end is another; and the loads that were made
+pub record Does (r : Request) (e : Ending) (left : Option (List ℕ)) (old new : SinkLog) (shelf shelf' : ShelfLog)
+    (Takes : Type 0) : Type 0 where
+  pub ends : Ends e (AnswersTo r shelf.files left) old new (FailsLoading r shelf shelf' ⊎ Takes)
+  pub load_failures : e ≢ LoadFailed → NoLoadFails shelf shelf'
+  pub made : OfFiles shelf.files (λ files. LoadsFor r shelf.files files (IsTrue (ends_early e)) shelf.asked shelf'.asked)
 
 -- a request over one file, of which at most so many bytes are read: the answer over the file's bytes is one to the request,
 -- which comes to load this file and no other

@@ -1,50 +1,62 @@
 -- How a command's parts end: private to the tool.
-use Rattle.std.specs.Prelude.{ℕ, Bool, true, false, Option, None}
-use Rattle.ft_edge.specs.Causes.{Rose}
-use Rattle.ft_edge.specs.Puts.{PutsNothing}
+use Rattle.std.specs.Prelude.{◌≡◌, ℕ, Bool, true, false, Option, None}
+use Rattle.ft_edge.specs.Logs.{SinkLog}
 use Rattle.ft_machine.specs.declared.run.RunEnd.{RunEnd}
 use Rattle.ft_machine.specs.declared.run.RunEnd.TheVariants as runs
 use Rattle.ft_recover.specs.declared.recover_end.RecoverEnd.{RecoverEnd}
 use Rattle.ft_recover.specs.declared.recover_end.RecoverEnd.TheVariants as recoveries
 use Rattle.ft_tool.specs.Replies.{Answer}
-use Rattle.ft_tool.specs.Logs.{SinkLog}
 use Rattle.ft_tool.specs.Answers.{Concludes, BreaksOff}
 use Rattle.ft_tool.specs.declared.ending.Ending.{Ending}
 use Rattle.ft_tool.specs.declared.ending.Ending.TheVariants.{Done, Detected, Usage, LoadFailed, WriteFailed, NoMemory, SourceRefused, ObjectRefused, NotAccepted, OutOfSteps, Corrupt, ListRefused, TextRefused, LinkRefused}
 
--- a load or a take failed, or memory ran out
-abbrev pub ends_early : Ending → Bool
-ends_early Done = false
-ends_early Detected = false
-ends_early Usage = false
-ends_early LoadFailed = true
-ends_early WriteFailed = false
-ends_early NoMemory = true
-ends_early SourceRefused = false
-ends_early ObjectRefused = false
-ends_early NotAccepted = false
-ends_early OutOfSteps = false
-ends_early Corrupt = false
-ends_early ListRefused = false
-ends_early TextRefused = false
-ends_early LinkRefused = false
+-- how a part of a command ends
+pub data PartEnd : Type 0 where
+  -- with an answer of this status, which was put
+  Concluded : ℕ → PartEnd
+  -- at a load or a take that failed
+  Unloaded : PartEnd
+  -- at a put of its answer that failed
+  Unwritten : PartEnd
+  -- where memory ran out
+  Unfinished : PartEnd
 
--- what an ending says of the answer, what is told of the sink, and a failed load
+abbrev pub part_end : Ending → PartEnd
+part_end Done = Concluded 0
+part_end Detected = Concluded 1
+part_end Usage = Concluded 2
+part_end LoadFailed = Unloaded
+part_end WriteFailed = Unwritten
+part_end NoMemory = Unfinished
+part_end SourceRefused = Concluded 6
+part_end ObjectRefused = Concluded 7
+part_end NotAccepted = Concluded 8
+part_end OutOfSteps = Concluded 9
+part_end Corrupt = Concluded 10
+part_end ListRefused = Concluded 11
+part_end TextRefused = Concluded 12
+part_end LinkRefused = Concluded 13
+
+-- a load or a take failed, or memory ran out
+abbrev pub is_early_end : PartEnd → Bool
+is_early_end (Concluded status) = false
+is_early_end Unloaded = true
+is_early_end Unwritten = false
+is_early_end Unfinished = true
+
+abbrev pub ends_early : Ending → Bool
+ends_early e = is_early_end (part_end e)
+
+-- what such an end says of the answer, what is told of the sink, and a failed load
+abbrev pub EndsSo : PartEnd → (Answer → Type 0) → SinkLog → SinkLog → Type 0 → Type 0
+EndsSo (Concluded status) Is old new Load = Concludes Is status old new
+EndsSo Unloaded Is old new Load = (new ≡ old) × Load
+EndsSo Unwritten Is old new Load = BreaksOff Is old new
+EndsSo Unfinished Is old new Load = new ≡ old
+
+-- what an ending says of them
 abbrev pub Ends : Ending → (Answer → Type 0) → SinkLog → SinkLog → Type 0 → Type 0
-Ends Done Is old new Load = Concludes Is 0 old.written new.written old.pieces new.pieces
-Ends Detected Is old new Load = Concludes Is 1 old.written new.written old.pieces new.pieces
-Ends Usage Is old new Load = Concludes Is 2 old.written new.written old.pieces new.pieces
-Ends LoadFailed Is old new Load = PutsNothing old.written new.written old.pieces new.pieces × Load
-Ends WriteFailed Is old new Load = Rose old.failures new.failures × BreaksOff Is old.written new.written old.pieces new.pieces
-Ends NoMemory Is old new Load = PutsNothing old.written new.written old.pieces new.pieces
-Ends SourceRefused Is old new Load = Concludes Is 6 old.written new.written old.pieces new.pieces
-Ends ObjectRefused Is old new Load = Concludes Is 7 old.written new.written old.pieces new.pieces
-Ends NotAccepted Is old new Load = Concludes Is 8 old.written new.written old.pieces new.pieces
-Ends OutOfSteps Is old new Load = Concludes Is 9 old.written new.written old.pieces new.pieces
-Ends Corrupt Is old new Load = Concludes Is 10 old.written new.written old.pieces new.pieces
-Ends ListRefused Is old new Load = Concludes Is 11 old.written new.written old.pieces new.pieces
-Ends TextRefused Is old new Load = Concludes Is 12 old.written new.written old.pieces new.pieces
-Ends LinkRefused Is old new Load = Concludes Is 13 old.written new.written old.pieces new.pieces
+Ends e Is old new Load = EndsSo (part_end e) Is old new Load
 
 -- how a command ends whose run ended so
 abbrev pub ending_of_run : RunEnd → Ending

@@ -3,7 +3,7 @@ use Rattle.std.specs.Prelude.{◌≡◌, ℕ, ◌<◌, ◌≤◌, List, length, 
 use Rattle.ft_edge.specs.declared.shelf.Load.{Load}
 use Rattle.ft_edge.specs.declared.shelf.Load.TheVariants.{Whole, TooLong}
 use Rattle.ft_edge.specs.declared.shelf.LoadFault.{LoadFault}
-use Rattle.ft_edge.specs.Causes.{Rose}
+use Rattle.ft_edge.specs.Logs.{ShelfLog, LoadFails, NoLoadFails}
 use Rattle.ft_edge.specs.Loads.{Files}
 use Rattle.ft_format.specs.Format.{Spells}
 use Rattle.ft_format.specs.Broken.{broken, object_of, version_at}
@@ -64,15 +64,15 @@ LoadsObject files name (Ok bytes) = IsToldFile files name bytes × Spells bytes 
 LoadsObject files name (Err e) = RefusesFile files name e
 
 -- a load that failed shows in the count and left its name; any other fault leaves both as they were
-abbrev pub FaultCause : ℕ → ℕ → Option (List ℕ) → Option (List ℕ) → Word → ObjectFault → Type 0
-FaultCause before now failed failed' name (Refused e) = (now ≡ before) × (failed' ≡ failed)
-FaultCause before now failed failed' name Failed = Rose before now × (failed' ≡ Some name)
-FaultCause before now failed failed' name NoMemory = (now ≡ before) × (failed' ≡ failed)
+abbrev pub FaultCause : Word → ObjectFault → ShelfLog → ShelfLog → Type 0
+FaultCause name (Refused e) old new = NoLoadFails old new
+FaultCause name Failed old new = LoadFails name old new
+FaultCause name NoMemory old new = NoLoadFails old new
 
 -- so does any other answer
-abbrev pub LoadCause : {V : Type 0} → ℕ → ℕ → Option (List ℕ) → Option (List ℕ) → Word → Result V ObjectFault → Type 0
-LoadCause before now failed failed' name (Ok v) = (now ≡ before) × (failed' ≡ failed)
-LoadCause before now failed failed' name (Err e) = FaultCause before now failed failed' name e
+abbrev pub LoadCause : {V : Type 0} → Word → Result V ObjectFault → ShelfLog → ShelfLog → Type 0
+LoadCause name (Ok v) old new = NoLoadFails old new
+LoadCause name (Err e) old new = FaultCause name e old new
 
 -- the answer of a command whose object's bytes are refused
 abbrev pub IsRefusedBy : ObjectFault → Answer → Type 0
@@ -104,12 +104,12 @@ GetsList faults_of Is (Err list_faults.Failed) = Unit {0}
 GetsList faults_of Is (Err list_faults.NoMemory) = Unit {0}
 
 -- a load of a list that failed shows in the count and left its name; any other answer leaves both as they were
-abbrev pub ListCause : {V : Type 0} → ℕ → ℕ → Option (List ℕ) → Option (List ℕ) → Word → Result V ListFault → Type 0
-ListCause before now failed failed' name (Ok v) = (now ≡ before) × (failed' ≡ failed)
-ListCause before now failed failed' name (Err (list_faults.Line number)) = (now ≡ before) × (failed' ≡ failed)
-ListCause before now failed failed' name (Err list_faults.TooMany) = (now ≡ before) × (failed' ≡ failed)
-ListCause before now failed failed' name (Err list_faults.Failed) = Rose before now × (failed' ≡ Some name)
-ListCause before now failed failed' name (Err list_faults.NoMemory) = (now ≡ before) × (failed' ≡ failed)
+abbrev pub ListCause : {V : Type 0} → Word → Result V ListFault → ShelfLog → ShelfLog → Type 0
+ListCause name (Ok v) old new = NoLoadFails old new
+ListCause name (Err (list_faults.Line number)) old new = NoLoadFails old new
+ListCause name (Err list_faults.TooMany) old new = NoLoadFails old new
+ListCause name (Err list_faults.Failed) old new = LoadFails name old new
+ListCause name (Err list_faults.NoMemory) old new = NoLoadFails old new
 
 -- the answer of a command whose list is refused
 abbrev pub IsListRefusedBy : ListFault → Answer → Type 0

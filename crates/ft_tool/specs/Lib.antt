@@ -12,6 +12,5 @@ pub mod OneAnswer
 pub mod Told
 pub mod LinkTurns
 pub mod Files
-pub mod Logs
 pub mod Endings
 pub mod Does

@@ -1,6 +1,6 @@
 -- Modules that are added one after the other: private to the tool.
 use Rattle.std.specs.Prelude.{◌≡◌, ◌⊎◌, ℕ, ◌+◌, Bool, IsTrue, List, [], ◌∷◌, ◌++◌, length, Option, Some, None}
-use Rattle.ft_edge.specs.Causes.{Rose}
+use Rattle.ft_edge.specs.Logs.{ShelfLog, LoadFails}
 use Rattle.ft_edge.specs.Loads.{Files}
 use Rattle.ft_types.specs.declared.object.Object.{Object}
 use Rattle.ft_typing.specs.Accepted.{refusal}
@@ -35,8 +35,8 @@ pub record HasAdded (told : Option Files) (linkage : LinkMap) (modules : List Ob
   pub in_turn : (early : Bool) (more : LoadList) → LoadsInTurn told (IsTrue early) modules rest more → LoadsInTurn told (IsTrue early) [] linkage.files (loads ++ more)
 
 -- a load of a module's file failed, to which the link came
-abbrev pub FailsInTurn : Option Files → LinkMap → ℕ → ℕ → Option (List ℕ) → Type 0
-FailsInTurn told linkage before now failed = (file : Word) × (ComesInTurn told [] linkage.files file × (Rose before now × (failed ≡ Some file)))
+abbrev pub FailsInTurn : LinkMap → ShelfLog → ShelfLog → Type 0
+FailsInTurn linkage old new = (file : Word) × (ComesInTurn old.files [] linkage.files file × LoadFails file old new)
 
 -- the loads of a map's modules that were made, by whether the call ended early
 abbrev pub MakesInTurn : Option Files → LinkMap → Bool → Option LoadList → Option LoadList → Type 0

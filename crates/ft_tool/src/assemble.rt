@@ -1,24 +1,23 @@
 //! The command `asm`.
 ghost use Rattle.std.specs.Prelude.{◌≡◌, ◌≢◌};
-ghost use Rattle.ft_tool.specs.Logs.{sink_log};
+ghost use Rattle.ft_edge.specs.Logs.{sink_log};
 ghost use Rattle.ft_tool.specs.Answers.{OverAssembly};
 ghost use Rattle.ft_tool.specs.Endings.{Ends};
 
-use crate::ending::{Ending, put_object, refuse_text};
+use crate::ending::{Ending, put_spelling, refuse_text};
 use crate::load::TEXT_LIMIT;
 use crate::over_file::FileCommand;
-use ft_asm::{AsmError, assemble};
+use ft_asm::{AsmError, assemble_bytes};
 use ft_edge::Sink;
 use std::alloc::Global;
 
 /// Reads an assembly text and puts its object.
 fn assemble_text<K: Sink>(alloc: Global, text: &[u8], out: &mut K) -> Ending
-    ensures ends { Ends result (OverAssembly text.now)
+    ensures { Ends result (OverAssembly text.now)
         (sink_log K.Sink out.old) (sink_log K.Sink out.new) ⊥ }
-    ensures failures { result ≢ Ending.WriteFailed → K.failures out.new ≡ K.failures out.old }
 {
-    match assemble(alloc, text) {
-        Ok(object) => put_object(alloc, &object, out),
+    match assemble_bytes(alloc, text) {
+        Ok(bytes) => put_spelling(bytes.as_slice(), out),
         Err(error) => refuse_text(error, out),
     }
 }

@@ -1,11 +1,10 @@
 //! The command `campaign`.
 ghost use Rattle.std.specs.Prelude.{◌≡◌, ◌≢◌, ◌≤◌, ◌<◌, ◌*◌, ◌⊎◌, [], length, Some, None, IsTrue};
-ghost use Rattle.ft_edge.specs.Causes.{Rose};
 ghost use Rattle.ft_command.specs.Asked.{campaign_view};
 ghost use Rattle.ft_typing.specs.Accepted.{refusal};
 ghost use Rattle.ft_types.specs.Spellable.{IsSpellable};
 ghost use Rattle.ft_campaign.specs.Campaigns.{EndsAs as CampaignEnds, IsExcused, IsUncorrupted};
-ghost use Rattle.ft_tool.specs.Logs.{sink_log};
+ghost use Rattle.ft_edge.specs.Logs.{sink_log, shelf_log, LoadFails, NoLoadFails};
 ghost use Rattle.ft_tool.specs.Answers.{CampaignsUnless, CampaignsObject, OverFile, FailsIn};
 ghost use Rattle.ft_tool.specs.Calls.{HasMade, LoadsFor};
 ghost use Rattle.ft_tool.specs.Replies.{IsToldFile};
@@ -45,6 +44,7 @@ fn campaign_counted<P: Program, K: Sink, L: Ledger>(
     requires steps { asked.now.steps ≤ 1000000 }
     ensures ends { CampaignEnds result (P.object checked.now) faults.now asked.now.wild.items asked.now.steps (K.written out.old) (K.written out.new) (K.pieces out.old) (K.pieces out.new) }
     ensures too_much { 1000000000 < length faults.now * asked.now.steps → result ≡ CampaignEnd.TooMuch (length faults.now * asked.now.steps) }
+    ensures count { K.failures out.old ≤ K.failures out.new }
     ensures cause { IsExcused result (K.failures out.old) (K.failures out.new) }
     ensures uncorrupted { IsUncorrupted result }
 {
@@ -72,9 +72,8 @@ fn campaign_faults<P: Program, K: Sink>(
     requires accepted { refusal (P.object checked.now) ≡ None }
     requires faults { length faults.now ≤ 65536 }
     requires steps { asked.now.steps ≤ 1000000 }
-    ensures ends { Ends result (OverFaults NoneCorrupt (campaign_view asked.now) (P.object checked.now) faults.now)
+    ensures { Ends result (OverFaults NoneCorrupt (campaign_view asked.now) (P.object checked.now) faults.now)
         (sink_log K.Sink out.old) (sink_log K.Sink out.new) ⊥ }
-    ensures failures { result ≢ Ending.WriteFailed → K.failures out.new ≡ K.failures out.old }
 {
     match campaign_counted::<P, K, Brand>(alloc, checked, faults, asked, out, Blank::new(1)) {
         CampaignEnd::Finished(_) => Ending::Done,
@@ -128,9 +127,9 @@ fn campaign_checked<P: Program, F: Shelf, K: Sink>(
     requires own { IsToldFile (F.files shelf.old) asked.now.object.now bytes.now }
     ensures ends { Ends result (CampaignsListOf (campaign_view asked.now) (F.files shelf.old) bytes.now (P.object checked.now))
         (sink_log K.Sink out.old) (sink_log K.Sink out.new)
-        (Rose (F.failures shelf.old) (F.failures shelf.new) × (F.failed_name shelf.new ≡ Some asked.now.faults.now)) }
-    ensures failures { result ≢ Ending.WriteFailed → K.failures out.new ≡ K.failures out.old }
-    ensures load_failures { result ≢ Ending.LoadFailed → (F.failures shelf.new ≡ F.failures shelf.old) × (F.failed_name shelf.new ≡ F.failed_name shelf.old) }
+        (LoadFails asked.now.faults.now (shelf_log F.Shelf shelf.old) (shelf_log F.Shelf shelf.new)) }
+    ensures load_failures { result ≢ Ending.LoadFailed → NoLoadFails
+        (shelf_log F.Shelf shelf.old) (shelf_log F.Shelf shelf.new) }
     ensures made { LoadsOther (campaign_view asked.now) (F.asked shelf.old) (F.asked shelf.new) }
 {
     over_list(alloc, &CheckedTarget { checked }, bytes, asked, shelf, out)
@@ -150,9 +149,10 @@ fn campaign_object<P: Program, F: Shelf, K: Sink>(
     requires own { IsToldFile (F.files shelf.old) asked.now.object.now bytes.now }
     ensures ends { Ends result (CampaignsUnless (refusal (P.object program.now)) (CampaignsListOf (campaign_view asked.now) (F.files shelf.old) bytes.now (P.object program.now)))
         (sink_log K.Sink out.old) (sink_log K.Sink out.new)
-        (Rose (F.failures shelf.old) (F.failures shelf.new) × (F.failed_name shelf.new ≡ Some asked.now.faults.now) × (refusal (P.object program.now) ≡ None)) }
-    ensures failures { result ≢ Ending.WriteFailed → K.failures out.new ≡ K.failures out.old }
-    ensures load_failures { result ≢ Ending.LoadFailed → (F.failures shelf.new ≡ F.failures shelf.old) × (F.failed_name shelf.new ≡ F.failed_name shelf.old) }
+        (LoadFails asked.now.faults.now (shelf_log F.Shelf shelf.old) (shelf_log F.Shelf shelf.new)
+        × (refusal (P.object program.now) ≡ None)) }
+    ensures load_failures { result ≢ Ending.LoadFailed → NoLoadFails
+        (shelf_log F.Shelf shelf.old) (shelf_log F.Shelf shelf.new) }
     ensures made { (((refusal (P.object program.now) ≢ None) ⊎ IsTrue (ends_early result)) × HasMade [] (F.asked shelf.old) (F.asked shelf.new))
         ⊎ ((refusal (P.object program.now) ≡ None) × LoadsOther (campaign_view asked.now) (F.asked shelf.old) (F.asked shelf.new)) }
 {
@@ -172,9 +172,10 @@ pub(crate) fn campaign_file<F: Shelf, K: Sink>(
     requires { asked.now.steps ≤ 1000000 }
     ensures ends { Ends result (λ a. OfFiles (F.files shelf.old) (λ files. OverFile (CampaignsObject (campaign_view asked.now) files) asked.now.object.now files a))
         (sink_log K.Sink out.old) (sink_log K.Sink out.new)
-        (OfFiles (F.files shelf.old) (λ files. FailsIn (Campaigns (campaign_view asked.now)) (F.files shelf.old) files (F.failures shelf.old) (F.failures shelf.new) (F.failed_name shelf.new))) }
-    ensures failures { result ≢ Ending.WriteFailed → K.failures out.new ≡ K.failures out.old }
-    ensures load_failures { result ≢ Ending.LoadFailed → (F.failures shelf.new ≡ F.failures shelf.old) × (F.failed_name shelf.new ≡ F.failed_name shelf.old) }
+        (OfFiles (F.files shelf.old) (λ files. FailsIn (Campaigns (campaign_view asked.now)) files
+        (shelf_log F.Shelf shelf.old) (shelf_log F.Shelf shelf.new))) }
+    ensures load_failures { result ≢ Ending.LoadFailed → NoLoadFails
+        (shelf_log F.Shelf shelf.old) (shelf_log F.Shelf shelf.new) }
     ensures made { OfFiles (F.files shelf.old) (λ files. LoadsFor (Campaigns (campaign_view asked.now)) (F.files shelf.old) files (IsTrue (ends_early result)) (F.asked shelf.old) (F.asked shelf.new)) }
 {
     let mut bytes = Vec::new(alloc);

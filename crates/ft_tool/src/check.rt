@@ -3,14 +3,14 @@ ghost use Rattle.std.specs.Prelude.{◌≡◌, ◌<◌, IfOk, ◌≢◌};
 ghost use Rattle.ft_typing.specs.Accepted.{refusal};
 ghost use Rattle.ft_types.specs.Spellable.{IsSpellable};
 ghost use Rattle.ft_checker.specs.Judges.{Judges};
-ghost use Rattle.ft_tool.specs.Logs.{sink_log};
+ghost use Rattle.ft_edge.specs.Logs.{sink_log};
 ghost use Rattle.ft_tool.specs.Answers.{ChecksObject};
 ghost use Rattle.ft_tool.specs.Endings.{Ends};
 
-use crate::ending::{Ending, put_piece, refuse_check};
+use crate::ending::{Ending, refuse_check};
 use crate::over_object::ObjectCommand;
 use ft_checker::{CheckError, Checked};
-use ft_edge::Sink;
+use ft_edge::{Sink, put_line};
 use ft_steps::Steps;
 use ft_types::Program;
 use std::alloc::Global;
@@ -49,12 +49,11 @@ pub(crate) fn check<'a, P: Program>(
 /// Checks an object.
 fn check_object<P: Program, K: Sink>(alloc: Global, program: &P, out: &mut K) -> Ending
     requires { IsSpellable (P.object program.now) }
-    ensures ends { Ends result (ChecksObject (P.object program.now))
+    ensures { Ends result (ChecksObject (P.object program.now))
         (sink_log K.Sink out.old) (sink_log K.Sink out.new) ⊥ }
-    ensures failures { result ≢ Ending.WriteFailed → K.failures out.new ≡ K.failures out.old }
 {
     match check(alloc, program) {
-        Ok(_) => match put_piece(b"accepted\n", out) {
+        Ok(_) => match put_line(b"accepted\n", out) {
             Ok(()) => Ending::Done,
             Err(_) => Ending::WriteFailed,
         },

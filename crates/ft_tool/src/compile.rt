@@ -1,6 +1,6 @@
 //! The command `compile`.
 ghost use Rattle.std.specs.Prelude.{◌≡◌, ◌≢◌};
-ghost use Rattle.ft_tool.specs.Logs.{sink_log};
+ghost use Rattle.ft_edge.specs.Logs.{sink_log};
 ghost use Rattle.ft_tool.specs.Endings.{Ends};
 ghost use Rattle.ft_tool.specs.Sources.{OverText, CompilesProgram};
 
@@ -14,9 +14,8 @@ use std::alloc::Global;
 
 /// Compiles a source and puts its object.
 fn compile_text<K: Sink>(alloc: Global, text: &[u8], out: &mut K) -> Ending
-    ensures ends { Ends result (OverText CompilesProgram text.now)
+    ensures { Ends result (OverText CompilesProgram text.now)
         (sink_log K.Sink out.old) (sink_log K.Sink out.new) ⊥ }
-    ensures failures { result ≢ Ending.WriteFailed → K.failures out.new ≡ K.failures out.old }
 {
     match compile(alloc, text) {
         Ok(object) => put_object(alloc, &object, out),

@@ -6,7 +6,7 @@ ghost use Rattle.ft_types.specs.Spellable.{IsSpellable};
 ghost use Rattle.ft_format.specs.Format.{AreBytes};
 ghost use Rattle.ft_command.specs.Commands.{Debugs};
 ghost use Rattle.ft_command.specs.Asked.{debugging_view};
-ghost use Rattle.ft_tool.specs.Logs.{sink_log};
+ghost use Rattle.ft_edge.specs.Logs.{sink_log, shelf_log, NoLoadFails, source_log};
 ghost use Rattle.ft_tool.specs.Scripts.{DebugsObject};
 ghost use Rattle.ft_tool.specs.Answers.{OverFile, SpellsFile, FailsIn, FailsAtScript};
 ghost use Rattle.ft_tool.specs.Calls.{HasMade, object_load};
@@ -35,7 +35,6 @@ fn debug_text<P: Program, K: Sink>(
     ensures bytes { AreBytes text.now }
     ensures ends { Ends result (DebugsObject (debugging_view asked.now) text.now (P.object program.now))
         (sink_log K.Sink out.old) (sink_log K.Sink out.new) ⊥ }
-    ensures failures { result ≢ Ending.WriteFailed → K.failures out.new ≡ K.failures out.old }
 {
     match session(alloc, program, asked.wild.as_slice(), text, out) {
         DebugEnd::Ended => Ending::Done,
@@ -56,7 +55,6 @@ fn debug_object<P: Program, I: Source, K: Sink>(
     ensures ends { Ends result (λ a. OfScript (I.left script.old) (λ text. DebugsObject (debugging_view asked.now) text (P.object program.now) a))
         (sink_log K.Sink out.old) (sink_log K.Sink out.new)
         (Rose (I.failures script.old) (I.failures script.new)) }
-    ensures failures { result ≢ Ending.WriteFailed → K.failures out.new ≡ K.failures out.old }
     ensures script_failures { result ≢ Ending.LoadFailed → I.failures script.new ≡ I.failures script.old }
     ensures taken { TakesAtMost 1048577 (I.takes script.old) (I.takes script.new) (I.left script.old) (I.left script.new) }
 {
@@ -76,10 +74,12 @@ pub(crate) fn debug_file<F: Shelf, I: Source, K: Sink>(
 ) -> Ending
     ensures ends { Ends result (λ a. OfFiles (F.files shelf.old) (λ files. OfScript (I.left script.old) (λ text. OverFile (DebugsObject (debugging_view asked.now) text) asked.now.object.now files a)))
         (sink_log K.Sink out.old) (sink_log K.Sink out.new)
-        (OfFiles (F.files shelf.old) (λ files. FailsIn (Debugs (debugging_view asked.now)) (F.files shelf.old) files (F.failures shelf.old) (F.failures shelf.new) (F.failed_name shelf.new)
-        ⊎ FailsAtScript (debugging_view asked.now) files (I.failures script.old) (I.failures script.new))) }
-    ensures failures { result ≢ Ending.WriteFailed → K.failures out.new ≡ K.failures out.old }
-    ensures load_failures { result ≢ Ending.LoadFailed → (F.failures shelf.new ≡ F.failures shelf.old) × (F.failed_name shelf.new ≡ F.failed_name shelf.old) }
+        (OfFiles (F.files shelf.old) (λ files. FailsIn (Debugs (debugging_view asked.now)) files
+        (shelf_log F.Shelf shelf.old) (shelf_log F.Shelf shelf.new)
+        ⊎ FailsAtScript (debugging_view asked.now) files
+        (source_log I.Source script.old) (source_log I.Source script.new))) }
+    ensures load_failures { result ≢ Ending.LoadFailed → NoLoadFails
+        (shelf_log F.Shelf shelf.old) (shelf_log F.Shelf shelf.new) }
     ensures script_failures { result ≢ Ending.LoadFailed → I.failures script.new ≡ I.failures script.old }
     ensures made { HasMade (object_load asked.now.object.now ∷ []) (F.asked shelf.old) (F.asked shelf.new) }
     ensures script { (OfFiles (F.files shelf.old) (λ files. SpellsFile files asked.now.object.now)

@@ -1,6 +1,6 @@
 //! The command `demo`.
 ghost use Rattle.std.specs.Prelude.{◌≡◌, ◌≢◌, ◌≤◌};
-ghost use Rattle.ft_tool.specs.Logs.{sink_log};
+ghost use Rattle.ft_edge.specs.Logs.{sink_log};
 ghost use Rattle.ft_tool.specs.Demonstrations.{ShowsSample};
 ghost use Rattle.ft_tool.specs.Endings.{Ends};
 
@@ -13,9 +13,8 @@ use std::alloc::Global;
 pub(crate) fn demonstrate<K: Sink>(alloc: Global, turns: u32, out: &mut K) -> Ending
     requires some { 1 ≤ turns }
     requires few { turns ≤ 10921 }
-    ensures ends { Ends result (ShowsSample turns)
+    ensures { Ends result (ShowsSample turns)
         (sink_log K.Sink out.old) (sink_log K.Sink out.new) ⊥ }
-    ensures failures { result ≢ Ending.WriteFailed → K.failures out.new ≡ K.failures out.old }
 {
     match demo(alloc, turns, out) {
         DemoEnd::Finished => Ending::Done,

@@ -1,28 +1,27 @@
 //! The command `dis`.
 ghost use Rattle.std.specs.Prelude.{◌≡◌, ◌≢◌};
 ghost use Rattle.ft_types.specs.Spellable.{IsSpellable};
-ghost use Rattle.ft_tool.specs.Logs.{sink_log};
+ghost use Rattle.ft_edge.specs.Logs.{sink_log};
 ghost use Rattle.ft_tool.specs.Answers.{DisassemblesObject};
 ghost use Rattle.ft_tool.specs.Endings.{Ends};
 
-use crate::ending::{Ending, put_piece};
+use crate::ending::Ending;
 use crate::over_object::ObjectCommand;
 use ft_asm::disassemble;
-use ft_edge::Sink;
+use ft_edge::{Sink, put_line};
 use ft_types::Program;
 use std::alloc::Global;
 
 /// Puts the text of an object.
 fn put_text<P: Program, K: Sink>(alloc: Global, program: &P, out: &mut K) -> Ending
     requires { IsSpellable (P.object program.now) }
-    ensures ends { Ends result (DisassemblesObject (P.object program.now))
+    ensures { Ends result (DisassemblesObject (P.object program.now))
         (sink_log K.Sink out.old) (sink_log K.Sink out.new) ⊥ }
-    ensures failures { result ≢ Ending.WriteFailed → K.failures out.new ≡ K.failures out.old }
 {
     let Ok(text) = disassemble(alloc, program) else {
         return Ending::NoMemory;
     };
-    match put_piece(text.as_slice(), out) {
+    match put_line(text.as_slice(), out) {
         Ok(()) => Ending::Done,
         Err(_) => Ending::WriteFailed,
     }

@@ -1,9 +1,10 @@
 //! How commands end.
-ghost use Rattle.std.specs.Prelude.{◌≡◌, ◌≢◌, [], ◌∷◌, OnOk, OnErr};
-ghost use Rattle.ft_edge.specs.Causes.{Rose};
-ghost use Rattle.ft_edge.specs.Puts.{PutsLines, BreaksOff};
+ghost use Rattle.std.specs.Prelude.{◌≡◌, ◌≢◌};
+ghost use Rattle.ft_types.specs.declared.object.Object.{Object as Spelled};
 ghost use Rattle.ft_types.specs.Spellable.{IsSpellable};
-ghost use Rattle.ft_tool.specs.Logs.{sink_log};
+ghost use Rattle.ft_format.specs.declared.version.Version.TheVariants.{Second};
+ghost use Rattle.ft_format.specs.Format.{Spells};
+ghost use Rattle.ft_edge.specs.Logs.{sink_log};
 ghost use Rattle.ft_tool.specs.Objects.{UpgradesObject, refused};
 ghost use Rattle.ft_tool.specs.Answers.{usage};
 ghost use Rattle.ft_tool.specs.Replies.{one_piece};
@@ -20,7 +21,7 @@ use crate::refused::{
 use crate::script::ScriptFault;
 use ft_asm::AsmError;
 use ft_checker::CheckError;
-use ft_edge::{Failed, Sink};
+use ft_edge::{Sink, put_line};
 use ft_machine::RunEnd;
 use ft_object::{ObjectError, encode};
 use ft_syntax::SourceError;
@@ -72,42 +73,34 @@ pub(crate) fn ending_of_run(end: RunEnd) -> Ending
     }
 }
 
-/// Puts a piece of the answer's text, in one put.
-#[tactic(auto, using(ft_edge::proofs::PutLines::breaks_one))]
-pub(crate) fn put_piece<K: Sink>(piece: &[u8], out: &mut K) -> Result<(), Failed>
-    ensures ok { OnOk result (PutsLines (piece.now ∷ []) (K.written out.old) (K.written out.new) (K.pieces out.old) (K.pieces out.new)) }
-    ensures err { OnErr result (BreaksOff (piece.now ∷ []) (K.written out.old) (K.written out.new) (K.pieces out.old) (K.pieces out.new)) }
-    ensures same_count { OnOk result (K.failures out.new ≡ K.failures out.old) }
-    ensures cause { OnErr result (Rose (K.failures out.old) (K.failures out.new)) }
+/// Puts bytes that spell an object, in version 2 of the format and one put.
+pub(crate) fn put_spelling<K: Sink>(bytes: &[u8], out: &mut K) -> Ending
+    ensures { (o : Spelled) → Spells bytes.now Second o → Ends result (UpgradesObject o)
+        (sink_log K.Sink out.old) (sink_log K.Sink out.new) ⊥ }
 {
-    match out.put(piece) {
-        Ok(()) => Ok(()),
-        Err(failed) => Err(failed),
+    match put_line(bytes, out) {
+        Ok(()) => Ending::Done,
+        Err(_) => Ending::WriteFailed,
     }
 }
 
 /// Puts the bytes of an object, in version 2 of the format and one put.
 pub(crate) fn put_object<K: Sink>(alloc: Global, object: &Object, out: &mut K) -> Ending
     requires { IsSpellable object.now }
-    ensures ends { Ends result (UpgradesObject object.now)
+    ensures { Ends result (UpgradesObject object.now)
         (sink_log K.Sink out.old) (sink_log K.Sink out.new) ⊥ }
-    ensures failures { result ≢ Ending.WriteFailed → K.failures out.new ≡ K.failures out.old }
 {
     let Ok(bytes) = encode(alloc, object) else {
         return Ending::NoMemory;
     };
-    match put_piece(bytes.as_slice(), out) {
-        Ok(()) => Ending::Done,
-        Err(_) => Ending::WriteFailed,
-    }
+    put_spelling(bytes.as_slice(), out)
 }
 
 /// Puts the line of words that are no command.
 pub(crate) fn put_usage<K: Sink>(out: &mut K) -> Ending
-    ensures ends { Ends result (λ a. a ≡ usage) (sink_log K.Sink out.old) (sink_log K.Sink out.new) ⊥ }
-    ensures failures { result ≢ Ending.WriteFailed → K.failures out.new ≡ K.failures out.old }
+    ensures { Ends result (λ a. a ≡ usage) (sink_log K.Sink out.old) (sink_log K.Sink out.new) ⊥ }
 {
-    match put_piece(b"usage\n", out) {
+    match put_line(b"usage\n", out) {
         Ok(()) => Ending::Usage,
         Err(_) => Ending::WriteFailed,
     }
@@ -115,10 +108,9 @@ pub(crate) fn put_usage<K: Sink>(out: &mut K) -> Ending
 
 /// Ends a command whose object's bytes are refused, with the line of the refusal.
 pub(crate) fn refuse_bytes<K: Sink>(error: ObjectError, out: &mut K) -> Ending
-    ensures ends { Ends result (λ a. a ≡ refused error) (sink_log K.Sink out.old) (sink_log K.Sink out.new) ⊥ }
-    ensures failures { result ≢ Ending.WriteFailed → K.failures out.new ≡ K.failures out.old }
+    ensures { Ends result (λ a. a ≡ refused error) (sink_log K.Sink out.old) (sink_log K.Sink out.new) ⊥ }
 {
-    match put_piece(object_line(error).as_bytes(), out) {
+    match put_line(object_line(error).as_bytes(), out) {
         Ok(()) => Ending::ObjectRefused,
         Err(_) => Ending::WriteFailed,
     }
@@ -126,8 +118,8 @@ pub(crate) fn refuse_bytes<K: Sink>(error: ObjectError, out: &mut K) -> Ending
 
 /// Ends a command that has no object, with the line of the refusal where its bytes are refused.
 pub(crate) fn refuse_object<K: Sink>(fault: ObjectFault, out: &mut K) -> Ending
-    ensures ends { Ends result (IsRefusedBy fault) (sink_log K.Sink out.old) (sink_log K.Sink out.new) (fault ≡ ObjectFault.Failed) }
-    ensures failures { result ≢ Ending.WriteFailed → K.failures out.new ≡ K.failures out.old }
+    ensures ends { Ends result (IsRefusedBy fault)
+        (sink_log K.Sink out.old) (sink_log K.Sink out.new) (fault ≡ ObjectFault.Failed) }
     ensures failed { result ≢ Ending.LoadFailed → fault ≢ ObjectFault.Failed }
 {
     match fault {
@@ -139,8 +131,7 @@ pub(crate) fn refuse_object<K: Sink>(fault: ObjectFault, out: &mut K) -> Ending
 
 /// Ends a command whose object is not accepted, with the line of the refusal.
 pub(crate) fn refuse_check<K: Sink>(error: CheckError, out: &mut K) -> Ending
-    ensures ends { Ends result (IsNotAccepted error) (sink_log K.Sink out.old) (sink_log K.Sink out.new) ⊥ }
-    ensures failures { result ≢ Ending.WriteFailed → K.failures out.new ≡ K.failures out.old }
+    ensures { Ends result (IsNotAccepted error) (sink_log K.Sink out.old) (sink_log K.Sink out.new) ⊥ }
 {
     let line = match error {
         CheckError::EntryType => entry_line(),
@@ -148,7 +139,7 @@ pub(crate) fn refuse_check<K: Sink>(error: CheckError, out: &mut K) -> Ending
         CheckError::Refused { block, index, why } => place_line(block, index, why),
         CheckError::NoMemory => return Ending::NoMemory,
     };
-    match put_piece(line.as_bytes(), out) {
+    match put_line(line.as_bytes(), out) {
         Ok(()) => Ending::NotAccepted,
         Err(_) => Ending::WriteFailed,
     }
@@ -156,10 +147,10 @@ pub(crate) fn refuse_check<K: Sink>(error: CheckError, out: &mut K) -> Ending
 
 /// Puts the line of a list or of a campaign that is refused.
 pub(crate) fn put_list_line<K: Sink>(number: u64, told: u64, out: &mut K) -> Ending
-    ensures ends { Ends result (λ a. a ≡ one_piece (list_line number told) 11) (sink_log K.Sink out.old) (sink_log K.Sink out.new) ⊥ }
-    ensures failures { result ≢ Ending.WriteFailed → K.failures out.new ≡ K.failures out.old }
+    ensures { Ends result (λ a. a ≡ one_piece (list_line number told) 11)
+        (sink_log K.Sink out.old) (sink_log K.Sink out.new) ⊥ }
 {
-    match put_piece(list_line(number, told).as_bytes(), out) {
+    match put_line(list_line(number, told).as_bytes(), out) {
         Ok(()) => Ending::ListRefused,
         Err(_) => Ending::WriteFailed,
     }
@@ -167,8 +158,8 @@ pub(crate) fn put_list_line<K: Sink>(number: u64, told: u64, out: &mut K) -> End
 
 /// Ends a command that has no fault list, with the line of the refusal where its text is refused.
 pub(crate) fn refuse_list<K: Sink>(fault: ListFault, out: &mut K) -> Ending
-    ensures ends { Ends result (IsListRefusedBy fault) (sink_log K.Sink out.old) (sink_log K.Sink out.new) (fault ≡ ListFault.Failed) }
-    ensures failures { result ≢ Ending.WriteFailed → K.failures out.new ≡ K.failures out.old }
+    ensures ends { Ends result (IsListRefusedBy fault)
+        (sink_log K.Sink out.old) (sink_log K.Sink out.new) (fault ≡ ListFault.Failed) }
     ensures failed { result ≢ Ending.LoadFailed → fault ≢ ListFault.Failed }
 {
     match fault {
@@ -181,8 +172,8 @@ pub(crate) fn refuse_list<K: Sink>(fault: ListFault, out: &mut K) -> Ending
 
 /// Ends a command that has no script, with the line of the refusal where it is too long.
 pub(crate) fn refuse_script<K: Sink>(fault: ScriptFault, out: &mut K) -> Ending
-    ensures ends { Ends result (IsScriptRefusedBy fault) (sink_log K.Sink out.old) (sink_log K.Sink out.new) (fault ≡ ScriptFault.Failed) }
-    ensures failures { result ≢ Ending.WriteFailed → K.failures out.new ≡ K.failures out.old }
+    ensures ends { Ends result (IsScriptRefusedBy fault)
+        (sink_log K.Sink out.old) (sink_log K.Sink out.new) (fault ≡ ScriptFault.Failed) }
     ensures failed { result ≢ Ending.LoadFailed → fault ≢ ScriptFault.Failed }
 {
     match fault {
@@ -194,13 +185,12 @@ pub(crate) fn refuse_script<K: Sink>(fault: ScriptFault, out: &mut K) -> Ending
 
 /// Ends a command whose source is refused, with the line of the refusal.
 pub(crate) fn refuse_source<K: Sink>(error: SourceError, out: &mut K) -> Ending
-    ensures ends { Ends result (IsSourceRefused error) (sink_log K.Sink out.old) (sink_log K.Sink out.new) ⊥ }
-    ensures failures { result ≢ Ending.WriteFailed → K.failures out.new ≡ K.failures out.old }
+    ensures { Ends result (IsSourceRefused error) (sink_log K.Sink out.old) (sink_log K.Sink out.new) ⊥ }
 {
     if let SourceError::NoMemory = error {
         return Ending::NoMemory;
     }
-    match put_piece(source_line(error).as_bytes(), out) {
+    match put_line(source_line(error).as_bytes(), out) {
         Ok(()) => Ending::SourceRefused,
         Err(_) => Ending::WriteFailed,
     }
@@ -208,10 +198,10 @@ pub(crate) fn refuse_source<K: Sink>(error: SourceError, out: &mut K) -> Ending
 
 /// Puts the line of an assembly text that is refused.
 fn put_text_line<K: Sink>(number: u64, told: u64, out: &mut K) -> Ending
-    ensures ends { Ends result (λ a. a ≡ one_piece (asm_line number told) 12) (sink_log K.Sink out.old) (sink_log K.Sink out.new) ⊥ }
-    ensures failures { result ≢ Ending.WriteFailed → K.failures out.new ≡ K.failures out.old }
+    ensures { Ends result (λ a. a ≡ one_piece (asm_line number told) 12)
+        (sink_log K.Sink out.old) (sink_log K.Sink out.new) ⊥ }
 {
-    match put_piece(asm_line(number, told).as_bytes(), out) {
+    match put_line(asm_line(number, told).as_bytes(), out) {
         Ok(()) => Ending::TextRefused,
         Err(_) => Ending::WriteFailed,
     }
@@ -219,8 +209,7 @@ fn put_text_line<K: Sink>(number: u64, told: u64, out: &mut K) -> Ending
 
 /// Ends a command whose assembly text is refused, with the line of the refusal.
 pub(crate) fn refuse_text<K: Sink>(error: AsmError, out: &mut K) -> Ending
-    ensures ends { Ends result (IsTextRefused error) (sink_log K.Sink out.old) (sink_log K.Sink out.new) ⊥ }
-    ensures failures { result ≢ Ending.WriteFailed → K.failures out.new ≡ K.failures out.old }
+    ensures { Ends result (IsTextRefused error) (sink_log K.Sink out.old) (sink_log K.Sink out.new) ⊥ }
 {
     match error {
         AsmError::Text { line } => put_text_line(1, line as u64, out),

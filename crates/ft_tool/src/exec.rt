@@ -4,7 +4,7 @@ ghost use Rattle.ft_semantics.specs.Run.{run};
 ghost use Rattle.ft_typing.specs.Accepted.{IsAccepted};
 ghost use Rattle.ft_types.specs.Spellable.{IsSpellable};
 ghost use Rattle.ft_command.specs.Asked.{execution_view};
-ghost use Rattle.ft_tool.specs.Logs.{sink_log};
+ghost use Rattle.ft_edge.specs.Logs.{sink_log};
 ghost use Rattle.ft_tool.specs.Endings.{Ends};
 ghost use Rattle.ft_tool.specs.Replies.{ran};
 ghost use Rattle.ft_tool.specs.Sources.{OverText, ExecutesProgram};
@@ -26,9 +26,8 @@ use std::alloc::Global;
 fn run_accepted<K: Sink>(alloc: Global, object: &Object, steps: u64, out: &mut K) -> Ending
     requires spellable { IsSpellable object.now }
     requires accepted { IsAccepted object.now }
-    ensures ends { Ends result (λ a. a ≡ ran object.now (run object.now None [] steps))
+    ensures { Ends result (λ a. a ≡ ran object.now (run object.now None [] steps))
         (sink_log K.Sink out.old) (sink_log K.Sink out.new) ⊥ }
-    ensures failures { result ≢ Ending.WriteFailed → K.failures out.new ≡ K.failures out.old }
 {
     let checked = Checked::of_accepted(object);
     let Ok(clean) = Clean::start(alloc, &checked) else {
@@ -43,9 +42,8 @@ fn run_accepted<K: Sink>(alloc: Global, object: &Object, steps: u64, out: &mut K
 
 /// Compiles a source and runs its object.
 fn exec_text<K: Sink>(alloc: Global, text: &[u8], steps: u64, out: &mut K) -> Ending
-    ensures ends { Ends result (OverText (ExecutesProgram steps) text.now)
+    ensures { Ends result (OverText (ExecutesProgram steps) text.now)
         (sink_log K.Sink out.old) (sink_log K.Sink out.new) ⊥ }
-    ensures failures { result ≢ Ending.WriteFailed → K.failures out.new ≡ K.failures out.old }
 {
     match compile(alloc, text) {
         Ok(object) => run_accepted(alloc, &object, steps, out),

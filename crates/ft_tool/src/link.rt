@@ -1,10 +1,9 @@
 //! The command `link`.
 ghost use Rattle.std.specs.Prelude.{◌≡◌, ◌≢◌, ◌≤◌, [], ◌∷◌, All, IsAscii, IsTrue, length, OnOk, IfErr};
-ghost use Rattle.ft_edge.specs.Causes.{Rose};
 ghost use Rattle.ft_command.specs.Commands.{Links};
 ghost use Rattle.ft_types.specs.Spellable.{IsSpellable};
 ghost use Rattle.ft_link_map.specs.Sound.{IsSound};
-ghost use Rattle.ft_tool.specs.Logs.{sink_log};
+ghost use Rattle.ft_edge.specs.Logs.{sink_log, shelf_log, LoadFails, NoLoadFails};
 ghost use Rattle.ft_tool.specs.Answers.{FailsIn};
 ghost use Rattle.ft_tool.specs.Calls.{HasMade, LoadsLink, object_load};
 ghost use Rattle.ft_tool.specs.Endings.{Ends, ends_early};
@@ -45,7 +44,6 @@ fn add_object<P: Program, K: Sink>(
     ensures untouched { OnOk result (out.new ≡ out.old) }
     ensures ends { IfErr result (λ e. Ends e (EndsAtObject linker.old (P.object program.now))
         (sink_log K.Sink out.old) (sink_log K.Sink out.new) ⊥) }
-    ensures failures { IfErr result (λ e. e ≢ Ending.WriteFailed → K.failures out.new ≡ K.failures out.old) }
 {
     match check(alloc, program) {
         Ok(checked) => match linker.add(&checked) {
@@ -68,10 +66,10 @@ fn add_file<F: Shelf, K: Sink>(
     ensures untouched { OnOk result (out.new ≡ out.old) }
     ensures ends { IfErr result (λ e. Ends e (EndsWithFile (F.files shelf.old) linker.old name.now)
         (sink_log K.Sink out.old) (sink_log K.Sink out.new)
-        (Rose (F.failures shelf.old) (F.failures shelf.new) × (F.failed_name shelf.new ≡ Some name.now))) }
-    ensures failures { IfErr result (λ e. e ≢ Ending.WriteFailed → K.failures out.new ≡ K.failures out.old) }
+        (LoadFails name.now (shelf_log F.Shelf shelf.old) (shelf_log F.Shelf shelf.new))) }
     ensures files { F.files shelf.new ≡ F.files shelf.old }
-    ensures load_failures { result ≢ Err Ending.LoadFailed → (F.failures shelf.new ≡ F.failures shelf.old) × (F.failed_name shelf.new ≡ F.failed_name shelf.old) }
+    ensures load_failures { result ≢ Err Ending.LoadFailed → NoLoadFails
+        (shelf_log F.Shelf shelf.old) (shelf_log F.Shelf shelf.new) }
     ensures made { HasMade (object_load name.now ∷ []) (F.asked shelf.old) (F.asked shelf.new) }
 {
     let mut bytes = Vec::new(alloc);
@@ -95,9 +93,9 @@ fn add_files<F: Shelf, K: Sink>(
     ensures untouched { OnOk result (out.new ≡ out.old) }
     ensures ends { IfErr result (λ e. Ends e (LinksFiles (F.files shelf.old) linkage.now [] linkage.now.files)
         (sink_log K.Sink out.old) (sink_log K.Sink out.new)
-        (FailsInTurn (F.files shelf.old) linkage.now (F.failures shelf.old) (F.failures shelf.new) (F.failed_name shelf.new))) }
-    ensures failures { IfErr result (λ e. e ≢ Ending.WriteFailed → K.failures out.new ≡ K.failures out.old) }
-    ensures load_failures { result ≢ Err Ending.LoadFailed → (F.failures shelf.new ≡ F.failures shelf.old) × (F.failed_name shelf.new ≡ F.failed_name shelf.old) }
+        (FailsInTurn linkage.now (shelf_log F.Shelf shelf.old) (shelf_log F.Shelf shelf.new))) }
+    ensures load_failures { result ≢ Err Ending.LoadFailed → NoLoadFails
+        (shelf_log F.Shelf shelf.old) (shelf_log F.Shelf shelf.new) }
     ensures made { IfErr result (λ e. MakesInTurn (F.files shelf.old) linkage.now (ends_early e) (F.asked shelf.old) (F.asked shelf.new)) }
 {
     let files = linkage.files.as_slice();
@@ -114,9 +112,8 @@ fn add_files<F: Shelf, K: Sink>(
 fn put_linked<K: Sink>(alloc: Global, linker: Linker, linkage: &LinkMap, out: &mut K) -> Ending
     requires sound { IsSound linkage.now }
     requires modules { length linker ≡ length linkage.now.files }
-    ensures ends { Ends result (LinksAdded linkage.now linker)
+    ensures { Ends result (LinksAdded linkage.now linker)
         (sink_log K.Sink out.old) (sink_log K.Sink out.new) ⊥ }
-    ensures failures { result ≢ Ending.WriteFailed → K.failures out.new ≡ K.failures out.old }
 {
     match linker.finish(linkage) {
         Ok(object) => put_object(alloc, &object, out),
@@ -135,9 +132,9 @@ fn link_files<F: Shelf, K: Sink>(
     requires names { All IsAscii linkage.now.files }
     ensures ends { Ends result (LinksFiles (F.files shelf.old) linkage.now [] linkage.now.files)
         (sink_log K.Sink out.old) (sink_log K.Sink out.new)
-        (FailsInTurn (F.files shelf.old) linkage.now (F.failures shelf.old) (F.failures shelf.new) (F.failed_name shelf.new)) }
-    ensures failures { result ≢ Ending.WriteFailed → K.failures out.new ≡ K.failures out.old }
-    ensures load_failures { result ≢ Ending.LoadFailed → (F.failures shelf.new ≡ F.failures shelf.old) × (F.failed_name shelf.new ≡ F.failed_name shelf.old) }
+        (FailsInTurn linkage.now (shelf_log F.Shelf shelf.old) (shelf_log F.Shelf shelf.new)) }
+    ensures load_failures { result ≢ Ending.LoadFailed → NoLoadFails
+        (shelf_log F.Shelf shelf.old) (shelf_log F.Shelf shelf.new) }
     ensures made { MakesInTurn (F.files shelf.old) linkage.now (ends_early result) (F.asked shelf.old) (F.asked shelf.new) }
 {
     let Ok(mut linker) = Linker::new(alloc) else {
@@ -154,9 +151,10 @@ fn link_text<F: Shelf, K: Sink>(alloc: Global, text: &[u8], shelf: &mut F, out: 
     requires { length text.now ≤ 65536 }
     ensures ends { Ends result (LinksText (F.files shelf.old) text.now)
         (sink_log K.Sink out.old) (sink_log K.Sink out.new)
-        ((linkage : LinkMap) × (IsMap text.now linkage × FailsInTurn (F.files shelf.old) linkage (F.failures shelf.old) (F.failures shelf.new) (F.failed_name shelf.new))) }
-    ensures failures { result ≢ Ending.WriteFailed → K.failures out.new ≡ K.failures out.old }
-    ensures load_failures { result ≢ Ending.LoadFailed → (F.failures shelf.new ≡ F.failures shelf.old) × (F.failed_name shelf.new ≡ F.failed_name shelf.old) }
+        ((linkage : LinkMap) × (IsMap text.now linkage × FailsInTurn linkage
+        (shelf_log F.Shelf shelf.old) (shelf_log F.Shelf shelf.new))) }
+    ensures load_failures { result ≢ Ending.LoadFailed → NoLoadFails
+        (shelf_log F.Shelf shelf.old) (shelf_log F.Shelf shelf.new) }
     ensures made { MakesOfText (F.files shelf.old) text.now (ends_early result) (F.asked shelf.old) (F.asked shelf.new) }
 {
     match read_map(alloc, text) {
@@ -174,9 +172,10 @@ pub(crate) fn link_file<F: Shelf, K: Sink>(
 ) -> Ending
     ensures ends { Ends result (LinksFile (F.files shelf.old) name.now)
         (sink_log K.Sink out.old) (sink_log K.Sink out.new)
-        (OfFiles (F.files shelf.old) (λ files. FailsIn (Links name.now) (F.files shelf.old) files (F.failures shelf.old) (F.failures shelf.new) (F.failed_name shelf.new))) }
-    ensures failures { result ≢ Ending.WriteFailed → K.failures out.new ≡ K.failures out.old }
-    ensures load_failures { result ≢ Ending.LoadFailed → (F.failures shelf.new ≡ F.failures shelf.old) × (F.failed_name shelf.new ≡ F.failed_name shelf.old) }
+        (OfFiles (F.files shelf.old) (λ files. FailsIn (Links name.now) files
+        (shelf_log F.Shelf shelf.old) (shelf_log F.Shelf shelf.new))) }
+    ensures load_failures { result ≢ Ending.LoadFailed → NoLoadFails
+        (shelf_log F.Shelf shelf.old) (shelf_log F.Shelf shelf.new) }
     ensures made { LoadsLink (F.files shelf.old) name.now (IsTrue (ends_early result)) (F.asked shelf.old) (F.asked shelf.new) }
 {
     let mut text = Vec::new(alloc);

@@ -1,5 +1,6 @@
 //! What a command's files hold.
 ghost use Rattle.std.specs.Prelude.{◌≡◌, [], ◌∷◌};
+ghost use Rattle.ft_edge.specs.Logs.{shelf_log};
 ghost use Rattle.ft_edge.specs.Loads.{LoadCause as EdgeCause};
 ghost use Rattle.ft_command.specs.Asked.{campaign_view};
 ghost use Rattle.ft_tool.specs.Calls.{HasMade, object_load, list_load};
@@ -80,7 +81,7 @@ pub(crate) fn load_object_bytes<F: Shelf>(
     requires { bytes.old.items ≡ [] }
     ensures loads { LoadsBytes (F.files shelf.old) name.now bytes.new.items result }
     ensures files { F.files shelf.new ≡ F.files shelf.old }
-    ensures cause { LoadCause (F.failures shelf.old) (F.failures shelf.new) (F.failed_name shelf.old) (F.failed_name shelf.new) name.now result }
+    ensures cause { LoadCause name.now result (shelf_log F.Shelf shelf.old) (shelf_log F.Shelf shelf.new) }
     ensures made { HasMade (object_load name.now ∷ []) (F.asked shelf.old) (F.asked shelf.new) }
 {
     match load_bytes(name, OBJECT_LIMIT, shelf, bytes) {
@@ -100,7 +101,7 @@ pub(crate) fn load_object<'a, F: Shelf>(
     requires empty { bytes.old.items ≡ [] }
     ensures loads { LoadsObject (F.files shelf.old) name.now result }
     ensures files { F.files shelf.new ≡ F.files shelf.old }
-    ensures cause { LoadCause (F.failures shelf.old) (F.failures shelf.new) (F.failed_name shelf.old) (F.failed_name shelf.new) name.now result }
+    ensures cause { LoadCause name.now result (shelf_log F.Shelf shelf.old) (shelf_log F.Shelf shelf.new) }
     ensures made { HasMade (object_load name.now ∷ []) (F.asked shelf.old) (F.asked shelf.new) }
 {
     match load_object_bytes(name, shelf, bytes) {
@@ -144,7 +145,7 @@ fn read_list(alloc: Global, bytes: &[u8]) -> Result<Vec<Strike>, ListFault>
 /// Loads the file of a name and reads it as a fault list.
 fn load_list<F: Shelf>(alloc: Global, name: &str, shelf: &mut F) -> Result<Vec<Strike>, ListFault>
     ensures gets { GetsList (λ v. v.items) (IsToldFile (F.files shelf.old) name.now) result }
-    ensures cause { ListCause (F.failures shelf.old) (F.failures shelf.new) (F.failed_name shelf.old) (F.failed_name shelf.new) name.now result }
+    ensures cause { ListCause name.now result (shelf_log F.Shelf shelf.old) (shelf_log F.Shelf shelf.new) }
     ensures files { F.files shelf.new ≡ F.files shelf.old }
     ensures made { HasMade (list_load name.now ∷ []) (F.asked shelf.old) (F.asked shelf.new) }
 {
@@ -167,7 +168,7 @@ pub(crate) fn list_of<F: Shelf>(
 ) -> Result<Vec<Strike>, ListFault>
     requires { IsToldFile (F.files shelf.old) asked.now.object.now bytes.now }
     ensures gets { GetsList (λ v. v.items) (IsListOf (campaign_view asked.now) (F.files shelf.old) bytes.now) result }
-    ensures cause { ListCause (F.failures shelf.old) (F.failures shelf.new) (F.failed_name shelf.old) (F.failed_name shelf.new) asked.now.faults.now result }
+    ensures cause { ListCause asked.now.faults.now result (shelf_log F.Shelf shelf.old) (shelf_log F.Shelf shelf.new) }
     ensures files { F.files shelf.new ≡ F.files shelf.old }
     ensures made { LoadsOther (campaign_view asked.now) (F.asked shelf.old) (F.asked shelf.new) }
 {

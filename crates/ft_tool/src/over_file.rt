@@ -1,6 +1,6 @@
 //! Commands over one file.
 ghost use Rattle.std.specs.Prelude.{◌≡◌, ◌≢◌, ◌<◌, List, ℕ, Option, length};
-ghost use Rattle.ft_tool.specs.Logs.{sink_log};
+ghost use Rattle.ft_edge.specs.Logs.{sink_log, shelf_log};
 ghost use Rattle.ft_tool.specs.Does.{Does};
 
 use crate::ending::Ending;
@@ -14,7 +14,7 @@ pub(crate) trait FileCommand {
     ghost use Rattle.ft_command.specs.Options.{Word};
     ghost use Rattle.ft_command.specs.Commands.{Request};
     ghost use Rattle.ft_tool.specs.Replies.{Answer};
-    ghost use Rattle.ft_tool.specs.Logs.{sink_log};
+    ghost use Rattle.ft_edge.specs.Logs.{sink_log};
     ghost use Rattle.ft_tool.specs.Endings.{Ends};
     ghost use Rattle.ft_tool.specs.Does.{IsOverFile};
 
@@ -40,15 +40,13 @@ pub(crate) trait FileCommand {
 
     /// Answers over the file's bytes.
     fn over_bytes<K: Sink>(&self, alloc: Global, bytes: &[u8], out: &mut K) -> Ending
-        ensures ends { Ends result (answer self.now bytes.now)
-            (sink_log K.Sink out.old) (sink_log K.Sink out.new) ⊥ }
-        ensures failures { result ≢ Ending.WriteFailed → K.failures out.new ≡ K.failures out.old };
+        ensures { Ends result (answer self.now bytes.now)
+            (sink_log K.Sink out.old) (sink_log K.Sink out.new) ⊥ };
 
     /// Answers over a file that has more bytes than the limit.
     fn refuse_long<K: Sink>(&self, out: &mut K) -> Ending
-        ensures ends { Ends result (λ a. (bytes : List ℕ) → limit self.now < length bytes → answer self.now bytes a)
-            (sink_log K.Sink out.old) (sink_log K.Sink out.new) ⊥ }
-        ensures failures { result ≢ Ending.WriteFailed → K.failures out.new ≡ K.failures out.old };
+        ensures { Ends result (λ a. (bytes : List ℕ) → limit self.now < length bytes → answer self.now bytes a)
+            (sink_log K.Sink out.old) (sink_log K.Sink out.new) ⊥ };
 
     // The answer over the bytes of this file is one to the request, which comes to load no other.
     ghost is_over_file: { (c : Self) → IsOverFile (request c) (file c) (limit c) (answer c) };
@@ -61,9 +59,9 @@ pub(crate) fn over_file<C: FileCommand, F: Shelf, K: Sink>(
     shelf: &mut F,
     out: &mut K,
 ) -> Ending
-    ensures { (left : Option (List ℕ)) → Does (C.request command.now) result (F.files shelf.old) left
+    ensures { (left : Option (List ℕ)) → Does (C.request command.now) result left
         (sink_log K.Sink out.old) (sink_log K.Sink out.new)
-        (F.failures shelf.old) (F.failures shelf.new) (F.failed_name shelf.old) (F.failed_name shelf.new) (F.asked shelf.old) (F.asked shelf.new) ⊥ }
+        (shelf_log F.Shelf shelf.old) (shelf_log F.Shelf shelf.new) ⊥ }
 {
     let mut bytes = Vec::new(alloc);
     match load_bytes(command.file(), command.limit(), shelf, &mut bytes) {

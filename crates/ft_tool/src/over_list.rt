@@ -1,8 +1,7 @@
 //! Fault lists that are tried on an object.
 ghost use Rattle.std.specs.Prelude.{◌≡◌, ◌≢◌, ◌≤◌, Some};
-ghost use Rattle.ft_edge.specs.Causes.{Rose};
 ghost use Rattle.ft_command.specs.Asked.{campaign_view};
-ghost use Rattle.ft_tool.specs.Logs.{sink_log};
+ghost use Rattle.ft_edge.specs.Logs.{sink_log, shelf_log, LoadFails, NoLoadFails};
 ghost use Rattle.ft_tool.specs.Replies.{IsToldFile};
 ghost use Rattle.ft_tool.specs.Told.{OverListOf, LoadsOther};
 ghost use Rattle.ft_tool.specs.Endings.{Ends};
@@ -21,7 +20,7 @@ pub(crate) trait Target {
     ghost use Rattle.ft_types.specs.declared.object.Object.{Object};
     ghost use Rattle.ft_campaign.specs.declared.verdict.Verdict.{Verdict};
     ghost use Rattle.ft_tool.specs.Lists.{OverFaults};
-    ghost use Rattle.ft_tool.specs.Logs.{sink_log};
+    ghost use Rattle.ft_edge.specs.Logs.{sink_log};
     ghost use Rattle.ft_tool.specs.Endings.{Ends};
 
     // The object.
@@ -44,9 +43,8 @@ pub(crate) trait Target {
         requires known { known self.now }
         requires faults { length faults.now ≤ 65536 }
         requires steps { asked.now.steps ≤ 1000000 }
-        ensures ends { Ends result (OverFaults (promised self.now) (campaign_view asked.now) (object self.now) faults.now)
-            (sink_log K.Sink out.old) (sink_log K.Sink out.new) ⊥ }
-        ensures failures { result ≢ Ending.WriteFailed → K.failures out.new ≡ K.failures out.old };
+        ensures { Ends result (OverFaults (promised self.now) (campaign_view asked.now) (object self.now) faults.now)
+            (sink_log K.Sink out.old) (sink_log K.Sink out.new) ⊥ };
 }
 
 /// Loads the fault list of a campaign, whose object's file has these bytes, and tries it.
@@ -63,9 +61,9 @@ pub(crate) fn over_list<T: Target, F: Shelf, K: Sink>(
     requires own { IsToldFile (F.files shelf.old) asked.now.object.now bytes.now }
     ensures ends { Ends result (OverListOf (T.promised target.now) (campaign_view asked.now) (F.files shelf.old) bytes.now (T.object target.now))
         (sink_log K.Sink out.old) (sink_log K.Sink out.new)
-        (Rose (F.failures shelf.old) (F.failures shelf.new) × (F.failed_name shelf.new ≡ Some asked.now.faults.now)) }
-    ensures failures { result ≢ Ending.WriteFailed → K.failures out.new ≡ K.failures out.old }
-    ensures load_failures { result ≢ Ending.LoadFailed → (F.failures shelf.new ≡ F.failures shelf.old) × (F.failed_name shelf.new ≡ F.failed_name shelf.old) }
+        (LoadFails asked.now.faults.now (shelf_log F.Shelf shelf.old) (shelf_log F.Shelf shelf.new)) }
+    ensures load_failures { result ≢ Ending.LoadFailed → NoLoadFails
+        (shelf_log F.Shelf shelf.old) (shelf_log F.Shelf shelf.new) }
     ensures made { LoadsOther (campaign_view asked.now) (F.asked shelf.old) (F.asked shelf.new) }
 {
     match list_of(alloc, asked, bytes, shelf) {

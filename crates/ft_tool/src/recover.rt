@@ -1,21 +1,20 @@
 //! The command `recover`.
 ghost use Rattle.std.specs.Prelude.{◌≡◌, ◌≢◌, None, OnOk, OnErr};
 ghost use Rattle.ft_command.specs.Asked.{run_view};
-ghost use Rattle.ft_edge.specs.Causes.{Rose};
-ghost use Rattle.ft_edge.specs.Puts.{PutsLines, BreaksOff};
+ghost use Rattle.ft_edge.specs.Lines.{Puts, end_of_puts};
 ghost use Rattle.ft_types.specs.Spellable.{IsSpellable};
 ghost use Rattle.ft_typing.specs.Accepted.{refusal};
-ghost use Rattle.ft_tool.specs.Logs.{sink_log};
+ghost use Rattle.ft_edge.specs.Logs.{sink_log};
 ghost use Rattle.ft_tool.specs.Answers.{RecoversObject, again_lines};
 ghost use Rattle.ft_tool.specs.Endings.{Ends, again_of, ending_of_recovery};
 ghost use Rattle.ft_tool.specs.Texts.{again_line};
 
 use crate::check::check;
-use crate::ending::{Ending, put_piece, refuse_check};
+use crate::ending::{Ending, refuse_check};
 use crate::over_object::ObjectCommand;
 use ft_checker::Checked;
 use ft_command::Run;
-use ft_edge::{Failed, Sink};
+use ft_edge::{Failed, Sink, put_line};
 use ft_isa::Plan;
 use ft_recover::RecoverEnd;
 use ft_text::Line;
@@ -35,13 +34,10 @@ fn again_line(count: u64) -> Line
 
 /// Puts the line of a restart, where there was one.
 fn put_again<K: Sink>(again: Option<u64>, out: &mut K) -> Result<(), Failed>
-    ensures ok { OnOk result (PutsLines (again_lines again) (K.written out.old) (K.written out.new) (K.pieces out.old) (K.pieces out.new)) }
-    ensures err { OnErr result (BreaksOff (again_lines again) (K.written out.old) (K.written out.new) (K.pieces out.old) (K.pieces out.new)) }
-    ensures same_count { OnOk result (K.failures out.new ≡ K.failures out.old) }
-    ensures cause { OnErr result (Rose (K.failures out.old) (K.failures out.new)) }
+    ensures { Puts (end_of_puts result) (again_lines again) (sink_log K.Sink out.old) (sink_log K.Sink out.new) }
 {
     match again {
-        Some(count) => put_piece(again_line(count).as_bytes(), out),
+        Some(count) => put_line(again_line(count).as_bytes(), out),
         None => Ok(()),
     }
 }
@@ -79,9 +75,8 @@ fn recover_checked<P: Program, K: Sink>(
 ) -> Ending
     requires spellable { IsSpellable (P.object checked.now) }
     requires accepted { refusal (P.object checked.now) ≡ None }
-    ensures ends { Ends result (RecoversObject (run_view run.now) (P.object checked.now))
+    ensures { Ends result (RecoversObject (run_view run.now) (P.object checked.now))
         (sink_log K.Sink out.old) (sink_log K.Sink out.new) ⊥ }
-    ensures failures { result ≢ Ending.WriteFailed → K.failures out.new ≡ K.failures out.old }
 {
     let plan = Plan {
         strike: run.strike,
@@ -97,9 +92,8 @@ fn recover_checked<P: Program, K: Sink>(
 /// Runs an object that is accepted, and again where a fault is detected.
 fn recover_object<P: Program, K: Sink>(alloc: Global, program: &P, run: &Run, out: &mut K) -> Ending
     requires { IsSpellable (P.object program.now) }
-    ensures ends { Ends result (RecoversObject (run_view run.now) (P.object program.now))
+    ensures { Ends result (RecoversObject (run_view run.now) (P.object program.now))
         (sink_log K.Sink out.old) (sink_log K.Sink out.new) ⊥ }
-    ensures failures { result ≢ Ending.WriteFailed → K.failures out.new ≡ K.failures out.old }
 {
     let checked = match check(alloc, program) {
         Ok(checked) => checked,

@@ -2,7 +2,7 @@
 ghost use Rattle.std.specs.Prelude.{◌≡◌, ◌≢◌};
 ghost use Rattle.ft_command.specs.Asked.{run_view};
 ghost use Rattle.ft_types.specs.Spellable.{IsSpellable};
-ghost use Rattle.ft_tool.specs.Logs.{sink_log};
+ghost use Rattle.ft_edge.specs.Logs.{sink_log};
 ghost use Rattle.ft_tool.specs.Answers.{RunsObject};
 ghost use Rattle.ft_tool.specs.Endings.{Ends};
 
@@ -19,9 +19,8 @@ use std::alloc::Global;
 /// Runs an object that is accepted.
 fn run_object<P: Program, K: Sink>(alloc: Global, program: &P, run: &Run, out: &mut K) -> Ending
     requires { IsSpellable (P.object program.now) }
-    ensures ends { Ends result (RunsObject (run_view run.now) (P.object program.now))
+    ensures { Ends result (RunsObject (run_view run.now) (P.object program.now))
         (sink_log K.Sink out.old) (sink_log K.Sink out.new) ⊥ }
-    ensures failures { result ≢ Ending.WriteFailed → K.failures out.new ≡ K.failures out.old }
 {
     let checked = match check(alloc, program) {
         Ok(checked) => checked,

@@ -1,14 +1,12 @@
 //! The top call.
 ghost use Rattle.std.specs.Prelude.{◌≡◌, ◌≢◌, ◌⊎◌, [], map, string_bytes, IsTrue};
-ghost use Rattle.ft_edge.specs.Causes.{Rose};
-ghost use Rattle.ft_edge.specs.Puts.{PutsNothing};
-ghost use Rattle.ft_tool.specs.Logs.{sink_log};
+ghost use Rattle.ft_edge.specs.Logs.{sink_log, shelf_log, NoLoadFails, source_log};
 ghost use Rattle.ft_tool.specs.Calls.{HasMade, is_early, Loads, TakesFrom};
 ghost use Rattle.ft_tool.specs.Does.{Does, FailsTaking, TakesFor};
 ghost use Rattle.ft_command.specs.Asked.{asked};
 ghost use Rattle.ft_command.specs.Commands.{Asks, Usage, HasFewSteps, HasTurns};
 ghost use Rattle.ft_tool.specs.Answers.{IsAnswer, Concludes, BreaksOff, FailedToLoad, FailedToTake, is_status};
-ghost use Rattle.ft_tool.specs.Endings.{Ends, ends_early};
+ghost use Rattle.ft_tool.specs.Endings.{Unwritten, part_end, Ends, ends_early};
 
 use crate::assemble::AssembleCommand;
 use crate::campaign::campaign_file;
@@ -43,11 +41,12 @@ fn obey<F: Shelf, I: Source, K: Sink>(
 ) -> Ending
     requires few_steps { HasFewSteps (asked command) }
     requires turns { HasTurns (asked command) }
-    ensures does { Does (asked command.entry) result (F.files shelf.old) (I.left script.old)
-        (sink_log K.Sink out.old) (sink_log K.Sink out.new)
-        (F.failures shelf.old) (F.failures shelf.new) (F.failed_name shelf.old) (F.failed_name shelf.new) (F.asked shelf.old) (F.asked shelf.new)
-        (FailsTaking (asked command.entry) (F.files shelf.old) (I.failures script.old) (I.failures script.new)) }
-    ensures script { TakesFor (asked command.entry) (F.files shelf.old) (I.takes script.old) (I.takes script.new) (I.left script.old) (I.left script.new) ⊎ (script.new ≡ script.old) }
+    ensures does { Does (asked command.entry) result (I.left script.old)
+        (sink_log K.Sink out.old) (sink_log K.Sink out.new) (shelf_log F.Shelf shelf.old) (shelf_log F.Shelf shelf.new)
+        (FailsTaking (asked command.entry) (F.files shelf.old)
+        (source_log I.Source script.old) (source_log I.Source script.new)) }
+    ensures script { TakesFor (asked command.entry) (F.files shelf.old)
+        (source_log I.Source script.old) (source_log I.Source script.new) ⊎ (script.new ≡ script.old) }
     ensures script_failures { result ≢ Ending.LoadFailed → I.failures script.new ≡ I.failures script.old }
 {
     match command {
@@ -83,13 +82,17 @@ fn carry_out<F: Shelf, I: Source, K: Sink>(
 ) -> Ending
     ensures ends { Ends result (IsAnswer (map string_bytes words.now) (F.files shelf.old) (I.left script.old))
         (sink_log K.Sink out.old) (sink_log K.Sink out.new)
-        (FailedToLoad (map string_bytes words.now) (F.files shelf.old) (F.failures shelf.old) (F.failures shelf.new) (F.failed_name shelf.new)
-        ⊎ FailedToTake (map string_bytes words.now) (F.files shelf.old) (I.failures script.old) (I.failures script.new)) }
+        (FailedToLoad (map string_bytes words.now) (shelf_log F.Shelf shelf.old) (shelf_log F.Shelf shelf.new)
+        ⊎ FailedToTake (map string_bytes words.now) (F.files shelf.old)
+        (source_log I.Source script.old) (source_log I.Source script.new)) }
     ensures usage { result ≡ Ending.Usage → Asks (map string_bytes words.now) Usage }
-    ensures failures { result ≢ Ending.WriteFailed → K.failures out.new ≡ K.failures out.old }
-    ensures load_failures { result ≢ Ending.LoadFailed → (F.failures shelf.new ≡ F.failures shelf.old) × (F.failed_name shelf.new ≡ F.failed_name shelf.old) }
-    ensures script { TakesFrom (map string_bytes words.now) (F.files shelf.old) (I.takes script.old) (I.takes script.new) (I.left script.old) (I.left script.new) ⊎ (script.new ≡ script.old) }
-    ensures loads { Loads (map string_bytes words.now) (F.files shelf.old) (IsTrue (ends_early result)) (F.asked shelf.old) (F.asked shelf.new)
+    ensures failures { part_end result ≢ Unwritten → K.failures out.new ≡ K.failures out.old }
+    ensures load_failures { result ≢ Ending.LoadFailed → NoLoadFails
+        (shelf_log F.Shelf shelf.old) (shelf_log F.Shelf shelf.new) }
+    ensures script { TakesFrom (map string_bytes words.now) (F.files shelf.old)
+        (source_log I.Source script.old) (source_log I.Source script.new) ⊎ (script.new ≡ script.old) }
+    ensures loads { Loads (map string_bytes words.now) (IsTrue (ends_early result))
+        (shelf_log F.Shelf shelf.old) (shelf_log F.Shelf shelf.new)
         ⊎ ((result ≡ Ending.NoMemory) × HasMade [] (F.asked shelf.old) (F.asked shelf.new)) }
     ensures script_failures { result ≢ Ending.LoadFailed → I.failures script.new ≡ I.failures script.old }
 {
@@ -116,22 +119,25 @@ pub fn tool<F: Shelf, I: Source, K: Sink>(
     // steps exactly what the run without the strike has, or it is detected and has a prefix of that. A recovery puts the
     // whole output of the run without the strike. And what is linked of accepted modules is accepted and runs as they do.
     ensures headline { result ≢ 3 → result ≢ 4 → result ≢ 5 →
-        Concludes (IsAnswer (map string_bytes words.now) (F.files shelf.old) (I.left script.old)) result (K.written out.old) (K.written out.new) (K.pieces out.old) (K.pieces out.new) }
+        Concludes (IsAnswer (map string_bytes words.now) (F.files shelf.old) (I.left script.old)) result
+        (sink_log K.Sink out.old) (sink_log K.Sink out.new) }
     ensures usage { result ≡ 2 → Asks (map string_bytes words.now) Usage }
 
     // A load of the command's own file failed, or a take of its script, and nothing was put.
     ensures load_failure { result ≡ 3 →
-        FailedToLoad (map string_bytes words.now) (F.files shelf.old) (F.failures shelf.old) (F.failures shelf.new) (F.failed_name shelf.new)
-        ⊎ FailedToTake (map string_bytes words.now) (F.files shelf.old) (I.failures script.old) (I.failures script.new) }
-    ensures load_failure_puts_nothing { result ≡ 3 → PutsNothing (K.written out.old) (K.written out.new) (K.pieces out.old) (K.pieces out.new) }
+        FailedToLoad (map string_bytes words.now) (shelf_log F.Shelf shelf.old) (shelf_log F.Shelf shelf.new)
+        ⊎ FailedToTake (map string_bytes words.now) (F.files shelf.old)
+        (source_log I.Source script.old) (source_log I.Source script.new) }
+    ensures load_failure_puts_nothing { result ≡ 3 → sink_log K.Sink out.new ≡ sink_log K.Sink out.old }
 
-    // A put failed, and it was the last: the pieces before it were put, and a prefix of its own.
-    ensures write_failure { result ≡ 4 → Rose (K.failures out.old) (K.failures out.new) }
-    ensures write_failure_breaks_off { result ≡ 4 →
-        BreaksOff (IsAnswer (map string_bytes words.now) (F.files shelf.old) (I.left script.old)) (K.written out.old) (K.written out.new) (K.pieces out.old) (K.pieces out.new) }
+    // A put failed, and it was the last: the pieces before it were put, and a prefix of its own. The count of failed puts
+    // rose.
+    ensures write_failure { result ≡ 4 →
+        BreaksOff (IsAnswer (map string_bytes words.now) (F.files shelf.old) (I.left script.old))
+        (sink_log K.Sink out.old) (sink_log K.Sink out.new) }
 
     // Nothing was put. This status is meant for memory that ran out.
-    ensures no_memory_puts_nothing { result ≡ 5 → PutsNothing (K.written out.old) (K.written out.new) (K.pieces out.old) (K.pieces out.new) }
+    ensures no_memory_puts_nothing { result ≡ 5 → sink_log K.Sink out.new ≡ sink_log K.Sink out.old }
 
     // The count of failed puts stays where the answer is another.
     ensures write_failures { result ≢ 4 → K.failures out.new ≡ K.failures out.old }
@@ -140,9 +146,11 @@ pub fn tool<F: Shelf, I: Source, K: Sink>(
     // an object, at most 1,048,577 bytes of it, and never again after its end or a failure. Each file is loaded once, in the
     // order of the request and up to its limit, and a fault list or a module exactly when the command comes to it; with
     // statuses 3 and 5 it may be that it is not, and with status 5 that nothing is.
-    ensures load_failures { result ≢ 3 → (F.failures shelf.new ≡ F.failures shelf.old) × (F.failed_name shelf.new ≡ F.failed_name shelf.old) }
-    ensures script { TakesFrom (map string_bytes words.now) (F.files shelf.old) (I.takes script.old) (I.takes script.new) (I.left script.old) (I.left script.new) ⊎ (script.new ≡ script.old) }
-    ensures loads { Loads (map string_bytes words.now) (F.files shelf.old) (IsTrue (is_early result)) (F.asked shelf.old) (F.asked shelf.new)
+    ensures load_failures { result ≢ 3 → NoLoadFails (shelf_log F.Shelf shelf.old) (shelf_log F.Shelf shelf.new) }
+    ensures script { TakesFrom (map string_bytes words.now) (F.files shelf.old)
+        (source_log I.Source script.old) (source_log I.Source script.new) ⊎ (script.new ≡ script.old) }
+    ensures loads { Loads (map string_bytes words.now) (IsTrue (is_early result))
+        (shelf_log F.Shelf shelf.old) (shelf_log F.Shelf shelf.new)
         ⊎ ((result ≡ 5) × HasMade [] (F.asked shelf.old) (F.asked shelf.new)) }
     ensures script_failures { result ≢ 3 → I.failures script.new ≡ I.failures script.old }
 {

@@ -2,7 +2,7 @@
 ghost use Rattle.std.specs.Prelude.{◌≡◌, ◌≢◌};
 ghost use Rattle.ft_command.specs.Asked.{run_view};
 ghost use Rattle.ft_types.specs.Spellable.{IsSpellable};
-ghost use Rattle.ft_tool.specs.Logs.{sink_log};
+ghost use Rattle.ft_edge.specs.Logs.{sink_log};
 ghost use Rattle.ft_tool.specs.Answers.{TrialsObject};
 ghost use Rattle.ft_tool.specs.Endings.{Ends};
 
@@ -23,9 +23,8 @@ pub(crate) fn trial_object<P: Program, K: Sink>(
     out: &mut K,
 ) -> Ending
     requires { IsSpellable (P.object program.now) }
-    ensures ends { Ends result (TrialsObject (run_view run.now) (P.object program.now))
+    ensures { Ends result (TrialsObject (run_view run.now) (P.object program.now))
         (sink_log K.Sink out.old) (sink_log K.Sink out.new) ⊥ }
-    ensures failures { result ≢ Ending.WriteFailed → K.failures out.new ≡ K.failures out.old }
 {
     let mut machine = match Machine::new(alloc, program) {
         Ok(machine) => machine,

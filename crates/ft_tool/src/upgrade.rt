@@ -1,6 +1,6 @@
 //! The command `upgrade`.
 ghost use Rattle.std.specs.Prelude.{◌≡◌, ◌≢◌};
-ghost use Rattle.ft_tool.specs.Logs.{sink_log};
+ghost use Rattle.ft_edge.specs.Logs.{sink_log};
 ghost use Rattle.ft_tool.specs.Objects.{UpgradesObject, OverBytes};
 ghost use Rattle.ft_tool.specs.Endings.{Ends};
 
@@ -13,9 +13,8 @@ use std::alloc::Global;
 
 /// Decodes an object and puts it in version 2 of the format.
 fn upgrade_bytes<K: Sink>(alloc: Global, bytes: &[u8], out: &mut K) -> Ending
-    ensures ends { Ends result (OverBytes UpgradesObject bytes.now)
+    ensures { Ends result (OverBytes UpgradesObject bytes.now)
         (sink_log K.Sink out.old) (sink_log K.Sink out.new) ⊥ }
-    ensures failures { result ≢ Ending.WriteFailed → K.failures out.new ≡ K.failures out.old }
 {
     match decode(alloc, bytes) {
         Ok(object) => put_object(alloc, &object, out),

@@ -1,6 +1,7 @@
-use Rattle.std.proofs.Common.{◌≡◌, ◌⊎◌, ⊎_elim, [], sym, subst, refl, arith, List, ℕ}
-use Rattle.ft_edge.specs.Puts.{PutsLines}
-use Rattle.ft_edge.proofs.PutLines.{puts_none}
+use Rattle.std.proofs.Common.{◌≡◌, ◌⊎◌, ⊎_elim, [], refl, sym, ap, ◌∙◌}
+use Rattle.ft_edge.specs.Lines.{with_lines}
+use Rattle.ft_edge.specs.Logs.{sink_log}
+use Rattle.ft_edge.proofs.Lines.{lines_none}
 use Rattle.ft_types.specs.declared.object.Object.{Object}
 use Rattle.ft_machine.specs.declared.stepped.Stepped.{Stepped}
 use Rattle.ft_machine.specs.declared.stepped.Stepped.TheVariants.{Commit, Quiet, Done, Detected}
@@ -16,11 +17,6 @@ no_line o Detected h = refl
 
 pub returns-in-Quiet : goal.returns-in-Quiet
 returns-in-Quiet g c =
-    let o = g.P.Program.object c.args.program.now in
-    record {
-      puts =
-          subst (λ (ls : List (List ℕ)). PutsLines ls (g.K.Sink.written c.args.out.now) (g.K.Sink.written c.args.out.now) (g.K.Sink.pieces c.args.out.now) (g.K.Sink.pieces c.args.out.now)) (sym (no_line o c.args.stepped c.in-Quiet.is))
-          (puts_none (g.K.Sink.written c.args.out.now) (g.K.Sink.pieces c.args.out.now));
-      count = omega arith;
-      cause = refl;
-    }
+    let log = sink_log g.K.Sink c.args.out.now in
+    let none = no_line (g.P.Program.object c.args.program.now) c.args.stepped c.in-Quiet.is in
+    lines_none log ∙ ap (λ ls. with_lines ls log) (sym none)

@@ -1,17 +1,18 @@
 use Rattle.std.proofs.Common.{◌≡◌, refl, ap, sym, ◌∙◌, subst, arith}
+use Rattle.ft_edge.specs.Logs.{sink_log}
+use Rattle.ft_edge.proofs.Lines.{puts_failed}
 use Rattle.ft_script.specs.declared.command.Command.{Command}
 use Rattle.ft_script.specs.Reads.{command_of}
 use Rattle.ft_debug.specs.declared.moment.Moment.{Moment}
 use Rattle.ft_debug.specs.Inside.{IsSmall}
-use Rattle.ft_debug.proofs.Listed.{broke}
 use Rattle.ft_debug.proofs.Replied.{replied_none, replied_more, replied_all, replied_breaks, small_at}
 use Rattle.ft_debug.proofs.sessions.answer_all.Goals as goal
 
 pub loop-command-init : goal.loop-command-init
 loop-command-init g c = record {
   ready = c.requires.ready;
-  failures = refl;
-  replied = replied_none (g.P.Program.object c.args.program.now) c.args.wild.now c.args.commands.now c.args.debugger.now (g.K.Sink.written c.args.out.now) (g.K.Sink.pieces c.args.out.now) c.requires.holds;
+  replied = replied_none (g.P.Program.object c.args.program.now) c.args.wild.now c.args.commands.now c.args.debugger.now
+      (sink_log g.K.Sink c.args.out.now) c.requires.holds;
 }
 
 pub answer-requires-clause-room : goal.answer-requires-clause-room
@@ -27,11 +28,12 @@ pub answer-requires-clause-small : goal.answer-requires-clause-small
 answer-requires-clause-small g c =
     subst (λ (x : Command). IsSmall (command_of x)) (sym c.command-item.is) (small_at c.args.commands.now c.loop-command.command-index c.command-item.result c.loop-command-test.true c.requires.small)
 
-pub returns-in_err-answer-clause-puts : goal.returns-in_err-answer-clause-puts
-returns-in_err-answer-clause-puts g c =
+pub returns-in_err-answer : goal.returns-in_err-answer
+returns-in_err-answer g c =
     let o = g.P.Program.object c.args.program.now in
-    broke c.from_residual.result _ c.in_err-answer.field-0.0 _ _ _ _ c.from_residual.ensures.0
-    (replied_breaks o c.args.wild.now c.args.commands.now c.loop-command.command-index c.command-item.result c.loop-command.debugger c.answer.new.self c.in_err-answer.field-0.0 _ _ _ _ _ _ c.loop-command-test.true c.command-item.is
+    puts_failed c.from_residual.result _ _ _ c.from_residual.ensures.0
+    (replied_breaks o c.args.wild.now c.args.commands.now c.loop-command.command-index c.command-item.result
+    c.loop-command.debugger c.answer.new.self c.in_err-answer.field-0.0 _ _ _ c.loop-command-test.true c.command-item.is
     c.loop-command.invariant.replied c.in_err-answer.ensures.does)
 
 pub loop-command-preserved : goal.loop-command-preserved
@@ -40,12 +42,13 @@ loop-command-preserved g c =
     let small = subst (λ (x : Command). IsSmall (command_of x)) (sym c.command-item.is) (small_at c.args.commands.now c.loop-command.command-index c.command-item.result c.loop-command-test.true c.requires.small) in
     record {
       ready = c.answer.ensures.ready;
-      failures = c.in_ok-answer.ensures.cause ∙ c.loop-command.invariant.failures;
       replied =
-          replied_more o c.args.wild.now c.args.commands.now c.loop-command.command-index c.command-item.result c.loop-command.debugger c.answer.new.self _ _ _ _ _ _ c.loop-command-test.true c.command-item.is small
+          replied_more o c.args.wild.now c.args.commands.now c.loop-command.command-index c.command-item.result
+          c.loop-command.debugger c.answer.new.self _ _ _ c.loop-command-test.true c.command-item.is small
           c.loop-command.invariant.replied c.in_ok-answer.ensures.does;
     }
 
-pub returns-clause-puts : goal.returns-clause-puts
-returns-clause-puts g c =
-    replied_all (g.P.Program.object c.args.program.now) c.args.wild.now c.args.commands.now c.loop-command.command-index c.loop-command.debugger _ _ _ _ c.loop-command-test.false c.loop-command.invariant.replied
+pub returns : goal.returns
+returns g c =
+    replied_all (g.P.Program.object c.args.program.now) c.args.wild.now c.args.commands.now c.loop-command.command-index
+    c.loop-command.debugger _ _ c.loop-command-test.false c.loop-command.invariant.replied

@@ -1,23 +1,36 @@
-use Rattle.std.proofs.Common.{Ok, Err, length, map, ap, ◌∙◌, subst}
+use Rattle.std.proofs.Common.{length, map, sym, ap, ◌∙◌, subst}
+use Rattle.ft_edge.specs.Lines.{Puts}
+use Rattle.ft_edge.specs.Logs.{sink_log}
 use Rattle.ft_scope.specs.ProgramOf.{program_of}
-use Rattle.ft_meaning.specs.Meaning.{meaning}
-use Rattle.ft_meaning.proofs.Composed.{Meant, answer, meant, names_many}
+use Rattle.ft_meaning.specs.Meaning.{meaning, outputs}
+use Rattle.ft_meaning.specs.Lines.{output_lines}
+use Rattle.ft_meaning.specs.Ends.{EndsAs, put_end}
+use Rattle.ft_meaning.proofs.Composed.{meant, names_many}
 use Rattle.ft_meaning.proofs.whole.mean.Goals as goal
 
-pub returns-in-Ok-statements-clause-ends : goal.returns-in-Ok-statements-clause-ends
-returns-in-Ok-statements-clause-ends g c = (meant c.args.prog.now c.args.turns c.in-Ok-start.state c.statements.new.self (map (λ n. n.items) c.deref-2.result.now) c.deref-3.result.now (g.K.Sink.written c.args.out.now) (g.K.Sink.written c.statements.new.out) (g.K.Sink.pieces c.args.out.now) (g.K.Sink.pieces c.statements.new.out) (Ok c.in-Ok-statements.field-0) (ap (map (λ n. n.items)) c.deref-2.ensures.value ∙ c.in-Ok.ensures) c.deref-3.ensures.value c.in-Ok-start.ensures.vars c.in-Ok-start.ensures.cells c.in-Ok-start.ensures.left c.in-Ok-statements.ensures.runs).ends
-
-pub returns-in-Ok-statements-clause-lines : goal.returns-in-Ok-statements-clause-lines
-returns-in-Ok-statements-clause-lines g c = (meant c.args.prog.now c.args.turns c.in-Ok-start.state c.statements.new.self (map (λ n. n.items) c.deref-2.result.now) c.deref-3.result.now (g.K.Sink.written c.args.out.now) (g.K.Sink.written c.statements.new.out) (g.K.Sink.pieces c.args.out.now) (g.K.Sink.pieces c.statements.new.out) (Ok c.in-Ok-statements.field-0) (ap (map (λ n. n.items)) c.deref-2.ensures.value ∙ c.in-Ok.ensures) c.deref-3.ensures.value c.in-Ok-start.ensures.vars c.in-Ok-start.ensures.cells c.in-Ok-start.ensures.left c.in-Ok-statements.ensures.runs).lines
-
-pub returns-in-Err-Cut-clause-ends : goal.returns-in-Err-Cut-clause-ends
-returns-in-Err-Cut-clause-ends g c = (subst (λ x. Meant (answer (Err x)) (program_of c.args.prog.now).names (meaning (program_of c.args.prog.now) c.args.turns) (g.K.Sink.written c.args.out.now) (g.K.Sink.written c.statements.new.out) (g.K.Sink.pieces c.args.out.now) (g.K.Sink.pieces c.statements.new.out)) c.in-Err-Cut.field-0-is (meant c.args.prog.now c.args.turns c.in-Ok-start.state c.statements.new.self (map (λ n. n.items) c.deref-2.result.now) c.deref-3.result.now (g.K.Sink.written c.args.out.now) (g.K.Sink.written c.statements.new.out) (g.K.Sink.pieces c.args.out.now) (g.K.Sink.pieces c.statements.new.out) (Err c.in-Err-Cut.field-0) (ap (map (λ n. n.items)) c.deref-2.ensures.value ∙ c.in-Ok.ensures) c.deref-3.ensures.value c.in-Ok-start.ensures.vars c.in-Ok-start.ensures.cells c.in-Ok-start.ensures.left c.in-Err-Cut.ensures.runs)).ends
-
-pub returns-in-Err-Cut-clause-lines : goal.returns-in-Err-Cut-clause-lines
-returns-in-Err-Cut-clause-lines g c = (subst (λ x. Meant (answer (Err x)) (program_of c.args.prog.now).names (meaning (program_of c.args.prog.now) c.args.turns) (g.K.Sink.written c.args.out.now) (g.K.Sink.written c.statements.new.out) (g.K.Sink.pieces c.args.out.now) (g.K.Sink.pieces c.statements.new.out)) c.in-Err-Cut.field-0-is (meant c.args.prog.now c.args.turns c.in-Ok-start.state c.statements.new.self (map (λ n. n.items) c.deref-2.result.now) c.deref-3.result.now (g.K.Sink.written c.args.out.now) (g.K.Sink.written c.statements.new.out) (g.K.Sink.pieces c.args.out.now) (g.K.Sink.pieces c.statements.new.out) (Err c.in-Err-Cut.field-0) (ap (map (λ n. n.items)) c.deref-2.ensures.value ∙ c.in-Ok.ensures) c.deref-3.ensures.value c.in-Ok-start.ensures.vars c.in-Ok-start.ensures.cells c.in-Ok-start.ensures.left c.in-Err-Cut.ensures.runs)).lines
+pub returns-clause-ends : goal.returns-clause-ends
+returns-clause-ends g c =
+    let start = c.in-Ok-start.ensures in
+    subst (λ e. EndsAs e (meaning (program_of c.args.prog.now) c.args.turns)) (sym c.end_of_run.ensures)
+    (meant c.args.prog.now c.args.turns c.in-Ok-start.state c.statements.new.self
+    (map (λ n. n.items) c.deref-2.result.now) c.deref-3.result.now _ _
+    c.statements.result (ap (map (λ n. n.items)) c.deref-2.ensures.value ∙ c.in-Ok.ensures) c.deref-3.ensures.value
+    start.vars start.cells start.left
+    c.statements.ensures.runs).ends
 
 pub returns-clause-lines : goal.returns-clause-lines
-returns-clause-lines g c = (subst (λ x. Meant (answer (Err x)) (program_of c.args.prog.now).names (meaning (program_of c.args.prog.now) c.args.turns) (g.K.Sink.written c.args.out.now) (g.K.Sink.written c.statements.new.out) (g.K.Sink.pieces c.args.out.now) (g.K.Sink.pieces c.statements.new.out)) c.in-Err-WriteFault.field-0-is (meant c.args.prog.now c.args.turns c.in-Ok-start.state c.statements.new.self (map (λ n. n.items) c.deref-2.result.now) c.deref-3.result.now (g.K.Sink.written c.args.out.now) (g.K.Sink.written c.statements.new.out) (g.K.Sink.pieces c.args.out.now) (g.K.Sink.pieces c.statements.new.out) (Err c.in-Err-WriteFault.field-0) (ap (map (λ n. n.items)) c.deref-2.ensures.value ∙ c.in-Ok.ensures) c.deref-3.ensures.value c.in-Ok-start.ensures.vars c.in-Ok-start.ensures.cells c.in-Ok-start.ensures.left c.in-Err-WriteFault.ensures.runs)).lines
+returns-clause-lines g c =
+    let start = c.in-Ok-start.ensures in
+    let p = program_of c.args.prog.now in
+    let old = sink_log g.K.Sink c.args.out.now in
+    let new = sink_log g.K.Sink c.statements.new.out in
+    subst (λ e. Puts (put_end e) (output_lines p.names (outputs (meaning p c.args.turns))) old new)
+    (sym c.end_of_run.ensures)
+    (meant c.args.prog.now c.args.turns c.in-Ok-start.state c.statements.new.self
+    (map (λ n. n.items) c.deref-2.result.now) c.deref-3.result.now old new
+    c.statements.result (ap (map (λ n. n.items)) c.deref-2.ensures.value ∙ c.in-Ok.ensures) c.deref-3.ensures.value
+    start.vars start.cells start.left
+    c.statements.ensures.runs).lines
 
 pub start-requires : goal.start-requires
 start-requires g c = ap length c.deref.ensures.value ∙ names_many c.args.prog.now c.in-Ok.names.items c.in-Ok.ensures

@@ -1,22 +1,39 @@
 use Rattle.std.proofs.Common.{length, ◌*◌}
+use Rattle.ft_edge.specs.Logs.{sink_log}
 use Rattle.ft_command.specs.Asked.{campaign_view}
 use Rattle.ft_typing.proofs.Acceptance.{accepted_is_unrefused}
 use Rattle.ft_campaign.proofs.Judged.{none_corrupt as never_corrupt}
 use Rattle.ft_tool.specs.Lists.{NoneCorrupt}
+use Rattle.ft_tool.proofs.Bridged.{nothing_put}
 use Rattle.ft_tool.proofs.Tried.{at_most, tried_concludes, tried_breaks_off, none_corrupt}
 use Rattle.ft_tool.proofs.campaign.campaign_faults.Goals as goal
 
-pub returns-in-Finished-clause-ends : goal.returns-in-Finished-clause-ends
-returns-in-Finished-clause-ends g c =
-    let few = at_most 1000000000 (length c.args.faults.now * c.args.asked.now.steps) (λ above. let e = c.in-Finished.ensures.too_much above in cc) in
-    tried_concludes NoneCorrupt (campaign_view c.args.asked.now) (g.P.Program.object c.args.checked.now) c.args.faults.now c.in-Finished.field-0 0 (g.K.Sink.written c.args.out.now) (g.K.Sink.written c.campaign_counted.new.out) (g.K.Sink.pieces c.args.out.now) (g.K.Sink.pieces c.campaign_counted.new.out) c.in-Finished.ensures.ends few
-    (λ vs h. never_corrupt (g.P.Program.object c.args.checked.now) c.args.faults.now c.args.asked.now.wild.items c.args.asked.now.steps vs c.requires.spellable ((accepted_is_unrefused (g.P.Program.object c.args.checked.now)).1 c.requires.accepted) h)
-    (λ vs is. none_corrupt c.in-Finished.field-0 vs c.in-Finished.ensures.uncorrupted is)
+pub returns-in-Finished : goal.returns-in-Finished
+returns-in-Finished g c =
+    let o = g.P.Program.object c.args.checked.now in
+    let faults = c.args.faults.now in
+    let asked = c.args.asked.now in
+    let h = c.in-Finished.ensures in
+    let few = at_most 1000000000 (length faults * asked.steps) (λ above. let e = h.too_much above in cc) in
+    tried_concludes NoneCorrupt (campaign_view asked) o faults c.in-Finished.field-0 0
+    (sink_log g.K.Sink c.args.out.now) (sink_log g.K.Sink c.campaign_counted.new.out) h.ends h.cause few
+    (λ vs are. never_corrupt o faults asked.wild.items asked.steps vs c.requires.spellable
+    ((accepted_is_unrefused o).1 c.requires.accepted) are) (λ vs is. none_corrupt c.in-Finished.field-0 vs h.uncorrupted
+    is)
 
-pub returns-in-WriteFault-clause-ends : goal.returns-in-WriteFault-clause-ends
-returns-in-WriteFault-clause-ends g c =
-    let few = at_most 1000000000 (length c.args.faults.now * c.args.asked.now.steps) (λ above. let e = c.in-WriteFault.ensures.too_much above in cc) in (
-      c.in-WriteFault.ensures.cause,
-      tried_breaks_off NoneCorrupt (campaign_view c.args.asked.now) (g.P.Program.object c.args.checked.now) c.args.faults.now (g.K.Sink.written c.args.out.now) (g.K.Sink.written c.campaign_counted.new.out) (g.K.Sink.pieces c.args.out.now) (g.K.Sink.pieces c.campaign_counted.new.out) c.in-WriteFault.ensures.ends few
-          (λ vs h. never_corrupt (g.P.Program.object c.args.checked.now) c.args.faults.now c.args.asked.now.wild.items c.args.asked.now.steps vs c.requires.spellable ((accepted_is_unrefused (g.P.Program.object c.args.checked.now)).1 c.requires.accepted) h),
-    )
+pub returns-in-WriteFault : goal.returns-in-WriteFault
+returns-in-WriteFault g c =
+    let o = g.P.Program.object c.args.checked.now in
+    let faults = c.args.faults.now in
+    let asked = c.args.asked.now in
+    let h = c.in-WriteFault.ensures in
+    let few = at_most 1000000000 (length faults * asked.steps) (λ above. let e = h.too_much above in cc) in
+    tried_breaks_off NoneCorrupt (campaign_view asked) o faults (sink_log g.K.Sink c.args.out.now)
+    (sink_log g.K.Sink c.campaign_counted.new.out) h.ends c.campaign_counted.ensures.count h.cause few
+    (λ vs are. never_corrupt o faults asked.wild.items asked.steps vs c.requires.spellable
+    ((accepted_is_unrefused o).1 c.requires.accepted) are)
+
+pub returns-in-NoMemory : goal.returns-in-NoMemory
+returns-in-NoMemory g c =
+    nothing_put (sink_log g.K.Sink c.args.out.now) (sink_log g.K.Sink c.campaign_counted.new.out)
+    c.in-NoMemory.ensures.ends c.in-NoMemory.ensures.cause

@@ -5,4 +5,8 @@ use Rattle.ft_tool.proofs.campaign.campaign_object.Goals as goal
 
 pub returns-in-Err-clause-made : goal.returns-in-Err-clause-made
 returns-in-Err-clause-made g c =
-    inl (unaccepted (refusal (g.P.Program.object c.args.program.now)) c.in-Err.error c.refuse_check.result _ _ ⊥ c.in-Err.ensures.judged c.refuse_check.ensures.ends, refl)
+    inl (
+      unaccepted (refusal (g.P.Program.object c.args.program.now)) c.in-Err.error c.refuse_check.result _ _ ⊥
+          c.in-Err.ensures.judged c.refuse_check.ensures,
+      refl,
+    )

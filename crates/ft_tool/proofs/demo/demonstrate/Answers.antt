@@ -1,26 +1,40 @@
 use Rattle.std.proofs.Common.{refl}
+use Rattle.ft_edge.specs.Logs.{sink_log}
 use Rattle.ft_demo.specs.Sample.{sample_object}
 use Rattle.ft_demo.specs.Demonstrations.{demo_lines}
+use Rattle.ft_tool.proofs.Bridged.{all_put, nothing_put, broken_off}
 use Rattle.ft_tool.proofs.Tried.{sample_undetected}
 use Rattle.ft_tool.proofs.demo.demonstrate.Goals as goal
 
-pub returns-in-Finished-clause-ends : goal.returns-in-Finished-clause-ends
-returns-in-Finished-clause-ends g c =
+pub returns-in-Finished : goal.returns-in-Finished
+returns-in-Finished g c =
     let h = c.in-Finished.ensures.ends in
     record {
       answer = record { pieces = demo_lines (sample_object c.args.turns) h.found; status = 0 };
       is = record { found = h.found; verdicts = h.verdicts; none_corrupt = h.uncorrupted; undetected = sample_undetected c.args.turns c.requires.some c.requires.few; answer = refl };
-      put = h.lines;
+      put = all_put _ (sink_log g.K.Sink c.args.out.now) (sink_log g.K.Sink c.demo.new.out) h.lines
+          c.in-Finished.ensures.cause;
       status_is = refl;
     }
 
-pub returns-in-WriteFault-clause-ends : goal.returns-in-WriteFault-clause-ends
-returns-in-WriteFault-clause-ends g c =
-    let h = c.in-WriteFault.ensures.ends in (
-      c.in-WriteFault.ensures.cause,
-      record {
-        answer = record { pieces = demo_lines (sample_object c.args.turns) h.found; status = 0 };
-        is = record { found = h.found; verdicts = h.verdicts; none_corrupt = h.uncorrupted; undetected = sample_undetected c.args.turns c.requires.some c.requires.few; answer = refl };
-        broken = h.lines;
-      },
-    )
+pub returns-in-WriteFault : goal.returns-in-WriteFault
+returns-in-WriteFault g c =
+    let h = c.in-WriteFault.ensures.ends in
+    record {
+      answer = record { pieces = demo_lines (sample_object c.args.turns) h.found; status = 0 };
+      is = record {
+        found = h.found;
+        verdicts = h.verdicts;
+        none_corrupt = h.uncorrupted;
+        undetected = sample_undetected
+            c.args.turns c.requires.some c.requires.few;
+        answer = refl;
+      };
+      broken = broken_off _ (sink_log g.K.Sink c.args.out.now) (sink_log g.K.Sink c.demo.new.out) h.lines
+          c.demo.ensures.count c.in-WriteFault.ensures.cause;
+    }
+
+pub returns-in-NoMemory : goal.returns-in-NoMemory
+returns-in-NoMemory g c =
+    nothing_put (sink_log g.K.Sink c.args.out.now) (sink_log g.K.Sink c.demo.new.out) c.in-NoMemory.ensures.ends
+    c.in-NoMemory.ensures.cause

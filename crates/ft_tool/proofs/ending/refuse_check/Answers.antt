@@ -8,38 +8,41 @@ use Rattle.ft_tool.proofs.Answered.{piece_concludes, piece_breaks_off}
 use Rattle.ft_tool.proofs.ending.refuse_check.Goals.{in-EntryType, in-CellType, in-Refused}
 use Rattle.ft_tool.proofs.ending.refuse_check.Goals as goal
 
-pub returns-in-Ok-clause-ends : goal.returns-in-Ok-clause-ends
-returns-in-Ok-clause-ends g c =
+pub returns-in-Ok : goal.returns-in-Ok
+returns-in-Ok g c =
     elim c.match-error.branch [
       | in-EntryType w ↦
-          piece_concludes (IsNotAccepted c.args.error) (check_line EntryType) c.as_bytes.result.now 8 _ _ _ _
+          piece_concludes (IsNotAccepted c.args.error) (check_line EntryType) c.as_bytes.result.now 8 _ _
           (subst (λ e. IsNotAccepted e (judged (Some EntryType))) (sym w.in-EntryType.is) refl)
-          (c.as_bytes.ensures ∙ w.line-is ∙ w.entry_line-line.ensures) c.in-Ok.ensures.ok
+          (c.as_bytes.ensures ∙ w.line-is ∙ w.entry_line-line.ensures) c.in-Ok.ensures
       | in-CellType w ↦
-          piece_concludes (IsNotAccepted c.args.error) (check_line (CellType w.in-CellType.cell)) c.as_bytes.result.now 8 _ _ _ _
+          piece_concludes (IsNotAccepted c.args.error) (check_line (CellType w.in-CellType.cell)) c.as_bytes.result.now
+          8 _ _
           (subst (λ e. IsNotAccepted e (judged (Some (CellType w.in-CellType.cell)))) (sym w.in-CellType.is) refl)
-          (c.as_bytes.ensures ∙ w.line-is ∙ w.cell_line-line.ensures) c.in-Ok.ensures.ok
+          (c.as_bytes.ensures ∙ w.line-is ∙ w.cell_line-line.ensures) c.in-Ok.ensures
       | in-Refused w ↦
-          piece_concludes (IsNotAccepted c.args.error) (check_line (Refused w.in-Refused.block w.in-Refused.index w.in-Refused.why)) c.as_bytes.result.now 8 _ _ _ _
+          piece_concludes (IsNotAccepted c.args.error)
+          (check_line (Refused w.in-Refused.block w.in-Refused.index w.in-Refused.why)) c.as_bytes.result.now 8 _ _
           (subst (λ e. IsNotAccepted e (judged (Some (Refused w.in-Refused.block w.in-Refused.index w.in-Refused.why)))) (sym w.in-Refused.is) refl)
-          (c.as_bytes.ensures ∙ w.line-is ∙ w.place_line-line.ensures) c.in-Ok.ensures.ok
+          (c.as_bytes.ensures ∙ w.line-is ∙ w.place_line-line.ensures) c.in-Ok.ensures
     ]
 
-pub returns-in-Err-clause-ends : goal.returns-in-Err-clause-ends
-returns-in-Err-clause-ends g c = (
-  c.in-Err.ensures.cause,
-  elim c.match-error.branch [
-    | in-EntryType w ↦
-        piece_breaks_off (IsNotAccepted c.args.error) (check_line EntryType) c.as_bytes.result.now 8 _ _ _ _
-        (subst (λ e. IsNotAccepted e (judged (Some EntryType))) (sym w.in-EntryType.is) refl)
-        (c.as_bytes.ensures ∙ w.line-is ∙ w.entry_line-line.ensures) c.in-Err.ensures.err
-    | in-CellType w ↦
-        piece_breaks_off (IsNotAccepted c.args.error) (check_line (CellType w.in-CellType.cell)) c.as_bytes.result.now 8 _ _ _ _
-        (subst (λ e. IsNotAccepted e (judged (Some (CellType w.in-CellType.cell)))) (sym w.in-CellType.is) refl)
-        (c.as_bytes.ensures ∙ w.line-is ∙ w.cell_line-line.ensures) c.in-Err.ensures.err
-    | in-Refused w ↦
-        piece_breaks_off (IsNotAccepted c.args.error) (check_line (Refused w.in-Refused.block w.in-Refused.index w.in-Refused.why)) c.as_bytes.result.now 8 _ _ _ _
-        (subst (λ e. IsNotAccepted e (judged (Some (Refused w.in-Refused.block w.in-Refused.index w.in-Refused.why)))) (sym w.in-Refused.is) refl)
-        (c.as_bytes.ensures ∙ w.line-is ∙ w.place_line-line.ensures) c.in-Err.ensures.err
-  ],
-)
+pub returns-in-Err : goal.returns-in-Err
+returns-in-Err g c =
+    elim c.match-error.branch [
+      | in-EntryType w ↦
+          piece_breaks_off (IsNotAccepted c.args.error) (check_line EntryType) c.as_bytes.result.now 8 _ _
+          (subst (λ e. IsNotAccepted e (judged (Some EntryType))) (sym w.in-EntryType.is) refl)
+          (c.as_bytes.ensures ∙ w.line-is ∙ w.entry_line-line.ensures) c.in-Err.ensures
+      | in-CellType w ↦
+          piece_breaks_off (IsNotAccepted c.args.error) (check_line (CellType w.in-CellType.cell)) c.as_bytes.result.now
+          8 _ _
+          (subst (λ e. IsNotAccepted e (judged (Some (CellType w.in-CellType.cell)))) (sym w.in-CellType.is) refl)
+          (c.as_bytes.ensures ∙ w.line-is ∙ w.cell_line-line.ensures) c.in-Err.ensures
+      | in-Refused w ↦
+          piece_breaks_off (IsNotAccepted c.args.error)
+          (check_line (Refused w.in-Refused.block w.in-Refused.index w.in-Refused.why)) c.as_bytes.result.now 8 _ _
+          (subst (λ e. IsNotAccepted e (judged (Some (Refused w.in-Refused.block w.in-Refused.index w.in-Refused.why))))
+          (sym w.in-Refused.is) refl)
+          (c.as_bytes.ensures ∙ w.line-is ∙ w.place_line-line.ensures) c.in-Err.ensures
+    ]

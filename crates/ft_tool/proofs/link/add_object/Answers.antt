@@ -20,10 +20,11 @@ returns-in-Err-add-clause-ends g c =
     let o = g.P.Program.object c.args.program.now in
     Ends-map c.refuse_modules.result (IsUnlinkedBy c.in-Err-add.error) (EndsAtObject modules o) _ _ ⊥ ⊥
     (λ a is. ends_unadded modules o c.in-Err-add.error c.in-Ok.ensures.judged (subst (λ p. IsRefusalOf (added_refusal modules (g.P.Program.object p)) c.in-Err-add.error) c.in-Ok.ensures.program c.in-Err-add.ensures.refused) a is)
-    (λ x. x) c.refuse_modules.ensures.ends
+    (λ x. x) c.refuse_modules.ensures
 
 pub returns-in-Err-clause-ends : goal.returns-in-Err-clause-ends
 returns-in-Err-clause-ends g c =
     let modules = c.args.linker.now in
     let o = g.P.Program.object c.args.program.now in
-    Ends-map c.refuse_check.result (IsNotAccepted c.in-Err.error) (EndsAtObject modules o) _ _ ⊥ ⊥ (λ a is. ends_unaccepted modules o c.in-Err.error c.in-Err.ensures.judged a is) (λ x. x) c.refuse_check.ensures.ends
+    Ends-map c.refuse_check.result (IsNotAccepted c.in-Err.error) (EndsAtObject modules o) _ _ ⊥ ⊥
+    (λ a is. ends_unaccepted modules o c.in-Err.error c.in-Err.ensures.judged a is) (λ x. x) c.refuse_check.ensures

@@ -1,5 +1,6 @@
 use Rattle.std.proofs.Common.{◌≡◌, ◌≤◌, length, Ok, Err, inl, refl, sym, subst}
 use Rattle.ft_edge.specs.Loads.{LoadCause}
+use Rattle.ft_edge.specs.Logs.{shelf_log}
 use Rattle.ft_link_map.specs.declared.link_map.LinkMap.{LinkMap}
 use Rattle.ft_command.specs.Commands.{Links}
 use Rattle.ft_tool.specs.Texts.{link_line}
@@ -20,31 +21,38 @@ link_text-requires g c =
 
 pub returns-in-Ok-Whole-clause-ends : goal.returns-in-Ok-Whole-clause-ends
 returns-in-Ok-Whole-clause-ends g c =
-    let told = g.F.Shelf.files c.args.shelf.now in
-    let again = g.F.Shelf.files c.load_bytes.new.shelf in
+    let shelf = shelf_log g.F.Shelf c.args.shelf.now in
+    let between = shelf_log g.F.Shelf c.load_bytes.new.shelf in
+    let new = shelf_log g.F.Shelf c.link_text.new.shelf in
     let text = c.load_bytes.new.bytes.items in
     let lent = c.as_slice.result.now in
-    let h = subst (λ l. Gives told c.args.name.now 65536 text (Ok l)) c.in-Ok-Whole.field-0-is c.in-Ok-Whole.ensures.gives in
-    Ends-map c.link_text.result (LinksText again lent) (LinksFile told c.args.name.now) _ _
-    ((linkage : LinkMap) × (IsMap lent linkage × FailsInTurn again linkage (g.F.Shelf.failures c.load_bytes.new.shelf) (g.F.Shelf.failures c.link_text.new.shelf) (g.F.Shelf.failed_name c.link_text.new.shelf)))
-    (OfFiles told (λ files. FailsIn (Links c.args.name.now) told files (g.F.Shelf.failures c.args.shelf.now) (g.F.Shelf.failures c.link_text.new.shelf) (g.F.Shelf.failed_name c.link_text.new.shelf)))
-    (λ a is. links_between told again c.args.name.now text lent c.load_bytes.ensures.files c.as_slice.ensures.value h.1 a is)
-    (λ x. failed_between told again c.args.name.now text lent (g.F.Shelf.failures c.args.shelf.now) (g.F.Shelf.failures c.load_bytes.new.shelf) (g.F.Shelf.failures c.link_text.new.shelf) (g.F.Shelf.failed_name c.link_text.new.shelf)
-    c.load_bytes.ensures.files c.as_slice.ensures.value c.in-Ok-Whole.ensures.cause.0 h.1 x)
+    let h = subst (λ l. Gives shelf.files c.args.name.now 65536 text (Ok l)) c.in-Ok-Whole.field-0-is
+    c.in-Ok-Whole.ensures.gives in
+    Ends-map c.link_text.result (LinksText between.files lent) (LinksFile shelf.files c.args.name.now) _ _
+    ((linkage : LinkMap) × (IsMap lent linkage × FailsInTurn linkage between new))
+    (OfFiles shelf.files (λ files. FailsIn (Links c.args.name.now) files shelf new))
+    (λ a is. links_between shelf.files between.files c.args.name.now text lent c.load_bytes.ensures.files
+    c.as_slice.ensures.value h.1 a is)
+    (λ x. failed_between c.args.name.now text lent shelf between new c.load_bytes.ensures.files c.as_slice.ensures.value
+    c.in-Ok-Whole.ensures.cause.0 h.1 x)
     c.link_text.ensures.ends
 
 pub returns-in-Ok-TooLong-clause-ends : goal.returns-in-Ok-TooLong-clause-ends
 returns-in-Ok-TooLong-clause-ends g c =
-    let told = g.F.Shelf.files c.args.shelf.now in
-    let h = subst (λ l. Gives told c.args.name.now 65536 c.load_bytes.new.bytes.items (Ok l)) c.in-Ok-TooLong.field-0-is c.in-Ok-TooLong.ensures.gives in
-    Ends-map c.put_link_line.result (λ a. a ≡ one_piece (link_line 11 65536) 13) (LinksFile told c.args.name.now) _ _ ⊥
-    (OfFiles told (λ files. FailsIn (Links c.args.name.now) told files (g.F.Shelf.failures c.args.shelf.now) (g.F.Shelf.failures c.load_bytes.new.shelf) (g.F.Shelf.failed_name c.load_bytes.new.shelf)))
-    (λ a is. (h.0, (h.1.0, inl (long_map h.1.1 is)))) (λ x. absurd x) c.put_link_line.ensures.ends
+    let shelf = shelf_log g.F.Shelf c.args.shelf.now in
+    let h = subst (λ l. Gives shelf.files c.args.name.now 65536 c.load_bytes.new.bytes.items (Ok l))
+    c.in-Ok-TooLong.field-0-is c.in-Ok-TooLong.ensures.gives in
+    Ends-map c.put_link_line.result (λ a. a ≡ one_piece (link_line 11 65536) 13) (LinksFile shelf.files c.args.name.now)
+    _ _ ⊥
+    (OfFiles shelf.files (λ files. FailsIn (Links c.args.name.now) files shelf
+    (shelf_log g.F.Shelf c.load_bytes.new.shelf)))
+    (λ a is. (h.0, (h.1.0, inl (long_map h.1.1 is)))) (λ x. absurd x) c.put_link_line.ensures
 
 pub returns-in-Err-Failed-clause-ends : goal.returns-in-Err-Failed-clause-ends
 returns-in-Err-Failed-clause-ends g c =
-    let told = g.F.Shelf.files c.args.shelf.now in (
-      record { written = refl; pieces = refl },
-      failed_in (Links c.args.name.now) told _ _ _ c.args.name.now (λ files. inl refl)
-          (subst (λ f. LoadCause (g.F.Shelf.failures c.args.shelf.now) (g.F.Shelf.failures c.load_bytes.new.shelf) (g.F.Shelf.failed_name c.args.shelf.now) (g.F.Shelf.failed_name c.load_bytes.new.shelf) c.args.name.now (Err f)) c.in-Err-Failed.field-0-is c.in-Err-Failed.ensures.cause),
-    )
+    let shelf = shelf_log g.F.Shelf c.args.shelf.now in
+    let new = shelf_log g.F.Shelf c.load_bytes.new.shelf in
+    let name = c.args.name.now in
+    let cause = subst (λ f. LoadCause shelf.failures new.failures shelf.failed_name new.failed_name name (Err f))
+    c.in-Err-Failed.field-0-is c.in-Err-Failed.ensures.cause in
+    (refl, failed_in (Links name) shelf new name (λ files. inl refl) cause)

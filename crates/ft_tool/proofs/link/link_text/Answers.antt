@@ -6,10 +6,10 @@ use Rattle.ft_tool.specs.Endings.{ends_early}
 use Rattle.ft_tool.specs.Files.{IsMapRefused}
 use Rattle.ft_tool.specs.Links.{IsMap, EndsAtMap, LinksText}
 use Rattle.ft_tool.specs.LinkTurns.{FailsInTurn}
-use Rattle.ft_tool.specs.Logs.{sink_log}
-use Rattle.ft_tool.proofs.Answered.{Ends-map}
+use Rattle.ft_edge.specs.Logs.{sink_log, shelf_log}
+use Rattle.ft_tool.proofs.Answered.{Ends-map, answered_or_early}
 use Rattle.ft_tool.proofs.MapNames.{ascii_names}
-use Rattle.ft_tool.proofs.Linking.{known_less, answered_or_early, is_map, map_refused, makes_no_module}
+use Rattle.ft_tool.proofs.Linking.{known_less, is_map, map_refused, makes_no_module}
 use Rattle.ft_tool.proofs.link.link_text.Goals as goal
 
 pub link_files-requires-clause-names : goal.link_files-requires-clause-names
@@ -21,9 +21,11 @@ returns-in-Err-clause-ends g c =
     let told = g.F.Shelf.files c.args.shelf.now in
     let text = c.args.text.now in
     let said = c.in-Err.ensures.said in
+    let shelf = shelf_log g.F.Shelf c.args.shelf.now in
     Ends-map c.refuse_map.result (IsMapRefused c.in-Err.error) (LinksText told text) _ _ ⊥
-    ((linkage : LinkMap) × (IsMap text linkage × FailsInTurn told linkage (g.F.Shelf.failures c.args.shelf.now) (g.F.Shelf.failures c.args.shelf.now) (g.F.Shelf.failed_name c.args.shelf.now)))
-    (λ a is. inl (map_refused text c.requires said.0 said.1 c.in-Err.error said.2 a is)) (λ x. absurd x) c.refuse_map.ensures.ends
+    ((linkage : LinkMap) × (IsMap text linkage × FailsInTurn linkage shelf shelf))
+    (λ a is. inl (map_refused text c.requires said.0 said.1 c.in-Err.error said.2 a is)) (λ x. absurd x)
+    c.refuse_map.ensures
 
 pub returns-in-Err-clause-made : goal.returns-in-Err-clause-made
 returns-in-Err-clause-made g c =
@@ -33,4 +35,4 @@ returns-in-Err-clause-made g c =
     (known_less ((a : Answer) × IsMapRefused c.in-Err.error a) ((a : Answer) × EndsAtMap text a) (IsTrue (ends_early c.refuse_map.result)) (λ x. (x.0, map_refused text c.requires said.0 said.1 c.in-Err.error said.2 x.0 x.1))
     (answered_or_early c.refuse_map.result (IsMapRefused c.in-Err.error)
     (sink_log g.K.Sink c.args.out.now) (sink_log g.K.Sink c.refuse_map.new.out) ⊥
-    c.refuse_map.ensures.ends))
+    c.refuse_map.ensures))

@@ -1,6 +1,6 @@
-use Rattle.std.proofs.Common.{◌≡◌, Some, inl, refl, subst}
+use Rattle.std.proofs.Common.{◌≡◌, inl, refl}
 use Rattle.std.specs.Prelude.{IsTrue}
-use Rattle.ft_edge.specs.Causes.{Rose}
+use Rattle.ft_edge.specs.Logs.{shelf_log, LoadFails}
 use Rattle.ft_format.specs.Broken.{object_of}
 use Rattle.ft_command.specs.Commands.{Surveys}
 use Rattle.ft_command.specs.Asked.{campaign_view}
@@ -21,22 +21,29 @@ over_list-requires-clause-own g c =
 pub returns-in-Ok-clause-ends : goal.returns-in-Ok-clause-ends
 returns-in-Ok-clause-ends g c =
     let asked = campaign_view c.args.asked.now in
-    let told = g.F.Shelf.files c.args.shelf.now in
-    let between = g.F.Shelf.files c.load_object.new.shelf in
-    Ends-map c.over_list.result (OverListOf AnyVerdicts asked between c.bytes.result.now (object_of c.in-Ok.view)) (λ a. OfFiles told (λ files. OverFile (SurveysObject asked files) asked.object files a)) _ _
-    (Rose (g.F.Shelf.failures c.load_object.new.shelf) (g.F.Shelf.failures c.over_list.new.shelf) × (g.F.Shelf.failed_name c.over_list.new.shelf ≡ Some asked.faults))
-    (OfFiles told (λ files. FailsIn (Surveys asked) told files (g.F.Shelf.failures c.args.shelf.now) (g.F.Shelf.failures c.over_list.new.shelf) (g.F.Shelf.failed_name c.over_list.new.shelf)))
-    (λ a is. over_surveyed_between asked told between c.in-Ok.view c.bytes.result.now c.load_object.ensures.files c.bytes.ensures c.in-Ok.ensures.loads a is)
-    (λ x. survey_failed asked told c.in-Ok.view (g.F.Shelf.failures c.args.shelf.now) (g.F.Shelf.failures c.over_list.new.shelf) (g.F.Shelf.failed_name c.over_list.new.shelf) c.in-Ok.ensures.loads (subst (λ n. Rose n (g.F.Shelf.failures c.over_list.new.shelf)) c.in-Ok.ensures.cause.0 x.0, x.1)) c.over_list.ensures.ends
+    let shelf = shelf_log g.F.Shelf c.args.shelf.now in
+    let between = shelf_log g.F.Shelf c.load_object.new.shelf in
+    let new = shelf_log g.F.Shelf c.over_list.new.shelf in
+    Ends-map c.over_list.result (OverListOf AnyVerdicts asked between.files c.bytes.result.now (object_of c.in-Ok.view))
+    (λ a. OfFiles shelf.files (λ files. OverFile (SurveysObject asked files) asked.object files a)) _ _
+    (LoadFails asked.faults between new) (OfFiles shelf.files (λ files. FailsIn (Surveys asked) files shelf new))
+    (λ a is. over_surveyed_between asked shelf.files between.files c.in-Ok.view c.bytes.result.now
+    c.load_object.ensures.files c.bytes.ensures c.in-Ok.ensures.loads a is)
+    (survey_failed asked c.in-Ok.view shelf between new c.in-Ok.ensures.loads c.in-Ok.ensures.cause.0)
+    c.over_list.ensures.ends
 
 pub returns-clause-ends : goal.returns-clause-ends
 returns-clause-ends g c =
     let asked = campaign_view c.args.asked.now in
-    let told = g.F.Shelf.files c.args.shelf.now in
-    Ends-map c.refuse_object.result (IsRefusedBy c.in-Err.fault) (λ a. OfFiles told (λ files. OverFile (SurveysObject asked files) asked.object files a)) _ _ (c.in-Err.fault ≡ Failed)
-    (OfFiles told (λ files. FailsIn (Surveys asked) told files (g.F.Shelf.failures c.args.shelf.now) (g.F.Shelf.failures c.load_object.new.shelf) (g.F.Shelf.failed_name c.load_object.new.shelf)))
-    (λ a is. over_unstruck (SurveysObject asked) told asked.object c.in-Err.fault c.in-Err.ensures.loads a is)
-    (λ e. failed_in (Surveys asked) told _ _ _ asked.object (λ files. inl refl) (object_failed _ _ _ _ asked.object c.in-Err.fault c.in-Err.ensures.cause e)) c.refuse_object.ensures.ends
+    let shelf = shelf_log g.F.Shelf c.args.shelf.now in
+    let new = shelf_log g.F.Shelf c.load_object.new.shelf in
+    Ends-map c.refuse_object.result (IsRefusedBy c.in-Err.fault)
+    (λ a. OfFiles shelf.files (λ files. OverFile (SurveysObject asked files) asked.object files a)) _ _
+    (c.in-Err.fault ≡ Failed)
+    (OfFiles shelf.files (λ files. FailsIn (Surveys asked) files shelf new))
+    (λ a is. over_unstruck (SurveysObject asked) shelf.files asked.object c.in-Err.fault c.in-Err.ensures.loads a is)
+    (λ e. failed_in (Surveys asked) shelf new asked.object (λ files. inl refl)
+    (object_failed asked.object c.in-Err.fault shelf new c.in-Err.ensures.cause e)) c.refuse_object.ensures.ends
 
 pub returns-in-Ok-clause-made : goal.returns-in-Ok-clause-made
 returns-in-Ok-clause-made g c =

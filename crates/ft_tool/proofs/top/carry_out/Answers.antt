@@ -1,22 +1,23 @@
 use Rattle.std.proofs.Common.{map, string_bytes, inl}
-use Rattle.ft_command.specs.Asked.{asked}
-use Rattle.ft_tool.proofs.Obeyed.{asked_ends, asked_usage, asked_loads, asked_takes}
+use Rattle.ft_tool.proofs.Obeyed.{asked_ends, asked_failures, asked_usage, asked_loads, asked_takes}
 use Rattle.ft_tool.proofs.top.carry_out.Goals as goal
 
 pub returns-in-Ok-clause-ends : goal.returns-in-Ok-clause-ends
-returns-in-Ok-clause-ends g c = asked_ends (map string_bytes c.args.words.now) (asked c.in-Ok.command) c.in-Ok.ensures.ok c.obey.result _ _ _ _ _ _ _ _ _ _ _ _ c.obey.ensures.does
+returns-in-Ok-clause-ends g c = asked_ends (map string_bytes c.args.words.now) c.in-Ok.ensures.ok c.obey.ensures.does
 
 pub returns-in-Ok-clause-usage : goal.returns-in-Ok-clause-usage
-returns-in-Ok-clause-usage g c = asked_usage (map string_bytes c.args.words.now) (asked c.in-Ok.command) c.in-Ok.ensures.ok c.obey.result _ _ _ _ _ _ _ _ _ _ _ _ c.obey.ensures.does
-
-pub returns-in-Ok-clause-loads : goal.returns-in-Ok-clause-loads
-returns-in-Ok-clause-loads g c = inl (asked_loads (map string_bytes c.args.words.now) (asked c.in-Ok.command) c.in-Ok.ensures.ok c.obey.result _ _ _ _ _ _ _ _ _ _ _ _ c.obey.ensures.does)
-
-pub returns-in-Ok-clause-script : goal.returns-in-Ok-clause-script
-returns-in-Ok-clause-script g c = asked_takes (map string_bytes c.args.words.now) (asked c.in-Ok.command) _ _ _ _ _ _ c.in-Ok.ensures.ok c.obey.ensures.script
+returns-in-Ok-clause-usage g c = asked_usage (map string_bytes c.args.words.now) c.in-Ok.ensures.ok c.obey.ensures.does
 
 pub returns-in-Ok-clause-failures : goal.returns-in-Ok-clause-failures
-returns-in-Ok-clause-failures g c = c.obey.ensures.does.failures
+returns-in-Ok-clause-failures g c = asked_failures (map string_bytes c.args.words.now) c.in-Ok.ensures.ok c.obey.ensures.does
+
+pub returns-in-Ok-clause-loads : goal.returns-in-Ok-clause-loads
+returns-in-Ok-clause-loads g c =
+    inl (asked_loads (map string_bytes c.args.words.now) c.in-Ok.ensures.ok c.obey.ensures.does)
+
+pub returns-in-Ok-clause-script : goal.returns-in-Ok-clause-script
+returns-in-Ok-clause-script g c =
+    asked_takes (map string_bytes c.args.words.now) c.in-Ok.ensures.ok c.obey.ensures.script
 
 pub returns-in-Ok-clause-load_failures : goal.returns-in-Ok-clause-load_failures
 returns-in-Ok-clause-load_failures g c = c.obey.ensures.does.load_failures

@@ -7,13 +7,14 @@ use Rattle.ft_tool.proofs.Answered.{Ends-map}
 use Rattle.ft_tool.proofs.Upgraded.{decode_refused, decode_has_loaded}
 use Rattle.ft_tool.proofs.upgrade.upgrade_bytes.Goals as goal
 
-pub returns-in-Ok-clause-ends : goal.returns-in-Ok-clause-ends
-returns-in-Ok-clause-ends g c =
+pub returns-in-Ok : goal.returns-in-Ok
+returns-in-Ok g c =
     Ends-map c.put_object.result (UpgradesObject c.in-Ok.object) (OverBytes UpgradesObject c.args.bytes.now) _ _ ⊥ ⊥
-    (λ a is. inl (c.in-Ok.object, ((version_at c.args.bytes.now, c.in-Ok.ensures.spelled), is))) (λ x. x) c.put_object.ensures.ends
+    (λ a is. inl (c.in-Ok.object, ((version_at c.args.bytes.now, c.in-Ok.ensures.spelled), is))) (λ x. x)
+    c.put_object.ensures
 
-pub returns-in-Err-clause-ends : goal.returns-in-Err-clause-ends
-returns-in-Err-clause-ends g c =
+pub returns-in-Err : goal.returns-in-Err
+returns-in-Err g c =
     Ends-map c.refuse_object.result (IsRefusedBy c.fault_of.result) (OverBytes UpgradesObject c.args.bytes.now) _ _ (c.fault_of.result ≡ Failed) ⊥
     (decode_refused c.in-Err.error c.fault_of.result c.args.bytes.now c.fault_of.ensures c.in-Err.ensures.judged)
     (decode_has_loaded c.in-Err.error c.fault_of.result c.fault_of.ensures) c.refuse_object.ensures.ends

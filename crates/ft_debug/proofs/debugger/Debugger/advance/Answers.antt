@@ -4,7 +4,7 @@ use Rattle.ft_debug.proofs.debugger.Debugger.advance.Goals as goal
 
 pub returns-clause-does : goal.returns-clause-does
 returns-clause-does g c =
-    does_advance (g.P.Program.object c.args.program.now) c.args.self.now _ c.step-stepped.result c.put_output.result _ _ _ _
+    does_advance (g.P.Program.object c.args.program.now) c.args.self.now _ c.step-stepped.result c.put_output.result _ _
     (record {
       full = c.requires.ready.full;
       takes = c.step-stepped.ensures.takes;
@@ -13,4 +13,4 @@ returns-clause-does g c =
       count = c.keep.ensures.count;
       breaks = refl;
     })
-    c.put_output.ensures.puts
+    c.put_output.ensures

@@ -10,8 +10,10 @@ returns-else-zap-clause-ready g c = c.zap.ensures.ready
 
 pub returns-then-zap-clause-does : goal.returns-then-zap-clause-does
 returns-then-zap-clause-does g c = λ o.
-    does_zap o c.args.self.now c.zap.new.self c.args.site c.args.value true c.put_text.result _ _ _ _ (sym c.zap.ensures.there ∙ c.if-zap.true) (c.zap.ensures.holds o) c.put_text.ensures.puts
+    does_zap o c.args.self.now c.zap.new.self c.args.site c.args.value true c.put_line.result _ _
+    (sym c.zap.ensures.there ∙ c.if-zap.true) (c.zap.ensures.holds o) c.put_line.ensures
 
 pub returns-else-zap-clause-does : goal.returns-else-zap-clause-does
 returns-else-zap-clause-does g c = λ o.
-    does_zap o c.args.self.now c.zap.new.self c.args.site c.args.value false c.put_text-else-zap.result _ _ _ _ (sym c.zap.ensures.there ∙ c.if-zap.false) (c.zap.ensures.holds o) c.put_text-else-zap.ensures.puts
+    does_zap o c.args.self.now c.zap.new.self c.args.site c.args.value false c.put_line-else-zap.result _ _
+    (sym c.zap.ensures.there ∙ c.if-zap.false) (c.zap.ensures.holds o) c.put_line-else-zap.ensures

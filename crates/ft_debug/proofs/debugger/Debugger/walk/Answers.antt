@@ -1,8 +1,8 @@
 use Rattle.std.proofs.Common.{◌≡◌, ◌&&◌, not, true, false, refl, ap, sym, ◌∙◌, arith}
+use Rattle.ft_edge.specs.Logs.{sink_log}
 use Rattle.ft_semantics.specs.Strike.{is_running}
 use Rattle.ft_debug.specs.Inside.{halting}
-use Rattle.ft_debug.specs.Sessions.{walks}
-use Rattle.ft_debug.proofs.Advanced.{walked_none, walked_more, walk_halts, walk_ends, walk_breaks, does_err}
+use Rattle.ft_debug.proofs.Advanced.{walked_none, walked_more, walk_halts, walk_ends, walk_breaks}
 use Rattle.ft_debug.proofs.debugger.Debugger.walk.Goals as goal
 
 pub loop-init : goal.loop-init
@@ -10,15 +10,16 @@ loop-init g c = record {
   ready = c.requires.ready;
   breaks = refl;
   position = omega arith;
-  failures = refl;
-  walked = walked_none (g.P.Program.object c.args.program.now) (halting c.args.halts c.args.self.now.breaks) c.args.count c.args.self.now (g.K.Sink.written c.args.out.now) (g.K.Sink.pieces c.args.out.now);
+  walked = walked_none (g.P.Program.object c.args.program.now) (halting c.args.halts c.args.self.now.breaks)
+      c.args.count c.args.self.now (sink_log g.K.Sink c.args.out.now);
 }
 
 pub returns-then-not-goes_on-clause-does : goal.returns-then-not-goes_on-clause-does
 returns-then-not-goes_on-clause-does g c =
     let m = c.loop.self.present.machine in
     let off : (not (halting c.args.halts c.args.self.now.breaks m) && is_running m.status) ≡ false = ap (λ b. not (halting c.args.halts b m) && is_running m.status) (sym c.loop.invariant.breaks) ∙ sym c.goes_on.ensures ∙ c.if-not-goes_on.true in
-    walk_halts (g.P.Program.object c.args.program.now) (halting c.args.halts c.args.self.now.breaks) c.args.count c.loop.counter c.args.self.now c.loop.self _ _ _ _ off c.loop.invariant.walked
+    walk_halts (g.P.Program.object c.args.program.now) (halting c.args.halts c.args.self.now.breaks) c.args.count
+    c.loop.counter c.args.self.now c.loop.self _ _ off c.loop.invariant.walked
 
 pub returns-in_err-advance-clause-does : goal.returns-in_err-advance-clause-does
 returns-in_err-advance-clause-does g c =
@@ -26,8 +27,10 @@ returns-in_err-advance-clause-does g c =
     let h = halting c.args.halts c.args.self.now.breaks in
     let m = c.loop.self.present.machine in
     let on : (not (h m) && is_running m.status) ≡ true = ap (λ b. not (halting c.args.halts b m) && is_running m.status) (sym c.loop.invariant.breaks) ∙ sym c.goes_on.ensures ∙ c.if-not-goes_on.false in
-    does_err (λ w. walks o w h c.args.count) o c.args.self.now c.advance.new.self c.from_residual.result c.in_err-advance.field-0.0 _ _ _ _ c.from_residual.ensures.0
-    (walk_breaks o h c.args.count c.loop.counter c.args.self.now c.loop.self c.advance.new.self c.in_err-advance.field-0.0 _ _ _ _ _ _ c.loop-test.true on c.loop.invariant.walked c.in_err-advance.ensures.does)
+    walk_breaks o h c.args.count c.loop.counter c.args.self.now c.loop.self c.advance.new.self
+    c.in_err-advance.field-0.0
+    c.from_residual.result _ _ _ c.from_residual.ensures.0 c.loop-test.true on c.loop.invariant.walked
+    c.in_err-advance.ensures.does
 
 pub loop-preserved : goal.loop-preserved
 loop-preserved g c =
@@ -39,9 +42,11 @@ loop-preserved g c =
       ready = c.advance.ensures.ready;
       breaks = c.advance.ensures.breaks ∙ c.loop.invariant.breaks;
       position = (let before = c.loop.invariant.position in let more = c.advance.ensures.position in omega arith);
-      failures = c.in_ok-advance.ensures.cause ∙ c.loop.invariant.failures;
-      walked = walked_more o h c.args.count c.loop.counter c.args.self.now c.loop.self c.advance.new.self _ _ _ _ _ _ c.loop-test.true on c.loop.invariant.walked c.in_ok-advance.ensures.does;
+      walked = walked_more o h c.args.count c.loop.counter c.args.self.now c.loop.self c.advance.new.self _ _ _
+          c.loop-test.true on c.loop.invariant.walked c.in_ok-advance.ensures.does;
     }
 
 pub returns-clause-does : goal.returns-clause-does
-returns-clause-does g c = walk_ends (g.P.Program.object c.args.program.now) (halting c.args.halts c.args.self.now.breaks) c.args.count c.loop.counter c.args.self.now c.loop.self _ _ _ _ c.loop-test.false c.loop.invariant.walked
+returns-clause-does g c =
+    walk_ends (g.P.Program.object c.args.program.now) (halting c.args.halts c.args.self.now.breaks) c.args.count
+    c.loop.counter c.args.self.now c.loop.self _ _ c.loop-test.false c.loop.invariant.walked

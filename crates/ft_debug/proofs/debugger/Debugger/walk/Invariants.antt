@@ -1,4 +1,5 @@
 use Rattle.std.proofs.Common.{◌≡◌, ◌+◌}
+use Rattle.ft_edge.specs.Logs.{sink_log}
 use Rattle.ft_debug.specs.Inside.{Ready, halting}
 use Rattle.ft_debug.proofs.Advanced.{Walked}
 use Rattle.ft_debug.proofs.debugger.Debugger.walk.Given as goal
@@ -10,6 +11,6 @@ invariant-loop g l =
       ready : Ready o l.self;
       breaks : l.self.breaks ≡ l.fn.self.breaks;
       position : l.self.present.position ≡ l.fn.self.present.position + l.counter;
-      failures : g.K.Sink.failures l.out ≡ g.K.Sink.failures l.fn.out;
-      walked : Walked o (halting l.halts l.fn.self.breaks) l.count l.counter l.fn.self l.self (g.K.Sink.written l.fn.out) (g.K.Sink.written l.out) (g.K.Sink.pieces l.fn.out) (g.K.Sink.pieces l.out);
+      walked : Walked o (halting l.halts l.fn.self.breaks) l.count l.counter l.fn.self l.self
+          (sink_log g.K.Sink l.fn.out) (sink_log g.K.Sink l.out);
     }

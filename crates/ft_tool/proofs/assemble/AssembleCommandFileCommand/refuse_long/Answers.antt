@@ -6,6 +6,8 @@ use Rattle.ft_tool.specs.Files.{IsTextRefused}
 use Rattle.ft_tool.proofs.Answered.{Ends-map}
 use Rattle.ft_tool.proofs.assemble.AssembleCommandFileCommand.refuse_long.Goals as goal
 
-pub returns-clause-ends : goal.returns-clause-ends
-returns-clause-ends g c =
-    Ends-map c.refuse_text.result (IsTextRefused errors.TooLong) (λ a. (text : List ℕ) → 134217728 < length text → OverAssembly text a) _ _ ⊥ ⊥ (λ a is text long. (TooLong, (long, is))) (λ n. n) c.refuse_text.ensures.ends
+pub returns : goal.returns
+returns g c =
+    Ends-map c.refuse_text.result (IsTextRefused errors.TooLong)
+    (λ a. (text : List ℕ) → 134217728 < length text → OverAssembly text a) _ _ ⊥ ⊥
+    (λ a is text long. (TooLong, (long, is))) (λ n. n) c.refuse_text.ensures

@@ -5,6 +5,8 @@ use Rattle.ft_tool.proofs.Answered.{Ends-map}
 use Rattle.ft_tool.proofs.Compiled.{long_source}
 use Rattle.ft_tool.proofs.compile.CompileCommandFileCommand.refuse_long.Goals as goal
 
-pub returns-clause-ends : goal.returns-clause-ends
-returns-clause-ends g c =
-    Ends-map c.refuse_source.result (IsSourceRefused TooLong) (λ a. (text : List ℕ) → 1048576 < length text → OverText CompilesProgram text a) _ _ ⊥ ⊥ (λ a is text long. long_source CompilesProgram text long a is) (λ n. n) c.refuse_source.ensures.ends
+pub returns : goal.returns
+returns g c =
+    Ends-map c.refuse_source.result (IsSourceRefused TooLong)
+    (λ a. (text : List ℕ) → 1048576 < length text → OverText CompilesProgram text a) _ _ ⊥ ⊥
+    (λ a is text long. long_source CompilesProgram text long a is) (λ n. n) c.refuse_source.ensures
