@@ -17,7 +17,7 @@ use Rattle.ft_semantics.specs.Run.{Ran, run, state_after, wild_after, outputs_af
 use Rattle.ft_machine.specs.Spans.{span}
 use Rattle.ft_machine.proofs.Runs.{run_grows}
 use Rattle.ft_machine.proofs.Spanned.{joined}
-use Rattle.ft_campaign.specs.declared.clean.Clean.{Clean}
+use Rattle.ft_campaign.specs.declared.clean.KeptRun.{KeptRun}
 use Rattle.ft_campaign.specs.declared.clean.Snapshot.{Snapshot}
 use Rattle.ft_campaign.specs.Snapshots.{IsSnapshot, IsClean, IsRacing}
 use Rattle.ft_campaign.proofs.Meetings.{run_free, unstruck}
@@ -45,7 +45,7 @@ struck_running o x w n h =
     (and_parts (is_running (status_after o (Some x) w x.step)) (is_site x.site (length (state_after o (Some x) w x.step).queue)) (and_parts (nat_lt x.step n) (is_there (state_after o (Some x) w x.step) x.site) h).1).0
 
 -- the byte of a step tells what is struck
-pub struck_by_byte : (o : Object) (x : Strike) (w : List Wild) (n : ℕ) (c : Clean) (b : ℕ) → IsClean o w n c → slice_get c.lengths.items x.step ≡ Some b → is_site x.site b ≡ is_struck o (Some x) w n
+pub struck_by_byte : (o : Object) (x : Strike) (w : List Wild) (n : ℕ) (c : KeptRun) (b : ℕ) → IsClean o w n c → slice_get c.lengths.items x.step ≡ Some b → is_site x.site b ≡ is_struck o (Some x) w n
 struck_by_byte o x w n c b h e =
     let q = h.kept.queues x.step b e in
     let low : x.step < n = (let lt = in_range c.lengths.items x.step b e in let long = h.kept.long in let le = h.within in omega (arith, lt, long, le)) in
@@ -58,7 +58,7 @@ struck_by_byte o x w n c b h e =
     in_range : (xs : List ℕ) (i b : ℕ) → slice_get xs i ≡ Some b → i < length xs
     in_range xs i b e = slice_get_within xs i b e
 
-pub struck_by_none : (o : Object) (x : Strike) (w : List Wild) (n : ℕ) (c : Clean) → IsClean o w n c → slice_get c.lengths.items x.step ≡ None → false ≡ is_struck o (Some x) w n
+pub struck_by_none : (o : Object) (x : Strike) (w : List Wild) (n : ℕ) (c : KeptRun) → IsClean o w n c → slice_get c.lengths.items x.step ≡ None → false ≡ is_struck o (Some x) w n
 struck_by_none o x w n c h e =
     ⊎_elim
     (λ (low : x.step < n).
@@ -77,7 +77,7 @@ struck_by_none o x w n c h e =
     ]
 
 -- the snapshot of a strike that strikes is there
-pub snapshot_there : (o : Object) (x : Strike) (w : List Wild) (n : ℕ) (c : Clean) → IsClean o w n c → is_struck o (Some x) w n ≡ true → x.step / 1024 < length c.snapshots.items
+pub snapshot_there : (o : Object) (x : Strike) (w : List Wild) (n : ℕ) (c : KeptRun) → IsClean o w n c → is_struck o (Some x) w n ≡ true → x.step / 1024 < length c.snapshots.items
 snapshot_there o x w n c h struck =
     let low = struck_early o x w n struck in
     let running : status_after o None w x.step ≡ Running = sym (ap (λ (r : Ran). r.state.status) (same_at_strike o x w)) ∙ struck_running o x w n struck in

@@ -24,7 +24,7 @@ use Rattle.ft_campaign.specs.declared.campaign_end.CampaignEnd.{CampaignEnd}
 use Rattle.ft_campaign.specs.declared.campaign_end.CampaignEnd.TheVariants.{Finished, TooMuch, WriteFault, NoMemory}
 use Rattle.ft_campaign.specs.declared.totals.Totals.{Totals}
 use Rattle.ft_campaign.specs.Campaigns.{EndsAs, IsUncorrupted}
-use Rattle.ft_campaign.proofs.Ends.{stays}
+use Rattle.ft_machine.proofs.Driven.{run_later}
 
 neither : (os ps : List Output) (s t : Status) → Agrees os s ps t → ¬ ((os ≡ ps) × (s ≡ t)) → ¬ ((s ≡ Detected) × IsPrefix os ps) → ⊥
 neither os ps s t (equal e f) same noticed = same (e, f)
@@ -38,7 +38,7 @@ never_corrupt o x w n spelled acc h = neither _ _ _ _ (tolerant o (Some x) w n s
 not_later : (o : Object) (x : Strike) (w : List Wild) (k j : ℕ) → IsDetectedAt o x w k → IsDetectedAt o x w j → ¬ (k < j)
 not_later o x w k j h i lt =
     let stopped : HasStopped (status_after o (Some x) w (k + 1)) = subst HasStopped (sym h.1) tt in
-    let same = ap (λ (r : Ran). r.state.status) (stays o (Some x) w (k + 1) j (omega arith) stopped) in
+    let same = ap (λ (r : Ran). r.state.status) (run_later o (Some x) w (k + 1) j (omega arith) stopped) in
     let e : Running ≡ Detected = sym i.0 ∙ same ∙ h.1 in
     cc
 

@@ -13,11 +13,11 @@ use Rattle.ft_semantics.specs.State.{State}
 use Rattle.ft_semantics.specs.Agrees.{IsPrefix}
 use Rattle.ft_semantics.specs.Run.{Ran, outputs_after, status_after, is_struck}
 use Rattle.ft_machine.proofs.Runs.{HasStopped}
-use Rattle.ft_campaign.specs.declared.clean.Clean.{Clean}
+use Rattle.ft_campaign.specs.declared.clean.KeptRun.{KeptRun}
 use Rattle.ft_campaign.specs.declared.verdict.Verdict.TheVariants as verdicts
 use Rattle.ft_campaign.specs.Verdicts.{IsVerdict, IsSame}
 use Rattle.ft_campaign.specs.Snapshots.{HasMet, IsClean, Begins, HasEnded, IsAtMeeting}
-use Rattle.ft_campaign.proofs.Ends.{stays}
+use Rattle.ft_machine.proofs.Driven.{run_later}
 use Rattle.ft_campaign.proofs.Meetings.{has_met}
 
 pub refuted : {F : Type 0} (b : Bool) → Decides b F → b ≡ false → ¬ F
@@ -34,7 +34,7 @@ begins_prefix : (ys xs : List Output) (at : ℕ) → Begins ys at xs → IsPrefi
 begins_prefix ys xs at h = (drop at ys, ap (λ zs. zs ++ drop at ys) h.front ∙ take-append-drop at ys)
 
 -- at the last step
-module _ (o : Object) (x : Strike) (w : List Wild) (n at : ℕ) (status : Status) (last : ℕ) (c : Clean) (clean : IsClean o w n c) (h : HasEnded o x w n at status last) where
+module _ (o : Object) (x : Strike) (w : List Wild) (n at : ℕ) (status : Status) (last : ℕ) (c : KeptRun) (clean : IsClean o w n c) (h : HasEnded o x w n at status last) where
   many : length c.outputs.items ≡ length (outputs_after o None w n)
   many = ap length clean.outputs
 
@@ -66,7 +66,7 @@ prefix_rest ys zs at le h = (
 )
 
 -- at a meeting
-module _ (o : Object) (x : Strike) (w : List Wild) (n at m count : ℕ) (c : Clean) (clean : IsClean o w n c) (h : IsAtMeeting o x w n at m count) where
+module _ (o : Object) (x : Strike) (w : List Wild) (n at m count : ℕ) (c : KeptRun) (clean : IsClean o w n c) (h : IsAtMeeting o x w n at m count) where
   abbrev ys : List Output
   ys = outputs_after o None w n
 
@@ -100,7 +100,7 @@ module _ (o : Object) (x : Strike) (w : List Wild) (n at m count : ℕ) (c : Cle
       ⊎_elim
       (λ (early : c.last < m).
       let stopped : HasStopped (status_after o None w (c.last + 1)) = subst HasStopped (sym d) tt in
-      let same = ap (λ (r : Ran). r.state.status) (stays o None w (c.last + 1) m (omega arith) stopped) in
+      let same = ap (λ (r : Ran). r.state.status) (run_later o None w (c.last + 1) m (omega arith) stopped) in
       let bad : Running ≡ Detected = sym h.running ∙ same ∙ d in
       absurd (cc))
       (λ (late : m ≤ c.last). late)

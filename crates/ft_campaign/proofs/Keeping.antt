@@ -5,12 +5,14 @@ use Rattle.ft_isa.specs.declared.plan.Wild.{Wild}
 use Rattle.ft_isa.proofs.Lists.{there_pushed}
 use Rattle.ft_types.specs.declared.object.Object.{Object}
 use Rattle.ft_semantics.specs.declared.status.Status.TheVariants.{Running}
-use Rattle.ft_semantics.specs.Run.{Ran, state_after, outputs_after, status_after}
+use Rattle.ft_semantics.specs.State.{State}
+use Rattle.ft_semantics.specs.Step.{step}
+use Rattle.ft_semantics.specs.Run.{Ran, extended, run, run-add_one, state_after, wild_after, outputs_after, status_after}
 use Rattle.ft_machine.proofs.Runs.{HasStopped}
-use Rattle.ft_campaign.specs.declared.clean.Clean.{Clean}
+use Rattle.ft_campaign.specs.declared.clean.KeptRun.{KeptRun}
 use Rattle.ft_campaign.specs.declared.clean.Snapshot.{Snapshot}
 use Rattle.ft_campaign.specs.Snapshots.{IsSnapshot, IsClean, Kept, AreSnapshots, AreLengths}
-use Rattle.ft_campaign.proofs.Ends.{stays}
+use Rattle.ft_machine.proofs.Driven.{run_later}
 use Rattle.ft_campaign.proofs.Following.{not_running}
 
 pub snapshots_none : (o : Object) (w : List Wild) → AreSnapshots o w 0 []
@@ -49,10 +51,10 @@ kept_by : (o : Object) (w : List Wild) (k : ℕ) (ls : List ℕ) (xs : List Snap
 kept_by o w k ls xs a b = record { long = a.long; queues = a.queues; row = b.row; snapshots_are = b.snapshots_are }
 
 -- a run that stopped at step k
-pub clean_stopped : (o : Object) (w : List Wild) (k n : ℕ) (c : Clean) → k < n → HasStopped (status_after o None w (k + 1)) → c.outputs.items ≡ outputs_after o None w (k + 1) → c.status ≡ status_after o None w (k + 1) → c.last ≡ k
+pub clean_stopped : (o : Object) (w : List Wild) (k n : ℕ) (c : KeptRun) → k < n → HasStopped (status_after o None w (k + 1)) → c.outputs.items ≡ outputs_after o None w (k + 1) → c.status ≡ status_after o None w (k + 1) → c.last ≡ k
     → status_after o None w k ≡ Running → AreLengths o w (k + 1) c.lengths.items → AreSnapshots o w (k + 1) c.snapshots.items → IsClean o w n c
 clean_stopped o w k n c lt stop outputs status last running a b =
-    let same = stays o None w (k + 1) n (omega (arith, lt)) stop in
+    let same = run_later o None w (k + 1) n (omega (arith, lt)) stop in
     record {
       outputs = outputs ∙ sym (ap (λ (x : Ran). x.outputs) same);
       status = status ∙ sym (ap (λ (x : Ran). x.state.status) same);
@@ -61,5 +63,12 @@ clean_stopped o w k n c lt stop outputs status last running a b =
       upto = k + 1;
       kept = kept_by o w (k + 1) c.lengths.items c.snapshots.items a b;
       within = omega (arith, lt);
-      past = λ i le below e. not_running (status_after o None w (k + 1)) stop (sym (ap (λ (x : Ran). x.state.status) (stays o None w (k + 1) i le stop)) ∙ e);
+      past = λ i le below e. not_running (status_after o None w (k + 1)) stop (sym (ap (λ (x : Ran). x.state.status) (run_later o None w (k + 1) i le stop)) ∙ e);
     }
+
+-- the run after the step that a machine in its state takes
+pub run_more : (o : Object) (w : List Wild) (k : ℕ) (s : State) (v : List Wild) → s ≡ state_after o None w k → v ≡ wild_after o None w k → run o None w (k + 1) ≡ extended (outputs_after o None w k) (step o s v)
+run_more o w k s v es ev =
+    run-add_one o None w k
+    ∙ ap (λ x. extended (outputs_after o None w k) (step o x (wild_after o None w k))) (sym es)
+    ∙ ap (λ x. extended (outputs_after o None w k) (step o s x)) (sym ev)

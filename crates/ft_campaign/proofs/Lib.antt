@@ -1,5 +1,4 @@
 pub mod Begun
-pub mod Ends
 pub mod Equal
 pub mod Faults
 pub mod Following

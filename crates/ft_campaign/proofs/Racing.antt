@@ -23,7 +23,7 @@ use Rattle.ft_campaign.specs.declared.verdict.Verdict.TheVariants as verdicts
 use Rattle.ft_campaign.specs.Verdicts.{IsVerdict}
 use Rattle.ft_campaign.specs.Follows.{Continues, WentSo, Follows}
 use Rattle.ft_campaign.specs.Snapshots.{Meets, IsSnapshot, IsEnd, last, stopped, met, Begins, HasEnded, IsAtMeeting, IsRacing, IsMeeting}
-use Rattle.ft_campaign.proofs.Ends.{stays}
+use Rattle.ft_machine.proofs.Driven.{run_later}
 use Rattle.ft_campaign.proofs.Meetings.{run_past, spares}
 use Rattle.ft_campaign.proofs.Judgements.{apart_corrupt}
 
@@ -40,7 +40,7 @@ no_stop_before o strike w i e running h =
     (λ (later : i < e). later)
     (λ (before : e ≤ i).
     let stop = stop_of (status_after o strike w e) h in
-    let same = ap (λ (r : Ran). r.state.status) (stays o strike w e i before stop) in
+    let same = ap (λ (r : Ran). r.state.status) (run_later o strike w e i before stop) in
     absurd (h (sym same ∙ running)))
     (cases_lt i e)
 
@@ -125,7 +125,7 @@ module _ (o : Object) (x : Strike) (w : List Wild) (n s : ℕ) (q : State) (l : 
       has_ended struck some k stop =
           let there = reached t.done some in
           let ended : ¬ (status_after o (Some x) w (s + t.done) ≡ Running) = (λ e. stop (sym (ap (λ (r : Ran). r.state.status) there) ∙ e)) in
-          let same = stays o (Some x) w (s + t.done) n fits (stop_of (status_after o (Some x) w (s + t.done)) ended) in
+          let same = run_later o (Some x) w (s + t.done) n fits (stop_of (status_after o (Some x) w (s + t.done)) ended) in
           let status_is : q'.status ≡ status_after o (Some x) w (s + t.done) = ap (λ (p : State). p.status) f.state_is ∙ sym (ap (λ (r : Ran). r.state.status) there) in
           record {
             struck = struck;

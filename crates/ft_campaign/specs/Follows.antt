@@ -1,5 +1,7 @@
 -- Steps of a run beside the outputs of another: private to the crate.
-use Rattle.std.specs.Prelude.{◌≡◌, ℕ, ◌≤◌, ◌<◌, Bool, true, false, List, ◌++◌, length, take}
+use Rattle.std.specs.Prelude.{◌≡◌, ℕ, ◌≤◌, ◌<◌, Bool, true, false, List, [], ◌++◌, length, take}
+use Rattle.std.proofs.Common.{sym}
+use Rattle.std.proofs.lemmas.List.{append-nil}
 use Rattle.ft_isa.specs.declared.output.Output.{Output}
 use Rattle.ft_isa.specs.declared.plan.Wild.{Wild}
 use Rattle.ft_types.specs.declared.object.Object.{Object}
@@ -7,6 +9,8 @@ use Rattle.ft_semantics.specs.declared.status.Status.TheVariants.{Running}
 use Rattle.ft_semantics.specs.State.{State}
 use Rattle.ft_semantics.specs.Agrees.{IsPrefix}
 use Rattle.ft_machine.specs.Spans.{span}
+use Rattle.ft_machine.specs.declared.stepped.Pause.{Pause}
+use Rattle.ft_machine.specs.declared.stepped.Pause.TheVariants as pause
 use Rattle.ft_campaign.specs.declared.follow.How.{How}
 use Rattle.ft_campaign.specs.declared.follow.How.TheVariants.{On, Stopped, Apart}
 use Rattle.ft_campaign.specs.declared.follow.Followed.{Followed}
@@ -34,3 +38,14 @@ pub record Follows (o : Object) (s : State) (w : List Wild) (s' : State) (w' : L
   pub wild_is : w' ≡ (span o t.done s w).wild
   pub running : (j : ℕ) → j < t.done → (span o j s w).state.status ≡ Running
   pub went : WentSo t.how o s w whole old new number t.done
+
+-- how steps went that ended so
+abbrev pub how_of : Pause → How
+how_of pause.Running = On
+how_of pause.Done = Stopped
+how_of pause.Detected = Stopped
+how_of pause.Refused = Apart
+
+-- no output
+pub heeds_none : (whole : List Output) (at : ℕ) → at ≤ length whole → Heeds true whole at at []
+heeds_none whole at within = record { front = sym (append-nil (take at whole)); few = within }

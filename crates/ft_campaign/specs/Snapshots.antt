@@ -7,7 +7,7 @@ use Rattle.ft_types.specs.declared.object.Object.{Object}
 use Rattle.ft_semantics.specs.declared.status.Status.{Status}
 use Rattle.ft_semantics.specs.declared.status.Status.TheVariants.{Running, Detected}
 use Rattle.ft_campaign.specs.declared.clean.Snapshot.{Snapshot}
-use Rattle.ft_campaign.specs.declared.clean.Clean.{Clean}
+use Rattle.ft_campaign.specs.declared.clean.KeptRun.{KeptRun}
 use Rattle.ft_semantics.specs.State.{State}
 use Rattle.ft_semantics.specs.Strike.{struck_before}
 use Rattle.ft_semantics.specs.Run.{state_after, wild_after, outputs_after, status_after, is_struck}
@@ -56,7 +56,7 @@ pub record Kept (o : Object) (w : List Wild) (k : ℕ) (lengths : List ℕ) (sna
   pub snapshots_are : (j : ℕ) (s : Snapshot) → slice_get snapshots j ≡ Some s → IsSnapshot o w (1024 * j) s
 
 -- the run without a fault, as it is kept
-pub record IsClean (o : Object) (w : List Wild) (n : ℕ) (c : Clean) : Type 0 where
+pub record IsClean (o : Object) (w : List Wild) (n : ℕ) (c : KeptRun) : Type 0 where
   pub outputs : c.outputs.items ≡ outputs_after o None w n
   pub status : c.status ≡ status_after o None w n
   pub running : c.status ≡ Detected → status_after o None w c.last ≡ Running

@@ -27,7 +27,7 @@ pub(crate) struct Snapshot<'w> {
 
 /// What is kept of the run without a fault.
 #[derive(Drop)]
-pub(crate) struct Clean<'w> {
+pub(crate) struct KeptRun<'w> {
     /// What it committed.
     pub(crate) outputs: Vec<Output>,
     /// The length of the queue before each step of the running machine.
@@ -74,7 +74,7 @@ fn is_site(site: Site, entries: u8) -> bool
     }
 }
 
-impl<'w> Clean<'w> {
+impl<'w> KeptRun<'w> {
     /// Whether a fault strikes something.
     pub(crate) fn is_struck(&self, fault: Strike) -> bool
         ensures { (o : Object) (w : List Answer) (n : ℕ) → IsClean o w n self.now → result ≡ is_struck o (Some fault) w n }

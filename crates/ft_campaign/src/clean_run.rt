@@ -7,7 +7,7 @@ ghost use Rattle.ft_semantics.specs.Step.{step};
 ghost use Rattle.ft_semantics.specs.Run.{state_after, wild_after, outputs_after};
 ghost use Rattle.ft_campaign.specs.Snapshots.{IsClean, IsSnapshot, AreSnapshots};
 
-use crate::clean::{Clean, Snapshot};
+use crate::clean::{KeptRun, Snapshot};
 use ft_isa::{NoMemory, Output, Wild};
 use ft_machine::{Machine, Stepped, WildLeft};
 use ft_semantics::Status;
@@ -109,7 +109,7 @@ pub(crate) fn run_clean<'w, P: Program, L: Ledger>(
     wild: &'w [Wild],
     n: u64,
     steps: &mut Steps<L>,
-) -> Result<Clean<'w>, NoMemory>
+) -> Result<KeptRun<'w>, NoMemory>
     requires spellable { IsSpellable (P.object program.now) }
     requires n { n ≤ 1000000 }
     ensures clean { IfOk result (IsClean (P.object program.now) wild.now n) }
@@ -135,7 +135,7 @@ pub(crate) fn run_clean<'w, P: Program, L: Ledger>(
         turn(&mut machine, program, &mut left, &mut outputs, steps)?;
         let status = machine.status();
         if status != Status::Running {
-            return Ok(Clean {
+            return Ok(KeptRun {
                 outputs,
                 lengths,
                 snapshots,
@@ -144,7 +144,7 @@ pub(crate) fn run_clean<'w, P: Program, L: Ledger>(
             });
         }
     }
-    Ok(Clean {
+    Ok(KeptRun {
         outputs,
         lengths,
         snapshots,

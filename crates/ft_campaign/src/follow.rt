@@ -1,14 +1,12 @@
 //! Steps of a struck run beside the outputs of the run without a fault.
-ghost use Rattle.std.specs.Prelude.{◌≡◌, ◌≤◌, ◌<◌, ◌+◌, ◌++◌, ◌∷◌, [], ℕ, length, take};
-ghost use Rattle.std.specs.Option.{option_to_list};
+ghost use Rattle.std.specs.Prelude.{◌≡◌, ◌≤◌, ◌<◌, ◌+◌, ◌^◌, ◌++◌, ◌∷◌, [], ℕ, length, take, true};
 ghost use Rattle.ft_semantics.specs.Agrees.{IsPrefix};
 ghost use Rattle.ft_types.specs.Spellable.{IsSpellable};
-ghost use Rattle.ft_machine.specs.Advances.{output_told};
 ghost use Rattle.ft_machine.specs.Spans.{span};
-ghost use Rattle.ft_campaign.specs.Follows.{Heeds, Follows};
+ghost use Rattle.ft_campaign.specs.Follows.{Heeds, Follows, how_of};
 
 use ft_isa::Output;
-use ft_machine::{Machine, Stepped, WildLeft};
+use ft_machine::{Machine, Outlet, Pause, WildLeft};
 use ft_semantics::Status;
 use ft_steps::Steps;
 use ft_types::Program;
@@ -35,7 +33,8 @@ pub(crate) struct Followed {
 /// Whether an output is the one at a place of others; then the place is behind it.
 fn is_next(whole: &[Output], at: &mut usize, output: Output) -> bool
     requires { at.old ≤ length whole.now }
-    ensures { Heeds result whole.now at.old at.new (output ∷ []) }
+    ensures heeds { Heeds result whole.now at.old at.new (output ∷ []) }
+    ensures within { at.new ≤ length whole.now }
 {
     match whole.get(*at) {
         None => false,
@@ -50,66 +49,84 @@ fn is_next(whole: &[Output], at: &mut usize, output: Output) -> bool
     }
 }
 
-/// Whether a step's output, if it has one, is the next of others.
-fn is_as_before(whole: &[Output], at: &mut usize, last: Stepped) -> bool
-    requires { at.old ≤ length whole.now }
-    ensures { Heeds result whole.now at.old at.new (option_to_list (output_told last)) }
-{
-    match last {
-        Stepped::Commit(output) => is_next(whole, at, output),
-        Stepped::Quiet => true,
-        Stepped::Done => true,
-        Stepped::Detected => true,
+/// The outputs of the run without a fault, of which the struck run has put the first ones. It does not go on after an
+/// output that is not the next of them.
+#[derive(Drop)]
+pub(crate) struct Expected<'a> {
+    pub(crate) whole: &'a [Output],
+    pub(crate) at: usize,
+}
+
+impl<'a> Outlet for Expected<'a> {
+    ghost use Rattle.std.proofs.Common.{refl};
+    ghost use Rattle.ft_campaign.specs.Follows.{heeds_none};
+
+    ghost heard = { λ first outputs goes now. (now.whole.now ≡ first.whole.now) × (first.at ≤ length first.whole.now → Heeds goes first.whole.now first.at now.at outputs) };
+
+    ghost may = { λ expected output. expected.at ≤ length expected.whole.now };
+
+    ghost heard_none = { λ expected. (refl, λ within. heeds_none expected.whole.now expected.at within) };
+
+    fn take(&mut self, output: Output) -> bool {
+        is_next(self.whole, &mut self.at, output)
     }
 }
 
-/// Takes some steps of a running machine, until it stops or an output is not the next of others.
+/// How steps went that ended so.
+fn how_of(pause: Pause) -> How
+    ensures { result ≡ how_of pause }
+{
+    match pause {
+        Pause::Running => How::On,
+        Pause::Done => How::Stopped,
+        Pause::Detected => How::Stopped,
+        Pause::Refused => How::Apart,
+    }
+}
+
+/// Takes some steps of a running machine, until it stops or an output is not the expected one.
 pub(crate) fn follow<P: Program, L: Ledger>(
     machine: &mut Machine,
     program: &P,
     wild: &mut WildLeft,
     number: u64,
-    whole: &[Output],
-    at: &mut usize,
+    expected: &mut Expected,
     steps: &mut Steps<L>,
 ) -> Followed
     requires spellable { IsSpellable (P.object program.now) }
     requires running { machine.old.status ≡ Status.Running }
-    requires within { at.old ≤ length whole.now }
-    ensures follows { Follows (P.object program.now) machine.old wild.old machine.new wild.new whole.now at.old at.new number result }
+    requires within { expected.old.at ≤ length expected.old.whole.now }
+    ensures follows { Follows (P.object program.now) machine.old wild.old machine.new wild.new expected.old.whole.now expected.old.at expected.new.at number result }
+    ensures whole { expected.new.whole.now ≡ expected.old.whole.now }
     ensures steps { steps.new ≡ steps.old + result.done }
 {
-    let mut done = 0;
-    while done < number {
-        let advance = machine.advance(program, wild, number - done);
-        steps.count(advance.taken);
-        done += advance.taken;
-        if !is_as_before(whole, at, advance.last) {
-            return Followed {
-                done,
-                how: How::Apart,
-            };
-        }
-        if machine.status() != Status::Running {
-            return Followed {
-                done,
-                how: How::Stopped,
-            };
-        }
+    let gone = machine.go(program, wild, number, expected);
+    steps.count(gone.taken);
+    Followed {
+        done: gone.taken,
+        how: how_of(gone.pause),
     }
-    Followed { done, how: How::On }
 }
 
-/// How many outputs a step has.
-fn output_count(last: Stepped) -> usize
-    ensures count { result ≡ length (option_to_list (output_told last)) }
-    ensures few { result ≤ 1 }
-{
-    match last {
-        Stepped::Commit(_) => 1,
-        Stepped::Quiet => 0,
-        Stepped::Done => 0,
-        Stepped::Detected => 0,
+/// How many outputs were taken.
+#[derive(Drop)]
+struct OutputCount {
+    count: usize,
+}
+
+impl Outlet for OutputCount {
+    ghost use Rattle.std.proofs.Common.{refl, sym, add-zero};
+
+    ghost heard = { λ first outputs goes now. (goes ≡ true) × (first.count + length outputs < 2 ^ 64 → now.count ≡ first.count + length outputs) };
+
+    ghost may = { λ count output. Unit {0} };
+
+    ghost heard_none = { λ count. (refl, λ few. sym (add-zero count.count)) };
+
+    fn take(&mut self, output: Output) -> bool {
+        let _ = output;
+        self.count = self.count.wrapping_add(1);
+        true
     }
 }
 
@@ -128,13 +145,8 @@ pub(crate) fn count_outputs<P: Program, L: Ledger>(
     ensures count { result ≡ length (span (P.object program.now) number machine.old wild.old).outputs }
     ensures steps { steps.new ≡ steps.old + number }
 {
-    let mut count = 0;
-    let mut done = 0;
-    while done < number {
-        let advance = machine.advance(program, wild, number - done);
-        steps.count(advance.taken);
-        done += advance.taken;
-        count += output_count(advance.last);
-    }
-    count
+    let mut outputs = OutputCount { count: 0 };
+    let gone = machine.go(program, wild, number, &mut outputs);
+    steps.count(gone.taken);
+    outputs.count
 }

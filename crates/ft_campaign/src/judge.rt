@@ -6,7 +6,7 @@ ghost use Rattle.ft_semantics.specs.State.{HasCells};
 ghost use Rattle.ft_campaign.specs.Snapshots.{IsClean, IsCost};
 ghost use Rattle.ft_campaign.specs.Verdicts.{IsVerdict, AreVerdicts};
 
-use crate::clean::Clean;
+use crate::clean::KeptRun;
 use crate::clean_run::run_clean;
 use crate::follow::count_outputs;
 use crate::race::race;
@@ -21,7 +21,7 @@ use std::sync::ledger::Ledger;
 /// The verdict of a fault: its run from the last snapshot at or before its strike.
 fn judge_fault<'w, P: Program, L: Ledger>(
     program: &P,
-    clean: &Clean<'w>,
+    clean: &KeptRun<'w>,
     fault: Strike,
     wild: &[Wild],
     n: u64,
@@ -40,6 +40,7 @@ fn judge_fault<'w, P: Program, L: Ledger>(
     if !clean.is_struck(fault) {
         return Verdict::Idle;
     }
+    // The length of a vector has a bound, by which the sum of the counts fits.
     let _limit = clean.outputs.len();
     let snapshots = clean.snapshots.as_slice();
     let snapshot = &snapshots[(fault.step / 1024) as usize];

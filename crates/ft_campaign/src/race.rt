@@ -9,8 +9,8 @@ ghost use Rattle.ft_semantics.specs.Run.{state_after, wild_after, status_after, 
 ghost use Rattle.ft_campaign.specs.Verdicts.{IsVerdict};
 ghost use Rattle.ft_campaign.specs.Snapshots.{IsClean, IsRacing, IsMeeting, IsEnd, Meets};
 
-use crate::clean::{Clean, Snapshot};
-use crate::follow::{How, follow};
+use crate::clean::{KeptRun, Snapshot};
+use crate::follow::{Expected, How, follow};
 use crate::verdict::Verdict;
 use ft_isa::{Strike, Wild};
 use ft_machine::{Machine, WildLeft};
@@ -59,7 +59,7 @@ fn is_here(snapshot: &Snapshot, machine: &Machine, left: &WildLeft) -> bool
 }
 
 /// The number of outputs of the run without a fault, where the struck run meets it after step `s`.
-fn meeting(clean: &Clean, s: u64, machine: &Machine, left: &WildLeft) -> Option<usize>
+fn meeting(clean: &KeptRun, s: u64, machine: &Machine, left: &WildLeft) -> Option<usize>
     ensures some { (o : Object) (x : Fault) (w : List Answer) (n : ℕ) → IsClean o w n clean.now → machine.now ≡ state_after o (Some x) w s
         → left.now ≡ wild_after o (Some x) w s → IfSome result (IsMeeting o x w s) }
     ensures none { (o : Object) (x : Fault) (w : List Answer) (n : ℕ) → IsClean o w n clean.now → machine.now ≡ state_after o (Some x) w s
@@ -80,7 +80,7 @@ fn meeting(clean: &Clean, s: u64, machine: &Machine, left: &WildLeft) -> Option<
 /// Follows a struck run from its strike on, to its verdict.
 pub(crate) fn race<P: Program, L: Ledger>(
     program: &P,
-    clean: &Clean,
+    clean: &KeptRun,
     fault: Strike,
     wild: &[Wild],
     n: u64,
@@ -100,29 +100,24 @@ pub(crate) fn race<P: Program, L: Ledger>(
     ensures steps { (e : ℕ) → IsEnd (P.object program.now) fault wild.now n e → steps.new ≤ steps.old + (e - from) }
 {
     let mut s = from;
-    let mut at = begun;
+    let mut expected = Expected {
+        whole: clean.outputs.as_slice(),
+        at: begun,
+    };
     while s < n {
         let next = next_place(s, n);
-        let followed = follow(
-            machine,
-            program,
-            left,
-            next - s,
-            clean.outputs.as_slice(),
-            &mut at,
-            steps,
-        );
+        let followed = follow(machine, program, left, next - s, &mut expected, steps);
         match followed.how {
             How::Apart => return Verdict::Corrupt,
             How::Stopped => {
-                return clean.verdict_at_end(at, machine.status(), s + followed.done - 1);
+                return clean.verdict_at_end(expected.at, machine.status(), s + followed.done - 1);
             }
             How::On => {}
         }
         s = next;
         if let Some(count) = meeting(clean, s, machine, left) {
-            return clean.verdict_at_meeting(at, count);
+            return clean.verdict_at_meeting(expected.at, count);
         }
     }
-    clean.verdict_at_end(at, Status::Running, n)
+    clean.verdict_at_end(expected.at, Status::Running, n)
 }

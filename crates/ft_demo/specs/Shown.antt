@@ -1,5 +1,6 @@
 -- What is found before anything is put: private to the crate.
-use Rattle.std.specs.Prelude.{◌≡◌, List, [], length, count_by, None}
+use Rattle.std.specs.Prelude.{◌≡◌, ◌+◌, ◌^◌, ◌<◌, List, [], length, count_by, None}
+use Rattle.std.proofs.Common.{refl, sym, add-zero}
 use Rattle.ft_isa.specs.declared.output.Output.{Output}
 use Rattle.ft_isa.specs.declared.plan.Strike.{Strike}
 use Rattle.ft_types.specs.declared.object.Object.{Object}
@@ -16,6 +17,14 @@ use Rattle.ft_demo.specs.Demonstrations.{first_faults, last_value_or}
 pub record Tallies (tally : Tally) (outputs : List Output) : Type 0 where
   pub count : tally.count ≡ length outputs
   pub last : tally.last ≡ last_value_or 0 outputs
+
+-- the tally after these outputs, where their number fits: private to the crate
+pub record TalliesMore (old : Tally) (outputs : List Output) (new : Tally) : Type 0 where
+  pub count : old.count + length outputs < 2 ^ 64 → new.count ≡ old.count + length outputs
+  pub last : new.last ≡ last_value_or old.last outputs
+
+pub tallies_none : (tally : Tally) → TalliesMore tally [] tally
+tallies_none tally = record { count = λ few. sym (add-zero tally.count); last = refl }
 
 -- these are the totals of verdicts of which none is corrupt
 pub record AreTotals (o : Object) (faults : List Strike) (totals : Totals) : Type 0 where

@@ -1,8 +1,9 @@
 //! Runs of accepted objects, without a fault and struck once, as types.
 //!
 //! The crate promises that a run without a fault fits its types as long as it is running and is never
-//! detected, and that a struck run stays alike to it or is detected. Its definitions are in
-//! `specs/Runs.antt`, over those of the main theorem.
+//! detected, and that a struck run stays alike to it or is detected. The main theorem of `ft_tolerance` is
+//! handed on here, for whoever uses these runs. The definitions are in `specs/Runs.antt`, over those of the
+//! main theorem.
 #![tactic(auto)]
 
 mod clean;
@@ -11,6 +12,7 @@ mod runs;
 mod struck;
 
 pub use clean::Clean;
+pub use ft_tolerance::one_fault_is_masked_or_detected;
 pub use hit::Hit;
-pub use runs::run;
+pub use runs::{run, run_clean};
 pub use struck::Struck;

@@ -1,14 +1,16 @@
 //! Whole runs of accepted programs under a plan.
-ghost use Rattle.std.specs.Prelude.{◌≡◌, ◌≢◌, ◌≤◌, None};
+ghost use Rattle.std.specs.Prelude.{◌≡◌, ◌≢◌, ◌≤◌, None, []};
 ghost use Rattle.ft_semantics.specs.Agrees.{Agrees};
 ghost use Rattle.ft_semantics.specs.Run.{outputs_after, status_after};
-ghost use Rattle.ft_machine.specs.Drives.{EndsAs, Puts, output_lines, IsExcused};
+ghost use Rattle.ft_isa.specs.declared.output.Output.{Output as Committed};
+ghost use Rattle.ft_machine.specs.Drives.{EndsAs, Puts, output_lines, IsExcused, IsOfCell};
+ghost use Rattle.ft_machine.specs.Goes.{goes_on};
 ghost use Rattle.ft_tolerance.specs.Soundness.{IsNeverDetected};
 
 use crate::clean::Clean;
 use ft_edge::Sink;
 use ft_isa::Plan;
-use ft_machine::{RunEnd, drive};
+use ft_machine::{Gone, Outlet, Pause, RunEnd, drive, run_under};
 use ft_types::Program;
 
 /// Runs an accepted program from its start under a plan, for at most `steps` steps, and puts a line for
@@ -44,4 +46,24 @@ pub fn run<'a, P: Program, K: Sink>(
         taken: _,
     } = start;
     drive(&mut machine, program, plan, steps, out)
+}
+
+/// Runs an accepted program from its start without a fault, for at most `steps` steps, and gives each output to an
+/// outlet. Ends early where the program ends or the outlet does not go on.
+pub fn run_clean<'a, P: Program, T: Outlet>(start: Clean<'a, P>, steps: u64, outlet: &mut T) -> Gone
+    requires taken { start.taken ≡ 0 }
+    requires may { (output : Committed) → IsOfCell start.object output → T.may outlet.old output }
+    ensures heard { T.heard outlet.old (outputs_after start.entry.object None [] result.taken) (goes_on result.pause) outlet.new }
+    ensures whole { result.pause ≢ Pause.Refused → outputs_after start.entry.object None [] steps ≡ outputs_after start.entry.object None [] result.taken }
+{
+    let Clean {
+        program,
+        mut machine,
+        taken: _,
+    } = start;
+    let plan = Plan {
+        strike: None,
+        wild: &[],
+    };
+    run_under(&mut machine, program, plan, steps, outlet)
 }

@@ -1,84 +1,147 @@
--- What a loop of turns has done, against the run.
-use Rattle.std.proofs.Common.{◌≡◌, ℕ, ◌+◌, List, ◌++◌, Option, Some, ap, sym, ◌∙◌, subst, arith}
-use Rattle.std.proofs.lemmas.List.{map-append}
+-- Runs under a plan, of which the outputs are put as lines.
+use Rattle.std.proofs.Common.{◌≡◌, ℕ, ◌+◌, ◌-◌, ◌<◌, ◌≤◌, List, ◌++◌, Option, true, refl, ap, sym, subst, ◌∙◌, arith}
 use Rattle.ft_edge.specs.Told.{append_told}
-use Rattle.ft_edge.specs.Puts.{PutsLines, BreaksOff}
-use Rattle.ft_edge.proofs.PutLines.{told_more, puts_then, breaks_then, breaks_before}
-use Rattle.ft_isa.specs.declared.plan.Wild.{Wild}
-use Rattle.ft_isa.specs.declared.plan.Strike.{Strike}
+use Rattle.ft_edge.specs.Lines.{BreaksOff}
+use Rattle.ft_edge.specs.Puts.{PutsLines}
+use Rattle.ft_edge.specs.Logs.{SinkLog}
+use Rattle.ft_edge.proofs.Lines.{breaks_before}
 use Rattle.ft_isa.specs.declared.output.Output.{Output}
+use Rattle.ft_isa.specs.declared.plan.Strike.{Strike}
+use Rattle.ft_isa.specs.declared.plan.Wild.{Wild}
 use Rattle.ft_types.specs.declared.object.Object.{Object}
+use Rattle.ft_semantics.specs.State.{State, start}
+use Rattle.ft_semantics.specs.Run.{Ran, run, status_after, outputs_after}
 use Rattle.ft_semantics.specs.Strike.{struck_before}
-use Rattle.ft_semantics.specs.State.{State}
-use Rattle.ft_semantics.specs.Step.{step}
-use Rattle.ft_semantics.specs.Run.{Ran, extended, run, run-add_one}
-use Rattle.ft_types.specs.Texts.{line_at}
-use Rattle.ft_machine.specs.declared.run.RunEnd.{RunEnd}
-use Rattle.ft_machine.specs.declared.run.RunEnd.TheVariants.{Done, Detected, OutOfSteps, WriteFault}
-use Rattle.ft_machine.specs.Drives.{EndsAs, EndsWith, TurnEnds, HasTaken, Stops, output_lines, Puts}
-use Rattle.ft_machine.proofs.Runs.{run_stopped, run_grows, HasStopped}
+use Rattle.ft_machine.specs.declared.outlet.Outlet.{Ghosts}
+use Rattle.ft_machine.specs.declared.stepped.Pause.{Pause}
+use Rattle.ft_machine.specs.declared.stepped.Pause.TheVariants.{Running, Done, Detected, Refused}
+use Rattle.ft_machine.specs.Drives.{EndsAs, HasTaken, IsExcused, Puts, PutsOutputs, Stops, output_lines, run_end}
+use Rattle.ft_machine.specs.Goes.{Goes, HasRun, goes_on}
+use Rattle.ft_machine.specs.Spans.{span, Spares}
+use Rattle.ft_machine.proofs.Going.{last_as, last_after}
+use Rattle.ft_machine.proofs.Putting.{lines-append, plain_lines, plain_break}
+use Rattle.ft_machine.proofs.Runs.{HasStopped, run_stopped, run_grows}
+use Rattle.ft_machine.proofs.Spanned.{run_first, run_second, outputs_second, rest_of}
 
--- the lines of outputs, some after others
-pub lines-append : (o : Object) (xs ys : List Output) → output_lines o (xs ++ ys) ≡ output_lines o xs ++ output_lines o ys
-lines-append o xs ys = map-append (line_at o) xs ys
+sooner : (j n before : ℕ) → j < n → n ≤ before → j < before
+sooner j n before below few = omega (arith, below, few)
 
--- the run after the step that a machine in its state takes, struck as the plan says
-pub next : (o : Object) (strike : Option Strike) (w : List Wild) (k : ℕ) (s : State) (v : List Wild) → s ≡ struck_before strike k (run o strike w k).state → v ≡ (run o strike w k).wild
-    → run o strike w (k + 1) ≡ extended (run o strike w k).outputs (step o s v)
-next o strike w k s v es ev =
-    run-add_one o strike w k
-    ∙ ap (λ x. extended (run o strike w k).outputs (step o x (run o strike w k).wild)) (sym es)
-    ∙ ap (λ x. extended (run o strike w k).outputs (step o s x)) (sym ev)
+earlier : (j i n before : ℕ) → j < i → i ≤ n → n ≤ before → j < before
+earlier j i n before below within few = omega (arith, below, within, few)
 
--- what one more turn put
-pub lines_next : (o : Object) (first old new : Option (List ℕ)) (a b c : Option (List (List ℕ))) (xs more : List Output) → PutsLines (output_lines o xs) first old a b → PutsLines (output_lines o more) old new b c → PutsLines (output_lines o (xs ++ more)) first new a c
-lines_next o first old new a b c xs more h i =
-    subst (λ ls. PutsLines ls first new a c) (sym (lines-append o xs more)) (puts_then (output_lines o xs) (output_lines o more) first old new a b c h i)
+further : (n before most : ℕ) → n ≤ before → before ≤ most → n ≤ most
+further n before most few le = omega (arith, few, le)
 
--- a put of one more turn failed
-pub breaks_next : (o : Object) (first old new : Option (List ℕ)) (a b c : Option (List (List ℕ))) (xs more : List Output) → PutsLines (output_lines o xs) first old a b → BreaksOff (output_lines o more) old new b c → BreaksOff (output_lines o (xs ++ more)) first new a c
-breaks_next o first old new a b c xs more h i =
-    subst (λ ls. BreaksOff ls first new a c) (sym (lines-append o xs more)) (breaks_then (output_lines o xs) (output_lines o more) first old new a b c h i)
+module _ {T : Type 0} (outlet : Ghosts T) (o : Object) (strike : Option Strike) (w : List Wild) where
+  -- a run up to its strike, which may end before it
+  module _ (s0 s' : State) (w0 w' : List Wild) (t t' : T) (before n : ℕ) (pause : Pause) (begun : s0 ≡ start o) (answers : w0 ≡ w) (spares : (j : ℕ) → j < before → Spares strike j)
+      (few : n ≤ before) (a : Goes outlet o s0 w0 t s' w' t' n pause) where
+    first_is : (i : ℕ) → i ≤ n → run o strike w i ≡ span o i s0 w0
+    first_is i within = run_first o strike w w0 s0 i begun answers (λ j below. spares j (earlier j i n before below within few))
 
-pub ends_later : (o : Object) (strike : Option Strike) (w : List Wild) (e : RunEnd) (k j : ℕ) → TurnEnds (Some e) (run o strike w k).state.status → EndsAs e (run o strike w (k + j)).state.status
-ends_later o strike w Done k j h = ap (λ r. r.state.status) (run_stopped o strike w k j (subst HasStopped (sym h) tt)) ∙ h
-ends_later o strike w Detected k j h = ap (λ r. r.state.status) (run_stopped o strike w k j (subst HasStopped (sym h) tt)) ∙ h
-ends_later o strike w OutOfSteps k j h = absurd h
-ends_later o strike w WriteFault k j h = tt
+    pub first_run : run o strike w n ≡ span o n s0 w0
+    first_run = run_first o strike w w0 s0 n begun answers (λ j below. spares j (sooner j n before below few))
 
--- more outputs would have followed
-breaks_later : (o : Object) (first new : Option (List ℕ)) (a c : Option (List (List ℕ))) (xs rest : List Output) → BreaksOff (output_lines o xs) first new a c → BreaksOff (output_lines o (xs ++ rest)) first new a c
-breaks_later o first new a c xs rest h = subst (λ ls. BreaksOff ls first new a c) (sym (lines-append o xs rest)) (breaks_before (output_lines o xs) (output_lines o rest) first new a c h)
+    pub ran_first : (most : ℕ) → before ≤ most → (pause ≡ Running → n ≡ most) → HasRun o strike w s' most n pause
+    ran_first most le all = record {
+      state_is = a.state_is ∙ ap (λ (r : Ran). r.state) (sym first_run);
+      status_is = ap (λ (r : Ran). r.state.status) first_run ∙ a.status_is;
+      last = last_as pause (λ i. (span o i s0 w0).outputs) (outputs_after o strike w) n (λ i within. ap (λ (r : Ran). r.outputs) (sym (first_is i within))) a.last;
+      few = further n before most few le;
+      all = all;
+    }
 
--- the outputs of a run that has stopped are those at the stop
-stopped_outputs : (o : Object) (strike : Option Strike) (w : List Wild) (k j : ℕ) → HasStopped (run o strike w k).state.status → (run o strike w k).outputs ≡ (run o strike w (k + j)).outputs
-stopped_outputs o strike w k j h = ap (λ r. r.outputs) (sym (run_stopped o strike w k j h))
+  -- a run from its strike on
+  module _ (s1 s2 s' : State) (w1 w' : List Wild) (t t' : T) (before m : ℕ) (pause : Pause) (state : s1 ≡ (run o strike w before).state) (wild : w1 ≡ (run o strike w before).wild)
+      (struck : s2 ≡ struck_before strike before s1) (spares : (j : ℕ) → before < j → Spares strike j) (some : 0 < m) (a : Goes outlet o s2 w1 t s' w' t' m pause) where
+    pub second_run : (outputs_after o strike w (before + m)) ≡ outputs_after o strike w before ++ (span o m s2 w1).outputs
+    second_run = outputs_second o strike w s1 s2 w1 before state wild struck spares m
 
-pub lines_later : (o : Object) (strike : Option Strike) (w : List Wild) (e : RunEnd) (k j : ℕ) (first old new : Option (List ℕ)) (a b c : Option (List (List ℕ))) (xs more : List Output) → TurnEnds (Some e) (run o strike w k).state.status
-    → (run o strike w k).outputs ≡ xs ++ more → PutsLines (output_lines o xs) first old a b → Puts e (output_lines o more) old new b c → Puts e (output_lines o (run o strike w (k + j)).outputs) first new a c
-lines_later o strike w Done k j first old new a b c xs more h eq eo f =
-    subst (λ ys. PutsLines (output_lines o ys) first new a c) (sym eq ∙ stopped_outputs o strike w k j (subst HasStopped (sym h) tt)) (lines_next o first old new a b c xs more eo f)
-lines_later o strike w Detected k j first old new a b c xs more h eq eo f =
-    subst (λ ys. PutsLines (output_lines o ys) first new a c) (sym eq ∙ stopped_outputs o strike w k j (subst HasStopped (sym h) tt)) (lines_next o first old new a b c xs more eo f)
-lines_later o strike w OutOfSteps k j first old new a b c xs more h eq eo f = absurd h
-lines_later o strike w WriteFault k j first old new a b c xs more h eq eo f =
-    let grown = run_grows o strike w k j in
-    subst (λ ys. BreaksOff (output_lines o ys) first new a c) (sym (grown.1 ∙ ap (λ ys. ys ++ grown.0) eq)) (breaks_later o first new a c (xs ++ more) grown.0 (breaks_next o first old new a b c xs more eo f))
+    pub ran_second : (most : ℕ) → before + m ≤ most → (pause ≡ Running → before + m ≡ most) → HasRun o strike w s' most (before + m) pause
+    ran_second most few all =
+        let is = run_second o strike w s1 s2 w1 before m state wild struck spares some in
+        record {
+          state_is = a.state_is ∙ ap (λ (r : Ran). r.state) (sym is);
+          status_is = ap (λ (r : Ran). r.state.status) is ∙ a.status_is;
+          last = last_after pause (outputs_after o strike w before) (λ i. (span o i s2 w1).outputs) (outputs_after o strike w) before m (outputs_second o strike w s1 s2 w1 before state wild struck spares) a.last;
+          few = few;
+          all = all;
+        }
 
--- the pieces of a run after one more turn
-pub pieces_next : (o : Object) (xs more : List Output) (first old new : Option (List (List ℕ))) → old ≡ append_told first (output_lines o xs) → new ≡ append_told old (output_lines o more) → new ≡ append_told first (output_lines o (xs ++ more))
-pieces_next o xs more first old new eo en =
-    en ∙ ap (λ k. append_told k (output_lines o more)) eo ∙ told_more first (output_lines o xs) (output_lines o more) ∙ ap (append_told first) (sym (lines-append o xs more))
+-- WHAT A DRIVE PUTS
 
--- a run that has stopped stays where it is
-taken_later : (o : Object) (strike : Option Strike) (w : List Wild) (k j : ℕ) (s : State) (first now : Option (List (List ℕ))) → HasStopped (run o strike w k).state.status → HasTaken o strike w k s first now → HasTaken o strike w (k + j) s first now
-taken_later o strike w k j s first now stopped h =
-    let same = run_stopped o strike w k j stopped in
-    record { state_is = h.state_is ∙ ap (λ (r : Ran). r.state) (sym same); pieces = h.pieces ∙ ap (λ (r : Ran). append_told first (output_lines o r.outputs)) (sym same) }
+-- a run that has stopped stays as it is
+pub run_later : (o : Object) (strike : Option Strike) (w : List Wild) (n most : ℕ) → n ≤ most → HasStopped (status_after o strike w n) → run o strike w most ≡ run o strike w n
+run_later o strike w n most le h = ap (run o strike w) (sym (rest_of n most le)) ∙ run_stopped o strike w n (most - n) h
 
-pub stops_later : (o : Object) (strike : Option Strike) (w : List Wild) (e : RunEnd) (k j : ℕ) (s : State) (first now : Option (List (List ℕ))) → TurnEnds (Some e) (run o strike w k).state.status → HasTaken o strike w k s first now
-    → EndsWith (Some e) (λ i. (run o strike w i).outputs) k → Stops e (λ i. HasTaken o strike w i s first now) (λ i. (run o strike w i).outputs) (k + j)
-stops_later o strike w Done k j s first now h taken last = taken_later o strike w k j s first now (subst HasStopped (sym h) tt) taken
-stops_later o strike w Detected k j s first now h taken last = taken_later o strike w k j s first now (subst HasStopped (sym h) tt) taken
-stops_later o strike w OutOfSteps k j s first now h taken last = absurd h
-stops_later o strike w WriteFault k j s first now h taken last = (k, (omega arith, (taken, last)))
+module _ (o : Object) (strike : Option Strike) (w : List Wild) (s : State) (most n : ℕ) where
+  -- after all steps a run is where it ended
+  pub run_whole : (pause : Pause) → ¬ (pause ≡ Refused) → HasRun o strike w s most n pause → run o strike w most ≡ run o strike w n
+  run_whole Running h r = ap (run o strike w) (sym (r.all refl))
+  run_whole Done h r = run_later o strike w n most r.few (subst HasStopped (sym r.status_is) tt)
+  run_whole Detected h r = run_later o strike w n most r.few (subst HasStopped (sym r.status_is) tt)
+  run_whole Refused h r = absurd (h refl)
+
+  pub went : (pause : Pause) → goes_on pause ≡ true → ¬ (pause ≡ Refused)
+  went Running is e = cc
+  went Done is e = cc
+  went Detected is e = cc
+  went Refused is e = cc
+
+  whole_is : (pause : Pause) → goes_on pause ≡ true → HasRun o strike w s most n pause → run o strike w most ≡ run o strike w n
+  whole_is pause is r = run_whole pause (went pause is) r
+
+  pub drive_ends : (pause : Pause) → HasRun o strike w s most n pause → EndsAs (run_end pause) (status_after o strike w most)
+  drive_ends Running r = ap (λ (x : Ran). x.state.status) (whole_is Running refl r) ∙ r.status_is
+  drive_ends Done r = ap (λ (x : Ran). x.state.status) (whole_is Done refl r) ∙ r.status_is
+  drive_ends Detected r = ap (λ (x : Ran). x.state.status) (whole_is Detected refl r) ∙ r.status_is
+  drive_ends Refused r = tt
+
+  module _ (old new : SinkLog) where
+    lines_whole : (pause : Pause) → goes_on pause ≡ true → HasRun o strike w s most n pause → PutsOutputs o (outputs_after o strike w n) true old new
+        → PutsLines (output_lines o (outputs_after o strike w most)) old.written new.written old.pieces new.pieces
+    lines_whole pause is r h =
+        subst (λ (x : Ran). PutsLines (output_lines o x.outputs) old.written new.written old.pieces new.pieces) (sym (whole_is pause is r))
+        (plain_lines (output_lines o (outputs_after o strike w n)) old new h.lines)
+
+    pub drive_lines : (pause : Pause) → HasRun o strike w s most n pause → PutsOutputs o (outputs_after o strike w n) (goes_on pause) old new
+        → Puts (run_end pause) (output_lines o (outputs_after o strike w most)) old.written new.written old.pieces new.pieces
+    drive_lines Running r h = lines_whole Running refl r h
+    drive_lines Done r h = lines_whole Done refl r h
+    drive_lines Detected r h = lines_whole Detected refl r h
+    drive_lines Refused r h =
+        let grown = run_grows o strike w n (most - n) in
+        let whole : outputs_after o strike w most ≡ outputs_after o strike w n ++ grown.0 = ap (outputs_after o strike w) (sym (rest_of n most r.few)) ∙ grown.1 in
+        plain_break (output_lines o (outputs_after o strike w most)) old new
+        (subst (λ ls. BreaksOff ls old new) (sym (ap (output_lines o) whole ∙ lines-append o (outputs_after o strike w n) grown.0))
+        (breaks_before (output_lines o (outputs_after o strike w n)) (output_lines o grown.0) old new h.lines))
+
+    taken_whole : (pause : Pause) → goes_on pause ≡ true → HasRun o strike w s most n pause → PutsOutputs o (outputs_after o strike w n) true old new → HasTaken o strike w most s old.pieces new.pieces
+    taken_whole pause is r h =
+        let same = sym (whole_is pause is r) in
+        record { state_is = r.state_is ∙ ap (λ (x : Ran). x.state) same; pieces = h.pieces ∙ ap (λ (x : Ran). append_told old.pieces (output_lines o x.outputs)) same }
+
+    pub drive_stops : (pause : Pause) → HasRun o strike w s most n pause → PutsOutputs o (outputs_after o strike w n) (goes_on pause) old new
+        → Stops (run_end pause) (λ k. HasTaken o strike w k s old.pieces new.pieces) (outputs_after o strike w) most
+    drive_stops Running r h = taken_whole Running refl r h
+    drive_stops Done r h = taken_whole Done refl r h
+    drive_stops Detected r h = taken_whole Detected refl r h
+    drive_stops Refused r h = (n, (r.few, (record { state_is = r.state_is; pieces = h.pieces }, r.last)))
+
+    same_count : (outputs : List Output) → PutsOutputs o outputs true old new → new.failures ≡ old.failures
+    same_count outputs h = ap (λ (log : SinkLog). log.failures) h.lines
+
+    same_few : (a b : ℕ) → b ≡ a → a ≤ b
+    same_few a b h = omega (arith, h)
+
+    pub drive_counts : (pause : Pause) (outputs : List Output) → PutsOutputs o outputs (goes_on pause) old new → old.failures ≤ new.failures
+    drive_counts Running outputs h = same_few old.failures new.failures (same_count outputs h)
+    drive_counts Done outputs h = same_few old.failures new.failures (same_count outputs h)
+    drive_counts Detected outputs h = same_few old.failures new.failures (same_count outputs h)
+    drive_counts Refused outputs h = h.lines.fails.count
+
+    pub drive_excused : (pause : Pause) (outputs : List Output) → PutsOutputs o outputs (goes_on pause) old new → IsExcused (run_end pause) old.failures new.failures
+    drive_excused Running outputs h = same_count outputs h
+    drive_excused Done outputs h = same_count outputs h
+    drive_excused Detected outputs h = same_count outputs h
+    drive_excused Refused outputs h = h.lines.fails.rose

@@ -5,9 +5,12 @@ pub mod Rows
 pub mod Banks
 pub mod Steps
 pub mod Runs
-pub mod Driven
+pub mod Putting
 pub mod Spanned
+pub mod Going
+pub mod Counting
 pub mod Advancing
+pub mod Driven
 pub mod SameArrays
 pub mod SameAnswers
 pub mod SameInstr

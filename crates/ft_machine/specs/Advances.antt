@@ -1,19 +1,17 @@
 -- What a call answers and leaves that takes steps up to the first that is not quiet.
-use Rattle.std.specs.Prelude.{◌≡◌, ℕ, ◌≤◌, ◌<◌, List, [], Option, Some, None}
+use Rattle.std.specs.Prelude.{◌≡◌, ℕ, ◌≤◌, ◌<◌, Bool, true, false, List, [], Option, Some, None}
 use Rattle.std.specs.Option.{option_to_list}
-use Rattle.ft_isa.specs.declared.instr.Instr.{Instr}
 use Rattle.ft_isa.specs.declared.output.Output.{Output}
 use Rattle.ft_isa.specs.declared.plan.Wild.{Wild}
 use Rattle.ft_types.specs.declared.object.Object.{Object}
 use Rattle.ft_semantics.specs.declared.status.Status.{Status}
 use Rattle.ft_semantics.specs.declared.status.Status.TheVariants as status
-use Rattle.ft_types.specs.Objects.{instr_at}
 use Rattle.ft_semantics.specs.State.{State}
 use Rattle.ft_semantics.specs.Run.{Ran}
 use Rattle.ft_machine.specs.Spans.{span}
-use Rattle.ft_machine.specs.Effects.{doing}
-use Rattle.ft_machine.specs.declared.bank.Bank.{Bank}
 use Rattle.ft_machine.specs.declared.stepped.Stepped.{Stepped}
+use Rattle.ft_machine.specs.declared.stepped.Pause.{Pause}
+use Rattle.ft_machine.specs.declared.stepped.Pause.TheVariants as pause
 use Rattle.ft_machine.specs.declared.stepped.Stepped.TheVariants.{Quiet, Commit, Done, Detected}
 
 -- the output of a step that answers so
@@ -51,13 +49,15 @@ pub record Advances (o : Object) (s : State) (w : List Wild) (s' : State) (w' : 
   pub status_is : (span o taken s w).state.status ≡ status_told last
   pub before : (j : ℕ) → j < taken → IsQuiet (span o j s w)
 
--- what is fetched after whole instructions of which the last step did this: private to the crate
-abbrev pub fetched_where : Object → ℕ → Stepped → Option Instr
-fetched_where o pc Quiet = None
-fetched_where o pc (Commit output) = None
-fetched_where o pc Done = instr_at o pc
-fetched_where o pc Detected = instr_at o pc
+-- one output was kept, or none was there yet: private to the crate
+abbrev pub IsFirst : Option Output → List Output → Bool → Option Output → Type 0
+IsFirst old outputs true new = (outputs ≡ []) × (new ≡ old)
+IsFirst old outputs false new = option_to_list new ≡ outputs
 
--- the state after whole instructions of which the last step did this: private to the crate
-abbrev pub state_where : Object → ℕ → Stepped → Bank → State
-state_where o pc last b = record (doing b pc pc (fetched_where o pc last)) { status = status_told last }
+-- what the last step did where steps ended so, with this output: private to the crate
+abbrev pub last_of : Pause → Option Output → Stepped
+last_of pause.Running output = Quiet
+last_of pause.Done output = Done
+last_of pause.Detected output = Detected
+last_of pause.Refused (Some output) = Commit output
+last_of pause.Refused None = Quiet

@@ -1,8 +1,12 @@
 -- What driving a machine answers and puts.
-use Rattle.std.specs.Prelude.{◌≡◌, ℕ, ◌+◌, ◌≤◌, List, [], ◌∷◌, ◌++◌, map, Option, Some, None}
+use Rattle.std.specs.Prelude.{◌≡◌, ℕ, ◌+◌, ◌≤◌, ◌<◌, Bool, true, false, List, [], length, map, Option}
 use Rattle.ft_edge.specs.Causes.{Rose}
 use Rattle.ft_edge.specs.Told.{append_told}
 use Rattle.ft_edge.specs.Puts.{PutsLines, BreaksOff}
+use Rattle.ft_edge.specs.Lines as lines
+use Rattle.ft_edge.specs.Logs.{SinkLog}
+use Rattle.ft_edge.proofs.Lines.{lines_none}
+use Rattle.ft_edge.proofs.PutLines.{told_none}
 use Rattle.ft_isa.specs.declared.output.Output.{Output}
 use Rattle.ft_isa.specs.declared.plan.Strike.{Strike}
 use Rattle.ft_isa.specs.declared.plan.Wild.{Wild}
@@ -12,8 +16,11 @@ use Rattle.ft_semantics.specs.Run.{state_after, outputs_after}
 use Rattle.ft_types.specs.Texts.{line_at}
 use Rattle.ft_semantics.specs.declared.status.Status.{Status}
 use Rattle.ft_semantics.specs.declared.status.Status.TheVariants as status
+use Rattle.ft_machine.specs.Goes.{GivesLast}
 use Rattle.ft_machine.specs.declared.run.RunEnd.{RunEnd}
 use Rattle.ft_machine.specs.declared.run.RunEnd.TheVariants.{Done, Detected, OutOfSteps, WriteFault}
+use Rattle.ft_machine.specs.declared.stepped.Pause.{Pause}
+use Rattle.ft_machine.specs.declared.stepped.Pause.TheVariants as pause
 
 -- a run that ended so has this status
 abbrev pub EndsAs : RunEnd → Status → Type 0
@@ -45,10 +52,6 @@ pub record HasTaken (o : Object) (strike : Option Strike) (wild : List Wild) (k 
   pub state_is : state ≡ state_after o strike wild k
   pub pieces : now ≡ append_told before (output_lines o (outputs_after o strike wild k))
 
--- the last of k steps gave an output
-abbrev pub GivesLast : (ℕ → List Output) → ℕ → Type 0
-GivesLast outputs k = (j : ℕ) × ((output : Output) × ((k ≡ j + 1) × (outputs k ≡ outputs j ++ output ∷ [])))
-
 -- where a run stops: after n steps, or after the step that gave the output whose put failed
 abbrev pub Stops : RunEnd → (ℕ → Type 0) → (ℕ → List Output) → ℕ → Type 0
 Stops Done At outputs n = At n
@@ -56,28 +59,27 @@ Stops Detected At outputs n = At n
 Stops OutOfSteps At outputs n = At n
 Stops WriteFault At outputs n = (k : ℕ) × ((k ≤ n) × (At k × GivesLast outputs k))
 
--- steps that end at a failed put end with an output
-abbrev pub EndsWith : Option RunEnd → (ℕ → List Output) → ℕ → Type 0
-EndsWith None outputs n = Unit {0}
-EndsWith (Some Done) outputs n = Unit {0}
-EndsWith (Some Detected) outputs n = Unit {0}
-EndsWith (Some OutOfSteps) outputs n = Unit {0}
-EndsWith (Some WriteFault) outputs n = GivesLast outputs n
+-- the end of a drive whose steps ended so
+abbrev pub run_end : Pause → RunEnd
+run_end pause.Running = OutOfSteps
+run_end pause.Done = Done
+run_end pause.Detected = Detected
+run_end pause.Refused = WriteFault
 
--- what one turn of a run answers: nothing where the machine runs on
-abbrev pub TurnEnds : Option RunEnd → Status → Type 0
-TurnEnds None s = s ≡ status.Running
-TurnEnds (Some OutOfSteps) s = ⊥
-TurnEnds (Some Done) s = s ≡ status.Done
-TurnEnds (Some Detected) s = s ≡ status.Detected
-TurnEnds (Some WriteFault) s = Unit {0}
+-- an output goes to a cell
+abbrev pub IsOfCell : Object → Output → Type 0
+IsOfCell o output = (1048576 ≤ output.addr) × (output.addr < 1048576 + length o.cells)
 
--- what one turn of a run puts
-abbrev pub TurnPuts : Option RunEnd → List (List ℕ) → Option (List ℕ) → Option (List ℕ) → Option (List (List ℕ)) → Option (List (List ℕ)) → Type 0
-TurnPuts None lines old new before now = PutsLines lines old new before now
-TurnPuts (Some e) lines old new before now = Puts e lines old new before now
+-- whether all lines were put, or the put of one failed
+abbrev pub put_end : Bool → lines.PutEnd
+put_end true = lines.AllPut
+put_end false = lines.PutFailed
 
--- a turn that ends at a failed put is excused as the run is
-abbrev pub TurnIsExcused : Option RunEnd → ℕ → ℕ → Type 0
-TurnIsExcused None before now = now ≡ before
-TurnIsExcused (Some e) before now = IsExcused e before now
+-- the lines of outputs were put, each as one piece; where a put failed, it was that of the last one
+pub record PutsOutputs (o : Object) (outputs : List Output) (goes : Bool) (old new : SinkLog) : Type 0 where
+  pub lines : lines.Puts (put_end goes) (output_lines o outputs) old new
+  pub pieces : new.pieces ≡ append_told old.pieces (output_lines o outputs)
+
+-- no output
+pub outputs_none : (o : Object) (log : SinkLog) → PutsOutputs o [] true log log
+outputs_none o log = record { lines = lines_none log; pieces = told_none log.pieces }

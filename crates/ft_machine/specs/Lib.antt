@@ -6,3 +6,5 @@ pub mod Lengths
 pub mod Drives
 pub mod Spans
 pub mod Advances
+pub mod Hears
+pub mod Goes

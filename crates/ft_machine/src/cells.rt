@@ -69,6 +69,7 @@ impl Cells {
         requires { IsTrue (is_cell self.old addr) }
         ensures { self.new ≡ with_cell self.old addr word }
     {
+        // The length of a vector has a bound, by which the address of each cell fits.
         let _count = self.words.len();
         let k = (addr - FIRST_CELL) as usize;
         self.words[k] = word;

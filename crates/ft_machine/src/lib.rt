@@ -1,15 +1,18 @@
 //! The machine, step by step and over whole runs.
 //!
-//! The crate promises that a `Machine` is a state of the machine's definition. `new` is the start,
-//! `step` one step, `advance` steps up to the first that is not quiet, and `strike` one strike. `drive`
-//! is a run under a plan, with a line for each output. The definitions are those of `ft_semantics`. What
-//! the calls answer is in `specs/Answers.antt`, `specs/Advances.antt` and `specs/Drives.antt`.
+//! The crate promises that a `Machine` is a state of the machine's definition. `new` is the start, `step`
+//! one step, and `strike` one strike. `go` takes steps and gives each output to an `Outlet`; `run_under` is
+//! a run under a plan, and `drive` such a run with a line for each output. The definitions are those of
+//! `ft_semantics`. What the calls answer is in `specs/Answers.antt`, `specs/Goes.antt` and `specs/Drives.antt`.
 #![tactic(auto)]
 
 mod bank;
 mod cells;
 mod first;
+mod first_output;
+mod lines;
 mod machine;
+mod outlet;
 mod registers;
 mod run;
 mod stepped;
@@ -18,7 +21,9 @@ mod stretch;
 mod wild;
 
 pub use ft_semantics::Status;
+pub use lines::{Lines, put_output};
 pub use machine::Machine;
-pub use run::{RunEnd, drive};
-pub use stepped::{Advance, Stepped};
+pub use outlet::Outlet;
+pub use run::{RunEnd, drive, run_under};
+pub use stepped::{Advance, Gone, Pause, Stepped};
 pub use wild::WildLeft;

@@ -1,26 +1,22 @@
-//! Whole runs under a plan, with a line for each output.
-ghost use Rattle.std.specs.Prelude.{◌≡◌, ℕ, ◌<◌, ◌≤◌, ◌+◌, ◌-◌, ◌*◌, [], ◌∷◌, length, None, IfSome, IfNone, OnOk, OnErr};
-ghost use Rattle.std.specs.Option.{option_to_list};
-ghost use Rattle.std.specs.Io.KnownBytes.{append_known};
-ghost use Rattle.ft_edge.specs.Causes.{Rose, AddsPrefix};
-ghost use Rattle.ft_edge.specs.Told.{append_told};
-ghost use Rattle.ft_types.specs.Objects.{instr_at};
+//! Whole runs under a plan.
+ghost use Rattle.std.specs.Prelude.{◌≡◌, ℕ, ◌<◌, ◌≤◌, ◌+◌, length, true};
+ghost use Rattle.ft_edge.specs.Logs.{sink_log};
+ghost use Rattle.ft_isa.specs.declared.output.Output.{Output as Committed};
 ghost use Rattle.ft_types.specs.Spellable.{IsSpellable};
-ghost use Rattle.ft_semantics.specs.State.{start, HasCells};
-ghost use Rattle.ft_semantics.specs.Step.{step};
+ghost use Rattle.ft_semantics.specs.State.{start, is_cell};
 ghost use Rattle.ft_semantics.specs.Strike.{struck_before};
 ghost use Rattle.ft_semantics.specs.Run.{outputs_after, status_after};
-ghost use Rattle.ft_types.specs.Texts.{line_at};
-ghost use Rattle.ft_machine.specs.Effects.{doing};
-ghost use Rattle.ft_machine.specs.Spans.{Goes, HasGone, HasDriven, Spares};
-ghost use Rattle.ft_machine.specs.Drives.{EndsAs, Puts, output_lines, IsExcused, HasTaken, Stops, TurnEnds, TurnPuts, TurnIsExcused};
+ghost use Rattle.ft_machine.specs.Spans.{Spares};
+ghost use Rattle.ft_machine.specs.Goes.{HasRun, goes_on};
+ghost use Rattle.ft_machine.specs.Drives.{EndsAs, Puts, output_lines, IsExcused, HasTaken, Stops, PutsOutputs, run_end};
 
+use crate::lines::Lines;
 use crate::machine::Machine;
-use crate::stepped::Stepped;
+use crate::outlet::Outlet;
+use crate::stepped::{Gone, Pause, runs_on};
 use crate::wild::WildLeft;
-use ft_edge::{Failed, Sink};
-use ft_isa::{FIRST_CELL, LINE_ROOM, Output, Plan, Strike, write_line};
-use ft_semantics::Status;
+use ft_edge::Sink;
+use ft_isa::{Plan, Strike};
 use ft_types::Program;
 
 /// How a run ended.
@@ -36,26 +32,6 @@ pub enum RunEnd {
     WriteFault,
 }
 
-/// Puts the line of an output.
-fn put_line<P: Program, K: Sink>(program: &P, output: Output, out: &mut K) -> Result<(), Failed>
-    requires spellable { IsSpellable (P.object program.now) }
-    requires low { FIRST_CELL ≤ output.addr }
-    requires high { output.addr < FIRST_CELL + length (P.object program.now).cells }
-    ensures pieces { K.pieces out.new ≡ append_told (K.pieces out.old) (line_at (P.object program.now) output ∷ []) }
-    ensures count { K.failures out.old ≤ K.failures out.new }
-    ensures same_count { OnOk result (K.failures out.new ≡ K.failures out.old) }
-    ensures ok { OnOk result (K.written out.new
-        ≡ append_known (K.written out.old) (line_at (P.object program.now) output)) }
-    ensures err { OnErr result (AddsPrefix (K.written out.old) (K.written out.new)
-        (line_at (P.object program.now) output)) }
-    ensures cause { OnErr result (Rose (K.failures out.old) (K.failures out.new)) }
-{
-    let name = program.name((output.addr - FIRST_CELL) as u32);
-    let mut line = [0u8; LINE_ROOM];
-    let start = write_line(&mut line, name, output.value);
-    out.put(&line[start..])
-}
-
 /// Strikes before step `k`, where the plan strikes there.
 fn strike_before(machine: &mut Machine, strike: Option<Strike>, k: u64)
     ensures { machine.new ≡ struck_before strike k machine.old }
@@ -65,39 +41,6 @@ fn strike_before(machine: &mut Machine, strike: Option<Strike>, k: u64)
             let _ = machine.strike(strike.site, strike.value);
         }
     }
-}
-
-/// Takes some steps of a running machine, and puts a line for each output.
-fn take_all<P: Program, K: Sink>(
-    machine: &mut Machine,
-    program: &P,
-    number: u64,
-    wild: &mut WildLeft,
-    out: &mut K,
-) -> Option<RunEnd>
-    requires spellable { IsSpellable (P.object program.now) }
-    requires running { machine.old.status ≡ Status.Running }
-    requires cells { HasCells (length (P.object program.now).cells) machine.old }
-    ensures goes { Goes result number (HasGone (P.object program.now) machine.old wild.old result machine.new wild.new
-        (K.written out.old) (K.written out.new) (K.pieces out.old) (K.pieces out.new)) }
-    ensures count { K.failures out.old ≤ K.failures out.new }
-    ensures cause { TurnIsExcused result (K.failures out.old) (K.failures out.new) }
-{
-    let mut left = number;
-    while left > 0 {
-        let advance = machine.advance(program, wild, left);
-        left -= advance.taken;
-        match advance.last {
-            Stepped::Quiet => {}
-            Stepped::Commit(output) => match put_line(program, output, out) {
-                Ok(()) => {}
-                Err(_) => return Some(RunEnd::WriteFault),
-            },
-            Stepped::Done => return Some(RunEnd::Done),
-            Stepped::Detected => return Some(RunEnd::Detected),
-        }
-    }
-    None
 }
 
 /// How many steps of a run come before its strike.
@@ -115,33 +58,47 @@ fn steps_before(strike: Option<Strike>, steps: u64) -> u64
     steps
 }
 
-/// Runs a machine from its start under a plan, as `drive` does.
-fn run_through<P: Program, K: Sink>(
+/// Runs a machine from its start under a plan, for at most `steps` steps, and gives each output to an outlet. Ends early
+/// where the machine stops or the outlet does not go on.
+pub fn run_under<P: Program, T: Outlet>(
     machine: &mut Machine,
     program: &P,
     plan: Plan,
     steps: u64,
-    out: &mut K,
-) -> RunEnd
+    outlet: &mut T,
+) -> Gone
     requires spellable { IsSpellable (P.object program.now) }
     requires start { machine.old ≡ start (P.object program.now) }
-    ensures driven { HasDriven (P.object program.now) plan.entry.strike plan.entry.wild.now result machine.new
-        (K.written out.old) (K.written out.new) (K.pieces out.old) (K.pieces out.new) steps }
-    ensures count { K.failures out.old ≤ K.failures out.new }
-    ensures cause { IsExcused result (K.failures out.old) (K.failures out.new) }
+    requires may { (output : Committed) → is_cell machine.old.cells output.addr ≡ true → T.may outlet.old output }
+    ensures ran { HasRun (P.object program.now) plan.entry.strike plan.entry.wild.now machine.new steps result.taken result.pause }
+    ensures heard { T.heard outlet.old (outputs_after (P.object program.now) plan.entry.strike plan.entry.wild.now result.taken) (goes_on result.pause) outlet.new }
 {
     let mut wild = WildLeft::new(plan.wild);
     let before = steps_before(plan.strike, steps);
-    if let Some(end) = take_all(machine, program, before, &mut wild, out) {
-        return end;
-    }
+    let first = machine.go(program, &mut wild, before, outlet);
     if before == steps {
-        return RunEnd::OutOfSteps;
+        return first;
+    }
+    if !runs_on(first.pause) {
+        return first;
     }
     strike_before(machine, plan.strike, before);
-    match take_all(machine, program, steps - before, &mut wild, out) {
-        Some(end) => end,
-        None => RunEnd::OutOfSteps,
+    let second = machine.go(program, &mut wild, steps - before, outlet);
+    Gone {
+        taken: before + second.taken,
+        pause: second.pause,
+    }
+}
+
+/// How a drive ended whose steps ended so.
+fn run_end(pause: Pause) -> RunEnd
+    ensures { result ≡ run_end pause }
+{
+    match pause {
+        Pause::Running => RunEnd::OutOfSteps,
+        Pause::Done => RunEnd::Done,
+        Pause::Detected => RunEnd::Detected,
+        Pause::Refused => RunEnd::WriteFault,
     }
 }
 
@@ -164,5 +121,7 @@ pub fn drive<P: Program, K: Sink>(
     ensures count { K.failures out.old ≤ K.failures out.new }
     ensures cause { IsExcused result (K.failures out.old) (K.failures out.new) }
 {
-    run_through(machine, program, plan, steps, out)
+    let mut lines = Lines { program, out };
+    let gone = run_under(machine, program, plan, steps, &mut lines);
+    run_end(gone.pause)
 }

@@ -26,15 +26,37 @@ pub struct Advance {
     pub last: Stepped,
 }
 
-/// Whether a step did nothing beyond the machine.
+/// How steps ended whose outputs an outlet took.
+#[derive(Clone, Copy, Debug, PartialEq, Eq)]
+pub enum Pause {
+    /// The machine runs on.
+    Running,
+    /// The machine is at its end.
+    Done,
+    /// The machine has stopped at a fault that it noticed.
+    Detected,
+    /// The last step committed an output after which the outlet does not go on.
+    Refused,
+}
+
+/// Steps whose outputs an outlet took: how many, and how they ended.
+#[derive(Clone, Copy, Debug, PartialEq, Eq)]
+pub struct Gone {
+    /// The number of steps.
+    pub taken: u64,
+    /// How they ended.
+    pub pause: Pause,
+}
+
+/// Whether more steps can be taken.
 #[inline(always)]
-pub(crate) fn is_quiet(stepped: Stepped) -> bool
-    ensures { Decides result (stepped ≡ Stepped.Quiet) }
+pub(crate) fn runs_on(pause: Pause) -> bool
+    ensures { Decides result (pause ≡ Pause.Running) }
 {
-    match stepped {
-        Stepped::Quiet => true,
-        Stepped::Commit(_) => false,
-        Stepped::Done => false,
-        Stepped::Detected => false,
+    match pause {
+        Pause::Running => true,
+        Pause::Done => false,
+        Pause::Detected => false,
+        Pause::Refused => false,
     }
 }

@@ -1,5 +1,5 @@
 //! What a machine does: strikes, single steps, and steps in a row.
-ghost use Rattle.std.specs.Prelude.{◌≡◌, ℕ, ◌≤◌, ◌<◌, IsTrue, true, None, IfSome};
+ghost use Rattle.std.specs.Prelude.{◌≡◌, ◌≢◌, ℕ, ◌≤◌, ◌<◌, IsTrue, true, None, IfSome};
 ghost use Rattle.ft_types.specs.Objects.{instr_at};
 ghost use Rattle.ft_types.specs.Spellable.{IsSpellable};
 ghost use Rattle.ft_semantics.specs.State.{is_cell, HasCells};
@@ -7,13 +7,17 @@ ghost use Rattle.ft_semantics.specs.Step.{step, advance, detected, goes_on};
 ghost use Rattle.ft_semantics.specs.Strike.{is_there, struck_state};
 ghost use Rattle.ft_machine.specs.Answers.{Takes, TakesQuietly};
 ghost use Rattle.ft_machine.specs.Advances.{Advances};
+ghost use Rattle.ft_machine.specs.Goes.{Goes, PassesOn, goes_on as outlet_goes_on};
+ghost use Rattle.ft_machine.specs.Spans.{span};
 ghost use Rattle.ft_machine.specs.Effects.{doing, followed, told_effect, bank_of};
 ghost use Rattle.ft_machine.specs.Lengths.{HasNoEmptyRun};
 ghost use Rattle.ft_isa.specs.declared.output.Output as outputs;
 
 use crate::bank::Effect;
+use crate::first_output::FirstOutput;
 use crate::machine::Machine;
-use crate::stepped::{Advance, Stepped, is_quiet};
+use crate::outlet::Outlet;
+use crate::stepped::{Advance, Gone, Pause, Stepped, runs_on};
 use crate::stretch::do_instructions;
 use crate::wild::WildLeft;
 use ft_isa::{Coloured, Instr, Site};
@@ -169,52 +173,67 @@ impl Machine {
         self.fetched = None;
     }
 
-    /// Takes at most `most` steps of a running machine, and stops at the first that is not quiet.
+    /// Takes at most `most` steps of a running machine, gives each output to an outlet, and ends early where the machine
+    /// stops or the outlet does not go on.
     #[inline(always)]
-    pub fn advance<P: Program>(&mut self, program: &P, wild: &mut WildLeft, most: u64) -> Advance
+    pub fn go<P: Program, T: Outlet>(
+        &mut self,
+        program: &P,
+        wild: &mut WildLeft,
+        most: u64,
+        outlet: &mut T,
+    ) -> Gone
         requires spellable { IsSpellable (P.object program.now) }
         requires running { self.old.status ≡ Status.Running }
-        ensures advances { Advances (P.object program.now) self.old wild.old self.new wild.new most result.taken result.last }
+        requires may { (output : outputs.Output) → is_cell self.old.cells output.addr ≡ true → T.may outlet.old output }
+        ensures goes { Goes T.Outlet (P.object program.now) self.old wild.old outlet.old self.new wild.new outlet.new result.taken result.pause }
+        ensures heard { T.heard outlet.old (span (P.object program.now) result.taken self.old wild.old).outputs (outlet_goes_on result.pause) outlet.new }
         ensures few { result.taken ≤ most }
         ensures some { 0 < most → 0 < result.taken }
-
-        // The cells keep their addresses, and a pair that is committed goes to one of them.
-        ensures cells { (n : ℕ) → HasCells n self.old → HasCells n self.new }
-        ensures commits { (output : outputs.Output) → result.last ≡ Stepped.Commit output → is_cell self.old.cells output.addr ≡ true }
+        ensures all { result.pause ≡ Pause.Running → result.taken ≡ most }
+        ensures early { result.pause ≢ Pause.Running → 0 < result.taken }
     {
         let mut taken = 0;
         while taken < most {
-            let next = self.advance_some(program, wild, most - taken);
+            let next = self.go_some(program, wild, most - taken, outlet);
             taken += next.taken;
-            if !is_quiet(next.last) {
-                return Advance {
+            if !runs_on(next.pause) {
+                return Gone {
                     taken,
-                    last: next.last,
+                    pause: next.pause,
                 };
             }
         }
-        Advance {
+        Gone {
             taken,
-            last: Stepped::Quiet,
+            pause: Pause::Running,
         }
     }
 
     /// Takes some steps: whole instructions where the machine is ready for them, and else one step.
     #[inline(always)]
-    fn advance_some<P: Program>(&mut self, program: &P, wild: &mut WildLeft, most: u64) -> Advance
+    fn go_some<P: Program, T: Outlet>(
+        &mut self,
+        program: &P,
+        wild: &mut WildLeft,
+        most: u64,
+        outlet: &mut T,
+    ) -> Gone
         requires spellable { IsSpellable (P.object program.now) }
         requires running { self.old.status ≡ Status.Running }
+        requires may { (output : outputs.Output) → is_cell self.old.cells output.addr ≡ true → T.may outlet.old output }
         requires some { 0 < most }
         ensures some { 0 < result.taken }
         ensures few { result.taken ≤ most }
-        ensures advances { Advances (P.object program.now) self.old wild.old self.new wild.new result.taken result.taken result.last }
+        ensures goes { Goes T.Outlet (P.object program.now) self.old wild.old outlet.old self.new wild.new outlet.new result.taken result.pause }
     {
         if most > 1 && self.is_ready() {
-            return self.advance_ready(program, wild, most);
+            return self.go_ready(program, wild, most, outlet);
         }
-        Advance {
+        let stepped = self.step(program, wild);
+        Gone {
             taken: 1,
-            last: self.step(program, wild),
+            pause: pass_on(stepped, outlet),
         }
     }
 
@@ -228,33 +247,80 @@ impl Machine {
 
     /// Takes whole instructions of a machine that is ready for one, each in two steps.
     #[inline(always)]
-    fn advance_ready<P: Program>(&mut self, program: &P, wild: &mut WildLeft, most: u64) -> Advance
+    fn go_ready<P: Program, T: Outlet>(
+        &mut self,
+        program: &P,
+        wild: &mut WildLeft,
+        most: u64,
+        outlet: &mut T,
+    ) -> Gone
         requires spellable { IsSpellable (P.object program.now) }
         requires ready { self.old ≡ doing (bank_of self.old) self.old.pc_green self.old.pc_green None }
+        requires may { (output : outputs.Output) → is_cell self.old.cells output.addr ≡ true → T.may outlet.old output }
         requires some { 1 < most }
         ensures some { 0 < result.taken }
         ensures few { result.taken ≤ most }
-        ensures advances { Advances (P.object program.now) self.old wild.old self.new wild.new result.taken result.taken result.last }
+        ensures goes { Goes T.Outlet (P.object program.now) self.old wild.old outlet.old self.new wild.new outlet.new result.taken result.pause }
     {
-        let stretch = do_instructions(&mut self.bank, program, self.pc_green, most, wild);
+        let stretch = do_instructions(&mut self.bank, program, self.pc_green, most, wild, outlet);
         self.pc_green = stretch.pc;
         self.pc_blue = stretch.pc;
-        match stretch.last {
-            Stepped::Quiet => {}
-            Stepped::Commit(_) => {}
-            Stepped::Done => {
+        match stretch.pause {
+            Pause::Running => {}
+            Pause::Refused => {}
+            Pause::Done => {
                 self.fetched = instr_at(program, stretch.pc);
                 self.status = Status::Done;
             }
-            Stepped::Detected => {
+            Pause::Detected => {
                 self.fetched = instr_at(program, stretch.pc);
                 self.status = Status::Detected;
             }
         }
-        Advance {
+        Gone {
             taken: stretch.taken,
-            last: stretch.last,
+            pause: stretch.pause,
         }
+    }
+
+    /// Takes at most `most` steps of a running machine, and stops at the first that is not quiet.
+    pub fn advance<P: Program>(&mut self, program: &P, wild: &mut WildLeft, most: u64) -> Advance
+        requires spellable { IsSpellable (P.object program.now) }
+        requires running { self.old.status ≡ Status.Running }
+        ensures advances { Advances (P.object program.now) self.old wild.old self.new wild.new most result.taken result.last }
+        ensures few { result.taken ≤ most }
+        ensures some { 0 < most → 0 < result.taken }
+
+        // The cells keep their addresses, and a pair that is committed goes to one of them.
+        ensures cells { (n : ℕ) → HasCells n self.old → HasCells n self.new }
+        ensures commits { (output : outputs.Output) → result.last ≡ Stepped.Commit output → is_cell self.old.cells output.addr ≡ true }
+    {
+        let mut first = FirstOutput { output: None };
+        let gone = self.go(program, wild, most, &mut first);
+        Advance {
+            taken: gone.taken,
+            last: first.last(gone.pause),
+        }
+    }
+}
+
+/// Gives an outlet the output of a step, where it has one.
+#[inline(always)]
+fn pass_on<T: Outlet>(stepped: Stepped, outlet: &mut T) -> Pause
+    requires { (output : outputs.Output) → stepped ≡ Stepped.Commit output → T.may outlet.old output }
+    ensures { PassesOn T.Outlet stepped outlet.old outlet.new result }
+{
+    match stepped {
+        Stepped::Quiet => Pause::Running,
+        Stepped::Commit(output) => {
+            if outlet.take(output) {
+                Pause::Running
+            } else {
+                Pause::Refused
+            }
+        }
+        Stepped::Done => Pause::Done,
+        Stepped::Detected => Pause::Detected,
     }
 }
 

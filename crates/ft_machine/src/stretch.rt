@@ -1,22 +1,24 @@
 //! Stretches of whole instructions, each a fetch and what it does.
-ghost use Rattle.std.specs.Prelude.{◌≡◌, ◌<◌, ◌≤◌, ◌+◌, ◌-◌, ◌*◌, ◌/◌, ◌^◌, ℕ, length, None, IfSome, IfNone};
+ghost use Rattle.std.specs.Prelude.{◌≡◌, ◌<◌, ◌≤◌, ◌+◌, ◌-◌, ◌*◌, ◌/◌, ◌^◌, ℕ, length, None, IfSome, IfNone, true};
+ghost use Rattle.ft_isa.specs.declared.output.Output.{Output as Committed};
 ghost use Rattle.ft_types.specs.Objects.{instr_at};
 ghost use Rattle.ft_types.specs.Spellable.{IsSpellable};
-ghost use Rattle.ft_machine.specs.Advances.{Advances, state_where};
+ghost use Rattle.ft_semantics.specs.State.{is_cell};
 ghost use Rattle.ft_machine.specs.Effects.{doing};
+ghost use Rattle.ft_machine.specs.Goes.{Goes, state_where};
 
 use crate::bank::{Bank, Effect};
-use crate::stepped::Stepped;
+use crate::outlet::Outlet;
+use crate::stepped::Pause;
 use crate::wild::WildLeft;
 use ft_types::{INSTR_BYTES, Program};
 
-/// Steps of whole instructions: how many, where both counters stand after them, and what the last of
-/// them did.
+/// Steps of whole instructions: how many, where both counters stand after them, and how they ended.
 #[derive(Clone, Copy)]
 pub(crate) struct Stretch {
     pub taken: u64,
     pub pc: u64,
-    pub last: Stepped,
+    pub pause: Pause,
 }
 
 /// The most instructions that a stretch does, so that no place overflows.
@@ -84,22 +86,24 @@ fn steps_but(all: u64, rest: usize) -> u64
     2 * (all - number_at(rest))
 }
 
-/// Fetches and does whole instructions in at most `most` steps, until a step is not quiet. Where an instruction leads
-/// elsewhere, it goes on there.
+/// Fetches and does whole instructions in at most `most` steps, as long as the machine runs and the outlet goes on.
+/// Where an instruction leads elsewhere, it goes on there.
 #[inline(never)]
-pub(crate) fn do_instructions<P: Program>(
+pub(crate) fn do_instructions<P: Program, T: Outlet>(
     bank: &mut Bank,
     program: &P,
     first: u64,
     most: u64,
     wild: &mut WildLeft,
+    outlet: &mut T,
 ) -> Stretch
     requires spellable { IsSpellable (P.object program.now) }
     requires some { 1 < most }
+    requires may { (output : Committed) → is_cell bank.old.cells output.addr ≡ true → T.may outlet.old output }
     ensures some { 0 < result.taken }
     ensures few { result.taken ≤ most }
-    ensures advances { Advances (P.object program.now) (doing bank.old first first None) wild.old
-        (state_where (P.object program.now) result.pc result.last bank.new) wild.new result.taken result.taken result.last }
+    ensures goes { Goes T.Outlet (P.object program.now) (doing bank.old first first None) wild.old outlet.old
+        (state_where (P.object program.now) result.pc result.pause bank.new) wild.new outlet.new result.taken result.pause }
 {
     let count = program.counts().instrs as usize;
     let code = program.code();
@@ -107,7 +111,7 @@ pub(crate) fn do_instructions<P: Program>(
         return Stretch {
             taken: 1,
             pc: first,
-            last: Stepped::Detected,
+            pause: Pause::Detected,
         };
     };
     let all = instructions_in(most);
@@ -124,7 +128,7 @@ pub(crate) fn do_instructions<P: Program>(
                     return Stretch {
                         taken: steps_but(all, rest),
                         pc: target,
-                        last: Stepped::Quiet,
+                        pause: Pause::Running,
                     };
                 };
                 at = place_of(next);
@@ -132,24 +136,27 @@ pub(crate) fn do_instructions<P: Program>(
                 past = stretch_end(limit, end);
             }
             Effect::Commit(output) => {
-                return Stretch {
-                    taken: steps_but(all, limit - (at + INSTR_BYTES)),
-                    pc: 2 + number_at(at),
-                    last: Stepped::Commit(output),
-                };
+                at += INSTR_BYTES;
+                if !outlet.take(output) {
+                    return Stretch {
+                        taken: steps_but(all, limit - at),
+                        pc: 1 + number_at(at),
+                        pause: Pause::Refused,
+                    };
+                }
             }
             Effect::Done => {
                 return Stretch {
                     taken: steps_but(all, limit - (at + INSTR_BYTES)),
                     pc: 1 + number_at(at),
-                    last: Stepped::Done,
+                    pause: Pause::Done,
                 };
             }
             Effect::Detected => {
                 return Stretch {
                     taken: steps_but(all, limit - (at + INSTR_BYTES)),
                     pc: 1 + number_at(at),
-                    last: Stepped::Detected,
+                    pause: Pause::Detected,
                 };
             }
         }
@@ -157,6 +164,6 @@ pub(crate) fn do_instructions<P: Program>(
     Stretch {
         taken: steps_but(all, limit - at),
         pc: 1 + number_at(at),
-        last: Stepped::Quiet,
+        pause: Pause::Running,
     }
 }

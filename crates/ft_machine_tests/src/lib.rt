@@ -10,6 +10,8 @@ mod checked;
 #[cfg(test)]
 mod full;
 #[cfg(test)]
+mod halting;
+#[cfg(test)]
 mod indexed;
 #[cfg(test)]
 mod machine;

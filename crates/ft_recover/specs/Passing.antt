@@ -1,6 +1,10 @@
--- Steps and runs of which the first outputs may be left out: private to the crate.
-use Rattle.std.specs.Prelude.{◌≡◌, ℕ, ◌+◌, ◌<◌, ◌≤◌, List, length, drop, Option}
-use Rattle.ft_edge.specs.Puts.{PutsLines}
+-- Runs of which the first outputs may be left out: private to the crate.
+use Rattle.std.specs.Prelude.{◌≡◌, ℕ, zero, suc, ◌+◌, ◌-◌, ◌^◌, ◌<◌, Bool, true, List, [], length, drop, Option}
+use Rattle.std.proofs.Common.{sym, add-zero}
+use Rattle.std.proofs.Math.Nat.{sub-zero}
+use Rattle.ft_edge.specs.Logs.{SinkLog}
+use Rattle.ft_edge.specs.Lines.{Puts, with_lines}
+use Rattle.ft_edge.proofs.Lines.{lines_none}
 use Rattle.ft_isa.specs.declared.output.Output.{Output}
 use Rattle.ft_isa.specs.declared.plan.Strike.{Strike}
 use Rattle.ft_isa.specs.declared.plan.Wild.{Wild}
@@ -9,32 +13,28 @@ use Rattle.ft_semantics.specs.declared.status.Status.{Status}
 use Rattle.ft_semantics.specs.declared.status.Status.TheVariants as status
 use Rattle.ft_semantics.specs.State.{State}
 use Rattle.ft_semantics.specs.Run.{outputs_after, state_after}
-use Rattle.ft_machine.specs.declared.stepped.Stepped.{Stepped}
-use Rattle.ft_machine.specs.declared.stepped.Stepped.TheVariants.{Quiet, Commit, Done, Detected}
-use Rattle.ft_machine.specs.Drives.{output_lines}
-use Rattle.ft_machine.specs.Spans.{span}
+use Rattle.ft_machine.specs.Drives.{output_lines, put_end}
 use Rattle.ft_recover.specs.declared.recover_end.RecoverEnd.{RecoverEnd}
 use Rattle.ft_recover.specs.declared.recover_end.RecoverEnd.TheVariants as ending
 
--- what a step commits goes to one of so many cells
-abbrev pub GoesToCell : Stepped → ℕ → Type 0
-GoesToCell Quiet cells = Unit {0}
-GoesToCell (Commit output) cells = (1048576 ≤ output.addr) × (output.addr < 1048576 + cells)
-GoesToCell Done cells = Unit {0}
-GoesToCell Detected cells = Unit {0}
+-- outputs were counted, where their number fits, and a line was put for each but the first ones, of which so many are left
+pub record Passes (o : Object) (passed count : ℕ) (outputs : List Output) (goes : Bool) (left now : ℕ) (old new : SinkLog) : Type 0 where
+  pub left_is : left ≡ passed - length outputs
+  pub count_is : count + length outputs < 2 ^ 64 → now ≡ count + length outputs
+  pub lines : Puts (put_end goes) (output_lines o (drop passed outputs)) old new
 
--- n steps from a state on were taken, and a line was put for each output but the first ones
-pub record Passes (o : Object) (s : State) (w : List Wild) (n passed : ℕ) (s' : State) (w' : List Wild) (count : ℕ) (old new : Option (List ℕ)) (before now : Option (List (List ℕ))) : Type 0 where
-  pub state_is : s' ≡ (span o n s w).state
-  pub wild_is : w' ≡ (span o n s w).wild
-  pub count_is : count ≡ length (span o n s w).outputs
-  pub lines : PutsLines (output_lines o (drop passed (span o n s w).outputs)) old new before now
+no_lines : (o : Object) (passed : ℕ) (log : SinkLog) → log ≡ with_lines (output_lines o (drop passed [])) log
+no_lines o zero log = lines_none log
+no_lines o (suc passed) log = lines_none log
 
--- a run under a plan was taken for n steps, and a line was put for each output but the first ones
-pub record RunsTo (o : Object) (strike : Option Strike) (w : List Wild) (n passed : ℕ) (s' : State) (count : ℕ) (old new : Option (List ℕ)) (before now : Option (List (List ℕ))) : Type 0 where
+-- no output
+pub passes_none : (o : Object) (passed count : ℕ) (log : SinkLog) → Passes o passed count [] true passed count log log
+passes_none o passed count log = record { left_is = sym (sub-zero passed); count_is = λ few. sym (add-zero count); lines = no_lines o passed log }
+
+-- a run under a plan was taken for n steps, and had so many outputs
+pub record RunsTo (o : Object) (strike : Option Strike) (w : List Wild) (n : ℕ) (s' : State) (count : ℕ) : Type 0 where
   pub state_is : s' ≡ state_after o strike w n
   pub count_is : count ≡ length (outputs_after o strike w n)
-  pub lines : PutsLines (output_lines o (drop passed (outputs_after o strike w n))) old new before now
 
 -- a recovery came to its end: the run without a fault has this status, and this is the restart
 abbrev pub Finishes : RecoverEnd → Status → Option ℕ → Type 0

@@ -3,10 +3,9 @@ use Rattle.std.specs.Option.{option_to_list}
 use Rattle.ft_semantics.specs.State.{State}
 use Rattle.ft_semantics.specs.Step.{step}
 use Rattle.ft_semantics.specs.Run.{Ran, run-zero}
-use Rattle.ft_machine.proofs.Driven.{next}
 use Rattle.ft_machine.proofs.Runs.{HasStopped, has_stopped, still_running}
 use Rattle.ft_campaign.specs.Snapshots.{AreLengths, AreSnapshots}
-use Rattle.ft_campaign.proofs.Keeping.{snapshots_none, lengths_none, lengths_more, clean_stopped}
+use Rattle.ft_campaign.proofs.Keeping.{snapshots_none, lengths_none, lengths_more, clean_stopped, run_more}
 use Rattle.ft_campaign.proofs.clean_run.run_clean.Goals as goal
 
 pub loop-k-init : goal.loop-k-init
@@ -29,7 +28,7 @@ returns-then-ne-clause-clean g c =
     let w = c.args.wild.now in
     let k = c.loop-k.k in
     let v = c.loop-k.invariant in
-    let then = next o None w k c.loop-k.machine c.loop-k.left v.state v.wild in
+    let then = run_more o w k c.loop-k.machine c.loop-k.left v.state v.wild in
     let state = c.turn.ensures.state ∙ sym (ap (λ (r : Ran). r.state) then) in
     let status = c.status-status.ensures ∙ ap (λ (s : State). s.status) state in
     clean_stopped o w k c.args.n _ c.loop-k-test.true (subst HasStopped status (has_stopped c.status-status.result (sym c.ne.ensures ∙ c.if-ne.true)))
@@ -44,7 +43,7 @@ loop-k-preserved g c =
     let w = c.args.wild.now in
     let k = c.loop-k.k in
     let v = c.loop-k.invariant in
-    let then = next o None w k c.loop-k.machine c.loop-k.left v.state v.wild in
+    let then = run_more o w k c.loop-k.machine c.loop-k.left v.state v.wild in
     let state = c.turn.ensures.state ∙ sym (ap (λ (r : Ran). r.state) then) in
     record {
       state = state;

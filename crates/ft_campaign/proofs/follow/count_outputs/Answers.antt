@@ -1,49 +1,43 @@
-use Rattle.std.proofs.Common.{◌≡◌, ℕ, ◌+◌, ◌-◌, ◌≤◌, length, ap, sym, ◌∙◌, arith}
-use Rattle.ft_semantics.specs.State.{State}
+use Rattle.std.proofs.Common.{◌≡◌, ◌+◌, length, ap, sym, ◌∙◌, arith}
 use Rattle.ft_semantics.specs.Run.{Ran}
 use Rattle.ft_machine.specs.Spans.{span, span-zero}
 use Rattle.ft_machine.proofs.Spanned.{span_running}
-use Rattle.ft_campaign.proofs.Following.{state_next, wild_next, count_next}
+use Rattle.ft_campaign.proofs.Following.{runs_to_end, counted_all}
 use Rattle.ft_campaign.proofs.follow.count_outputs.Goals as goal
 
-rest_of : (n j : ℕ) → n ≤ j → j ≡ n + (j - n)
-rest_of n j le = omega arith
-
-pub loop-done-init : goal.loop-done-init
-loop-done-init g c =
-    let begun = span-zero (g.P.Program.object c.args.program.now) c.args.machine.now c.args.wild.now in
-    record {
-      few = omega arith;
-      state = sym (ap (λ (r : Ran). r.state) begun);
-      wild = sym (ap (λ (r : Ran). r.wild) begun);
-      count = sym (ap (λ (r : Ran). length r.outputs) begun);
-      fewer = omega arith;
-      steps = omega arith;
-    }
-
-pub advance-advance-requires-clause-running : goal.advance-advance-requires-clause-running
-advance-advance-requires-clause-running g c =
+pub go-gone-requires-clause-running : goal.go-gone-requires-clause-running
+go-gone-requires-clause-running g c =
     let o = g.P.Program.object c.args.program.now in
     let s = c.args.machine.now in
     let w = c.args.wild.now in
-    ap (λ (q : State). q.status) c.loop-done.invariant.state
-    ∙ span_running o c.loop-done.done (c.args.number - c.loop-done.done) s w
-    (ap (λ k. (span o k s w).state.status) (sym (rest_of c.loop-done.done c.args.number c.loop-done.invariant.few)) ∙ c.requires.running)
+    let whole : 0 + c.args.number ≡ c.args.number = omega arith in
+    sym (ap (λ (r : Ran). r.state.status) (span-zero o s w)) ∙ span_running o 0 c.args.number s w (ap (λ n. (span o n s w).state.status) whole ∙ c.requires.running)
 
-pub loop-done-preserved : goal.loop-done-preserved
-loop-done-preserved g c =
+pub returns-clause-state : goal.returns-clause-state
+returns-clause-state g c =
     let o = g.P.Program.object c.args.program.now in
-    let s = c.args.machine.now in
-    let w = c.args.wild.now in
-    let v = c.loop-done.invariant in
-    let a = c.advance-advance.ensures.advances in
-    let t = c.advance-advance.result in
-    record {
-      few = omega (arith, v.few, c.advance-advance.ensures.few, c.loop-done-test.true);
-      state = state_next o s w c.loop-done.done c.loop-done.machine c.loop-done.wild v.state v.wild c.advance-advance.new.self c.advance-advance.new.wild (c.args.number - c.loop-done.done) t.taken t.last a;
-      wild = wild_next o s w c.loop-done.done c.loop-done.machine c.loop-done.wild v.state v.wild c.advance-advance.new.self c.advance-advance.new.wild (c.args.number - c.loop-done.done) t.taken t.last a;
-      count = count_next o s w c.loop-done.done c.loop-done.machine c.loop-done.wild v.state v.wild c.advance-advance.new.self c.advance-advance.new.wild (c.args.number - c.loop-done.done) t.taken t.last a
-          c.loop-done.count c.output_count-count.result v.count c.output_count-count.ensures.count;
-      fewer = omega (arith, v.fewer, c.output_count-count.ensures.few, c.advance-advance.ensures.some, c.loop-done-test.true);
-      steps = omega (arith, c.count.ensures, v.steps);
-    }
+    let gone = c.go-gone in
+    let all = runs_to_end _ o c.args.machine.now gone.new.self c.args.wild.now gone.new.wild _ gone.new.outlet gone.result.taken c.args.number gone.result.pause gone.ensures.goes gone.ensures.heard.0 gone.ensures.few c.requires.running gone.ensures.all in
+    gone.ensures.goes.state_is ∙ ap (λ n. (span o n c.args.machine.now c.args.wild.now).state) all
+
+pub returns-clause-wild : goal.returns-clause-wild
+returns-clause-wild g c =
+    let o = g.P.Program.object c.args.program.now in
+    let gone = c.go-gone in
+    let all = runs_to_end _ o c.args.machine.now gone.new.self c.args.wild.now gone.new.wild _ gone.new.outlet gone.result.taken c.args.number gone.result.pause gone.ensures.goes gone.ensures.heard.0 gone.ensures.few c.requires.running gone.ensures.all in
+    gone.ensures.goes.wild_is ∙ ap (λ n. (span o n c.args.machine.now c.args.wild.now).wild) all
+
+pub returns-clause-count : goal.returns-clause-count
+returns-clause-count g c =
+    let o = g.P.Program.object c.args.program.now in
+    let gone = c.go-gone in
+    let all = runs_to_end _ o c.args.machine.now gone.new.self c.args.wild.now gone.new.wild _ gone.new.outlet gone.result.taken c.args.number gone.result.pause gone.ensures.goes gone.ensures.heard.0 gone.ensures.few c.requires.running gone.ensures.all in
+    counted_all o c.args.machine.now c.args.wild.now gone.result.taken c.args.number gone.new.outlet.count gone.ensures.few c.ranges.number.fits gone.ensures.heard.1
+    ∙ ap (λ n. length (span o n c.args.machine.now c.args.wild.now).outputs) all
+
+pub returns-clause-steps : goal.returns-clause-steps
+returns-clause-steps g c =
+    let o = g.P.Program.object c.args.program.now in
+    let gone = c.go-gone in
+    let all = runs_to_end _ o c.args.machine.now gone.new.self c.args.wild.now gone.new.wild _ gone.new.outlet gone.result.taken c.args.number gone.result.pause gone.ensures.goes gone.ensures.heard.0 gone.ensures.few c.requires.running gone.ensures.all in
+    omega (arith, c.count.ensures, all)

@@ -1,6 +1,6 @@
 use Rattle.std.proofs.Common.{◌≡◌, ◌<◌, ◌≤◌, ◌+◌, ◌-◌, ◌*◌, ◌/◌, None}
-use Rattle.ft_machine.specs.declared.stepped.Stepped.TheVariants.{Quiet}
-use Rattle.ft_machine.specs.Advances.{Advances}
+use Rattle.ft_machine.specs.declared.stepped.Pause.TheVariants.{Running}
+use Rattle.ft_machine.specs.Goes.{Goes}
 use Rattle.ft_machine.specs.Effects.{doing}
 use Rattle.ft_machine.proofs.stretch.do_instructions.Given as goal
 
@@ -13,8 +13,8 @@ invariant-loop-at g l = record {
   there : l.past ≤ 16 * l.count;
   left : l.limit - l.at ≤ 16 * l.all;
   some : 0 < (16 * l.all - (l.limit - l.at)) + (l.past - l.at);
-  advances : Advances (g.P.Program.object l.program) (doing l.fn.bank l.first l.first None) l.fn.wild (doing l.bank (1 + l.at / 16) (1 + l.at / 16) None) l.wild
-      (2 * (l.all - (l.limit - l.at) / 16)) (2 * (l.all - (l.limit - l.at) / 16)) Quiet;
+  goes : Goes g.T.Outlet (g.P.Program.object l.program) (doing l.fn.bank l.first l.first None) l.fn.wild l.fn.outlet (doing l.bank (1 + l.at / 16) (1 + l.at / 16) None) l.wild l.outlet
+      (2 * (l.all - (l.limit - l.at) / 16)) Running;
 }
 
 abbrev pub decreases-loop-at : goal.decreases-loop-at

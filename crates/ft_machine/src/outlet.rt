@@ -1,0 +1,25 @@
+//! What is done at each output of a run.
+ghost use Rattle.std.specs.Prelude.{◌≡◌, ◌∷◌, [], Bool, true, List};
+ghost use Rattle.ft_isa.specs.declared.output.Output.{Output as Committed};
+ghost use Rattle.ft_machine.specs.Hears.{Hears};
+
+use ft_isa::Output;
+
+/// What is done at each output of a run. The loop over the machine asks it whether the run goes on.
+pub trait Outlet {
+    // From the first state on the outlet took these outputs one by one, went on after each but the last, and after the
+    // last it went on or did not.
+    ghost heard: { Self → List Committed → Bool → Self → Type 0 };
+
+    // Whether an output may be taken.
+    ghost may: { Self → Committed → Type 0 };
+
+    /// Takes an output, and answers whether the run goes on.
+    fn take(&mut self, output: Output) -> bool
+        requires { may self.old output }
+        ensures heard { Hears heard self.old (output ∷ []) result self.new }
+        ensures still { (other : Committed) → may self.old other → may self.new other };
+
+    // No output was taken yet.
+    ghost heard_none: { (outlet : Self) → heard outlet [] true outlet };
+}
