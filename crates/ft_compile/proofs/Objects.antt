@@ -27,10 +27,9 @@ use Rattle.ft_scope.specs.Size.{RunFits}
 use Rattle.ft_lower.specs.Flow.{Blocks}
 use Rattle.ft_lower.specs.Size.{blocks_size}
 use Rattle.ft_lower.specs.Well.{IsTarget, IsWell, known_first}
-use Rattle.ft_dup.specs.Doubles.{bare, init_of_cell, words_of}
+use Rattle.ft_dup.specs.Doubles.{bare, init_of_cell, IsIntCell, words_of}
 use Rattle.ft_dup.proofs.WellFormedBlocks.{starts_length}
 use Rattle.ft_dup.specs.Images.{starts, start_of, doubled}
-use Rattle.ft_compile.specs.StandsFor.{IsIntCell}
 use Rattle.ft_compile.specs.Cells.{IsCellName, AreCells}
 use Rattle.ft_compile.specs.Emitted.{Noted, with_subst, substs_left, placed, blocks_at, block_from, cell_from, begun, scope_of_block, blocks_noted, at_first, noted, emitted}
 use Rattle.ft_compile.specs.Laws.{IsEmission, EmittedObjectsAreAccepted}
@@ -147,7 +146,7 @@ target_found [] to h t = absurd (omega (arith, t.there))
 target_found (x ∷ xs) zero h t = absurd (omega (arith, t.no_entry))
 target_found (x ∷ xs) (suc b) h t = ap (option_map code_type_of) (find_block x xs b h.0 (omega (arith, t.there)))
 
-module _ (names : List (List ℕ)) (inits : List ℕ) (vars : ℕ) (bs : Blocks) (C : AreCells names inits) (W : IsWell vars (length inits) bs) where
+module _ (names : List (List ℕ)) (inits : List ℕ) (vars : ℕ) (bs : Blocks) (C : AreCells names inits) (F : vars ≤ 32) (W : IsWell vars (length inits) bs) where
   -- the object
   abbrev o : Object
   o = emitted names inits vars bs
@@ -170,7 +169,7 @@ module _ (names : List (List ℕ)) (inits : List ℕ) (vars : ℕ) (bs : Blocks)
 
   -- what is noted of them is sound
   sound : IsSound o.nodes o.substs (noted vars bs)
-  sound = noted_sound vars (length inits) bs C.few W
+  sound = noted_sound vars (length inits) bs C.few F W
 
   -- the instructions are those of the rows, one after another
   instrs_are : o.instrs ≡ joined vars start rows
@@ -183,7 +182,7 @@ module _ (names : List (List ℕ)) (inits : List ℕ) (vars : ℕ) (bs : Blocks)
   -- the nodes obey the rules
   nodes_lawful : AreNodes o.nodes
   nodes_lawful = record {
-    few = let n = nodes_blocks vars 0 (at_first vars) bs in let m : length (at_first vars).nodes ≡ suc vars = ap suc (length-map-range_with_len (variable_node vars) 0 vars) in let s = W.short in let f = W.few_variables in omega arith;
+    few = let n = nodes_blocks vars 0 (at_first vars) bs in let m : length (at_first vars).nodes ≡ suc vars = ap suc (length-map-range_with_len (variable_node vars) 0 vars) in let s = W.short in let f = F in omega arith;
     each = sound.fine;
   }
 
@@ -194,7 +193,7 @@ module _ (names : List (List ℕ)) (inits : List ℕ) (vars : ℕ) (bs : Blocks)
   -- the two code types are there
   types : HasTypes o vars
   types = record {
-    few = W.few_variables;
+    few = F;
     entry_ints = refl;
     entry_rows = refl;
     entry_queue = refl;
@@ -216,7 +215,7 @@ module _ (names : List (List ℕ)) (inits : List ℕ) (vars : ℕ) (bs : Blocks)
   substs_are = ap substs_of instrs_are ∙ substs_blocks vars start 0 (at_first vars) bs ∙ sym (added_blocks vars start 0 (at_first vars) bs)
 
   -- there are as many blocks
-  block_count : length o.blocks ≡ length bs
+  pub block_count : length o.blocks ≡ length bs
   block_count = blocks_many (starts bs) ∙ starts_length 0 bs
 
   -- its cells have the names
@@ -240,9 +239,9 @@ module _ (names : List (List ℕ)) (inits : List ℕ) (vars : ℕ) (bs : Blocks)
     nodes = nodes_lawful;
     some_type = omega arith;
     few_types = omega arith;
-    few_reg_rows = reg_rows_few vars W.few_variables;
+    few_reg_rows = reg_rows_few vars F;
     few_queue_rows = queue_rows_few vars;
-    types = types_lawful o.nodes vars W.few_variables first_nodes;
+    types = types_lawful o.nodes vars F first_nodes;
     few_blocks = let c = block_count in let f = blocks_few bs some in let s = W.short in omega arith;
     first_block = blocks_begin bs W.some;
     blocks = blocks_in_order (length o.instrs) bs (let e = instrs_many in omega arith) some;
@@ -250,7 +249,7 @@ module _ (names : List (List ℕ)) (inits : List ℕ) (vars : ℕ) (bs : Blocks)
     some_instr = let e = instrs_many in let f = first_there bs some W.some in omega arith;
     few_instrs = let e = instrs_many in let s = W.short in omega arith;
     instrs = subst (λ n. All (IsInstr 2 n) o.instrs) (sym cell_count) (subst (All (IsInstr 2 (length inits))) (sym instrs_are) (instrs_blocks vars start (length inits) (length bs) C.few address_words 0 (at_first vars) bs fine));
-    few_substs = let r = rows_blocks vars 0 (at_first vars) bs W.few_variables in let s = W.short in omega arith;
+    few_substs = let r = rows_blocks vars 0 (at_first vars) bs F in let s = W.short in omega arith;
     covered = subst (Cover o.nodes (length o.substs) 0) (sym substs_are) (chain_covers o.nodes o.substs 0 (noted vars bs).substs sound.covered.chain);
     substs = sound.covered.rows;
     entry = let c = block_count in let s = W.some in omega arith;
@@ -291,8 +290,8 @@ module _ (names : List (List ℕ)) (inits : List ℕ) (vars : ℕ) (bs : Blocks)
       subst (λ n. Applies o (start_context o (type_of_block o vars types n)) r) z
       (subst (Applies o (start_context o (type_of_block o vars types b))) q
       (row_applies o vars types (length inits) (length bs) start C.few refs arrays targets (scope_of_block vars b) (known_first vars b) (begun w) (start_context o (type_of_block o vars types b)) x
-      (scope_within vars b W.few_variables) f.0.ended f.0.well f.0.pairs hn hr
-      (begun_lawful o.nodes vars b w W.few_variables s (starts_trans w.nodes v.nodes o.nodes wg.nodes hn) h.fine)
+      (scope_within vars b F) f.0.ended f.0.well f.0.pairs hn hr
+      (begun_lawful o.nodes vars b w F s (starts_trans w.nodes v.nodes o.nodes wg.nodes hn) h.fine)
       (begins_good o vars types b)))
   rows_apply b w (x ∷ xs) f s sn sr h (suc j) r e =
       let v = block_noted vars b w x in
@@ -303,13 +302,13 @@ module _ (names : List (List ℕ)) (inits : List ℕ) (vars : ℕ) (bs : Blocks)
       let z : suc b + j ≡ b + suc j = omega arith in
       subst (λ n. Applies o (start_context o (type_of_block o vars types n)) r) z
       (rows_apply (suc b) v xs f.1 (starts_trans (at_first vars).nodes w.nodes v.nodes s wg.nodes) sn sr
-      (row_sound o.nodes o.substs vars (scope_of_block vars b) (length inits) (length bs) (known_first vars b) (begun w) x W.few_variables (scope_within vars b W.few_variables) C.few f.0.well f.0.pairs hn hr
-      (begun_lawful o.nodes vars b w W.few_variables s (starts_trans w.nodes v.nodes o.nodes wg.nodes hn) h.fine)
+      (row_sound o.nodes o.substs vars (scope_of_block vars b) (length inits) (length bs) (known_first vars b) (begun w) x F (scope_within vars b F) C.few f.0.well f.0.pairs hn hr
+      (begun_lawful o.nodes vars b w F s (starts_trans w.nodes v.nodes o.nodes wg.nodes hn) h.fine)
       (record { rows = h.covered.rows; chain = h.covered.chain }))
       j r e)
 
   -- each block has its row
-  row_of_block : (b : ℕ) (w : Noted) (xs : Blocks) (j : ℕ) → j < length xs → (r : List Instr) × (slice_get (rows_coded vars start b w xs) j ≡ Some r)
+  pub row_of_block : (b : ℕ) (w : Noted) (xs : Blocks) (j : ℕ) → j < length xs → (r : List Instr) × (slice_get (rows_coded vars start b w xs) j ≡ Some r)
   row_of_block b w [] j lt = absurd (omega (arith, lt))
   row_of_block b w (x ∷ xs) zero lt = (row_coded vars start (scope_of_block vars b) (begun w) x, refl)
   row_of_block b w (x ∷ xs) (suc j) lt = row_of_block (suc b) (block_noted vars b w x) xs j (omega (arith, lt))
@@ -319,7 +318,7 @@ module _ (names : List (List ℕ)) (inits : List ℕ) (vars : ℕ) (bs : Blocks)
   place_is b = sym (slice_get-map start_of_block o.blocks b) ∙ ap (λ l. slice_get l b) (places_of_blocks (starts bs) ∙ sym (offsets_are_starts vars start 0 0 (at_first vars) bs))
 
   -- the instructions of a block are its row
-  block_is_row : (b : ℕ) (r : List Instr) → slice_get rows b ≡ Some r → block_instrs o b ≡ r
+  pub block_is_row : (b : ℕ) (r : List Instr) → slice_get rows b ≡ Some r → block_instrs o b ≡ r
   block_is_row b r e =
       ap (λ p. slice_range o.instrs (unwrap_or p 0) (unwrap_or (option_map start_of_block (slice_get o.blocks (suc b))) (length o.instrs))) (place_is b)
       ∙ ap (λ p. slice_range o.instrs (unwrap_or (slice_get (offsets vars start 0 rows) b) 0) (unwrap_or p (length o.instrs))) (place_is (suc b))
@@ -334,7 +333,7 @@ module _ (names : List (List ℕ)) (inits : List ℕ) (vars : ℕ) (bs : Blocks)
       let z : 0 + b ≡ b = omega arith in
       let whole = noted vars bs in
       let h = rows_apply 0 (at_first vars) bs fine (starts_refl (at_first vars).nodes) (starts_refl whole.nodes) (starts_refl whole.rows)
-      (record { fine = first_fine whole.nodes vars W.few_variables; covered = record { rows = All-nil (IsNodeIn whole.nodes 128 false); chain = refl } }) b R.0 R.1 in
+      (record { fine = first_fine whole.nodes vars F; covered = record { rows = All-nil (IsNodeIn whole.nodes 128 false); chain = refl } }) b R.0 R.1 in
       subst (λ t. Applies o (start_context o t) (block_instrs o b)) (sym (code_type_is o vars types (starts bs) b x e))
       (subst (λ l. Applies o (start_context o (type_of_block o vars types b)) l) (sym (block_is_row b R.0 R.1))
       (subst (λ n. Applies o (start_context o (type_of_block o vars types n)) R.0) z h))
@@ -365,6 +364,7 @@ module _ (names : List (List ℕ)) (inits : List ℕ) (vars : ℕ) (bs : Blocks)
       blocks = places_of_blocks (starts bs);
       entry = refl;
       many = cell_count;
+      ints = int_cells (zip names inits);
       words = subst (All IsWord) (sym words_are) C.words;
     };
     instrs = instrs_many;

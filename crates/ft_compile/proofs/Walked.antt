@@ -272,8 +272,8 @@ module _ (F : List Node) (R : List ℕ) where
       (record { rows = h.covered.rows; chain = h.covered.chain }))
 
 -- what is noted of well formed blocks is sound
-pub noted_sound : (vars cells : ℕ) (bs : Blocks) → cells ≤ 1024 → IsWell vars cells bs → let v = blocks_noted vars 0 (at_first vars) bs in IsSound v.nodes v.rows v
-noted_sound vars cells bs small h =
+pub noted_sound : (vars cells : ℕ) (bs : Blocks) → cells ≤ 1024 → vars ≤ 32 → IsWell vars cells bs → let v = blocks_noted vars 0 (at_first vars) bs in IsSound v.nodes v.rows v
+noted_sound vars cells bs small few h =
     let v = blocks_noted vars 0 (at_first vars) bs in
-    blocks_sound v.nodes v.rows vars cells (length bs) 0 (at_first vars) bs h.few_variables small (well_rows vars cells bs h) (starts_refl (at_first vars).nodes) (starts_refl v.nodes) (starts_refl v.rows)
-    (record { fine = first_fine v.nodes vars h.few_variables; covered = record { rows = All-nil (IsNodeIn v.nodes 128 false); chain = refl } })
+    blocks_sound v.nodes v.rows vars cells (length bs) 0 (at_first vars) bs few small (well_rows vars cells bs h) (starts_refl (at_first vars).nodes) (starts_refl v.nodes) (starts_refl v.rows)
+    (record { fine = first_fine v.nodes vars few; covered = record { rows = All-nil (IsNodeIn v.nodes 128 false); chain = refl } })

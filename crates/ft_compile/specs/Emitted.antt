@@ -172,11 +172,12 @@ emitted names inits vars bs = record {
   entry = 0;
 }
 
--- the object is that of a flow of the program, over the program's cells and variables: the flow's blocks are well formed,
+-- the object is that of a flow of the program, over the program's cells and at most 32 variables: its blocks are well formed,
 -- their run commits what the program means and ends when it ends, and they become at most as many instructions as the
 -- program weighs and name pairs below its need
 pub record IsEmitted (p : Program) (o : Object) : Type 0 where
   pub flow : Blocks
+  pub few : p.vars ≤ 32
   pub well : IsWell p.vars (length p.inits) flow
   pub runs : Lowers p flow
   pub light : blocks_size flow ≤ program_weight p

@@ -16,10 +16,12 @@ use Rattle.ft_lower.specs.Flow.{Blocks}
 use Rattle.ft_lower.specs.Lowers.{Lowers}
 use Rattle.ft_lower.specs.Size.{blocks_size}
 use Rattle.ft_lower.specs.Well.{IsWell}
-use Rattle.ft_dup.specs.Doubles.{words_of, Carries, RunsAs}
-use Rattle.ft_compile.specs.StandsFor.{IsIntCell, RunsAsMeant, StandsFor}
+use Rattle.ft_dup.specs.Doubles.{IsIntCell, words_of, Carries, RunsAs}
+use Rattle.ft_compile.specs.StandsFor.{RunsAsMeant, StandsFor}
 use Rattle.ft_compile.specs.Cells.{AreCells}
 use Rattle.ft_compile.specs.Emitted.{emitted, IsEmitted}
+use Rattle.ft_exchange.specs.Scheduled.{ComesFrom}
+use Rattle.ft_modules.specs.Linkable.{IsModule}
 
 -- an object that carries the blocks to which a program was lowered, with its initial words, runs as the program means
 abbrev pub CarriedBlocksRunAsMeant : Type 0
@@ -36,9 +38,9 @@ pub record IsEmission (names : List (List ℕ)) (inits : List ℕ) (bs : Blocks)
   pub carries : Carries o (length inits) bs
   pub instrs : length o.instrs ≡ blocks_size bs
 
--- so is the object of well formed blocks
+-- so is the object of well formed blocks over at most 32 variables
 abbrev pub EmittedObjectsAreAccepted : Type 0
-EmittedObjectsAreAccepted = (names : List (List ℕ)) (inits : List ℕ) (vars : ℕ) (bs : Blocks) → AreCells names inits → IsWell vars (length inits) bs → IsEmission names inits bs (emitted names inits vars bs)
+EmittedObjectsAreAccepted = (names : List (List ℕ)) (inits : List ℕ) (vars : ℕ) (bs : Blocks) → AreCells names inits → vars ≤ 32 → IsWell vars (length inits) bs → IsEmission names inits bs (emitted names inits vars bs)
 
 -- the cells of a text's program have lawful names that differ
 abbrev pub ProgramsHaveCells : Type 0
@@ -47,6 +49,14 @@ ProgramsHaveCells = (text : List ℕ) (p : Program) → IsProgramOf text p → A
 -- each program of a text has an object that stands for it, which is that of a flow of the program
 abbrev pub ProgramsHaveObjects : Type 0
 ProgramsHaveObjects = (text : List ℕ) (p : Program) → IsProgramOf text p → (o : Object) × (StandsFor p o × IsEmitted p o)
+
+-- the object of a flow of a text's program is a module: the linker's refusals 3, 4 and 5 do not apply to it
+abbrev pub CompiledObjectsAreModules : Type 0
+CompiledObjectsAreModules = (text : List ℕ) (p : Program) (o : Object) → IsProgramOf text p → IsEmitted p o → IsModule o.cells o
+
+-- nor to what comes from it by permitted exchanges, as its schedule does
+abbrev pub SchedulesOfCompiledObjectsAreModules : Type 0
+SchedulesOfCompiledObjectsAreModules = (text : List ℕ) (p : Program) (o s : Object) → IsProgramOf text p → IsEmitted p o → ComesFrom o s → IsModule s.cells s
 
 -- the lines of outputs by the names of an object's cells, one for each
 abbrev pub object_lines : Object → List Output → List (List ℕ)

@@ -7,8 +7,8 @@ use Rattle.ft_typing.specs.Accepted.{IsAccepted}
 use Rattle.ft_types.specs.Objects.{name_of}
 use Rattle.ft_semantics.specs.Run.{outputs_after, status_after}
 use Rattle.ft_types.specs.Spellable.{IsSpellable}
-use Rattle.ft_isa.specs.BasicTypes.{int}
 use Rattle.ft_scope.specs.Resolved.{Program, program_weight}
+use Rattle.ft_dup.specs.Doubles.{IsIntCell}
 use Rattle.ft_meaning.specs.Meaning.{State, Ended, Cut, outputs, meaning}
 use Rattle.ft_meaning.specs.Begins.{Begins}
 
@@ -28,10 +28,6 @@ pub record RunsAsMeant (p : Program) (o : Object) : Type 0 where
 -- the initial word of a cell
 abbrev pub initial_word : Cell → ℕ
 initial_word c = c.init
-
--- a cell holds any word
-abbrev pub IsIntCell : Cell → Type 0
-IsIntCell c = c.basic ≡ int
 
 -- an object stands for a program: it has the program's cells in order, with their names and initial words, all of
 -- type `int`; it is spellable and accepted; it has at most as many instructions as the program weighs; and its run is

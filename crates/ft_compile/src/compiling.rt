@@ -7,6 +7,7 @@ ghost use Rattle.ft_scope.specs.Resolved.{Program};
 ghost use Rattle.ft_compile.specs.Cells.{AreCells};
 ghost use Rattle.ft_compile.specs.Emitted.{IsEmitted};
 ghost use Rattle.ft_compile.specs.StandsFor.{StandsFor};
+ghost use Rattle.ft_modules.specs.Linkable.{IsModule};
 
 use crate::emission::emit;
 use ft_dup::duplicate;
@@ -22,6 +23,7 @@ fn compile_program(alloc: Global, prog: &Prog<'_>) -> Result<Object, NoMemory>
     requires { AreCells (program_of prog.now).names (program_of prog.now).inits }
     ensures stands { IfOk result (λ o. StandsFor (program_of prog.now) o) }
     ensures emitted { IfOk result (IsEmitted (program_of prog.now)) }
+    ensures joins { IfOk result (λ o. IsModule o.cells o) }
 {
     let flow = lower(alloc, prog)?;
     let code = duplicate(alloc, &flow)?;
@@ -35,13 +37,15 @@ fn compile_program(alloc: Global, prog: &Prog<'_>) -> Result<Object, NoMemory>
 /// of the meaning, and it ends with them where the meaning ends. It is the object of a well formed flow of
 /// this program: one whose run commits what the program means and ends when it ends, with no more
 /// instructions than the program weighs and no pair at or above its need. Code type 0 is the entry's, and
-/// code type 1, with a row for each variable in both colours, that of all other blocks.
+/// code type 1, with a row for each variable in both colours, that of all other blocks. And it is a module:
+/// the linker refuses it neither for its cells and rows nor for its code addresses.
 ///
 /// A text that is no program is refused by its first refusal, as `parse` and `resolve` say. The error
 /// `NoMemory`, out of memory, may come in the place of any answer.
 pub fn compile(alloc: Global, text: &[u8]) -> Result<Object, SourceError>
     ensures ok { IfOk result (λ o. (p : Program) × IsProgramOf text.now p × StandsFor p o) }
     ensures emitted { IfOk result (λ o. (p : Program) × IsProgramOf text.now p × IsEmitted p o) }
+    ensures joins { IfOk result (λ o. IsModule o.cells o) }
     ensures err { IfErr result (λ e. e ≢ errors.NoMemory → IsRefusalOf text.now e) }
 {
     let tree = match parse(alloc, text) {

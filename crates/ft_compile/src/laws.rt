@@ -1,5 +1,5 @@
 //! Laws of the definitions, each the contract of a function that does nothing.
-ghost use Rattle.ft_compile.specs.Laws.{CarriedBlocksRunAsMeant, CutMeaningsBeginTheRun, DoneRunsWriteTheMeaning, EmittedObjectsAreAccepted, EndedMeaningsAreWritten, LinesAreByTheProgramsNames, ProgramsHaveCells, ProgramsHaveObjects, RunningRunsBeginTheMeaning};
+ghost use Rattle.ft_compile.specs.Laws.{CarriedBlocksRunAsMeant, CompiledObjectsAreModules, CutMeaningsBeginTheRun, DoneRunsWriteTheMeaning, EmittedObjectsAreAccepted, EndedMeaningsAreWritten, LinesAreByTheProgramsNames, ProgramsHaveCells, ProgramsHaveObjects, RunningRunsBeginTheMeaning, SchedulesOfCompiledObjectsAreModules};
 
 /// An object that carries the blocks to which a program was lowered, with the program's initial words,
 /// runs as the program means.
@@ -21,6 +21,14 @@ pub fn programs_have_cells()
 /// Each text that is a program has an object that stands for the program.
 pub fn programs_have_objects()
     ensures { ProgramsHaveObjects }
+{}
+
+/// The object that is compiled of a text is a module that the linker takes: it is spellable and accepted,
+/// its cells and rows have the base `int`, and the walk that traces code addresses fails in none of its
+/// blocks. So is its schedule.
+pub fn compiled_objects_are_modules()
+    ensures compiled { CompiledObjectsAreModules }
+    ensures scheduled { SchedulesOfCompiledObjectsAreModules }
 {}
 
 /// Where an object stands for a program, outputs have the same lines by the names of the object's cells, as

@@ -2,7 +2,8 @@
 //!
 //! The crate promises that `compile` refuses exactly what is no program, and otherwise gives an object
 //! that stands for the program: spellable, accepted, and with a run that commits what the program means
-//! and ends when it ends; and that it is the object of a flow of that program. Its definitions:
+//! and ends when it ends; that it is the object of a flow of that program; and that it is a module that the
+//! linker takes. Its definitions:
 //! `specs/StandsFor.antt` (what stands for a program), `specs/Emitted.antt` (the object of a flow).
 #![tactic(auto)]
 
@@ -17,6 +18,6 @@ mod walking;
 
 pub use compiling::compile;
 pub use laws::{
-    carried_blocks_run_as_meant, emitted_objects_are_accepted, programs_have_cells,
-    programs_have_objects, runs_and_meanings_write_the_same_lines,
+    carried_blocks_run_as_meant, compiled_objects_are_modules, emitted_objects_are_accepted,
+    programs_have_cells, programs_have_objects, runs_and_meanings_write_the_same_lines,
 };

@@ -39,13 +39,18 @@ init_of_cell c = c.init
 abbrev pub words_of : Object → List ℕ
 words_of o = map init_of_cell o.cells
 
+-- a cell holds any word
+abbrev pub IsIntCell : Cell → Type 0
+IsIntCell c = c.basic ≡ int
+
 -- an object carries blocks: its instructions are theirs but for claims and substitutions, its blocks begin where theirs
--- do, its entry is block 0, and it has so many cells
+-- do, its entry is block 0, and it has so many cells, all of type `int`
 pub record Carries (o : Object) (cells : ℕ) (bs : Blocks) : Type 0 where
   pub instrs : map bare o.instrs ≡ map bare (doubled bs)
   pub blocks : map start_of_block o.blocks ≡ starts bs
   pub entry : o.entry ≡ 0
   pub many : length o.cells ≡ cells
+  pub ints : All IsIntCell o.cells
   pub words : All IsWord (words_of o)
 
 -- twice the number of instructions of a step that is run

@@ -14,7 +14,7 @@ mod sizes;
 mod whole;
 
 pub use doubled::Doubled;
-pub use laws::fibonacci_program_is_doubled;
+pub use laws::{fibonacci_program_is_doubled, well_flows_have_the_shape};
 pub use registers::{blue_register, green_register};
 pub use whole::duplicate;
 

@@ -34,10 +34,18 @@ fn block_size(steps: &[Step3]) -> u32
     size
 }
 
-/// The place of each block's first instruction.
-pub(crate) fn block_starts(alloc: Global, blocks: &[Vec<Step3>]) -> Result<Vec<u32>, AllocError>
+/// The place of each block's first instruction, and how many instructions there are in all.
+#[derive(Drop)]
+pub(crate) struct Places {
+    pub starts: Vec<u32>,
+    pub size: u32,
+}
+
+/// Where the blocks' instructions go.
+pub(crate) fn block_places(alloc: Global, blocks: &[Vec<Step3>]) -> Result<Places, AllocError>
     requires { blocks_size (map (λ b. b.items) blocks.now) ≤ 65536 }
-    ensures { IfOk result (λ s. s.items ≡ starts (map (λ b. b.items) blocks.now)) }
+    ensures starts { IfOk result (λ places. places.starts.items ≡ starts (map (λ b. b.items) blocks.now)) }
+    ensures size { IfOk result (λ places. places.size ≡ blocks_size (map (λ b. b.items) blocks.now)) }
 {
     let mut starts = Vec::with_capacity(alloc, blocks.len())?;
     let mut next = 0;
@@ -45,5 +53,5 @@ pub(crate) fn block_starts(alloc: Global, blocks: &[Vec<Step3>]) -> Result<Vec<u
         starts.push(next)?;
         next += block_size(block);
     }
-    Ok(starts)
+    Ok(Places { starts, size: next })
 }

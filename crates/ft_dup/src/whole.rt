@@ -10,7 +10,7 @@ ghost use Rattle.ft_dup.specs.Doubles.{RunsAs};
 
 use crate::doubled::Doubled;
 use crate::emission::put_step;
-use crate::sizes::block_starts;
+use crate::sizes::{Places, block_places};
 use ft_isa::{Instr, NoMemory};
 use ft_lower::{Flow, Step3};
 use std::alloc::{AllocError, Global};
@@ -27,17 +27,18 @@ fn put_block(code: &mut Vec<Instr>, starts: &[u32], steps: &[Step3]) -> Result<(
     Ok(())
 }
 
-/// The instructions of the steps of all blocks.
+/// The instructions of the steps of all blocks, for which room is made at once.
 fn put_blocks(
     alloc: Global,
     starts: &[u32],
     blocks: &[Vec<Step3>],
+    room: u32,
 ) -> Result<Vec<Instr>, AllocError>
     requires pairs { PairsBelow 32 (map (λ b. b.items) blocks.now) }
     requires targets { All (All (HasTarget (length starts.now))) (map (λ b. b.items) blocks.now) }
     ensures { IfOk result (λ code. code.items ≡ blocks_images (slice_index starts.now) (map (λ b. b.items) blocks.now)) }
 {
-    let mut code = Vec::new(alloc);
+    let mut code = Vec::with_capacity(alloc, room as usize)?;
     for block in blocks {
         put_block(&mut code, starts, block)?;
     }
@@ -57,8 +58,8 @@ pub fn duplicate(alloc: Global, flow: &Flow) -> Result<Doubled, NoMemory>
     ensures runs { IfOk result (λ d. IsWell flow.now.vars flow.now.cells (blocks_of flow.now) →
         RunsAs flow.now.vars flow.now.cells (blocks_of flow.now)) }
 {
-    let starts = block_starts(alloc, &flow.blocks)?;
-    let instrs = put_blocks(alloc, &starts, &flow.blocks)?;
+    let Places { starts, size } = block_places(alloc, &flow.blocks)?;
+    let instrs = put_blocks(alloc, &starts, &flow.blocks, size)?;
     Ok(Doubled {
         vars: flow.vars,
         starts,

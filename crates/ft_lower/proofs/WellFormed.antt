@@ -321,7 +321,6 @@ lowered_is_well p ok =
     let A = subst (AllAreWell n m N no_pair) e all in
     record {
       some = omega arith;
-      few_variables = omega (arith, ok.need);
       pairs = lowered_below p ok.names 32 ok.need;
       ended = λ b lt. (all_at n m N bs b A lt).ended;
       rows = λ b lt. (all_at n m N bs b A lt).well;

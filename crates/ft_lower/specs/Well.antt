@@ -117,7 +117,6 @@ known_at vars bs p = row_known (known_first vars p.block) (take p.index (block_o
 -- blocks over so many variables and cells are well formed
 pub record IsWell (vars cells : ℕ) (bs : Blocks) : Type 0 where
   pub some : 0 < length bs
-  pub few_variables : vars ≤ 32
   pub pairs : PairsBelow 32 bs
   pub ended : (b : ℕ) → b < length bs → IsBlock (block_of bs b)
   pub rows : (b : ℕ) → b < length bs → RowIsWell vars cells (length bs) (known_first vars b) (block_of bs b)

@@ -1,5 +1,5 @@
 //! From a program to its flow.
-ghost use Rattle.std.specs.Prelude.{◌≡◌, ◌≤◌, length, IfOk};
+ghost use Rattle.std.specs.Prelude.{◌≡◌, ◌<◌, ◌≤◌, length, IfOk};
 ghost use Rattle.ft_scope.specs.Resolved.{program_need, program_weight};
 ghost use Rattle.ft_scope.specs.ProgramOf.{program_of};
 ghost use Rattle.ft_lower.specs.Flow.{blocks_of};
@@ -14,13 +14,15 @@ use ft_isa::NoMemory;
 use ft_scope::Prog;
 use std::alloc::Global;
 
-/// Gives the flow of a program: well formed, with no more instructions than the program weighs and no pair
-/// at or above its need; its run commits what the program means, and ends when the program ends.
+/// Gives the flow of a program: well formed, with fewer than 32 variables, no more instructions than the
+/// program weighs and no pair at or above its need; its run commits what the program means, and ends when
+/// the program ends.
 ///
 /// It calls itself no deeper than statements and operators nest in the source.
 pub fn lower(alloc: Global, prog: &Prog<'_>) -> Result<Flow, NoMemory>
     ensures vars { IfOk result (λ f. f.vars ≡ prog.now.vars) }
     ensures cells { IfOk result (λ f. f.cells ≡ length prog.now.inits.items) }
+    ensures few { IfOk result (λ f. f.vars < 32) }
     ensures well { IfOk result (λ f. IsWell f.vars f.cells (blocks_of f)) }
     ensures light { IfOk result (λ f. blocks_size (blocks_of f) ≤ program_weight (program_of prog.now)) }
     ensures pairs { IfOk result (λ f. PairsBelow (program_need (program_of prog.now)) (blocks_of f)) }

@@ -22,3 +22,5 @@ pub mod LaidNodes
 pub mod SpelledWhole
 pub mod AcceptedLinked
 pub mod Linking
+pub mod ExchangedWalk
+pub mod Alone

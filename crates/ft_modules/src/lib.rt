@@ -4,6 +4,7 @@
 //! `specs/LinkRefusals.antt` when it does not, and `specs/ModulesRun.antt` the run that goes from module to
 //! module. The crate promises in `laws` that modules can be linked exactly when nothing of them is refused, that
 //! they are refused in turn, and that trees of expressions are compared by numbers (`specs/TreeKeys.antt`). It
+//! promises in `module_laws` that a module is refused for totals alone, and that permitted exchanges keep it. It
 //! promises in `linking_laws` that what is linked is an object that some bytes spell and is accepted, that it runs
 //! as its modules do, and that one fault in it is masked or detected.
 #![tactic(auto)]
@@ -12,6 +13,7 @@ mod before;
 mod examples;
 mod laws;
 mod linking_laws;
+mod module_laws;
 
 pub use before::Before;
 pub use laws::{
@@ -21,3 +23,4 @@ pub use linking_laws::{
     laid_nodes_stand_for_the_same_trees, linked_objects_are_accepted,
     linked_objects_run_as_their_modules, linked_objects_tolerate_one_fault,
 };
+pub use module_laws::{exchanges_keep_modules, modules_are_refused_for_totals_alone};

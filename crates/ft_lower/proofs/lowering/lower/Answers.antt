@@ -17,6 +17,9 @@ use Rattle.ft_lower.proofs.lowering.lower.Goals as goal
 resolved : (p : Prog) → IsResolved (program_of p)
 resolved p = record { names = p.fits; need = p.small_need; weight = p.light }
 
+pub returns-clause-few : goal.returns-clause-few
+returns-clause-few c = omega (arith, c.args.prog.now.small_need)
+
 pub returns-clause-well : goal.returns-clause-well
 returns-clause-well c =
     let p = program_of c.args.prog.now in
