@@ -1,6 +1,10 @@
 -- What the assembler answers, against the answers that apply.
 use Rattle.std.specs.Prelude.{◌≡◌, List, ℕ, Result, Ok, Err}
+use Rattle.std.specs.declared.vec.Vec.{Vec}
+use Rattle.std.specs.declared.alloc.Global.{Global}
 use Rattle.ft_types.specs.declared.object.Object as objects
+use Rattle.ft_format.specs.declared.version.Version.TheVariants.{Second}
+use Rattle.ft_format.specs.Format.{Spells}
 use Rattle.ft_asm.specs.declared.asm_error.AsmError.{AsmError}
 use Rattle.ft_asm.specs.declared.asm_error.AsmError.TheVariants as errors
 use Rattle.ft_asm.specs.Reads.{Answer, Is, TooLong, Text, Order, Broken, Applies}
@@ -25,3 +29,20 @@ IsError errors.NoMemory answer = Unit {0}
 abbrev pub Gives : Result objects.Object AsmError → Answer → Type 0
 Gives (Ok object) answer = Is object ≡ answer
 Gives (Err error) answer = IsError error answer
+
+-- bytes that spell, in version 2 of the format, the object that the text reads as
+pub record IsAssembly (text bytes : List ℕ) : Type 0 where
+  pub object : objects.Object
+  pub reads : Applies text (Is object)
+  pub spelled : Spells bytes Second object
+
+-- the answer is an object, and these bytes spell it
+pub record IsSpelled (bytes : List ℕ) (answer : Answer) : Type 0 where
+  pub object : objects.Object
+  pub is : Is object ≡ answer
+  pub spelled : Spells bytes Second object
+
+-- the bytes that were given are those of this answer, or what was refused is, unless memory ran out
+abbrev pub GivesBytes : Result (Vec ℕ Global) AsmError → Answer → Type 0
+GivesBytes (Ok bytes) answer = IsSpelled bytes.items answer
+GivesBytes (Err error) answer = IsError error answer

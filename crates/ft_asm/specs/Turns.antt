@@ -22,11 +22,3 @@ abbrev pub Turns : Turn → tables.Draft → Draft → List ℕ → Type 0
 Turns On t d line = (e : Draft) × Holds t e × Leads d line e
 Turns Bad t d line = (is_said (words_of line) ≡ true) × (line_in (words_of line) ≡ None)
 Turns Stuck t d line = (l : Line) × (is_said (words_of line) ≡ true) × (line_in (words_of line) ≡ Some l) × (next d l ≡ None)
-
--- an error tells the first rule that tables break, unless memory ran out
-abbrev pub Judges : AsmError → objects.Object → Type 0
-Judges (errors.Text line) object = ⊥
-Judges (errors.Order line) object = ⊥
-Judges errors.TooLong object = ⊥
-Judges (errors.Object error) object = rule_broken object ≡ Some error
-Judges errors.NoMemory object = Unit {0}

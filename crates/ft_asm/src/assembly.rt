@@ -1,12 +1,13 @@
 //! Texts, read as objects.
-ghost use Rattle.std.specs.Prelude.{◌≡◌, ◌≤◌, length, None, IfOk, IfErr};
+ghost use Rattle.std.specs.Prelude.{◌≡◌, ◌≤◌, length, IfOk, IfErr};
 ghost use Rattle.ft_types.specs.Spellable.{IsSpellable};
-ghost use Rattle.ft_encode.specs.Fits.{Fits};
-ghost use Rattle.ft_asm.specs.Reads.{Reads, Answer, Is, Applies, rule_broken};
-ghost use Rattle.ft_asm.specs.Refusals.{IsRefusal, Gives};
+ghost use Rattle.ft_format.specs.declared.version.Version.TheVariants.{Second};
+ghost use Rattle.ft_format.specs.Rows.{spelling};
+ghost use Rattle.ft_asm.specs.Reads.{Reads, Answer, Is, Applies};
+ghost use Rattle.ft_asm.specs.Refusals.{IsRefusal, Gives, GivesBytes, IsAssembly};
 ghost use Rattle.ft_asm.specs.Drafts as drafts;
 ghost use Rattle.ft_asm.specs.Held.{Holds};
-ghost use Rattle.ft_asm.specs.Turns.{Turns, Judges};
+ghost use Rattle.ft_asm.specs.Turns.{Turns};
 
 use crate::asm_error::AsmError;
 use crate::draft::Draft;
@@ -78,19 +79,26 @@ fn read_tables(alloc: Global, text: &[u8]) -> Result<Object, AsmError>
     }
 }
 
-/// The object, where its tables obey the rules of the format.
-fn judge(alloc: Global, object: Object) -> Result<Object, AsmError>
-    requires { Fits object }
-    ensures same { IfOk result (λ judged. judged ≡ object) }
-    ensures unbroken { IfOk result (λ judged. rule_broken object ≡ None) }
-    ensures lawful { IfOk result (λ judged. IsSpellable object) }
-    ensures broken { IfErr result (λ error. Judges error object) }
+/// An object and its spelling, in version 2 of the format.
+#[derive(Drop)]
+struct Assembled {
+    object: Object,
+    bytes: Vec<u8>,
+}
+
+/// The object that a text reads as, with its spelling, or what `assemble` refuses the text for.
+fn assemble_whole(alloc: Global, text: &[u8]) -> Result<Assembled, AsmError>
+    ensures reads { IfOk result (λ whole. Applies text.now (Is whole.object)) }
+    ensures lawful { IfOk result (λ whole. IsSpellable whole.object) }
+    ensures spelled { IfOk result (λ whole. whole.bytes.items ≡ spelling Second whole.object) }
+    ensures refused { IfErr result (IsRefusal text.now) }
 {
+    let object = read_tables(alloc, text)?;
     let Ok(bytes) = spell(alloc, &object) else {
         return Err(AsmError::NoMemory);
     };
     match View::over(bytes.as_slice()) {
-        Ok(_) => Ok(object),
+        Ok(_) => Ok(Assembled { object, bytes }),
         Err(error) => Err(AsmError::Object(error)),
     }
 }
@@ -107,6 +115,24 @@ pub fn assemble(alloc: Global, text: &[u8]) -> Result<Object, AsmError>
     // Whatever answer applies to the text, it is the one that is given, unless memory runs out.
     ensures exact { (answer : Answer) → Applies text.now answer → Gives result answer }
 {
-    let object = read_tables(alloc, text)?;
-    judge(alloc, object)
+    match assemble_whole(alloc, text) {
+        Ok(whole) => Ok(whole.object),
+        Err(error) => Err(error),
+    }
+}
+
+/// The bytes of the object that a text reads as, in version 2 of the format; or what `assemble` refuses the text
+/// for. The object is spelled once, by which it is judged.
+pub fn assemble_bytes(alloc: Global, text: &[u8]) -> Result<Vec<u8>, AsmError>
+    // What is given are the bytes of the object that the text reads as.
+    ensures reads { IfOk result (λ bytes. IsAssembly text.now bytes.items) }
+    // A refusal comes only where it applies to the text.
+    ensures refused { IfErr result (IsRefusal text.now) }
+    // Whatever answer applies to the text, it is the one that is given, unless memory runs out.
+    ensures exact { (answer : Answer) → Applies text.now answer → GivesBytes result answer }
+{
+    match assemble_whole(alloc, text) {
+        Ok(whole) => Ok(whole.bytes),
+        Err(error) => Err(error),
+    }
 }

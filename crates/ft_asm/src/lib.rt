@@ -21,7 +21,7 @@ mod words;
 mod writing;
 
 pub use asm_error::AsmError;
-pub use assembly::assemble;
+pub use assembly::{assemble, assemble_bytes};
 pub use disassembly::{disassemble, put_codes};
 pub use laws::{answers_are_one, readings_are_one, texts_are_read};
 pub use line::{Code, Line};

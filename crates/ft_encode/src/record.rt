@@ -8,7 +8,7 @@ ghost use Rattle.ft_format.specs.Rows.{colour_code, base_code, base_type, basic_
 ghost use Rattle.ft_format.specs.Puts.{Puts};
 ghost use Rattle.ft_encode.specs.Written.{subst_bytes};
 
-use ft_format::{CodeRow, NodeRow, PairRow, RegRow, SubstRow, put};
+use ft_format::{CodeRow, NodeRow, PairRow, RegRow, SubstRow, put_pair};
 use ft_isa::{Base, Basic, Colour, Coloured, Instr, NoMemory, Reg, Subst};
 use ft_static::{Node, Shape};
 use ft_types::{Block, RegType, op_code};
@@ -261,28 +261,14 @@ impl Record for Instr {
     }
 }
 
-/// The records of four substitution rows.
-#[inline(always)]
-#[tactic(auto, unfolding(ft_format::specs::Layout::written, ft_format::specs::Layout::bytes_of))]
-fn four_rows(a: u32, b: u32, c: u32, d: u32) -> [u8; 16]
-    ensures { result ≡ subst_bytes a ++ subst_bytes b ++ subst_bytes c ++ subst_bytes d }
-{
-    let [a0, a1, a2, a3] = a.to_be_bytes();
-    let [b0, b1, b2, b3] = b.to_be_bytes();
-    let [c0, c1, c2, c3] = c.to_be_bytes();
-    let [d0, d1, d2, d3] = d.to_be_bytes();
-    [
-        a0, a1, a2, a3, b0, b1, b2, b3, c0, c1, c2, c3, d0, d1, d2, d3,
-    ]
-}
-
-/// Puts substitution rows at the end, four at a time: an object may have a million of them.
+/// Puts substitution rows at the end, two at a time: an object may have a million of them.
+#[tactic(auto, unfolding(ft_format::specs::Layout::written))]
 pub(crate) fn write_rows(rows: &[u32], out: &mut Vec<u8>) -> Result<(), NoMemory>
     ensures { OnOk result (Puts out.old.items out.new.items (flat_map subst_bytes rows.now)) }
 {
     let mut left = rows;
-    while let [a, b, c, d, rest @ ..] = left {
-        put(out, &four_rows(*a, *b, *c, *d))?;
+    while let [a, b, rest @ ..] = left {
+        put_pair(out, *a, *b)?;
         left = rest;
     }
     write_all(left, out)

@@ -1,5 +1,6 @@
 pub mod Cells
 pub mod Codes
+pub mod Halves
 pub mod Instrs
 pub mod Layouts
 pub mod Loops

@@ -20,7 +20,7 @@ pub use header::Header;
 pub use laws::{
     rules_are_exact, spellings_are_apart, spellings_are_one, versions_differ_in_byte_7,
 };
-pub use numbers::put;
+pub use numbers::{put, put_pair};
 pub use object_error::ObjectError;
 pub use places::Places;
 pub use rows::cell_row::CellRow;

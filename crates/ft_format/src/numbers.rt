@@ -1,11 +1,12 @@
 //! Big-endian numbers at the front of bytes, and at the end of those that are written.
-ghost use Rattle.std.specs.Prelude.{◌≡◌, ◌≤◌, ◌+◌, ◌∷◌, [], length, drop, OnOk};
+ghost use Rattle.std.specs.Prelude.{◌≡◌, ◌≤◌, ◌+◌, ◌++◌, ◌∷◌, [], length, drop, OnOk};
 ghost use Rattle.std.specs.Int.{w8, w16, w32, w64};
 ghost use Rattle.ft_format.specs.Puts.{Puts};
 ghost use Rattle.ft_format.specs.Layout.{number_of, bytes_of, written, cell_layout, code_layout, type_layout, reg_layout, pair_layout};
 
 use byteorder::{BigEndian, ByteOrder};
 use ft_isa::NoMemory;
+use ft_types::{joined, row_words};
 
 /// A number of one byte, and the bytes after it.
 #[tactic(auto, unfolding(crate::specs::Layout::number_of))]
@@ -81,6 +82,7 @@ pub(crate) fn put_u32(out: &mut Vec<u8>, n: u32) -> Result<(), NoMemory>
 }
 
 /// Puts a number of eight bytes at the end.
+#[inline(always)]
 #[tactic(auto, unfolding(crate::specs::Layout::bytes_of))]
 pub(crate) fn put_u64(out: &mut Vec<u8>, n: u64) -> Result<(), NoMemory>
     ensures { OnOk result (Puts out.old.items out.new.items (bytes_of w64 n)) }
@@ -90,15 +92,29 @@ pub(crate) fn put_u64(out: &mut Vec<u8>, n: u64) -> Result<(), NoMemory>
     put(out, &bytes)
 }
 
-/// The bytes of a record of four numbers of one byte and three of four bytes.
-#[tactic(auto, unfolding(crate::specs::Layout::written, crate::specs::Layout::bytes_of))]
-pub(crate) fn code_bytes(a: u8, b: u8, c: u8, d: u8, x: u32, y: u32, z: u32) -> [u8; 16]
-    ensures { result ≡ written code_layout (a ∷ b ∷ c ∷ d ∷ x ∷ y ∷ z ∷ []) }
+/// The record of four numbers of one byte and three of four bytes, as two numbers of eight bytes.
+#[inline(always)]
+pub(crate) fn code_words(a: u8, b: u8, c: u8, d: u8, x: u32, y: u32, z: u32) -> (u64, u64)
+    ensures { bytes_of w64 result.0 ++ bytes_of w64 result.1 ≡ written code_layout (a ∷ b ∷ c ∷ d ∷ x ∷ y ∷ z ∷ []) }
 {
-    let [x0, x1, x2, x3] = x.to_be_bytes();
-    let [y0, y1, y2, y3] = y.to_be_bytes();
-    let [z0, z1, z2, z3] = z.to_be_bytes();
-    [a, b, c, d, x0, x1, x2, x3, y0, y1, y2, y3, z0, z1, z2, z3]
+    row_words(a, b, c, d, x, y, z)
+}
+
+/// Puts two numbers of eight bytes at the end.
+#[inline(always)]
+pub(crate) fn put_words(out: &mut Vec<u8>, words: (u64, u64)) -> Result<(), NoMemory>
+    ensures { OnOk result (Puts out.old.items out.new.items (bytes_of w64 words.0 ++ bytes_of w64 words.1)) }
+{
+    put_u64(out, words.0)?;
+    put_u64(out, words.1)
+}
+
+/// Puts two numbers of four bytes at the end, as one of eight bytes.
+#[inline(always)]
+pub fn put_pair(out: &mut Vec<u8>, first: u32, second: u32) -> Result<(), NoMemory>
+    ensures { OnOk result (Puts out.old.items out.new.items (bytes_of w32 first ++ bytes_of w32 second)) }
+{
+    put_u64(out, joined(first, second))
 }
 
 /// The bytes of a cell's record.

@@ -11,7 +11,7 @@ use crate::joins::{block_of, start_of};
 use crate::laying::Laid;
 use crate::lines::{find_export, is_stub};
 use crate::link_error::LinkError;
-use crate::types::same_types;
+use crate::types::{Numbered, same_types};
 use ft_link_map::Ask;
 use ft_types::{Object, Table};
 
@@ -31,15 +31,15 @@ fn like_blocks(objects: &[Object], laid: &Laid, numbers: &[u32], import: &Ask, e
     let a = &objects[m];
     let n = export.module as usize;
     let b = &objects[n];
-    same_types(
-        numbers,
-        a,
-        from.nodes,
-        one.code_type,
-        b,
-        to.nodes,
-        other.code_type,
-    )
+    let a = Numbered {
+        object: a,
+        first: from.nodes,
+    };
+    let b = Numbered {
+        object: b,
+        first: to.nodes,
+    };
+    same_types(numbers, a, one.code_type, b, other.code_type)
 }
 
 /// Tests an import: the block is a stub, its name is exported, and both code types say the same.

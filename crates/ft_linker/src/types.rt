@@ -9,7 +9,15 @@ ghost use Rattle.ft_linker.specs.Numbers.{AreCompared, HasPair, HasRow};
 use crate::basic_types::{same_basic, same_colour};
 use ft_types::{Object, RegType, Table};
 
-/// Whether the trees of node `n` behind `k` and of node `m` behind `l` have one number.
+/// A module's object, and where the numbers of its nodes' trees begin.
+#[derive(Clone, Copy)]
+pub struct Numbered<'a> {
+    pub object: &'a Object,
+    pub first: u32,
+}
+
+/// Whether node `n` of one module and node `m` of another have trees of one number. The numbers of the modules' nodes
+/// begin at `k` and at `l`.
 fn same_tree(numbers: &[u32], k: u32, n: u32, l: u32, m: u32) -> bool
     requires one { k + n < length numbers.now }
     requires other { l + m < length numbers.now }
@@ -19,13 +27,13 @@ fn same_tree(numbers: &[u32], k: u32, n: u32, l: u32, m: u32) -> bool
 }
 
 /// Whether two register rows say the same.
-fn same_row(numbers: &[u32], a: &Object, k: u32, r: RegType, b: &Object, l: u32, q: RegType) -> bool
-    requires one { IsSpellable a.now }
-    requires other { IsSpellable b.now }
-    requires compared { AreCompared numbers.now a.now k b.now l }
-    requires row { HasRow a.now r }
-    requires other_row { HasRow b.now q }
-    ensures { IsTrue result ↔ SameRow a.now b.now r q }
+fn same_row(numbers: &[u32], a: Numbered, r: RegType, b: Numbered, q: RegType) -> bool
+    requires one { IsSpellable a.object.now }
+    requires other { IsSpellable b.object.now }
+    requires compared { AreCompared numbers.now a.object.now a.first b.object.now b.first }
+    requires row { HasRow a.object.now r }
+    requires other_row { HasRow b.object.now q }
+    ensures { IsTrue result ↔ SameRow a.entry.object.now b.entry.object.now r q }
 {
     if r.reg.number() != q.reg.number() {
         return false;
@@ -36,25 +44,23 @@ fn same_row(numbers: &[u32], a: &Object, k: u32, r: RegType, b: &Object, l: u32,
     if !same_basic(r.basic, q.basic) {
         return false;
     }
-    same_tree(numbers, k, r.expr, l, q.expr)
+    same_tree(numbers, a.first, r.expr, b.first, q.expr)
 }
 
 /// Whether register rows say the same, row by row.
 fn same_rows(
     numbers: &[u32],
-    a: &Object,
-    k: u32,
+    a: Numbered,
     rs: &Table<RegType>,
-    b: &Object,
-    l: u32,
+    b: Numbered,
     qs: &Table<RegType>,
 ) -> bool
-    requires one { IsSpellable a.now }
-    requires other { IsSpellable b.now }
-    requires compared { AreCompared numbers.now a.now k b.now l }
-    requires rows { All (HasRow a.now) rs.now }
-    requires other_rows { All (HasRow b.now) qs.now }
-    ensures { IsTrue result ↔ AllZip (SameRow a.now b.now) rs.now qs.now }
+    requires one { IsSpellable a.object.now }
+    requires other { IsSpellable b.object.now }
+    requires compared { AreCompared numbers.now a.object.now a.first b.object.now b.first }
+    requires rows { All (HasRow a.object.now) rs.now }
+    requires other_rows { All (HasRow b.object.now) qs.now }
+    ensures { IsTrue result ↔ AllZip (SameRow a.entry.object.now b.entry.object.now) rs.now qs.now }
 {
     if rs.len() != qs.len() {
         return false;
@@ -62,7 +68,7 @@ fn same_rows(
     for j in 0..rs.len() {
         let r = *rs.at(j);
         let q = *qs.at(j);
-        if !same_row(numbers, a, k, r, b, l, q) {
+        if !same_row(numbers, a, r, b, q) {
             return false;
         }
     }
@@ -70,45 +76,35 @@ fn same_rows(
 }
 
 /// Whether two queue rows say the same.
-fn same_pair(
-    numbers: &[u32],
-    a: &Object,
-    k: u32,
-    r: (u32, u32),
-    b: &Object,
-    l: u32,
-    q: (u32, u32),
-) -> bool
-    requires one { IsSpellable a.now }
-    requires other { IsSpellable b.now }
-    requires compared { AreCompared numbers.now a.now k b.now l }
-    requires row { HasPair a.now r }
-    requires other_row { HasPair b.now q }
-    ensures { IsTrue result ↔ SamePair a.now b.now r q }
+fn same_pair(numbers: &[u32], a: Numbered, r: (u32, u32), b: Numbered, q: (u32, u32)) -> bool
+    requires one { IsSpellable a.object.now }
+    requires other { IsSpellable b.object.now }
+    requires compared { AreCompared numbers.now a.object.now a.first b.object.now b.first }
+    requires row { HasPair a.object.now r }
+    requires other_row { HasPair b.object.now q }
+    ensures { IsTrue result ↔ SamePair a.entry.object.now b.entry.object.now r q }
 {
-    let is_address = same_tree(numbers, k, r.0, l, q.0);
+    let is_address = same_tree(numbers, a.first, r.0, b.first, q.0);
     if !is_address {
         return false;
     }
-    same_tree(numbers, k, r.1, l, q.1)
+    same_tree(numbers, a.first, r.1, b.first, q.1)
 }
 
 /// Whether queue rows say the same, row by row.
 fn same_pairs(
     numbers: &[u32],
-    a: &Object,
-    k: u32,
+    a: Numbered,
     rs: &Table<(u32, u32)>,
-    b: &Object,
-    l: u32,
+    b: Numbered,
     qs: &Table<(u32, u32)>,
 ) -> bool
-    requires one { IsSpellable a.now }
-    requires other { IsSpellable b.now }
-    requires compared { AreCompared numbers.now a.now k b.now l }
-    requires rows { All (HasPair a.now) rs.now }
-    requires other_rows { All (HasPair b.now) qs.now }
-    ensures { IsTrue result ↔ AllZip (SamePair a.now b.now) rs.now qs.now }
+    requires one { IsSpellable a.object.now }
+    requires other { IsSpellable b.object.now }
+    requires compared { AreCompared numbers.now a.object.now a.first b.object.now b.first }
+    requires rows { All (HasPair a.object.now) rs.now }
+    requires other_rows { All (HasPair b.object.now) qs.now }
+    ensures { IsTrue result ↔ AllZip (SamePair a.entry.object.now b.entry.object.now) rs.now qs.now }
 {
     if rs.len() != qs.len() {
         return false;
@@ -116,33 +112,32 @@ fn same_pairs(
     for j in 0..rs.len() {
         let r = *rs.at(j);
         let q = *qs.at(j);
-        if !same_pair(numbers, a, k, r, b, l, q) {
+        if !same_pair(numbers, a, r, b, q) {
             return false;
         }
     }
     true
 }
 
-/// Whether code type `t` of one module says what code type `u` of another says. Both are there. The trees
-/// of the modules' nodes have numbers, from `k` and from `l` on.
-pub fn same_types(numbers: &[u32], a: &Object, k: u32, t: u32, b: &Object, l: u32, u: u32) -> bool
-    requires one { IsSpellable a.now }
-    requires other { IsSpellable b.now }
-    requires compared { AreCompared numbers.now a.now k b.now l }
-    requires there { t < length a.now.types }
-    requires other_there { u < length b.now.types }
-    ensures { IsTrue result ↔ LikeTypes a.now t b.now u }
+/// Whether code type `t` of one module says what code type `u` of another says. Both are there.
+pub fn same_types(numbers: &[u32], a: Numbered, t: u32, b: Numbered, u: u32) -> bool
+    requires one { IsSpellable a.object.now }
+    requires other { IsSpellable b.object.now }
+    requires compared { AreCompared numbers.now a.object.now a.first b.object.now b.first }
+    requires there { t < length a.object.now.types }
+    requires other_there { u < length b.object.now.types }
+    ensures { IsTrue result ↔ LikeTypes a.entry.object.now t b.entry.object.now u }
 {
-    let x = a.types.at(t as usize);
-    let y = b.types.at(u as usize);
+    let x = a.object.types.at(t as usize);
+    let y = b.object.types.at(u as usize);
     if x.ints != y.ints {
         return false;
     }
-    if !same_rows(numbers, a, k, &x.regs, b, l, &y.regs) {
+    if !same_rows(numbers, a, &x.regs, b, &y.regs) {
         return false;
     }
-    if !same_pairs(numbers, a, k, &x.queue, b, l, &y.queue) {
+    if !same_pairs(numbers, a, &x.queue, b, &y.queue) {
         return false;
     }
-    same_tree(numbers, k, x.memory, l, y.memory)
+    same_tree(numbers, a.first, x.memory, b.first, y.memory)
 }

@@ -4,7 +4,7 @@ ghost use Rattle.ft_format.specs.Layout.{numbers, written, code_layout};
 ghost use Rattle.ft_format.specs.Puts.{Puts};
 ghost use Rattle.ft_format.specs.Fields.{code_numbers};
 
-use crate::numbers::{code_bytes, put, read_u8, read_u32};
+use crate::numbers::{code_words, put_words, read_u8, read_u32};
 use ft_isa::NoMemory;
 
 /// The numbers of an instruction's record: kind, a, b, c, x, and the two halves of v.
@@ -49,9 +49,9 @@ impl CodeRow {
     pub fn write(self, out: &mut Vec<u8>) -> Result<(), NoMemory>
         ensures { OnOk result (Puts out.old.items out.new.items (written code_layout (code_numbers self))) }
     {
-        let bytes = code_bytes(
+        let words = code_words(
             self.kind, self.a, self.b, self.c, self.x, self.high, self.low,
         );
-        put(out, &bytes)
+        put_words(out, words)
     }
 }

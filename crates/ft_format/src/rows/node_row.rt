@@ -5,7 +5,7 @@ ghost use Rattle.ft_format.specs.Layout.{numbers, written, code_layout};
 ghost use Rattle.ft_format.specs.Puts.{Puts};
 ghost use Rattle.ft_format.specs.Fields.{node_numbers};
 
-use crate::numbers::{code_bytes, put, read_u8, read_u32};
+use crate::numbers::{code_words, put_words, read_u8, read_u32};
 use ft_isa::NoMemory;
 use ft_types::row_words;
 
@@ -61,9 +61,9 @@ impl NodeRow {
     pub fn write(self, out: &mut Vec<u8>) -> Result<(), NoMemory>
         ensures { OnOk result (Puts out.old.items out.new.items (written code_layout (node_numbers self))) }
     {
-        let bytes = code_bytes(
+        let words = code_words(
             self.kind, self.op, self.scope, self.pad, self.a, self.b, self.c,
         );
-        put(out, &bytes)
+        put_words(out, words)
     }
 }

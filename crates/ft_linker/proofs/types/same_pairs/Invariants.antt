@@ -4,4 +4,4 @@ use Rattle.ft_modules.specs.LikeTypes.{SamePair}
 use Rattle.ft_linker.proofs.types.same_pairs.Given as goal
 
 abbrev pub invariant-loop-j : goal.invariant-loop-j
-invariant-loop-j l = AllZip (SamePair l.a l.b) (take l.j l.rs) (take l.j l.qs)
+invariant-loop-j l = AllZip (SamePair l.a.object.now l.b.object.now) (take l.j l.rs) (take l.j l.qs)
