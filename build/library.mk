@@ -1,0 +1,30 @@
+# The C library from its proved archive. `build/library.sh` calls it, from the top of the repository. For another processor
+# it gives ARCHIVE, CC and AR; HEAP is heap, or arena.
+CC = cc
+AR = ar
+HEAP = heap
+CFLAGS = -O2
+PREFIX = /usr/local
+VERSION := $(shell cat VERSION)
+warnings = -std=c99 -Wall -Wextra -pedantic
+
+all: $(OUT)/libtalft.a $(OUT)/libtalft.so $(OUT)/talft.pc $(OUT)/talft.py
+
+# It is always made anew, since HEAP may be another one than before.
+.PHONY: all $(OUT)/heap.o
+$(OUT)/heap.o: embed/$(HEAP).c include/talft.h
+	$(CC) $(warnings) $(CFLAGS) -fPIC -Iinclude -c embed/$(HEAP).c -o $@
+
+$(OUT)/libtalft.a: $(ARCHIVE) $(OUT)/heap.o
+	rm -f $@
+	cd $(OUT) && $(AR) x $(abspath $(ARCHIVE)) && $(AR) rcs libtalft.a *.o && ls *.o | grep -vx heap.o | xargs rm -f
+
+$(OUT)/libtalft.so: $(OUT)/libtalft.a embed/talft.map
+	$(CC) -shared -Wl,--whole-archive $(OUT)/libtalft.a -Wl,--no-whole-archive -Wl,--version-script=embed/talft.map \
+	  -Wl,--gc-sections -Wl,-soname,libtalft.so.0 -Wl,-z,defs -s -o $@
+
+$(OUT)/talft.pc: embed/talft.pc.in VERSION
+	sed 's|@PREFIX@|$(PREFIX)|; s|@VERSION@|$(VERSION)|' embed/talft.pc.in >$@
+
+$(OUT)/talft.py: embed/talft.py
+	cp embed/talft.py $@

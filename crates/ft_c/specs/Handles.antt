@@ -1,0 +1,32 @@
+-- What calls do with the run that a handle holds.
+use Rattle.std.specs.Prelude.{◌≡◌, ℕ, List, [], Option, Some, None, true}
+use Rattle.ft_isa.specs.declared.plan.Site.{Site}
+use Rattle.ft_isa.specs.PlanText.{IsSiteText}
+use Rattle.ft_semantics.specs.Strike.{is_there}
+use Rattle.ft_semantics.specs.Run.{state_after}
+use Rattle.ft_embed.specs.declared.filling.CellOutput.{CellOutput}
+use Rattle.ft_embed.specs.Tasks.{TaskRun, WentOn, begun}
+
+-- the run that a handle held went on, and the handle holds it
+pub record GoesOnIn (old new : Option TaskRun) (status steps taken count : ℕ) (out : List CellOutput) : Type 0 where
+  pub before : TaskRun
+  pub after : TaskRun
+  pub held : old ≡ Some before
+  pub holds : new ≡ Some after
+  pub went : WentOn before after status steps taken count out
+
+-- the run that a handle held had no strike, and the site that the text says was there: it is struck before the next step
+pub record IsStruckIn (old new : Option TaskRun) (text : List ℕ) (value : ℕ) : Type 0 where
+  pub before : TaskRun
+  pub site : Site
+  pub held : old ≡ Some before
+  pub says : IsSiteText text site
+  pub first : before.strike ≡ None
+  pub there : is_there (state_after before.object None [] before.taken) site ≡ true
+  pub holds : new ≡ Some (record { object = before.object; strike = Some (record { step = before.taken; site = site; value = value }); taken = before.taken })
+
+-- a run begins again, and the handle holds it
+pub record BeginsAgain (old new : Option TaskRun) : Type 0 where
+  pub before : TaskRun
+  pub held : old ≡ Some before
+  pub holds : new ≡ Some (begun before.object)

@@ -1,0 +1,19 @@
+//! The exports of the C library: the calls of `ft_embed`, with plain C types.
+//!
+//! Each export states the clauses of the call behind it again, over the same definitions. A `Handle` is
+//! what C holds of a run that goes on from call to call: a pointer to a `Task`, or none
+//! (`specs/Held.antt`, `specs/Handles.antt`). No C function is declared here.
+#![tactic(auto)]
+
+mod handle;
+mod loose;
+mod machines;
+mod over_objects;
+mod over_texts;
+
+pub use handle::Handle;
+pub use machines::{talft_advance, talft_close, talft_open, talft_restart, talft_strike};
+pub use over_objects::{
+    talft_check, talft_name, talft_recover, talft_run, talft_schedule, talft_upgrade,
+};
+pub use over_texts::{talft_assemble, talft_compile, talft_disassemble};

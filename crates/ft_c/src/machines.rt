@@ -1,0 +1,133 @@
+//! Runs that C takes from call to call.
+ghost use Rattle.std.specs.Prelude.{◌≡◌, ◌≢◌, None};
+ghost use Rattle.ft_isa.specs.PlanText.{IsSiteText};
+ghost use Rattle.ft_isa.specs.declared.plan.Site.{Site as Place};
+ghost use Rattle.ft_c.specs.Handles.{BeginsAgain, GoesOnIn, IsStruckIn};
+ghost use Rattle.ft_embed.specs.Tasks.{IsOpened};
+ghost use Rattle.ft_embed.specs.Verdicts.{Tells, verdict_on};
+
+use crate::handle::{Handle, put, take};
+use ft_embed::{CellOutput, Ran, Refused, Task};
+use ft_isa::read_site;
+use std::alloc::Global;
+
+/// Puts a new run into a handle that holds none.
+fn open_into(alloc: Global, bytes: &[u8], machine: &mut Handle, why: &mut Refused) -> u32
+    requires { machine.old.task ≡ None }
+    ensures opened { result ≡ 0 → IsOpened bytes.now machine.new.task }
+    ensures refused { result ≢ 0 → result ≢ 5 → Tells result why.new (verdict_on bytes.now) }
+    ensures none { result ≢ 0 → machine.new.task ≡ None }
+{
+    let task = match Task::open(alloc, bytes) {
+        Ok(task) => task,
+        Err(verdict) => {
+            *why = verdict.why;
+            return verdict.status;
+        }
+    };
+    match Box::new(alloc, task) {
+        Ok(task) => {
+            put(machine, task);
+            0
+        }
+        Err(_) => 5,
+    }
+}
+
+/// Checks the object that bytes spell, and makes the run of it before its first step, which the handle holds
+/// until `talft_close`. The answer is 0; 7 or 8 for bytes that are refused; 5, out of memory; or 17 for a handle
+/// that holds a run already. In each case but 0 the handle is as it was.
+#[unsafe(no_mangle)]
+pub extern "C" fn talft_open(
+    alloc: Global,
+    bytes: &[u8],
+    machine: &mut Handle,
+    why: &mut Refused,
+) -> u32
+    ensures opened { result ≡ 0 → IsOpened bytes.now machine.new.task }
+    ensures refused { result ≢ 0 → result ≢ 5 → result ≢ 17 → Tells result why.new (verdict_on bytes.now) }
+    ensures held { result ≡ 17 → machine.old.task ≢ None }
+    ensures kept { result ≢ 0 → machine.new.task ≡ machine.old.task }
+{
+    match take(alloc, machine) {
+        Some(task) => {
+            put(machine, task);
+            17
+        }
+        None => open_into(alloc, bytes, machine, why),
+    }
+}
+
+/// Takes at most `steps` steps of the run that a handle holds, and fewer where it is done or detected, or the
+/// array is full. Its outputs in these steps go into the array. The answer is 0 for a run that is done; 1 for
+/// one that is detected; 9 where all steps were taken; 14 where the array is full; or 17 for a handle that holds
+/// none.
+#[unsafe(no_mangle)]
+pub extern "C" fn talft_advance(
+    alloc: Global,
+    machine: &mut Handle,
+    steps: u64,
+    out: &mut [CellOutput],
+    ran: &mut Ran,
+) -> u32
+    ensures went { result ≢ 17 → GoesOnIn machine.old.task machine.new.task result steps ran.new.steps ran.new.count out.new }
+    ensures none { result ≡ 17 → machine.old.task ≡ None }
+    ensures kept { result ≡ 17 → machine.new.task ≡ None }
+{
+    let Some(mut task) = take(alloc, machine) else {
+        return 17;
+    };
+    let answer = task.advance(steps, out);
+    *ran = answer.ran;
+    put(machine, task);
+    answer.status
+}
+
+/// Strikes a site of the run that a handle holds before its next step, for tests: the text says the site, as
+/// `r1`, `d`, `pcg` or `qv0`, and the word there becomes `value`. The answer is 0; 2 for a text that says no
+/// site; 18 where the run was struck before, has stopped, or has no such place in its queue; or 17 for a handle
+/// that holds none. In each case but 0 the handle is as it was.
+#[unsafe(no_mangle)]
+pub extern "C" fn talft_strike(alloc: Global, machine: &mut Handle, site: &[u8], value: u64) -> u32
+    ensures struck { result ≡ 0 → IsStruckIn machine.old.task machine.new.task site.now value }
+    ensures no_site { result ≡ 2 → (place : Place) → IsSiteText site.now place → ⊥ }
+    ensures none { result ≡ 17 → machine.old.task ≡ None }
+    ensures kept { result ≢ 0 → machine.new.task ≡ machine.old.task }
+{
+    let Some(place) = read_site(site) else {
+        return 2;
+    };
+    let Some(mut task) = take(alloc, machine) else {
+        return 17;
+    };
+    let struck = task.strike(place, value);
+    put(machine, task);
+    if struck { 0 } else { 18 }
+}
+
+/// Begins the run that a handle holds again, without a strike. The answer is 0; 5, out of memory; or 17 for a
+/// handle that holds none. In each case but 0 the handle is as it was.
+#[unsafe(no_mangle)]
+pub extern "C" fn talft_restart(alloc: Global, machine: &mut Handle) -> u32
+    ensures again { result ≡ 0 → BeginsAgain machine.old.task machine.new.task }
+    ensures none { result ≡ 17 → machine.old.task ≡ None }
+    ensures kept { result ≢ 0 → machine.new.task ≡ machine.old.task }
+{
+    let Some(mut task) = take(alloc, machine) else {
+        return 17;
+    };
+    let again = task.restart(alloc);
+    put(machine, task);
+    match again {
+        Ok(()) => 0,
+        Err(_) => 5,
+    }
+}
+
+/// Lets go of the run that a handle holds, if it holds one.
+#[unsafe(no_mangle)]
+pub extern "C" fn talft_close(alloc: Global, machine: &mut Handle)
+    ensures { machine.new.task ≡ None }
+{
+    let _task = take(alloc, machine);
+}

@@ -1,0 +1,139 @@
+//! Calls over the bytes of an object.
+ghost use Rattle.std.specs.Prelude.{◌≡◌, ◌≢◌, ◌≤◌, length, List, Option};
+ghost use Rattle.ft_isa.specs.declared.plan.Strike.{Strike as Fault};
+ghost use Rattle.ft_isa.specs.declared.plan.Wild.{Wild as Answer};
+ghost use Rattle.ft_format.specs.Broken.{object_of};
+ghost use Rattle.ft_embed.specs.Outputs.{RunsFile};
+ghost use Rattle.ft_embed.specs.Plans.{AreAnswers, IsFault};
+ghost use Rattle.ft_embed.specs.Recoveries.{RecoversFile};
+ghost use Rattle.ft_embed.specs.Texts.{Given, IsMalformed, IsNameOf, IsScheduleOf, IsUpgraded};
+ghost use Rattle.ft_embed.specs.Verdicts.{IsAcceptedFile, Tells, verdict_on};
+
+use ft_embed::{
+    CellOutput, Ran, Refused, judge, name_into, recover, run, schedule_into, upgrade_into,
+};
+use std::alloc::Global;
+
+/// Checks the object that bytes spell. The answer is 0 for an object that is accepted; 7 for bytes that
+/// spell none, with the first rule that they break; 8 for an object that is refused, with its refusal; or
+/// 5, out of memory.
+#[unsafe(no_mangle)]
+pub extern "C" fn talft_check(alloc: Global, bytes: &[u8], why: &mut Refused) -> u32
+    ensures verdict { result ≢ 5 → Tells result why.new (verdict_on bytes.now) }
+    ensures accepted { result ≡ 0 → IsAcceptedFile bytes.now }
+{
+    let verdict = judge(alloc, bytes);
+    *why = verdict.why;
+    verdict.status
+}
+
+/// Checks the object that bytes spell, and runs it from its start for at most `steps` steps, under the fault
+/// that a text says, as `4:r1:6`, and with the answers to wild loads that another one says, as `5,stop`. An
+/// empty text says none. The outputs go into the array. The answer is 0 for a run that is done; 1 for one
+/// that is detected; 9 for one that still runs after the steps; 14 where the array is full; 2 where one of the
+/// texts says nothing; 7 or 8 for bytes that are refused; or 5, out of memory.
+#[unsafe(no_mangle)]
+pub extern "C" fn talft_run(
+    alloc: Global,
+    bytes: &[u8],
+    fault: &[u8],
+    wild: &[u8],
+    steps: u64,
+    out: &mut [CellOutput],
+    ran: &mut Ran,
+    why: &mut Refused,
+) -> u32
+    ensures runs { result ≢ 2 → result ≢ 5 → result ≢ 7 → result ≢ 8 → RunsFile bytes.now fault.now wild.now steps result ran.new.steps ran.new.count out.new }
+    ensures no_plan { result ≡ 2 → (strike : Option Fault) (answers : List Answer) → IsFault fault.now strike → AreAnswers wild.now answers → ⊥ }
+    ensures malformed { result ≡ 7 → Tells result why.new (verdict_on bytes.now) }
+    ensures refused { result ≡ 8 → Tells result why.new (verdict_on bytes.now) }
+{
+    let answer = run(alloc, bytes, fault, wild, steps, out);
+    *ran = answer.ran;
+    *why = answer.why;
+    answer.status
+}
+
+/// Checks the object that bytes spell, and runs it as `talft_run` does. Where the fault is detected, it is run
+/// again without the fault, and its outputs take the place of the first ones. So the outputs and the end are
+/// those of the run without a fault. The answer is 0, 9, 14, 2, 7, 8 or 5, as that of `talft_run`.
+#[unsafe(no_mangle)]
+pub extern "C" fn talft_recover(
+    alloc: Global,
+    bytes: &[u8],
+    fault: &[u8],
+    wild: &[u8],
+    steps: u64,
+    out: &mut [CellOutput],
+    ran: &mut Ran,
+    why: &mut Refused,
+) -> u32
+    ensures recovers { result ≢ 2 → result ≢ 5 → result ≢ 7 → result ≢ 8 → RecoversFile bytes.now fault.now wild.now steps result ran.new.steps ran.new.count ran.new.restarts ran.new.again out.new }
+    ensures no_plan { result ≡ 2 → (strike : Option Fault) (answers : List Answer) → IsFault fault.now strike → AreAnswers wild.now answers → ⊥ }
+    ensures malformed { result ≡ 7 → Tells result why.new (verdict_on bytes.now) }
+    ensures refused { result ≡ 8 → Tells result why.new (verdict_on bytes.now) }
+{
+    let answer = recover(alloc, bytes, fault, wild, steps, out);
+    *ran = answer.ran;
+    *why = answer.why;
+    answer.status
+}
+
+/// Writes the bytes of the object that bytes spell in version 2 of the format. The answer is 0; 15
+/// where they find no room; 7 for bytes that spell no object; or 5, out of memory.
+#[unsafe(no_mangle)]
+pub extern "C" fn talft_upgrade(
+    alloc: Global,
+    bytes: &[u8],
+    out: &mut [u8],
+    made: &mut usize,
+    why: &mut Refused,
+) -> u32
+    ensures given { result ≢ 5 → result ≢ 7 → Given (IsUpgraded bytes.now) out.old out.new made.new result }
+    ensures malformed { result ≡ 7 → IsMalformed bytes.now why.new }
+{
+    let written = upgrade_into(alloc, bytes, out);
+    *made = written.made;
+    *why = written.why;
+    written.status
+}
+
+/// Writes the schedule of the object that bytes spell, in version 2 of the format. The answer is 0; 15
+/// where its bytes find no room; 7 or 8 for bytes that are refused; or 5, out of memory.
+#[unsafe(no_mangle)]
+pub extern "C" fn talft_schedule(
+    alloc: Global,
+    bytes: &[u8],
+    out: &mut [u8],
+    made: &mut usize,
+    why: &mut Refused,
+) -> u32
+    ensures given { result ≢ 5 → result ≢ 7 → result ≢ 8 → Given (IsScheduleOf (object_of bytes.now)) out.old out.new made.new result }
+    ensures malformed { result ≡ 7 → Tells result why.new (verdict_on bytes.now) }
+    ensures refused { result ≡ 8 → Tells result why.new (verdict_on bytes.now) }
+{
+    let written = schedule_into(alloc, bytes, out);
+    *made = written.made;
+    *why = written.why;
+    written.status
+}
+
+/// Writes the name of a cell of the object that bytes spell. The answer is 0; 15 where it finds no room;
+/// 7 for bytes that spell no object; or 16 where there is no such cell.
+#[unsafe(no_mangle)]
+pub extern "C" fn talft_name(
+    bytes: &[u8],
+    cell: u32,
+    out: &mut [u8],
+    made: &mut usize,
+    why: &mut Refused,
+) -> u32
+    ensures given { result ≢ 7 → result ≢ 16 → Given (IsNameOf bytes.now cell) out.old out.new made.new result }
+    ensures malformed { result ≡ 7 → IsMalformed bytes.now why.new }
+    ensures none { result ≡ 16 → length (object_of bytes.now).cells ≤ cell }
+{
+    let written = name_into(bytes, cell, out);
+    *made = written.made;
+    *why = written.why;
+    written.status
+}

@@ -1,0 +1,66 @@
+//! Calls over texts.
+ghost use Rattle.std.specs.Prelude.{◌≡◌, ◌≢◌};
+ghost use Rattle.ft_embed.specs.Texts.{Given, IsAsmBroken, IsAsmRefused, IsAssembled, IsCompiled, IsMalformed, IsSourceRefused, IsText};
+
+use ft_embed::{Refused, assemble_into, compile_into, disassemble_into};
+use std::alloc::Global;
+
+/// Compiles a source, and writes the bytes of its object in version 2 of the format. The answer is 0; 15
+/// where they find no room, of which `made` tells how much is wanted; 6 for a source that is refused; or
+/// 5, out of memory.
+#[unsafe(no_mangle)]
+pub extern "C" fn talft_compile(
+    alloc: Global,
+    text: &[u8],
+    out: &mut [u8],
+    made: &mut usize,
+    why: &mut Refused,
+) -> u32
+    ensures given { result ≢ 5 → result ≢ 6 → Given (IsCompiled text.now) out.old out.new made.new result }
+    ensures refused { result ≡ 6 → IsSourceRefused text.now why.new }
+{
+    let written = compile_into(alloc, text, out);
+    *made = written.made;
+    *why = written.why;
+    written.status
+}
+
+/// Writes the bytes of the object that an assembly text reads as, in version 2 of the format. The answer
+/// is 0; 15 where they find no room; 12 for a text that is refused; 7 where the tables that it means
+/// break a rule of the format; or 5, out of memory.
+#[unsafe(no_mangle)]
+pub extern "C" fn talft_assemble(
+    alloc: Global,
+    text: &[u8],
+    out: &mut [u8],
+    made: &mut usize,
+    why: &mut Refused,
+) -> u32
+    ensures given { result ≢ 5 → result ≢ 7 → result ≢ 12 → Given (IsAssembled text.now) out.old out.new made.new result }
+    ensures refused { result ≡ 12 → IsAsmRefused text.now why.new }
+    ensures broken { result ≡ 7 → IsAsmBroken text.now why.new }
+{
+    let written = assemble_into(alloc, text, out);
+    *made = written.made;
+    *why = written.why;
+    written.status
+}
+
+/// Writes the assembly text of the object that bytes spell. The answer is 0; 15 where it finds no room; 7
+/// for bytes that spell no object; or 5, out of memory.
+#[unsafe(no_mangle)]
+pub extern "C" fn talft_disassemble(
+    alloc: Global,
+    bytes: &[u8],
+    out: &mut [u8],
+    made: &mut usize,
+    why: &mut Refused,
+) -> u32
+    ensures given { result ≢ 5 → result ≢ 7 → Given (IsText bytes.now) out.old out.new made.new result }
+    ensures malformed { result ≡ 7 → IsMalformed bytes.now why.new }
+{
+    let written = disassemble_into(alloc, bytes, out);
+    *made = written.made;
+    *why = written.why;
+    written.status
+}

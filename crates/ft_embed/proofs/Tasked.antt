@@ -1,0 +1,145 @@
+-- Runs that go on from call to call.
+use Rattle.std.proofs.Common.{◌≡◌, ℕ, zero, suc, ◌+◌, ◌<◌, ◌≤◌, false, List, [], length, Option, Some, None, is_some, if◌then◌else◌, refl, ap, sym, subst, ◌∙◌, arith, add-zero, eq-eqb}
+use Rattle.std.specs.Prelude.{IfSome}
+use Rattle.ft_isa.specs.declared.plan.Site.{Site}
+use Rattle.ft_isa.specs.declared.plan.Strike.{Strike}
+use Rattle.ft_isa.specs.declared.plan.Wild.{Wild}
+use Rattle.ft_types.specs.declared.object.Object.{Object}
+use Rattle.ft_types.specs.Spellable.{IsSpellable}
+use Rattle.ft_typing.specs.Accepted.{IsAccepted}
+use Rattle.ft_semantics.specs.declared.status.Status.TheVariants.{Running}
+use Rattle.ft_semantics.specs.State.{State, start, HasCells}
+use Rattle.ft_semantics.specs.Strike.{is_there, struck_state, struck_before, with_word}
+use Rattle.ft_semantics.specs.Run.{Ran, run, run-zero, state_after, status_after}
+use Rattle.ft_machine.specs.Spans.{span, span-zero, Spares}
+use Rattle.ft_machine.proofs.Spanned.{joined, run_on, spared}
+use Rattle.ft_machine.proofs.Runs.{run_has_cells}
+use Rattle.ft_tolerance.proofs.Masking.{tolerant, before}
+use Rattle.ft_tolerance.proofs.Whole.{never_detected}
+use Rattle.ft_embed.specs.declared.filling.CellOutput.{CellOutput}
+use Rattle.ft_embed.specs.Outputs.{Ends, Fills}
+use Rattle.ft_embed.specs.Tasks.{TaskRun, begun, IsBy, IsTask, IsLimit, GoesOn, WentOn}
+use Rattle.ft_embed.proofs.NoAnswers.{no_words, none_after}
+use Rattle.ft_embed.proofs.Taken.{outputs_on, status_on, struck_cells}
+
+not_at : (x : Strike) (k j : ℕ) → x.step ≤ k → k < j → x.step ≡ j → ⊥
+not_at x k j by above is = omega (arith, by, above, is)
+
+-- a strike that came by now comes no more
+spares_later : (strike : Option Strike) (k : ℕ) → IfSome strike (IsBy k) → (j : ℕ) → k < j → Spares strike j
+spares_later None k by j above s = refl
+spares_later (Some x) k by j above s = spared x j (not_at x k j by above) s
+
+grows : (x : Strike) (k m : ℕ) → x.step ≤ k → x.step ≤ k + m
+grows x k m by = omega (arith, by)
+
+by_then : (strike : Option Strike) (k m : ℕ) → IfSome strike (IsBy k) → IfSome strike (IsBy (k + m))
+by_then None k m by = tt
+by_then (Some x) k m by = grows x k m by
+
+-- before the first step
+pub begins : (o : Object) (s : State) → IsSpellable o → IsAccepted o → s ≡ start o → IsTask (begun o) s
+begins o s spellable accepted first = record {
+  spellable = spellable;
+  accepted = accepted;
+  by = tt;
+  state = first ∙ ap (λ (r : Ran). r.state) (sym (run-zero o None no_words));
+}
+
+-- the machine has its cells
+pub task_cells : (r : TaskRun) (s : State) → IsTask r s → HasCells (length r.object.cells) s
+task_cells r s h = struck_cells r.strike r.taken (length r.object.cells) (state_after r.object r.strike no_words r.taken) s h.state (run_has_cells r.object r.strike no_words r.taken)
+
+module _ (r : TaskRun) (s1 s2 : State) (w1 w2 : List Wild) (m count : ℕ) (old new : List CellOutput) (h : IsTask r s1) (none : w1 ≡ []) (a : Fills r.object s1 w1 m s2 w2 0 count old new) where
+  no_wild : w1 ≡ (run r.object r.strike no_words r.taken).wild
+  no_wild = none ∙ sym (none_after r.object r.strike r.taken)
+
+  later : (j : ℕ) → r.taken < j → Spares r.strike j
+  later = spares_later r.strike r.taken h.by
+
+  on : (n : ℕ) → run r.object r.strike no_words (r.taken + suc n) ≡ joined (run r.object r.strike no_words r.taken).outputs (span r.object (suc n) s1 w1)
+  on n =
+      let xs = (run r.object r.strike no_words r.taken).outputs in
+      run_on r.object r.strike no_words r.taken n later
+      ∙ ap (λ x. joined xs (span r.object (suc n) x (run r.object r.strike no_words r.taken).wild)) (sym h.state)
+      ∙ ap (λ v. joined xs (span r.object (suc n) s1 v)) (sym no_wild)
+
+  above : (n : ℕ) → r.taken < r.taken + suc n
+  above n = omega arith
+
+  state_on : (n : ℕ) → (span r.object n s1 w1).state ≡ struck_before r.strike (r.taken + n) (state_after r.object r.strike no_words (r.taken + n))
+  state_on zero = ap (λ (x : Ran). x.state) (span-zero r.object s1 w1) ∙ h.state ∙ ap (λ n. struck_before r.strike n (state_after r.object r.strike no_words n)) (sym (add-zero r.taken))
+  state_on (suc n) =
+      ap (λ (x : Ran). x.state) (sym (on n))
+      ∙ sym (later (r.taken + suc n) (above n) (state_after r.object r.strike no_words (r.taken + suc n)))
+
+  -- after these steps
+  pub task_next : IsTask (record { object = r.object; strike = r.strike; taken = r.taken + m }) s2
+  task_next = record {
+    spellable = h.spellable;
+    accepted = h.accepted;
+    by = by_then r.strike r.taken m h.by;
+    state = a.state_is ∙ state_on m;
+  }
+
+  goes : GoesOn r.object r.strike r.taken m count new
+  goes = record {
+    more = (span r.object m s1 w1).outputs;
+    split = outputs_on r.object r.strike no_words r.taken (state_after r.object r.strike no_words r.taken) s1 w1 refl no_wild h.state later m;
+    stand = a.outputs;
+  }
+
+  stands : s2.status ≡ status_after r.object r.strike no_words (r.taken + m)
+  stands =
+      ap (λ (s : State). s.status) a.state_is
+      ∙ status_on r.object r.strike no_words r.taken (state_after r.object r.strike no_words r.taken) s1 w1 refl no_wild h.state later m
+
+  pub task_went : (steps most status : ℕ) → IsLimit steps r.taken most → m ≤ most → count ≤ length new → (s2.status ≡ Running → count < length new → m ≡ most)
+      → ((n room : ℕ) → n ≤ room → (s2.status ≡ Running → n < room → m ≡ most) → Ends status most m n room s2.status)
+      → WentOn r (record { object = r.object; strike = r.strike; taken = r.taken + m }) status steps m count new
+  task_went steps most status limit few within all ends = record {
+    goes = refl;
+    within = within;
+    goes_on = goes;
+    most = most;
+    limit = limit;
+    few = few;
+    ends = subst (Ends status most m count (length new)) stands (ends count (length new) within all);
+    agrees = tolerant r.object r.strike no_words (r.taken + m) h.spellable h.accepted;
+    sound = never_detected r.object no_words h.spellable h.accepted;
+  }
+
+-- a strike before the next step
+struck_now : (x : Strike) (k : ℕ) (s : State) → x.step ≡ k → struck_before (Some x) k s ≡ struck_state s x.site x.value
+struck_now x k s is = ap (λ b. if b then struck_state s x.site x.value else s) (eq-eqb x.step k is)
+
+pub clean_now : (o : Object) (k : ℕ) (strike : Option Strike) (s : State) → strike ≡ None → s ≡ struck_before strike k (state_after o strike no_words k) → s ≡ state_after o None no_words k
+clean_now o k None s is h = h
+clean_now o k (Some x) s is h = absurd (cc)
+
+-- the strike that comes before the next step
+abbrev pub next_strike : TaskRun → Site → ℕ → Strike
+next_strike r site value = record { step = r.taken; site = site; value = value }
+
+pub task_struck : (r : TaskRun) (s s' : State) (site : Site) (value : ℕ) → IsTask r s → r.strike ≡ None → s' ≡ struck_state s site value
+    → IsTask (record { object = r.object; strike = Some (next_strike r site value); taken = r.taken }) s'
+task_struck r s s' site value h first struck =
+    let x : Strike = next_strike r site value in
+    let now : r.taken ≤ r.taken = omega arith in
+    record {
+      spellable = h.spellable;
+      accepted = h.accepted;
+      by = now;
+      state =
+          struck
+          ∙ ap (λ t. struck_state t site value) (clean_now r.object r.taken r.strike s first h.state ∙ ap (λ (q : Ran). q.state) (before r.object x no_words r.taken now))
+          ∙ sym (struck_now x r.taken (state_after r.object (Some x) no_words r.taken) refl);
+    }
+
+-- a site that is not there is not struck
+pub kept_state : (s s' : State) (site : Site) (value : ℕ) → s' ≡ struck_state s site value → is_there s site ≡ false → s' ≡ s
+kept_state s s' site value struck none = struck ∙ ap (λ b. if b then with_word site value s else s) none
+
+pub no_strike : (strike : Option Strike) → is_some strike ≡ false → strike ≡ None
+no_strike None e = refl
+no_strike (Some x) e = absurd (cc)

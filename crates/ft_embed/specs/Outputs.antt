@@ -1,0 +1,77 @@
+-- Outputs in an array of the caller.
+use Rattle.std.specs.Prelude.{◌≡◌, ◌≢◌, ℕ, ◌-◌, ◌<◌, ◌≤◌, List, ◌++◌, length, take, map, Option, None}
+use Rattle.ft_isa.specs.declared.output.Output.{Output}
+use Rattle.ft_isa.specs.declared.plan.Strike.{Strike}
+use Rattle.ft_isa.specs.declared.plan.Wild.{Wild}
+use Rattle.ft_types.specs.declared.object.Object.{Object}
+use Rattle.ft_semantics.specs.declared.status.Status.{Status}
+use Rattle.ft_semantics.specs.declared.status.Status.TheVariants.{Running, Done, Detected}
+use Rattle.ft_semantics.specs.State.{State}
+use Rattle.ft_semantics.specs.Agrees.{Agrees}
+use Rattle.ft_semantics.specs.Run.{outputs_after, status_after}
+use Rattle.ft_machine.specs.Spans.{span}
+use Rattle.ft_machine.specs.declared.stepped.Stepped.{Stepped}
+use Rattle.ft_machine.specs.declared.stepped.Stepped.TheVariants as stepped
+use Rattle.ft_tolerance.specs.Soundness.{IsNeverDetected}
+use Rattle.ft_format.specs.Broken.{object_of}
+use Rattle.ft_embed.specs.Verdicts.{IsAcceptedFile}
+use Rattle.ft_embed.specs.Plans.{IsFault, AreAnswers}
+use Rattle.ft_embed.specs.declared.filling.CellOutput.{CellOutput}
+
+-- an output as C sees it: the number of its cell, and its word
+abbrev pub cell_output : Output → CellOutput
+cell_output x = record { cell = x.addr - 1048576; value = x.value }
+
+-- what a step commits goes to a cell: private to the code
+abbrev pub GoesToCell : Stepped → Type 0
+GoesToCell stepped.Quiet = Unit {0}
+GoesToCell (stepped.Commit output) = 1048576 ≤ output.addr
+GoesToCell stepped.Done = Unit {0}
+GoesToCell stepped.Detected = Unit {0}
+
+-- n steps from a state on were taken, and their outputs stand in an array after those that stood there: private to the code
+pub record Fills (o : Object) (s : State) (w : List Wild) (n : ℕ) (s' : State) (w' : List Wild) (from count : ℕ) (old new : List CellOutput) : Type 0 where
+  pub state_is : s' ≡ (span o n s w).state
+  pub wild_is : w' ≡ (span o n s w).wild
+  pub outputs : take count new ≡ take from old ++ map cell_output (span o n s w).outputs
+
+-- a run under a plan was taken for so many of at most `steps` steps: it has this status, and its outputs stand in the array;
+-- a run that goes on took all steps, or the array is full: private to the code
+pub record Takes (o : Object) (strike : Option Strike) (w : List Wild) (steps taken : ℕ) (status : Status) (count : ℕ) (new : List CellOutput) : Type 0 where
+  pub few : taken ≤ steps
+  pub within : count ≤ length new
+  pub outputs : take count new ≡ map cell_output (outputs_after o strike w taken)
+  pub status_is : status ≡ status_after o strike w taken
+  pub all : status ≡ Running → count < length new → taken ≡ steps
+
+-- why a run of at most so many steps took no more: it is done; it is detected; it took them all; or the array is full
+pub data Ends (status steps taken count room : ℕ) (s : Status) : Type 0 where
+  done : status ≡ 0 → s ≡ Done → Ends status steps taken count room s
+  detected : status ≡ 1 → s ≡ Detected → Ends status steps taken count room s
+  cut : status ≡ 9 → s ≡ Running → taken ≡ steps → Ends status steps taken count room s
+  full : status ≡ 14 → s ≡ Running → count ≡ room → Ends status steps taken count room s
+
+-- two numbers of steps after which the outputs and the status of a run under a plan are the same
+pub record SameAfter (o : Object) (strike : Option Strike) (w : List Wild) (n m : ℕ) : Type 0 where
+  pub outputs : outputs_after o strike w n ≡ outputs_after o strike w m
+  pub status : status_after o strike w n ≡ status_after o strike w m
+
+-- a run under a plan was taken for so many of at most `steps` steps: its outputs stand in the array, and one fault is masked
+-- or detected. Where it ended otherwise than with a full array, it is the run of all the steps
+pub record RunsInto (o : Object) (strike : Option Strike) (w : List Wild) (steps status taken count : ℕ) (new : List CellOutput) : Type 0 where
+  pub few : taken ≤ steps
+  pub within : count ≤ length new
+  pub outputs : take count new ≡ map cell_output (outputs_after o strike w taken)
+  pub ends : Ends status steps taken count (length new) (status_after o strike w taken)
+  pub agrees : Agrees (outputs_after o strike w taken) (status_after o strike w taken) (outputs_after o None w taken) (status_after o None w taken)
+  pub all : status ≢ 14 → SameAfter o strike w taken steps
+
+-- bytes whose object is accepted were run under the plan that two texts say
+pub record RunsFile (bytes fault wild : List ℕ) (steps status taken count : ℕ) (new : List CellOutput) : Type 0 where
+  pub file : IsAcceptedFile bytes
+  pub strike : Option Strike
+  pub is_fault : IsFault fault strike
+  pub answers : List Wild
+  pub are_answers : AreAnswers wild answers
+  pub runs : RunsInto (object_of bytes) strike answers steps status taken count new
+  pub sound : IsNeverDetected (object_of bytes) answers

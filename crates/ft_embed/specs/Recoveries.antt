@@ -1,0 +1,38 @@
+-- Recoveries, whose outputs go into an array of the caller.
+use Rattle.std.specs.Prelude.{◌≡◌, ◌≢◌, ℕ, ◌≤◌, List, length, take, map, Option, Some, None}
+use Rattle.ft_isa.specs.declared.plan.Strike.{Strike}
+use Rattle.ft_isa.specs.declared.plan.Wild.{Wild}
+use Rattle.ft_types.specs.declared.object.Object.{Object}
+use Rattle.ft_semantics.specs.Run.{outputs_after, status_after}
+use Rattle.ft_tolerance.specs.Soundness.{IsNeverDetected}
+use Rattle.ft_format.specs.Broken.{object_of}
+use Rattle.ft_recover.specs.Recovery.{restart_output}
+use Rattle.ft_embed.specs.declared.filling.CellOutput.{CellOutput}
+use Rattle.ft_embed.specs.Outputs.{cell_output, Ends, SameAfter}
+use Rattle.ft_embed.specs.Plans.{IsFault, AreAnswers}
+use Rattle.ft_embed.specs.Verdicts.{IsAcceptedFile}
+
+-- no restart is told as 0 and 0, and one after n outputs as 1 and n
+abbrev pub IsRestart : Option ℕ → ℕ → ℕ → Type 0
+IsRestart None restarts again = (restarts ≡ 0) × (again ≡ 0)
+IsRestart (Some n) restarts again = (restarts ≡ 1) × (again ≡ n)
+
+-- a program was run under a plan, and begun again without the strike where it was detected: what is in the array, and how it
+-- ended, is the run without the strike
+pub record RecoversInto (o : Object) (strike : Option Strike) (w : List Wild) (steps status taken count restarts again : ℕ) (new : List CellOutput) : Type 0 where
+  pub few : taken ≤ steps
+  pub within : count ≤ length new
+  pub outputs : take count new ≡ map cell_output (outputs_after o None w taken)
+  pub ends : Ends status steps taken count (length new) (status_after o None w taken)
+  pub all : status ≢ 14 → SameAfter o None w taken steps
+  pub restart : status ≢ 14 → IsRestart (restart_output o strike w steps) restarts again
+
+-- bytes whose object is accepted were recovered under the plan that two texts say
+pub record RecoversFile (bytes fault wild : List ℕ) (steps status taken count restarts again : ℕ) (new : List CellOutput) : Type 0 where
+  pub file : IsAcceptedFile bytes
+  pub strike : Option Strike
+  pub is_fault : IsFault fault strike
+  pub answers : List Wild
+  pub are_answers : AreAnswers wild answers
+  pub recovers : RecoversInto (object_of bytes) strike answers steps status taken count restarts again new
+  pub sound : IsNeverDetected (object_of bytes) answers

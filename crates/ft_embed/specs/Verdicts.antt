@@ -1,0 +1,73 @@
+-- What is answered over the bytes of an object: a status, and why they are refused.
+use Rattle.std.specs.Prelude.{◌≡◌, ℕ, List, Option, Some, None}
+use Rattle.ft_typing.specs.Accepted.{Refusal, EntryType, CellType, Refused as AtInstr, refusal, IsAccepted}
+use Rattle.ft_typing.specs.Premise.{number_of}
+use Rattle.ft_format.specs.declared.object_error.ObjectError.{ObjectError}
+use Rattle.ft_format.specs.declared.object_error.ObjectError.TheVariants.{Magic, Length, Count, Pad, Kind, Index, Order, Name, Entry}
+use Rattle.ft_format.specs.Format.{Spells}
+use Rattle.ft_format.specs.Broken.{broken, object_of, version_at}
+use Rattle.ft_embed.specs.declared.refused.Refused.{Refused}
+use Rattle.ft_embed.specs.declared.verdict.Verdict.{Verdict}
+
+-- the number of an error of the object format
+abbrev pub error_number : ObjectError → ℕ
+error_number (Magic at) = 1
+error_number (Length at) = 2
+error_number (Count at) = 3
+error_number (Pad at) = 4
+error_number (Kind at) = 5
+error_number (Index at) = 6
+error_number (Order at) = 7
+error_number (Name at) = 8
+error_number (Entry at) = 9
+
+-- the place of an error in the bytes
+abbrev pub error_place : ObjectError → ℕ
+error_place (Magic at) = at
+error_place (Length at) = at
+error_place (Count at) = at
+error_place (Pad at) = at
+error_place (Kind at) = at
+error_place (Index at) = at
+error_place (Order at) = at
+error_place (Name at) = at
+error_place (Entry at) = at
+
+-- nothing is refused
+abbrev pub nothing : Refused
+nothing = record { part = 0; number = 0; place = 0; index = 0 }
+
+-- the first rule that bytes break: its number, and its place
+abbrev pub told_error : ObjectError → Refused
+told_error e = record { part = 1; number = error_number e; place = error_place e; index = 0 }
+
+-- why an object is not accepted: its entry; a cell; or a block, an index in it and the number of a premise
+abbrev pub told_refusal : Refusal → Refused
+told_refusal EntryType = record { part = 2; number = 0; place = 0; index = 0 }
+told_refusal (CellType k) = record { part = 3; number = 0; place = k; index = 0 }
+told_refusal (AtInstr b i p) = record { part = 4; number = number_of p; place = b; index = i }
+
+-- an object that is accepted, or refused so
+abbrev pub judged : Option Refusal → Verdict
+judged None = record { status = 0; why = nothing }
+judged (Some r) = record { status = 8; why = told_refusal r }
+
+-- bytes that break this rule, or an object that is refused so
+abbrev pub verdict : Option ObjectError → Option Refusal → Verdict
+verdict (Some e) r = record { status = 7; why = told_error e }
+verdict None r = judged r
+
+-- the verdict on bytes: the first rule of the format that they break; else why the object that they spell is not accepted;
+-- else that it is
+abbrev pub verdict_on : List ℕ → Verdict
+verdict_on bytes = verdict (broken bytes) (refusal (object_of bytes))
+
+-- a call answered this verdict
+pub record Tells (status : ℕ) (why : Refused) (v : Verdict) : Type 0 where
+  pub status_is : status ≡ v.status
+  pub why_is : why ≡ v.why
+
+-- the bytes spell an object that is accepted
+pub record IsAcceptedFile (bytes : List ℕ) : Type 0 where
+  pub spelled : Spells bytes (version_at bytes) (object_of bytes)
+  pub accepted : IsAccepted (object_of bytes)

@@ -1,0 +1,73 @@
+//! How far a run came, and how it ended.
+ghost use Rattle.std.specs.Prelude.{◌≡◌};
+ghost use Rattle.ft_embed.specs.Verdicts.{nothing as nothing_told};
+
+use crate::refused::{Refused, nothing};
+use crate::verdict::Verdict;
+
+/// How far a run came: the steps that were taken, and the number of outputs in the array. Where it was begun
+/// again, `restarts` is 1, and `again` the number of outputs that the first run had committed; else both are 0.
+#[repr(C)]
+#[derive(Clone, Copy)]
+pub struct Ran {
+    pub steps: u64,
+    pub count: u64,
+    pub restarts: u64,
+    pub again: u64,
+}
+
+/// What is answered for a run: a status, how far it came, and why the object is refused, where it is.
+#[derive(Clone, Copy)]
+pub struct RunAnswer {
+    pub status: u32,
+    pub ran: Ran,
+    pub why: Refused,
+}
+
+/// A run that ended with this status after so many steps.
+pub(crate) fn has_run(status: u32, steps: u64, count: u64) -> RunAnswer
+    ensures { result ≡ record { status = status; ran = record { steps = steps; count = count; restarts = 0; again = 0 }; why = nothing_told } }
+{
+    RunAnswer {
+        status,
+        ran: Ran {
+            steps,
+            count,
+            restarts: 0,
+            again: 0,
+        },
+        why: nothing(),
+    }
+}
+
+/// An object that was not run, or a text that says no plan.
+pub(crate) fn not_run(verdict: Verdict) -> RunAnswer
+    ensures { result ≡ record { status = verdict.status; ran = record { steps = 0; count = 0; restarts = 0; again = 0 }; why = verdict.why } }
+{
+    RunAnswer {
+        status: verdict.status,
+        ran: Ran {
+            steps: 0,
+            count: 0,
+            restarts: 0,
+            again: 0,
+        },
+        why: verdict.why,
+    }
+}
+
+/// A run that was begun again after so many outputs, and ended with this status after so many steps.
+pub(crate) fn has_run_again(status: u32, steps: u64, count: u64, again: u64) -> RunAnswer
+    ensures { result ≡ record { status = status; ran = record { steps = steps; count = count; restarts = 1; again = again }; why = nothing_told } }
+{
+    RunAnswer {
+        status,
+        ran: Ran {
+            steps,
+            count,
+            restarts: 1,
+            again,
+        },
+        why: nothing(),
+    }
+}

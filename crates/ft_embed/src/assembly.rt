@@ -1,0 +1,83 @@
+//! Assembly texts that are read and written into a buffer of the caller.
+ghost use Rattle.std.specs.Prelude.{◌≡◌, ◌≢◌, ℕ, List, IfOk, IfErr};
+ghost use Rattle.ft_asm.specs.Reads.{text_of};
+ghost use Rattle.ft_asm.specs.Refusals.{IsRefusal};
+ghost use Rattle.ft_types.specs.Spellable.{IsSpellable};
+ghost use Rattle.ft_embed.specs.Texts.{Given, IsAsmBroken, IsAsmRefused, IsAssembled, IsMalformed, IsText};
+
+use crate::handing::{Written, hand_over, none_written, not_written};
+use crate::refused::{told_asm, told_error};
+use ft_asm::{AsmError, assemble, disassemble};
+use ft_object::encode;
+use ft_types::Program;
+use ft_view::View;
+use std::alloc::Global;
+
+/// The bytes of the object that an assembly text reads as.
+fn assemble_bytes(alloc: Global, text: &[u8]) -> Result<Vec<u8>, AsmError>
+    ensures ok { IfOk result (λ bytes. IsAssembled text.now bytes.items) }
+    ensures err { IfErr result (IsRefusal text.now) }
+{
+    let object = match assemble(alloc, text) {
+        Ok(object) => object,
+        Err(error) => return Err(error),
+    };
+    match encode(alloc, &object) {
+        Ok(bytes) => Ok(bytes),
+        Err(_) => Err(AsmError::NoMemory),
+    }
+}
+
+/// What is answered for an assembly text that is refused.
+#[tactic(auto, using(crate::proofs::Judged::asm_text, crate::proofs::Judged::asm_order, crate::proofs::Judged::asm_long, crate::proofs::Judged::asm_broken))]
+fn refuse_text(error: AsmError) -> Written
+    ensures refused { (text : List ℕ) → IsRefusal text error → result.status ≡ 12 → IsAsmRefused text result.why }
+    ensures broken { (text : List ℕ) → IsRefusal text error → result.status ≡ 7 → IsAsmBroken text result.why }
+    ensures status { result.status ≢ 12 → result.status ≢ 7 → result.status ≡ 5 }
+{
+    match error {
+        AsmError::Text { line } => not_written(12, told_asm(1, line as u64)),
+        AsmError::Order { line } => not_written(12, told_asm(2, line as u64)),
+        AsmError::TooLong => not_written(12, told_asm(3, 134_217_728)),
+        AsmError::Object(error) => not_written(7, told_error(error)),
+        AsmError::NoMemory => none_written(5),
+    }
+}
+
+/// Writes the bytes of the object that an assembly text reads as, in version 2 of the format. The status
+/// is 0; 15 where they find no room; 12 for a text that is refused; 7 where the tables that it means
+/// break a rule of the format; or 5, out of memory.
+pub fn assemble_into(alloc: Global, text: &[u8], out: &mut [u8]) -> Written
+    ensures given { result.status ≢ 5 → result.status ≢ 7 → result.status ≢ 12 → Given (IsAssembled text.now) out.old out.new result.made result.status }
+    ensures refused { result.status ≡ 12 → IsAsmRefused text.now result.why }
+    ensures broken { result.status ≡ 7 → IsAsmBroken text.now result.why }
+{
+    match assemble_bytes(alloc, text) {
+        Ok(bytes) => hand_over(bytes.as_slice(), out),
+        Err(error) => refuse_text(error),
+    }
+}
+
+/// Writes the text of a program.
+fn text_into<P: Program>(alloc: Global, program: &P, out: &mut [u8]) -> Written
+    requires { IsSpellable (P.object program.now) }
+    ensures { result.status ≢ 5 → Given (λ text. text ≡ text_of (P.object program.now)) out.old out.new result.made result.status }
+{
+    match disassemble(alloc, program) {
+        Ok(text) => hand_over(text.as_slice(), out),
+        Err(_) => none_written(5),
+    }
+}
+
+/// Writes the assembly text of the object that bytes spell. The status is 0; 15 where it finds no room; 7
+/// for bytes that spell no object; or 5, out of memory.
+#[tactic(auto, using(crate::proofs::Judged::malformed))]
+pub fn disassemble_into(alloc: Global, bytes: &[u8], out: &mut [u8]) -> Written
+    ensures given { result.status ≢ 5 → result.status ≢ 7 → Given (IsText bytes.now) out.old out.new result.made result.status }
+    ensures malformed { result.status ≡ 7 → IsMalformed bytes.now result.why }
+{
+    match View::over(bytes) {
+        Ok(view) => text_into(alloc, &view, out),
+        Err(error) => not_written(7, told_error(error)),
+    }
+}

@@ -1,0 +1,105 @@
+//! The check of an object's bytes.
+ghost use Rattle.std.specs.Prelude.{◌≡◌, ◌≢◌, ◌⊎◌, ◌<◌, IfOk, Option};
+ghost use Rattle.ft_typing.specs.Accepted.{Refusal, refusal};
+ghost use Rattle.ft_types.specs.Spellable.{IsSpellable};
+ghost use Rattle.ft_checker.specs.Judges.{Judges, IsRefusalOf};
+ghost use Rattle.ft_embed.specs.Verdicts.{IsAcceptedFile, Tells, judged, verdict_on};
+
+use crate::refused::{nothing, told_cell, told_entry, told_error, told_instr};
+use crate::verdict::Verdict;
+use ft_checker::{CheckError, Checked};
+use ft_steps::Steps;
+use ft_types::Program;
+use ft_view::View;
+use std::alloc::Global;
+use std::marker::Brand;
+use std::sync::ledger::{Blank, Ledger};
+
+/// Checks an object, and counts the steps.
+fn check_counted<'a, P: Program, L: Ledger>(
+    alloc: Global,
+    program: &'a P,
+    blank: Blank,
+) -> Result<Checked<'a, P>, CheckError>
+    requires name { blank.name ≡ L.name }
+    requires parts { blank.parts ≡ L.parts }
+    requires some { 0 < L.parts }
+    requires spellable { IsSpellable (P.object program.now) }
+    ensures judged { Judges (refusal (P.object program.now)) result }
+    ensures program { IfOk result (λ k. k ≡ program.now) }
+{
+    let mut steps = Steps::<L>::new(blank);
+    ft_checker::check(alloc, program, &mut steps)
+}
+
+/// Checks an object.
+pub(crate) fn check<'a, P: Program>(
+    alloc: Global,
+    program: &'a P,
+) -> Result<Checked<'a, P>, CheckError>
+    requires { IsSpellable (P.object program.now) }
+    ensures judged { Judges (refusal (P.object program.now)) result }
+    ensures program { IfOk result (λ k. k ≡ program.now) }
+{
+    check_counted::<P, Brand>(alloc, program, Blank::new(1))
+}
+
+/// The verdict of an object that is not accepted.
+#[tactic(auto, using(crate::proofs::Judged::tells_refused))]
+pub(crate) fn refuse(error: CheckError) -> Verdict
+    ensures told { (x : Option Refusal) → IsRefusalOf x error → result.status ≢ 5 → Tells result.status result.why (judged x) }
+    ensures status { (result.status ≡ 5) ⊎ (result.status ≡ 8) }
+{
+    match error {
+        CheckError::EntryType => Verdict {
+            status: 8,
+            why: told_entry(),
+        },
+        CheckError::CellType { cell } => Verdict {
+            status: 8,
+            why: told_cell(cell),
+        },
+        CheckError::Refused {
+            block,
+            index,
+            why: premise,
+        } => Verdict {
+            status: 8,
+            why: told_instr(block, index, premise),
+        },
+        CheckError::NoMemory => Verdict {
+            status: 5,
+            why: nothing(),
+        },
+    }
+}
+
+/// Checks an object that bytes spell.
+fn judge_program<P: Program>(alloc: Global, program: &P) -> Verdict
+    requires { IsSpellable (P.object program.now) }
+    ensures { result.status ≢ 5 → Tells result.status result.why (judged (refusal (P.object program.now))) }
+{
+    match check(alloc, program) {
+        Ok(_) => Verdict {
+            status: 0,
+            why: nothing(),
+        },
+        Err(error) => refuse(error),
+    }
+}
+
+/// Checks the object that bytes spell. The status is 0 for an object that is accepted; 7 for bytes that
+/// spell none, with the first rule that they break; 8 for an object that is refused, with its refusal; or
+/// 5, out of memory.
+pub fn judge(alloc: Global, bytes: &[u8]) -> Verdict
+    ensures verdict { result.status ≢ 5 → Tells result.status result.why (verdict_on bytes.now) }
+    ensures accepted { result.status ≡ 0 → IsAcceptedFile bytes.now }
+{
+    match View::over(bytes) {
+        Ok(view) => judge_program(alloc, &view),
+        Err(error) => Verdict {
+            status: 7,
+            why: told_error(error),
+        },
+    }
+}

@@ -1,0 +1,53 @@
+//! Sources that are compiled into a buffer of the caller.
+ghost use Rattle.std.specs.Prelude.{◌≡◌, ◌≢◌, IfOk, IfErr};
+ghost use Rattle.ft_scope.specs.Outcome.{IsRefusalOf};
+ghost use Rattle.ft_syntax.specs.declared.source_error.SourceError.TheVariants as errors;
+ghost use Rattle.ft_embed.specs.Texts.{Given, IsCompiled, IsSourceRefused, told_source};
+
+use crate::handing::{Written, hand_over, none_written, not_written};
+use crate::refused::told_source;
+use ft_compile::compile;
+use ft_object::encode;
+use ft_syntax::SourceError;
+use std::alloc::Global;
+
+/// Compiles a source to the bytes of an object.
+fn compile_bytes(alloc: Global, text: &[u8]) -> Result<Vec<u8>, SourceError>
+    ensures ok { IfOk result (λ bytes. IsCompiled text.now bytes.items) }
+    ensures err { IfErr result (λ e. e ≢ errors.NoMemory → IsRefusalOf text.now e) }
+{
+    let object = match compile(alloc, text) {
+        Ok(object) => object,
+        Err(error) => return Err(error),
+    };
+    match encode(alloc, &object) {
+        Ok(bytes) => Ok(bytes),
+        Err(_) => Err(SourceError::NoMemory),
+    }
+}
+
+/// What is answered for a source that is refused.
+fn refuse_source(error: SourceError) -> Written
+    ensures told { result.status ≡ 6 → result.why ≡ told_source error }
+    ensures named { result.status ≡ 6 → error ≢ errors.NoMemory }
+    ensures status { result.status ≢ 6 → result.status ≡ 5 }
+{
+    if error == SourceError::NoMemory {
+        return none_written(5);
+    }
+    not_written(6, told_source(error))
+}
+
+/// Compiles a source, and writes the bytes of its object in version 2 of the format. The status is 0; 15
+/// where they find no room, and `made` tells how many they are; 6 for a source that is refused; or 5, out
+/// of memory.
+pub fn compile_into(alloc: Global, text: &[u8], out: &mut [u8]) -> Written
+    ensures given { result.status ≢ 5 → result.status ≢ 6 → Given (IsCompiled text.now) out.old out.new result.made result.status }
+    ensures refused { result.status ≡ 6 → IsSourceRefused text.now result.why }
+    ensures kept { result.status ≡ 6 → out.new ≡ out.old }
+{
+    match compile_bytes(alloc, text) {
+        Ok(bytes) => hand_over(bytes.as_slice(), out),
+        Err(error) => refuse_source(error),
+    }
+}

@@ -1,0 +1,62 @@
+//! Bytes that are written into a buffer of the caller.
+ghost use Rattle.std.specs.Prelude.{◌≡◌};
+ghost use Rattle.ft_embed.specs.Texts.{HandsOver};
+ghost use Rattle.ft_embed.specs.Verdicts.{nothing as nothing_told};
+
+use crate::refused::{Refused, nothing};
+use crate::verdict::Verdict;
+
+/// What is answered where bytes are written: a status, the number of bytes that were written or are too
+/// many, and why none are, where something is refused.
+#[derive(Clone, Copy)]
+pub struct Written {
+    pub status: u32,
+    pub made: usize,
+    pub why: Refused,
+}
+
+/// Writes bytes into a buffer, where they find room, and tells their number.
+#[tactic(auto, using(crate::proofs::Judged::handed, crate::proofs::Judged::not_handed))]
+pub(crate) fn hand_over(bytes: &[u8], out: &mut [u8]) -> Written
+    ensures { HandsOver bytes.now out.old out.new result.made result.status }
+{
+    let made = bytes.len();
+    if made > out.len() {
+        return Written {
+            status: 15,
+            made,
+            why: nothing(),
+        };
+    }
+    out[..made].copy_from_slice(bytes);
+    Written {
+        status: 0,
+        made,
+        why: nothing(),
+    }
+}
+
+/// Nothing is written, and this is why.
+pub(crate) fn not_written(status: u32, why: Refused) -> Written
+    ensures { result ≡ record { status = status; made = 0; why = why } }
+{
+    Written {
+        status,
+        made: 0,
+        why,
+    }
+}
+
+/// Nothing is written, since memory ran out or there is nothing.
+pub(crate) fn none_written(status: u32) -> Written
+    ensures { result ≡ record { status = status; made = 0; why = nothing_told } }
+{
+    not_written(status, nothing())
+}
+
+/// Nothing is written of an object that is refused.
+pub(crate) fn none_accepted(verdict: Verdict) -> Written
+    ensures { result ≡ record { status = verdict.status; made = 0; why = verdict.why } }
+{
+    not_written(verdict.status, verdict.why)
+}

@@ -1,0 +1,127 @@
+//! Objects that are upgraded or scheduled into a buffer of the caller, and the names of their cells.
+ghost use Rattle.std.specs.Prelude.{◌≡◌, ◌≢◌, ◌≤◌, ℕ, List, length, IfOk, IfErr};
+ghost use Rattle.ft_types.specs.Spellable.{IsSpellable};
+ghost use Rattle.ft_typing.specs.Accepted.{refusal};
+ghost use Rattle.ft_format.specs.Broken.{broken, object_of};
+ghost use Rattle.ft_embed.specs.Texts.{Given, IsMalformed, IsNameOf, IsScheduleOf, IsUpgraded, IsWhy};
+ghost use Rattle.ft_embed.specs.Verdicts.{Tells, judged, verdict_on};
+
+use crate::checking::{check, refuse};
+use crate::handing::{Written, hand_over, none_accepted, none_written, not_written};
+use crate::refused::told_error;
+use ft_checker::Checked;
+use ft_isa::NoMemory;
+use ft_object::{DecodeError, decode, encode};
+use ft_sched::schedule;
+use ft_types::Program;
+use ft_view::View;
+use std::alloc::Global;
+
+/// The bytes of the object of other bytes, in version 2 of the format.
+fn upgrade_bytes(alloc: Global, bytes: &[u8]) -> Result<Vec<u8>, DecodeError>
+    ensures ok { IfOk result (λ new. IsUpgraded bytes.now new.items) }
+    ensures err { IfErr result (IsWhy (broken bytes.now)) }
+{
+    let object = match decode(alloc, bytes) {
+        Ok(object) => object,
+        Err(error) => return Err(error),
+    };
+    match encode(alloc, &object) {
+        Ok(new) => Ok(new),
+        Err(_) => Err(DecodeError::NoMemory),
+    }
+}
+
+/// What is answered for bytes that spell no object.
+#[tactic(auto, using(crate::proofs::Judged::malformed))]
+fn refuse_bytes(error: DecodeError) -> Written
+    ensures told { (bytes : List ℕ) → IsWhy (broken bytes) error → result.status ≡ 7 → IsMalformed bytes result.why }
+    ensures status { result.status ≢ 7 → result.status ≡ 5 }
+{
+    match error {
+        DecodeError::Object(error) => not_written(7, told_error(error)),
+        DecodeError::NoMemory => none_written(5),
+    }
+}
+
+/// Writes the bytes of the object that bytes spell in version 2 of the format. The status is 0; 15
+/// where they find no room; 7 for bytes that spell no object; or 5, out of memory.
+pub fn upgrade_into(alloc: Global, bytes: &[u8], out: &mut [u8]) -> Written
+    ensures given { result.status ≢ 5 → result.status ≢ 7 → Given (IsUpgraded bytes.now) out.old out.new result.made result.status }
+    ensures malformed { result.status ≡ 7 → IsMalformed bytes.now result.why }
+{
+    match upgrade_bytes(alloc, bytes) {
+        Ok(new) => hand_over(new.as_slice(), out),
+        Err(error) => refuse_bytes(error),
+    }
+}
+
+/// Writes the name of a cell of the object that bytes spell. The status is 0; 15 where it finds no room;
+/// 7 for bytes that spell no object; or 16 where there is no such cell.
+#[tactic(auto, using(crate::proofs::Judged::malformed, ft_types::proofs::Counted::spellable_counted))]
+pub fn name_into(bytes: &[u8], cell: u32, out: &mut [u8]) -> Written
+    ensures given { result.status ≢ 7 → result.status ≢ 16 → Given (IsNameOf bytes.now cell) out.old out.new result.made result.status }
+    ensures malformed { result.status ≡ 7 → IsMalformed bytes.now result.why }
+    ensures none { result.status ≡ 16 → length (object_of bytes.now).cells ≤ cell }
+{
+    match View::over(bytes) {
+        Ok(view) => cell_name_into(&view, cell, out),
+        Err(error) => not_written(7, told_error(error)),
+    }
+}
+
+/// Writes the name of a cell.
+#[tactic(auto, using(ft_types::proofs::Counted::spellable_counted))]
+fn cell_name_into(view: &View, cell: u32, out: &mut [u8]) -> Written
+    requires { IsSpellable (object_of view.now) }
+    ensures given { result.status ≢ 16 → Given (IsNameOf view.now cell) out.old out.new result.made result.status }
+    ensures none { result.status ≡ 16 → length (object_of view.now).cells ≤ cell }
+    ensures other { result.status ≢ 7 }
+{
+    if cell >= view.counts().cells {
+        return none_written(16);
+    }
+    hand_over(view.name_of(cell), out)
+}
+
+/// The bytes of the schedule of a checked program.
+fn schedule_bytes<'a, P: Program>(
+    alloc: Global,
+    checked: &Checked<'a, P>,
+) -> Result<Vec<u8>, NoMemory>
+    ensures { IfOk result (λ new. IsScheduleOf (P.object checked.now) new.items) }
+{
+    let object = schedule(alloc, checked)?;
+    encode(alloc, &object)
+}
+
+/// Writes the schedule of a program, where it is accepted.
+fn schedule_program<P: Program>(alloc: Global, program: &P, out: &mut [u8]) -> Written
+    requires { IsSpellable (P.object program.now) }
+    ensures given { result.status ≢ 5 → result.status ≢ 8 → Given (IsScheduleOf (P.object program.now)) out.old out.new result.made result.status }
+    ensures refused { result.status ≡ 8 → Tells result.status result.why (judged (refusal (P.object program.now))) }
+    ensures other { result.status ≢ 7 }
+{
+    let checked = match check(alloc, program) {
+        Ok(checked) => checked,
+        Err(error) => return none_accepted(refuse(error)),
+    };
+    match schedule_bytes(alloc, &checked) {
+        Ok(new) => hand_over(new.as_slice(), out),
+        Err(_) => none_written(5),
+    }
+}
+
+/// Writes the schedule of the object that bytes spell, in version 2 of the format. The status is 0; 15
+/// where its bytes find no room; 7 for bytes that spell no object; 8 for an object that is refused; or 5,
+/// out of memory.
+pub fn schedule_into(alloc: Global, bytes: &[u8], out: &mut [u8]) -> Written
+    ensures given { result.status ≢ 5 → result.status ≢ 7 → result.status ≢ 8 → Given (IsScheduleOf (object_of bytes.now)) out.old out.new result.made result.status }
+    ensures malformed { result.status ≡ 7 → Tells result.status result.why (verdict_on bytes.now) }
+    ensures refused { result.status ≡ 8 → Tells result.status result.why (verdict_on bytes.now) }
+{
+    match View::over(bytes) {
+        Ok(view) => schedule_program(alloc, &view, out),
+        Err(error) => not_written(7, told_error(error)),
+    }
+}

@@ -1,0 +1,118 @@
+/*
+ * Memory from one block of the caller, for systems without a heap. This file takes the place of heap.c: `make library
+ * HEAP=arena`. The first free block that is large enough is taken, and free neighbours are joined. One thread at a time
+ * may call the library.
+ */
+#include "talft.h"
+
+#include <stdbool.h>
+#include <string.h>
+
+struct tried {
+    bool ok;
+    void *p;
+};
+
+struct tried rattle_alloc(size_t n, size_t align);
+struct tried rattle_realloc(void *p, size_t kept, size_t n, size_t align);
+void rattle_dealloc(void *p);
+
+/* Each block has a head of one unit, and is a whole number of units with it. */
+enum { UNIT = 16 };
+
+struct head {
+    uint64_t units; /* with the head */
+    uint64_t is_free;
+};
+
+/* The heads from the first on, and where they end. */
+static struct head *first, *end;
+static struct head nothing;
+
+void talft_arena(void *memory, size_t size)
+{
+    size_t skipped = (UNIT - (uintptr_t)memory % UNIT) % UNIT;
+
+    first = end = NULL;
+    if (size < skipped + 2 * UNIT)
+        return;
+    first = (struct head *)(void *)((char *)memory + skipped);
+    first->units = (size - skipped) / UNIT;
+    first->is_free = 1;
+    end = first + first->units;
+}
+
+/* Joins the free blocks after a free one to it. */
+static void join(struct head *block)
+{
+    struct head *next = block + block->units;
+
+    while (next != end && next->is_free) {
+        block->units += next->units;
+        next = block + block->units;
+    }
+}
+
+/* Cuts a block down to so many units; the rest is free. */
+static void cut(struct head *block, uint64_t units)
+{
+    if (block->units > units) {
+        struct head *rest = block + units;
+        rest->units = block->units - units;
+        rest->is_free = 1;
+        block->units = units;
+    }
+}
+
+static struct tried told(struct head *block)
+{
+    struct tried tried = {block != NULL, block != NULL ? block + 1 : &nothing};
+    return tried;
+}
+
+struct tried rattle_alloc(size_t n, size_t align)
+{
+    uint64_t units;
+
+    if (n > SIZE_MAX / 2 || align > UNIT)
+        return told(NULL);
+    units = 1 + (n + UNIT - 1) / UNIT;
+    for (struct head *block = first; block != end; block += block->units) {
+        if (!block->is_free)
+            continue;
+        join(block);
+        if (block->units >= units) {
+            cut(block, units);
+            block->is_free = 0;
+            return told(block);
+        }
+    }
+    return told(NULL);
+}
+
+void rattle_dealloc(void *p)
+{
+    ((struct head *)p - 1)->is_free = 1;
+}
+
+struct tried rattle_realloc(void *p, size_t kept, size_t n, size_t align)
+{
+    struct head *block = (struct head *)p - 1;
+    uint64_t units = 1 + (uint64_t)n / UNIT + (n % UNIT != 0);
+    struct tried moved;
+
+    if (n <= SIZE_MAX / 2 && align <= UNIT) {
+        if (block->units < units)
+            join(block);
+        if (block->units >= units) {
+            cut(block, units);
+            return told(block);
+        }
+    }
+    moved = rattle_alloc(n, align);
+    if (moved.ok) {
+        memcpy(moved.p, p, kept < n ? kept : n);
+        rattle_dealloc(p);
+    }
+    return moved;
+}

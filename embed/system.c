@@ -1,0 +1,68 @@
+/* What the program talft asks of C beside the C library, where the kit's own parts are for another processor: written
+ * after the declarations of its crate os. Linked with heap.c. */
+#include <errno.h>
+#include <stddef.h>
+#include <stdint.h>
+#include <stdlib.h>
+
+extern char **environ;
+
+ptrdiff_t rattle_arg(size_t i, uint8_t *buf, size_t room);
+ptrdiff_t rattle_env(const char *name, uint8_t *buf, size_t room);
+ptrdiff_t rattle_env_at(size_t i, uint8_t *buf, size_t room);
+int32_t rattle_errno(void);
+void rattle_set_errno(int32_t error);
+
+static int count;
+static char **words;
+
+/* The C library gives a program's words to each constructor. */
+__attribute__((constructor)) static void keep(int argc, char **argv)
+{
+    count = argc;
+    words = argv;
+}
+
+/* Puts a text into a buffer: its length; -1 where there is none; -2 where it does not fit, and the buffer is full. */
+static ptrdiff_t put(const char *text, uint8_t *buf, size_t room)
+{
+    size_t at = 0;
+
+    if (text == NULL)
+        return -1;
+    for (; text[at] != '\0'; at++) {
+        if (at == room)
+            return -2;
+        buf[at] = (uint8_t)text[at];
+    }
+    return (ptrdiff_t)at;
+}
+
+ptrdiff_t rattle_arg(size_t i, uint8_t *buf, size_t room)
+{
+    return put(i < (size_t)count ? words[i] : NULL, buf, room);
+}
+
+ptrdiff_t rattle_env(const char *name, uint8_t *buf, size_t room)
+{
+    return put(getenv(name), buf, room);
+}
+
+ptrdiff_t rattle_env_at(size_t i, uint8_t *buf, size_t room)
+{
+    size_t at = 0;
+
+    while (environ != NULL && environ[at] != NULL && at < i)
+        at++;
+    return put(environ != NULL ? environ[at] : NULL, buf, room);
+}
+
+int32_t rattle_errno(void)
+{
+    return errno;
+}
+
+void rattle_set_errno(int32_t error)
+{
+    errno = error;
+}

@@ -1,0 +1,230 @@
+"""talft from Python: check, compile and run objects by the proved library libtalft.so.
+
+    >>> import talft
+    >>> data = talft.compile("cell out = 0; out = 2 + 3;")
+    >>> talft.check(data)
+    >>> talft.run(data)
+    ('done', [('out', 5)])
+    >>> talft.run(data, fault="4:r1:6")[0] in ("done", "detected")
+    True
+    >>> talft.check(data[:-1])
+    Traceback (most recent call last):
+    talft.Refused: object 2 378
+    >>> try:
+    ...     talft.compile("cell out = 0; in = 5;")
+    ... except talft.Refused as error:
+    ...     error.status, error.part, error.number, error.place
+    (6, 5, 7, 14)
+    >>> talft.run(data, fault="4:r1:6", wild="5,stop")[0] in ("done", "detected")
+    True
+    >>> talft.run(data, fault="4:x:6")
+    Traceback (most recent call last):
+    ValueError: no plan: fault '4:x:6', wild ''
+    >>> talft.recover(data, fault="4:r1:6")[:2]
+    ('done', [('out', 5)])
+    >>> list(talft.stream(data))
+    [('out', 5)]
+    >>> talft.check(talft.schedule(data))
+    >>> talft.assemble(talft.disassemble(data)) == data
+    True
+
+The library is found by the environment's TALFT_LIBRARY, else beside this file, else where the system looks. Each
+function may be called from several threads at once; what `stream` gives stays on its thread.
+"""
+
+import ctypes
+import os
+
+__all__ = ["Refused", "assemble", "check", "compile", "disassemble", "recover", "run", "schedule", "stream", "upgrade"]
+
+_OK, _DETECTED, _BAD_PLAN, _NO_MEMORY = 0, 1, 2, 5
+_CUT, _FULL, _NO_ROOM = 9, 14, 15
+_ENDS = {_OK: "done", _DETECTED: "detected", _CUT: "cut"}
+
+
+class _Refusal(ctypes.Structure):
+    _fields_ = [
+        ("part", ctypes.c_uint32),
+        ("number", ctypes.c_uint32),
+        ("place", ctypes.c_uint64),
+        ("index", ctypes.c_uint64),
+    ]
+
+
+class _Output(ctypes.Structure):
+    _fields_ = [("cell", ctypes.c_uint64), ("value", ctypes.c_uint64)]
+
+
+class _Ran(ctypes.Structure):
+    _fields_ = [(name, ctypes.c_uint64) for name in ("steps", "count", "restarts", "again")]
+
+
+class _Machine(ctypes.Structure):
+    _fields_ = [("there", ctypes.c_uint64), ("at", ctypes.c_void_p)]
+
+
+class Refused(ValueError):
+    """Why bytes or a text are refused: `status`, `part`, `number`, `place` and `index`, as in talft.h. As a text it is
+    the line that the command writes."""
+
+    def __init__(self, status, why):
+        self.status, self.part, self.number = status, why.part, why.number
+        self.place, self.index = why.place, why.index
+        super().__init__(
+            {
+                1: f"object {why.number} {why.place}",
+                2: "check entry",
+                3: f"check cell {why.place}",
+                4: f"check block {why.place} index {why.index} premise {why.number}",
+                5: f"source {why.number} {why.place}",
+                6: f"asm {why.number} {why.place}",
+            }.get(why.part, f"status {status}")
+        )
+
+
+def _load():
+    here = os.path.join(os.path.dirname(os.path.abspath(__file__)), "libtalft.so")
+    name = os.environ.get("TALFT_LIBRARY") or (here if os.path.exists(here) else "libtalft.so")
+    library = ctypes.CDLL(name)
+    size, word, text = ctypes.c_size_t, ctypes.c_uint64, ctypes.c_char_p
+    why = ctypes.POINTER(_Refusal)
+    made = ctypes.POINTER(size)
+    writers = ("talft_compile", "talft_assemble", "talft_disassemble", "talft_upgrade", "talft_schedule")
+    for writer in writers:
+        getattr(library, writer).argtypes = [text, size, text, size, made, why]
+    library.talft_check.argtypes = [text, size, why]
+    library.talft_name.argtypes = [text, size, ctypes.c_uint32, text, size, made, why]
+    for runner in ("talft_run", "talft_recover"):
+        getattr(library, runner).argtypes = [
+            text, size, text, size, text, size, word, ctypes.POINTER(_Output), size, ctypes.POINTER(_Ran), why,
+        ]
+    machine = ctypes.POINTER(_Machine)
+    library.talft_open.argtypes = [text, size, machine, why]
+    library.talft_advance.argtypes = [machine, word, ctypes.POINTER(_Output), size, ctypes.POINTER(_Ran)]
+    library.talft_close.argtypes, library.talft_close.restype = [machine], None
+    for function in (*writers, "talft_check", "talft_name", "talft_run", "talft_recover", "talft_open", "talft_advance"):
+        getattr(library, function).restype = ctypes.c_uint32
+    return library
+
+
+_LIBRARY = _load()
+
+
+def _bytes(data):
+    return data.encode() if isinstance(data, str) else bytes(data)
+
+
+def _answer(status, why):
+    if status == _NO_MEMORY:
+        raise MemoryError
+    raise Refused(status, why)
+
+
+def _written(function, *asked):
+    """What a function writes into a buffer, which is made larger where it has to be."""
+    room, made, why = 4096, ctypes.c_size_t(0), _Refusal()
+    while True:
+        out = ctypes.create_string_buffer(room)
+        status = function(*asked, out, room, ctypes.byref(made), ctypes.byref(why))
+        if status == _OK:
+            return out.raw[: made.value]
+        if status != _NO_ROOM:
+            _answer(status, why)
+        room = made.value
+
+
+def check(data):
+    """Checks an object; raises Refused where it is not accepted."""
+    data, why = _bytes(data), _Refusal()
+    status = _LIBRARY.talft_check(data, len(data), ctypes.byref(why))
+    if status != _OK:
+        _answer(status, why)
+
+
+def _run(function, data, steps, fault, wild):
+    """What a function that runs an object answers, with an array that is made larger where it has to be."""
+    data, room = _bytes(data), 1024
+    plan = _bytes(fault), _bytes(wild)
+    ran, why = _Ran(), _Refusal()
+    while True:
+        out = (_Output * room)()
+        status = function(
+            data, len(data), plan[0], len(plan[0]), plan[1], len(plan[1]), steps, out, room,
+            ctypes.byref(ran), ctypes.byref(why),
+        )
+        if status != _FULL:
+            break
+        room *= 4
+    if status == _BAD_PLAN:
+        raise ValueError(f"no plan: fault {fault!r}, wild {wild!r}")
+    if status not in _ENDS:
+        _answer(status, why)
+    pairs, names = out[: ran.count], {}
+    for pair in pairs:
+        if pair.cell not in names:
+            names[pair.cell] = _written(_LIBRARY.talft_name, data, len(data), pair.cell).decode()
+    return _ENDS[status], [(names[pair.cell], pair.value) for pair in pairs], ran
+
+
+def run(data, steps=1_000_000, fault="", wild=""):
+    """Checks an object and runs it: how it ended ("done", "detected", "cut"), and the names and words of its outputs.
+    `fault` is a text such as "4:r1:6", and `wild` one such as "5,stop"."""
+    return _run(_LIBRARY.talft_run, data, steps, fault, wild)[:2]
+
+
+def recover(data, steps=1_000_000, fault="", wild=""):
+    """Checks an object and runs it; where the fault is detected, runs it again without the fault. Gives how the run
+    without the fault ended ("done", "cut"), its outputs, and how many of them the first run had committed when it was
+    detected, or None."""
+    end, outputs, ran = _run(_LIBRARY.talft_recover, data, steps, fault, wild)
+    return end, outputs, ran.again if ran.restarts else None
+
+
+def stream(data, steps=1_000_000):
+    """Checks an object and runs it by a slice of steps at a time; gives the name and the word of each output when it
+    comes."""
+    data, machine, why, ran = _bytes(data), _Machine(), _Refusal(), _Ran()
+    status = _LIBRARY.talft_open(data, len(data), ctypes.byref(machine), ctypes.byref(why))
+    if status != _OK:
+        _answer(status, why)
+    try:
+        out = (_Output * 256)()
+        status = _CUT
+        while steps > 0 and status != _OK:
+            slice_of = min(steps, 65536)
+            status = _LIBRARY.talft_advance(ctypes.byref(machine), slice_of, out, 256, ctypes.byref(ran))
+            steps -= ran.steps
+            for pair in out[: ran.count]:
+                yield _written(_LIBRARY.talft_name, data, len(data), pair.cell).decode(), pair.value
+    finally:
+        _LIBRARY.talft_close(ctypes.byref(machine))
+
+
+def compile(text):
+    """The object of a source."""
+    text = _bytes(text)
+    return _written(_LIBRARY.talft_compile, text, len(text))
+
+
+def assemble(text):
+    """The object of an assembly text."""
+    text = _bytes(text)
+    return _written(_LIBRARY.talft_assemble, text, len(text))
+
+
+def disassemble(data):
+    """The assembly text of an object."""
+    data = _bytes(data)
+    return _written(_LIBRARY.talft_disassemble, data, len(data)).decode()
+
+
+def upgrade(data):
+    """The object in version 2 of the format."""
+    data = _bytes(data)
+    return _written(_LIBRARY.talft_upgrade, data, len(data))
+
+
+def schedule(data):
+    """The schedule of an object, which has to be accepted."""
+    data = _bytes(data)
+    return _written(_LIBRARY.talft_schedule, data, len(data))

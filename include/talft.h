@@ -1,0 +1,182 @@
+/*
+ * talft: the checker, the machine and the compiler of the command talft, as a C library.
+ *
+ * What is said here of answers, refusals, outputs, runs and bytes is proved; docs/PROMISES.md has the clauses. Tested only:
+ * that talft_ran is 0 after a refusal, when NOT_STRUCK comes, which calls take memory, and that NO_MEMORY comes only when
+ * memory is short. The proofs take for granted what a caller owes; nothing checks that. docs/EMBEDDING.md says more.
+ *
+ * WHAT A CALLER OWES
+ *   - No pointer is NULL, not even where a length or a room is 0.
+ *   - A pointer with a length points to that many bytes, or elements. They exist, are aligned for their type, and are
+ *     initialized, also those that a call only writes. The whole is shorter than 2^63 bytes.
+ *   - During a call nothing else reads what the call may write, or writes what it reads. What a call writes overlaps
+ *     neither what it reads nor anything else that it writes.
+ *   - malloc, realloc and free belong to one allocator, report when there is no memory, and align blocks to 16. With
+ *     embed/arena.c they are not used: the library then takes its memory from one block that the caller gives.
+ *   - The stack is large enough: see STACK.
+ *   - No call is made from a signal handler, or in the child of a process with threads after a fork.
+ *
+ * OWNERSHIP  A call keeps no pointer and owns nothing after it returns. The one exception is the memory that a
+ *            talft_machine holds. talft_close frees it.
+ * THREADS    The library has no state of its own. Several threads may call it at the same time if they share nothing
+ *            that one of the calls writes. A talft_machine stays on the thread that opened it. (With embed/arena.c all
+ *            calls share the arena, so only one thread may call.)
+ * UNITS      Lengths, rooms and places are in bytes, and count from 0. A room for outputs is in outputs. A step is a
+ *            step of the machine: an instruction takes two, its fetch and itself.
+ * STACK      talft_compile used up to 169 KiB in all tests, with 97 nested loops, 98 nested brackets and 199 operators. The
+ *            others used up to 16 KiB. This is measured, not proved.
+ */
+#ifndef TALFT_H
+#define TALFT_H
+
+#include <stddef.h>
+#include <stdint.h>
+
+#ifdef __cplusplus
+extern "C" {
+#endif
+
+/* What calls answer. 0 to 13 are the statuses of the command talft. */
+enum {
+    TALFT_OK = 0,            /* accepted; done; written */
+    TALFT_DETECTED = 1,      /* the machine noticed a fault and has stopped */
+    TALFT_BAD_PLAN = 2,      /* the text of the fault, of the answers or of the site says none */
+    TALFT_NO_MEMORY = 5,     /* there was no memory; it may come in place of any other answer of a call that takes any */
+    TALFT_BAD_SOURCE = 6,    /* the source is refused: part 5 */
+    TALFT_MALFORMED = 7,     /* the bytes spell no object: part 1 */
+    TALFT_REFUSED = 8,       /* the checker refuses the object: part 2, 3 or 4 */
+    TALFT_CUT = 9,           /* the machine still runs after the steps */
+    TALFT_BAD_ASSEMBLY = 12, /* the assembly text is refused: part 6 */
+    TALFT_FULL = 14,         /* the array of outputs is full, and the machine still runs */
+    TALFT_NO_ROOM = 15,      /* the buffer is too small; *made says how many bytes are wanted */
+    TALFT_NO_CELL = 16,      /* the object has no such cell */
+    TALFT_NOT_NOW = 17,      /* the talft_machine is open already, or not open */
+    TALFT_NOT_STRUCK = 18    /* nothing is struck: there was a strike before, the run has stopped, or the site is absent */
+};
+
+/* Why something is refused. Its part is 0 where the answer is none of 6, 7, 8 and 12. */
+typedef struct talft_refusal {
+    uint32_t part;   /* 0 nothing, 1 the bytes, 2 the entry, 3 a cell, 4 an instruction, 5 a source, 6 an assembly text */
+    uint32_t number; /* 1: the rule, 1 to 9. 4: the premise, 1 to 18. 5: the refusal, 1 to 12. 6: the refusal, 1 to 3 */
+    uint64_t place;  /* 1: the byte. 3: the cell. 4: the block. 5: the byte, or what is above a limit. 6: the line, from 1 */
+    uint64_t index;  /* 4: the index of the instruction in its block, from 0 */
+} talft_refusal;
+
+/* A pair that was committed: the cell by its number in the object, from 0, and the word. */
+typedef struct talft_output {
+    uint64_t cell;
+    uint64_t value;
+} talft_output;
+
+/* How far a run came. */
+typedef struct talft_ran {
+    uint64_t steps;    /* the steps that were taken */
+    uint64_t count;    /* the outputs that are in the array */
+    uint64_t restarts; /* talft_recover: 1 where the run was begun again; else 0 */
+    uint64_t again;    /* talft_recover: where it was, how many outputs the first run had committed; else 0 */
+} talft_ran;
+
+/*
+ * Checks an object. OK exactly when the bytes spell an object and it is accepted. MALFORMED: `why` has the first rule of
+ * the format that the bytes break, and its place. REFUSED: `why` has the entry, the lowest cell, or the first instruction
+ * that is refused with its first failing premise. Or NO_MEMORY.
+ */
+uint32_t talft_check(const uint8_t *bytes, size_t len, talft_refusal *why);
+
+/*
+ * Checks an object, and runs it from its start for at most `steps` steps. `fault` is empty, or a text such as `4:r1:6`:
+ * before step 4 register r1 becomes 6. `wild` is empty, or a text such as `5,stop`: what the first loads at addresses
+ * without a cell give. Later ones stop the machine.
+ *
+ * OK where the run is done, DETECTED, CUT, or FULL: the array holds `room` outputs and there may be more. The outputs in
+ * the array are those of the first ran->steps steps, in order. DETECTED comes only under a fault. Whatever the fault, the
+ * outputs begin those of the run without it, and are equal to them unless the answer is DETECTED.
+ *
+ * Or BAD_PLAN, MALFORMED, REFUSED or NO_MEMORY. Then ran->steps and ran->count are 0.
+ */
+uint32_t talft_run(const uint8_t *bytes, size_t len, const uint8_t *fault, size_t fault_len, const uint8_t *wild,
+                   size_t wild_len, uint64_t steps, talft_output *outputs, size_t room, talft_ran *ran,
+                   talft_refusal *why);
+
+/*
+ * As talft_run; but where the fault is detected, the object is run again without the fault, and its outputs take the place
+ * of the first ones. So the outputs and the end are those of the run without the fault, and the answer is never DETECTED.
+ */
+uint32_t talft_recover(const uint8_t *bytes, size_t len, const uint8_t *fault, size_t fault_len, const uint8_t *wild,
+                       size_t wild_len, uint64_t steps, talft_output *outputs, size_t room, talft_ran *ran,
+                       talft_refusal *why);
+
+/*
+ * Each of the next calls writes bytes at the start of `out`, and their number into *made. NO_ROOM: *made is the number that
+ * is wanted, and `out` is as it was.
+ */
+
+/* The object of a source, in version 2 of the format. OK, NO_ROOM, BAD_SOURCE or NO_MEMORY. */
+uint32_t talft_compile(const uint8_t *text, size_t len, uint8_t *out, size_t room, size_t *made, talft_refusal *why);
+
+/* The object of an assembly text. OK, NO_ROOM, BAD_ASSEMBLY, MALFORMED (its tables break a rule) or NO_MEMORY. */
+uint32_t talft_assemble(const uint8_t *text, size_t len, uint8_t *out, size_t room, size_t *made, talft_refusal *why);
+
+/* The assembly text of an object. OK, NO_ROOM, MALFORMED or NO_MEMORY. */
+uint32_t talft_disassemble(const uint8_t *bytes, size_t len, uint8_t *out, size_t room, size_t *made,
+                           talft_refusal *why);
+
+/* The object in version 2 of the format. OK, NO_ROOM, MALFORMED or NO_MEMORY. */
+uint32_t talft_upgrade(const uint8_t *bytes, size_t len, uint8_t *out, size_t room, size_t *made, talft_refusal *why);
+
+/* The schedule of an accepted object, in version 2 of the format. OK, NO_ROOM, MALFORMED, REFUSED or NO_MEMORY. */
+uint32_t talft_schedule(const uint8_t *bytes, size_t len, uint8_t *out, size_t room, size_t *made, talft_refusal *why);
+
+/* The name of a cell, without a zero at its end. OK, NO_ROOM, NO_CELL or MALFORMED. It takes no memory. */
+uint32_t talft_name(const uint8_t *bytes, size_t len, uint32_t cell, uint8_t *out, size_t room, size_t *made,
+                    talft_refusal *why);
+
+/*
+ * A run that goes on from call to call. Begin it as TALFT_NO_MACHINE, and neither read nor write what is in it. A copy of
+ * it is not another run. Two calls never use one talft_machine at the same time.
+ */
+typedef struct talft_machine {
+    uint64_t there;
+    void *at;
+} talft_machine;
+
+#define TALFT_NO_MACHINE {0, NULL}
+
+/*
+ * Checks an object, and begins its run. The object is copied, so the bytes may go. OK, MALFORMED, REFUSED, NO_MEMORY, or
+ * NOT_NOW where the machine is open. In each case but OK the machine is as it was.
+ */
+uint32_t talft_open(const uint8_t *bytes, size_t len, talft_machine *machine, talft_refusal *why);
+
+/*
+ * Takes at most `steps` further steps, and writes the outputs of these steps, in order. OK where the run is done, DETECTED,
+ * CUT where all steps were taken (or 2^64 - 1 in all), FULL where the array is full, NOT_NOW where the machine is not
+ * open. ran->steps is how many steps this call took. With no room for outputs it takes no step. DETECTED comes only after
+ * a strike: then the outputs so far begin those of the run without the strike. A load at an address without a cell stops
+ * the machine.
+ */
+uint32_t talft_advance(talft_machine *machine, uint64_t steps, talft_output *outputs, size_t room, talft_ran *ran);
+
+/*
+ * Strikes the run before its next step, for tests: `site` is a text such as `r1`, `d`, `pcg`, `pcb`, `qa0` or `qv7`, and
+ * the word there becomes `value`. OK, BAD_PLAN, NOT_NOW or NOT_STRUCK. In each case but OK the machine is as it was.
+ */
+uint32_t talft_strike(talft_machine *machine, const uint8_t *site, size_t site_len, uint64_t value);
+
+/* Begins the run again, without a strike. OK, NO_MEMORY or NOT_NOW. In each case but OK the machine is as it was. */
+uint32_t talft_restart(talft_machine *machine);
+
+/* Ends the run, if the machine is open. It may be opened again. */
+void talft_close(talft_machine *machine);
+
+/*
+ * Gives the library `size` bytes to take its memory from, in place of malloc. It is there only in a library that was made
+ * with `make library HEAP=arena`. Call it before all others, and again only while no talft_machine is open.
+ */
+void talft_arena(void *memory, size_t size);
+
+#ifdef __cplusplus
+}
+#endif
+
+#endif

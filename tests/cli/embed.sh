@@ -1,0 +1,39 @@
+# The C library, from the archive of what the gate proved: the loader beside the command, the task, Python, and C++.
+library=$top/crates/ft_c/out/library
+embed=(-std=c99 -Wall -Wextra -Werror -pedantic -O2 -I"$top/include")
+if has cc 'the C library' && has ar 'the C library'; then
+  report 'the C library is made' 0 "$(bash "$top/build/library.sh" >embed.said 2>&1; echo $?)"
+  report 'what the shared library shows' "$(sed -n 's/^\(uint32_t\|void\) \(talft_[a-z]*\)(.*/\2/p' "$top/include/talft.h" |
+    grep -v '^talft_arena$' | sort | tr '\n' ' ')" "$(nm -D --defined-only "$library/libtalft.so" | awk '{ print $3 }' | sort | tr '\n' ' ')"
+  report 'what it asks of the C library' 'free malloc memcpy memmove memset realloc ' \
+    "$(nm -D --undefined-only "$library/libtalft.so" | awk '$1 == "U" { sub(/@.*/, "", $2); print $2 }' | sort | tr '\n' ' ')"
+  for name in loader task; do
+    report "$name.c" '' "$(cc "${embed[@]}" "$top/examples/c/$name.c" "$library/libtalft.a" -o "embed_$name" 2>&1)"
+  done
+  ! has c++ 'the header in C++' ||
+    report 'the header in C++' '' "$(echo '#include "talft.h"' | c++ -std=c++11 -Wall -Wextra -pedantic -I"$top/include" -xc++ -fsyntax-only - 2>&1)"
+  mkdir embed_objects
+  for source in "$top"/examples/*.src; do
+    "$top/talft" compile "$source" >"embed_objects/$(basename "$source" .src).obj" 2>/dev/null || rm "embed_objects/$(basename "$source" .src).obj"
+  done
+  for text in "$top"/examples/*.asm; do
+    "$top/talft" asm "$text" >"embed_objects/$(basename "$text").obj" 2>/dev/null || rm "embed_objects/$(basename "$text").obj"
+  done
+  report 'the loader answers as the command' 'answers are the same' "$(bash "$top/tests/embed/compare.sh" \
+    "$top/crates/talft/out/talft" ./embed_loader -- "$top"/examples/*.obj embed_objects/*.obj "$top"/tests/objects/*.obj 2>&1 | sed 's/^[0-9]* //')"
+  # A task, whole or by slices, and with a fault in its first cycle, hands out what the run without a fault does.
+  for name in fibonacci ring; do
+    [ -e "embed_objects/$name.obj" ] || continue
+    whole=$("$top/talft" run "embed_objects/$name.obj" --steps 100000 2>/dev/null; echo $?)
+    for words in '100000' '1000' '7 1' '1000 1 40 r1 6' '7 1 41 r33 9' '1 1 55 pcg 3'; do
+      report "the task over $name by $words" "$whole" "$(./embed_task "embed_objects/$name.obj" $words; echo $?)"
+    done
+    report "two cycles of $name" "$(printf '%s\n%s' "${whole%$'\n'*}" "$whole")" "$(./embed_task "embed_objects/$name.obj" 1000 2; echo $?)"
+  done
+  report 'Python' '' "$(cd "$library" && TALFT_LIBRARY=$library/libtalft.so python3 -m doctest talft.py 2>&1)"
+  report 'a recovery from Python' "$("$top/talft" recover "$top/examples/five.obj" --steps 1000 --fault 4:r1:6 2>/dev/null)" \
+    "$(cd "$library" && TALFT_LIBRARY=$library/libtalft.so python3 -c 'import sys, talft
+end, outputs, again = talft.recover(open(sys.argv[1], "rb").read(), 1000, "4:r1:6")
+print(*(f"{name} {value}" for name, value in outputs), sep="\n")
+if again is not None: print("again", again)' "$top/examples/five.obj")"
+fi
