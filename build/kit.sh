@@ -7,10 +7,10 @@ kit_of_proofs() { sed -n 's/.*`rt version`: \([^)]*\)).*/\1/p' "$top/docs/PROMIS
 need_kit() {
   local found
   if ! command -v rt >/dev/null; then
-    echo "talft: error: the Rattle kit is missing: no \`rt\` is on PATH. It is in bin/ of the kit; the proofs need $(kit_of_proofs)" >&2
+    echo "talft: error: the Rattle kit is missing: \`rt\` is not on PATH. Add the kit's folder bin/ to PATH; the proofs need $(kit_of_proofs)" >&2
     return 1
   fi
   found=$(rt version 2>/dev/null)
   [ "$found" = "$(kit_of_proofs)" ] ||
-    echo "talft: note: this is ${found:-no kit}, and the proofs were made with $(kit_of_proofs): they may fail" >&2
+    echo "talft: note: this kit is ${found:-unknown}, but the proofs were made with $(kit_of_proofs): they may fail" >&2
 }

@@ -10,15 +10,17 @@ most_bytes=67108865 most_script=1048577
 most_seconds=600
 
 cannot() {
-  printf 'talft: %s. Only the proved program can do this: `make` proves and builds it\n' "$1" >&2
+  printf 'talft: error: %s. Only the proved program can do this: `make` proves and builds it\n' "$1" >&2
   exit 70
 }
 
-# Help needs no program: its texts are read from the sources.
-help() {
-  if [ "${TALFT_EXPLAIN-}" != 0 ]; then
+# Help needs no program: its texts are read from the sources. The help of a command, or of all.
+say_help() {
+  [ "${TALFT_EXPLAIN-}" = 0 ] ||
     awk -v of="$1" -v version="$(cat "$top/VERSION")" -f "$top/build/help.awk" "$top/crates/ft_explain/src/forms.rt" >&2
-  fi
+}
+help() {
+  say_help "$1"
   echo usage 2>/dev/null || exit 4
   exit 2
 }
@@ -36,6 +38,16 @@ case ${1-} in
     exit 2
     ;;
 esac
+# `talft COMMAND --help`: to the program this is the name of a file, and of no number of turns.
+case $#:${2-} in
+  2:--help | 2:-h)
+    [ "$1" != demo ] || help demo
+    if [ ! -e "$2" ] && grep -q "^    \"$1 " "$top/crates/ft_explain/src/forms.rt"; then
+      say_help "$1"
+      exit 3
+    fi
+    ;;
+esac
 
 . "$top/build/kit.sh" || exit 70
 need_kit || exit 70
@@ -43,6 +55,9 @@ echo 'talft: not proved yet, slow: `make` proves and builds it' >&2
 work=$(mktemp -d) || exit 70
 trap 'rm -rf "$work"' EXIT
 words=("$@") data=() lacking=no script=/dev/null
+# An assembly text may have twice as many bytes.
+[ "${1-}" != asm ] || most_bytes=134217729
+declare -A names=([operand]=operand [faults]=faults)
 
 # Like the program, hands over no words where one is no text.
 case $* in
@@ -55,19 +70,19 @@ esac
 # or may not be read is not there for the program, either.
 hand_over() {
   local file=${words[$1]}
-  words[$1]=$2
+  words[$1]=$2 names[$2]=$file
   if [ -f "$file" ] && [ -r "$file" ]; then
-    head -c "$most_bytes" <"$file" >"$work/$2" || cannot "$file cannot be copied"
+    head -c "$most_bytes" <"$file" >"$work/$2" || cannot "$file: cannot be copied"
     data+=(--data "$2=$work/$2")
   elif [ -e "$file" ] && [ ! -f "$file" ] && [ ! -d "$file" ]; then
-    cannot "$file is no plain file, and is read once"
+    cannot "$file is a pipe or a device, which can be read only once"
   else
     lacking=yes
   fi
 }
 
 if [ "${#words[@]}" -gt 1 ] && [ "${words[0]}" = link ]; then
-  cannot 'a link reads the files that its map names'
+  cannot '`link` reads the files that its map names'
 fi
 if [ "${#words[@]}" -gt 1 ] && [ "${words[0]}" != demo ]; then
   operand=${words[1]}
@@ -81,9 +96,9 @@ if [ "${#words[@]}" -gt 1 ] && [ "${words[0]}" != demo ]; then
   done
   # Without an object the program takes no script.
   if [ "${words[0]}" = debug ] && [ "$lacking" = no ]; then
-    { [ ! -d /dev/fd/0 ] && : <&0; } 2>/dev/null || cannot 'standard input cannot be read'
+    { [ ! -d /dev/fd/0 ] && : <&0; } 2>/dev/null || cannot 'standard input: cannot be read'
     script=$work/script
-    head -c "$most_script" >"$script" || cannot 'standard input cannot be read'
+    head -c "$most_script" >"$script" || cannot 'standard input: cannot be read'
   fi
 fi
 
@@ -111,20 +126,46 @@ trap 'stopped 143' TERM
 { wait "$tried"; } 2>/dev/null
 
 status=$(sed -n '$s/^run=ended status=\([0-9]*\) .*$/\1/p' "$work/said")
+
+# A line that the program said of a file that was handed over under the name $2, with its own name. To the program, a folder
+# and a file that may not be read are missing.
+said_of() {
+  local said=${1#"$2"} file=${names[$2]}
+  if [ "$said" = ': error: no such file' ] && [ -d "$file" ]; then
+    said=': error: is a folder'
+  elif [ "$said" = ': error: no such file' ] && [ -e "$file" ]; then
+    said=': error: permission denied'
+  fi
+  printf '%s%s\n' "$file" "$said"
+}
+
+# What the program itself said.
+say() {
+  local line
+  while IFS= read -r line; do
+    case $line in
+      'interpreter: '* | 'checked: '* | 'run='*) ;;
+      operand:*) said_of "$line" operand ;;
+      faults:*) said_of "$line" faults ;;
+      *) printf '%s\n' "$line" ;;
+    esac
+  done <"$work/said" >&2
+}
 case $status:$lacking in
   :*)
     if grep -q 'no-answer: the program wrote more than' "$work/said"; then
-      cannot 'this writes more than 1 MiB'
+      cannot 'the output is more than 1 MiB'
     elif grep -q 'no-answer: the program did not end within' "$work/said"; then
       cannot "this takes more than $most_seconds seconds"
     fi
     cat "$work/said" >&2
-    cannot 'its sources could not be tried'
+    cannot 'the sources could not be tried'
     ;;
-  3:no) cannot 'a file was lost on the way' ;;
+  3:no) cannot 'a file could not be handed over' ;;
   5:*) cannot 'memory ran out' ;;
 esac
 if [ -s "$work/out" ]; then
   cat "$work/out" 2>/dev/null || exit 4
 fi
+[ "${TALFT_EXPLAIN-}" = 0 ] || say
 exit "$status"

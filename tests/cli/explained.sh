@@ -36,27 +36,28 @@ explained 'an object that mixes colours' 8 'check block 0 index 3 premise 2\n' \
   check mixed.obj
 printf '4:r1:6\n4:r99:6\n' >wrong.faults
 explained 'a fault at a register that is not there' 11 'list 1 2\n' \
-  'wrong.faults:2:5: error: invalid fault: expected STEP:SITE:WORD; the site `r99` is none of r0 to r63, d, pcg, pcb, qa0 to qa7 and qv0 to qv7\n 4:r99:6\n     ^\n' \
+  'wrong.faults:2:5: error: invalid fault: expected STEP:SITE:WORD; invalid site `r99`: a site is r0 to r63, d, pcg, pcb, qa0 to qa7 or qv0 to qv7\n 4:r99:6\n     ^\n' \
   campaign five.obj --faults wrong.faults
-explained 'a missing file' 3 '' 'missing: error: there is no such file\n' trial missing
+explained 'a missing file' 3 '' 'missing: error: no such file\n' trial missing
 mkdir -p folder
-explained 'a folder' 3 '' 'folder: error: it is a folder\n' compile folder
-explained 'two missing files' 3 '' 'missing: error: there is no such file\nlacking: error: there is no such file\n' \
+explained 'a folder' 3 '' 'folder: error: is a folder\n' compile folder
+explained 'two missing files' 3 '' 'missing: error: no such file\nlacking: error: no such file\n' \
   campaign missing --faults lacking
 printf 'cell out = 0;\nout = 7\nout = 8;\n' >lacks.src
 explained 'a source in the place of an object' 7 'object 2 31\n' \
-  'lacks.src: error: it is a text, not an object: `talft compile` makes one of a source, `talft asm` of an assembly text\n' run lacks.src
-explained 'an object in the place of a source' 6 'source 2 5\n' 'five.obj: error: it is an object, not a source\n' compile five.obj
+  'lacks.src: error: this is a source, not an object: `talft compile FILE >OBJECT` makes an object\n' run lacks.src
+explained 'an object in the place of a source' 6 'source 2 5\n' 'five.obj: error: this is an object, not a source: `talft run FILE` runs it\n' compile five.obj
 explained 'an object in the place of an assembly text' 12 'asm 1 1\n' \
-  'five.obj: error: it is an object, not an assembly text: `talft dis` writes its text\n' asm five.obj
+  'five.obj: error: this is an object, not an assembly text: `talft dis FILE` writes its assembly text\n' asm five.obj
 explained 'a semicolon that is missing' 6 'source 4 22\n' \
   'lacks.src:2:8: error: expected `;` after `7`\n out = 7\n        ^\n' compile lacks.src
 printf 'mov r64 G 5 int\n' >wrong.asm
 printf 'cell out = 0;\nout = 8;\n' >eight.src
 explained 'a register that is not there' 12 'asm 1 1\n' \
   'wrong.asm:1:5: error: invalid `r64`: a register is r0 to r63\n mov r64 G 5 int\n     ^~~\n' asm wrong.asm
-explained 'a word that is no command' 2 'usage\n' \
-  "$(awk -v of=rnu -f "$top/build/help.awk" "$top/crates/ft_explain/src/forms.rt")\n" rnu five.obj
+commands=$(awk -v of=rnu -f "$top/build/help.awk" "$top/crates/ft_explain/src/forms.rt" | tail -n +2)
+explained 'a word that is no command' 2 'usage\n' "talft: error: unknown command \`rnu\`; did you mean \`run\`?\n$commands\n" rnu five.obj
+explained 'a word that is nearly no command' 2 'usage\n' "talft: error: unknown command \`foo\`\n$commands\n" foo five.obj
 explained 'a run that is done' 0 'out 5\n' '' run five.obj
 explained 'a fault that is masked' 0 'out 5\n' '' run five.obj --fault 4:r1:5
 detected='five.obj: detected at step 11: `st_B r32 r33`: r33 is 5, and the oldest store in the queue has the value 6\n'
@@ -64,16 +65,18 @@ explained 'a run that is detected' 1 '' "$detected" run five.obj --fault 4:r1:6
 explained 'a recovery' 0 'out 5\nagain 0\n' "$detected" recover five.obj --fault 4:r1:6
 explained 'a counter that was struck' 1 '' \
   'five.obj: detected at step 4: the green program counter is 9, the blue one is 3\n' trial five.obj --fault 4:pcg:9
-explained 'a run that is cut' 9 '' 'five.obj: cut after 11 steps (`--steps`)\n' run five.obj --steps 11
+explained 'a run that is cut' 9 '' 'five.obj: still running after 11 steps: raise `--steps`\n' run five.obj --steps 11
 explained 'a fault after the end' 0 'out 5\n' \
-  'five.obj: nothing was struck: at step 4000 the run had ended, after 14 steps\n' run five.obj --fault 4000:r1:6
+  'five.obj: the fault struck nothing: the run had ended after 14 steps, before step 4000\n' run five.obj --fault 4000:r1:6
 explained 'a fault in no entry' 0 'out 5\n' \
-  'five.obj: nothing was struck: at step 4 the queue has no entry 3\n' run five.obj --fault 4:qv3:6
+  'five.obj: the fault struck nothing: at step 4 the queue has no entry 3\n' run five.obj --fault 4:qv3:6
 printf 'cell out = 0;\nwhile (1) { out = 1; }\n' >endless.src
-explained 'a meaning that is cut' 9 'out 1\nout 1\n' 'endless.src: cut after 2 turns (`--turns`)\n' mean endless.src --turns 2
+explained 'a meaning that is cut' 9 'out 1\nout 1\n' 'endless.src: still running after 2 turns: raise `--turns`\n' mean endless.src --turns 2
 
 # Help, and the same help by the script that answers before the program is proved.
-explained 'the version' 2 'usage\n' "talft $(cat "$top/VERSION")\n" --version
+about_talft=$(. "$top/build/kit.sh"; . "$top/build/about.sh"; about)
+report 'what the version names' "talft $(cat "$top/VERSION") (commit , $(rt version))" "$(sed 's/commit [0-9a-f]*+*,/commit ,/' <<<"$about_talft")"
+explained 'the version' 2 'usage\n' "$about_talft\n" --version
 help_of() {
   awk -v of="$1" -v version="$(cat "$top/VERSION")" -f "$top/build/help.awk" "$top/crates/ft_explain/src/forms.rt"
 }
@@ -88,15 +91,353 @@ report 'the commands of the help' "$(sed -n 's/^    talft /usage: talft /p' "$to
   "$(sed -n 's/^    talft \([a-z]*\) .*/\1/p' "$top/docs/COMMANDS.md" | while read -r command; do help_of "$command" | sed -n 2p; done)"
 mkdir -p bare/crates/ft_explain/src && cp "$top/talft" "$top/VERSION" "$top/crates.txt" "$top/HANDLES" bare && cp -r "$top/build" bare &&
   cp "$top/crates/ft_explain/src/forms.rt" bare/crates/ft_explain/src
-for words in '' help 'help run' --version; do
-  "$top/talft" $words >with 2>with.said
+while read -r wanted words; do
+  "$top/talft" $words >with 2>with.said </dev/null
   status=$?
-  bare/talft $words >without 2>without.said
-  report "\`talft $words\` before the proof" "2 2 " "$status $? $(cmp with without; cmp with.said without.said)"
+  bare/talft $words >without 2>without.said </dev/null
+  report "\`talft $words\` before the proof" "$wanted $wanted " "$status $? $(cmp with without; cmp with.said without.said)"
+done <<'END'
+2
+2 help
+2 help run
+2 demo --help
+3 run --help
+3 check -h
+END
+
+# Assembly texts whose tables break a rule: the line is named, and the word.
+printf '# no such block\nnode 0 memory\ntype 0 0\nblock 0\nhalt\nentry 3\n' >entry.asm
+explained 'an entry block that is not there' 7 'object 9 44\n' \
+  'entry.asm:6:7: error: there is no block 3: the text has 1 block, numbered from 0\n entry 3\n       ^\n' asm entry.asm
+printf 'cell out int 0\nnode 0 memory\ncell out int 1\ntype 0 0\nblock 0\nhalt\nentry 0\n' >order.asm
+explained 'a line out of order' 12 'asm 2 3\n' \
+  'order.asm:3:1: error: this line is out of order: cells, nodes, types with their `reg` and then `pend` lines, blocks with their instructions, and `entry` follow each other\n cell out int 1\n ^~~~\n' asm order.asm
+printf 'cell out int 0\ncell out int 1\nnode 0 memory\ntype 0 0\nblock 0\nhalt\nentry 0\n' >twice.asm
+explained 'a name given twice' 7 'object 8 139\n' \
+  'twice.asm:2:6: error: invalid `out`: an earlier cell has this name\n cell out int 1\n      ^~~\n' asm twice.asm
+printf 'node 0 memory\ntype 0 0\nblock 4\nhalt\nentry 0\n' >type.asm
+explained 'a type that is not there' 7 'object 6 84\n' \
+  'type.asm:3:7: error: invalid `4`: there is no type 4: the text has 1 type, numbered from 0\n block 4\n       ^\n' asm type.asm
+
+# Links: the module, its line or instruction, and what could be meant.
+"$top/talft" asm "$top/examples/count.asm" >said-count.obj 2>errors
+"$top/talft" asm "$top/examples/show.asm" >said-show.obj 2>errors
+printf 'module said-count.obj\nexport next 9\n' >block.map
+explained 'a block that a module does not have' 13 'link 7 2\n' \
+  'block.map:2:1: error: the module has no such block\n export next 9\n ^~~~~~~~~~~~~\n  blocks of said-count.obj: 0 to 3\n' link block.map
+printf 'module said-count.obj\nimport show 1\nmodule said-show.obj\nexport show 0\n' >stub.map
+explained 'an import of no stub' 13 'link 8 2\n' \
+  'stub.map:2:1: error: the imported block is not a stub: a stub is the one instruction `halt`\n import show 1\n ^~~~~~~~~~~~~\n  stubs of said-count.obj: 2 3\n' link stub.map
+printf 'module said-count.obj\nexport next 1\nimport shwo 3\nmodule said-show.obj\nexport show 0\n' >name.map
+explained 'a name that nothing exports' 13 'link 9 3\n' \
+  'name.map:3:1: error: no line exports this name\n import shwo 3\n ^~~~~~~~~~~~~\n  exported names: `next` `show`\n' link name.map
+printf 'module said-count.obj\nimport show 2\nmodule said-show.obj\nexport show 0\n' >unlike.map
+explained 'blocks of unlike types' 13 'link 10 2\n' \
+  'unlike.map:2:1: error: the imported block and the exported one do not have the same code type\n import show 2\n ^~~~~~~~~~~~~\n  line 4 exports it\n  integer variables: 0 in the import, 1 in the export\n' link unlike.map
+printf 'module said-count.obj\nmodule unlike.obj\n' >cells.map
+"$top/talft" dis five.obj | sed 's/^cell out int 0/cell other int 0/' >unlike.asm
+"$top/talft" asm unlike.asm >unlike.obj 2>errors
+explained 'a module with other cells' 13 'link 3 1\n' \
+  'unlike.obj: error: its cells differ from those of the first module\n  cell 0 has another name, type or initial word\n' link cells.map
+printf 'module said-count.obj\nexport a 1\nimport b 1\n' >named.map
+explained 'a block named twice' 13 'link 2 3\n' \
+  'named.map:3:1: error: this block is exported or imported already\n import b 1\n ^~~~~~~~~~\n  line 2 names this block\n' link named.map
+printf 'module said-count.obj\nmodule mixed.obj\n' >mixed.map
+explained 'a module that is not accepted' 8 'check block 0 index 3 premise 2\n' \
+  'mixed.obj: error: block 0, instruction 3: its two operands do not have the same colour (premise 2)\n  add r33 r1 B 0\n  r1: G int\n' \
+  link mixed.map
+printf 'module said-count.obj\nmodule five.asm\n' >text.map
+explained 'a text as a module' 7 'object 1 0\n' \
+  'five.asm: error: this is an assembly text, not an object: `talft asm FILE >OBJECT` makes an object\n' link text.map
+printf 'module said-count.obj\nmodule nosuch.obj\n' >missing.map
+explained 'a module that is missing' 3 '' 'nosuch.obj: error: no such file\n' link missing.map
+
+# What is quoted is short, and has no control characters.
+long=$(head -c 200000 /dev/zero | tr '\0' 9)
+for way in list map script assembly source word option name; do
+  case $way in
+    list) printf '4:r1:%s\n' "$long" >long.text; set -- campaign five.obj --faults long.text ;;
+    map) printf 'module %s\n' "${long:0:60000}" >long.text; set -- link long.text ;;
+    script) printf 'zap %s\n' "$long" >long.text; set -- debug five.obj ;;
+    assembly) printf 'mov r1 G %s int\n' "$long" >long.text; set -- asm long.text ;;
+    source) printf 'cell %s = 0;\n' "$long" >long.text; set -- compile long.text ;;
+    word) set -- "${long:0:100000}" ;;
+    option) set -- run five.obj --fault "4:r1:${long:0:100000}" ;;
+    name) set -- run "${long:0:100000}" ;;
+  esac
+  "$top/talft" "$@" >with 2>said <long.text
+  report "a long $way is cut" 'yes' "$([ "$(wc -c <said)" -lt 2200 ] && grep -q '\.\.' said && echo yes || wc -c <said)"
 done
+"$top/talft" $'r\e[2Jun' >with 2>said
+report 'no control character is quoted' 'talft: error: unknown command `r?[2Jun`' "$(head -n 1 said)"
+
+# Numbers, and lines of other systems.
+printf 'mov r1 G 18446744073709551616 int\n' >large.asm
+explained 'a number that is too large' 12 'asm 1 1\n' \
+  'large.asm:1:10: error: invalid `18446744073709551616`: the largest number is 18446744073709551615 (2^64 - 1)\n mov r1 G 18446744073709551616 int\n          ^~~~~~~~~~~~~~~~~~~~\n' \
+  asm large.asm
+printf '4:r1:06\n' >zeros.faults
+explained 'a leading zero' 11 'list 1 1\n' \
+  'zeros.faults:1:7: error: invalid fault: expected STEP:SITE:WORD; invalid word `06`: numbers have no leading zeros\n 4:r1:06\n       ^\n' \
+  campaign five.obj --faults zeros.faults
+printf '4:r1:6 \n' >blank.faults
+explained 'a trailing blank' 11 'list 1 1\n' 'blank.faults:1:7: error: the line ends with a blank\n 4:r1:6 \n       ^\n' \
+  campaign five.obj --faults blank.faults
+printf '4:r1:6\r\n' >return.faults
+explained 'a list with carriage returns' 11 'list 1 1\n' \
+  'return.faults:1:7: error: the line ends with a carriage return: save the file with Unix line ends\n 4:r1:6?\n       ^\n' \
+  campaign five.obj --faults return.faults
+printf '\xef\xbb\xbf4:r1:6\n' >mark.faults
+explained 'a list with a byte order mark' 11 'list 1 1\n' \
+  'mark.faults:1:1: error: the file begins with a byte order mark: save it without one\n ?4:r1:6\n ^\n' \
+  campaign five.obj --faults mark.faults
+printf '4:r1:6\n\n' >empty.faults
+explained 'an empty line in a list' 11 'list 1 2\n' 'empty.faults:2:1: error: the line is empty, and no line may be\n \n ^\n' \
+  campaign five.obj --faults empty.faults
+printf '# faults\n4:r1:6\n' >comment.faults
+explained 'a comment in a list' 11 'list 1 1\n' 'comment.faults:1:1: error: there are no comments in this file\n # faults\n ^\n' \
+  campaign five.obj --faults comment.faults
+printf 'module said-count.obj\r\n' >return.map
+explained 'a map with carriage returns' 13 'link 1 1\n' \
+  'return.map:1:22: error: the line ends with a carriage return: save the file with Unix line ends\n module said-count.obj?\n                      ^\n' \
+  link return.map
+
+# Files of the wrong kind.
+explained 'an assembly text in the place of an object' 7 'object 1 0\n' \
+  'five.asm: error: this is an assembly text, not an object: `talft asm FILE >OBJECT` makes an object\n' run five.asm
+explained 'an assembly text in the place of a source' 6 'source 2 471\n' \
+  'five.asm: error: this is an assembly text, not a source: `talft asm FILE >OBJECT` makes an object\n' compile five.asm
+explained 'a source in the place of an assembly text' 12 'asm 1 1\n' \
+  'eight.src: error: this is a source, not an assembly text: `talft compile FILE >OBJECT` makes an object\n' asm eight.src
+printf '4:r1:6\n' >said.list
+explained 'a fault list in the place of an object' 7 'object 2 7\n' \
+  'said.list: error: this is a fault list, not an object: it stands after `--faults`\n' check said.list
+explained 'an object in the place of a fault list' 11 'list 1 1\n' \
+  'five.obj: error: this is an object, not a fault list\n' campaign five.obj --faults five.obj
+explained 'an object in the place of a map' 13 'link 1 1\n' 'five.obj: error: this is an object, not a link map\n' link five.obj
+: >nothing
+explained 'an empty file in the place of an object' 7 'object 2 0\n' 'nothing: error: the file is empty\n' run nothing
+explained 'a device in the place of an object' 7 'object 2 0\n' '/dev/null: error: the file is empty\n' run /dev/null
+explained 'a name that is empty' 3 '' 'talft: error: the name of the file is empty\n' run ''
+
+# Help by an option of a command, and options in the place of an operand.
+while read -r command; do
+  for word in --help -h; do
+    "$top/talft" "$command" "$word" >with 2>said </dev/null
+    report "help on $command by $word" "$(help_of "$command")" "$(cat said)"
+  done
+done < <(sed -n 's/^    talft \([a-z]*\) .*/\1/p' "$top/docs/COMMANDS.md")
+explained 'help after an operand' 2 'usage\n' "$(help_of run)\n" run five.obj --help
+explained 'an option in the place of the operand' 3 '' \
+  'talft: error: missing OBJECT: it comes before options such as `--fault`\nusage: talft run OBJECT [--steps N] [--fault STEP:SITE:WORD] [--wild LIST]\n' \
+  run --fault
+explained 'an option that is misspelled' 2 'usage\n' \
+  'talft: error: unknown option `--step` for `run`; did you mean `--steps`?\nusage: talft run OBJECT [--steps N] [--fault STEP:SITE:WORD] [--wild LIST]\n' \
+  run five.obj --step 5
+
+# Habits of other languages. All are rows of ft_explain_tests, too.
+printf 'cell a[4];\n' >array.src
+explained 'a declaration without a value' 6 'source 4 9\n' \
+  'array.src:1:10: error: unexpected `;`: a cell begins with a value, as in `cell a = 0;` or `cell a[4] = 0;`\n cell a[4];\n          ^\n' \
+  compile array.src
+printf 'cell out = 0;\nwhile (out < 3) {\n  out = out + 1;\n' >brace.src
+explained 'a brace that is not closed' 6 'source 4 49\n' \
+  'brace.src:3:17: error: expected `}` after `;`\n   out = out + 1;\n                 ^\nbrace.src:2:17: note: it closes this `{`\n while (out < 3) {\n                 ^\n' \
+  compile brace.src
+printf 'main:\n' >label.asm
+explained 'a label' 12 'asm 1 1\n' \
+  'label.asm:1:1: error: unexpected `main:`: there are no labels: `block TYPE` begins a block, and blocks are numbered from 0\n main:\n ^~~~~\n' \
+  asm label.asm
+printf 'cell a[4] = 0;\na[5] = 2;\n' >beyond.src
+explained 'a constant index beyond its array' 0 'a[1] 2\n' \
+  'beyond.src:2:3: note: `a` has 4 cells: the index 5 means cell 1\n a[5] = 2;\n   ^\n' mean beyond.src
+
+# A script of the debugger that is a file is read once more, one that is a pipe is not.
+printf 'step 1\nstpe 2\n\nreg r64\n' >wrong.script
+said_of_script='standard input:2:1: error: unknown command `stpe`; did you mean `step`?
+ stpe 2
+ ^
+standard input:3:1: error: the line is empty, and no line may be
+ 
+ ^
+standard input:4:1: error: invalid command: expected `reg R`
+ reg r64
+ ^'
+"$top/talft" debug five.obj >with 2>said <wrong.script
+report 'what is said of a script' "0 $said_of_script" "$? $(cat said)"
+report 'what it writes' "$(printf 'at 1 running\nbad command\nbad command\nbad command')" "$(cat with)"
+cat wrong.script | "$top/talft" debug five.obj >with 2>said
+report 'what is said of a script of a pipe' '0 ' "$? $(cat said)"
+
+# Assembly texts whose tables break a rule: the line is named, and the word.
+printf '# no such block\nnode 0 memory\ntype 0 0\nblock 0\nhalt\nentry 3\n' >entry.asm
+explained 'an entry block that is not there' 7 'object 9 44\n' \
+  'entry.asm:6:7: error: there is no block 3: the text has 1 block, numbered from 0\n entry 3\n       ^\n' asm entry.asm
+printf 'cell out int 0\nnode 0 memory\ncell out int 1\ntype 0 0\nblock 0\nhalt\nentry 0\n' >order.asm
+explained 'a line out of order' 12 'asm 2 3\n' \
+  'order.asm:3:1: error: this line is out of order: cells, nodes, types with their `reg` and then `pend` lines, blocks with their instructions, and `entry` follow each other\n cell out int 1\n ^~~~\n' asm order.asm
+printf 'cell out int 0\ncell out int 1\nnode 0 memory\ntype 0 0\nblock 0\nhalt\nentry 0\n' >twice.asm
+explained 'a name given twice' 7 'object 8 139\n' \
+  'twice.asm:2:6: error: invalid `out`: an earlier cell has this name\n cell out int 1\n      ^~~\n' asm twice.asm
+printf 'node 0 memory\ntype 0 0\nblock 4\nhalt\nentry 0\n' >type.asm
+explained 'a type that is not there' 7 'object 6 84\n' \
+  'type.asm:3:7: error: invalid `4`: there is no type 4: the text has 1 type, numbered from 0\n block 4\n       ^\n' asm type.asm
+
+# Links: the module, its line or instruction, and what could be meant.
+"$top/talft" asm "$top/examples/count.asm" >said-count.obj 2>errors
+"$top/talft" asm "$top/examples/show.asm" >said-show.obj 2>errors
+printf 'module said-count.obj\nexport next 9\n' >block.map
+explained 'a block that a module does not have' 13 'link 7 2\n' \
+  'block.map:2:1: error: the module has no such block\n export next 9\n ^~~~~~~~~~~~~\n  blocks of said-count.obj: 0 to 3\n' link block.map
+printf 'module said-count.obj\nimport show 1\nmodule said-show.obj\nexport show 0\n' >stub.map
+explained 'an import of no stub' 13 'link 8 2\n' \
+  'stub.map:2:1: error: the imported block is not a stub: a stub is the one instruction `halt`\n import show 1\n ^~~~~~~~~~~~~\n  stubs of said-count.obj: 2 3\n' link stub.map
+printf 'module said-count.obj\nexport next 1\nimport shwo 3\nmodule said-show.obj\nexport show 0\n' >name.map
+explained 'a name that nothing exports' 13 'link 9 3\n' \
+  'name.map:3:1: error: no line exports this name\n import shwo 3\n ^~~~~~~~~~~~~\n  exported names: `next` `show`\n' link name.map
+printf 'module said-count.obj\nimport show 2\nmodule said-show.obj\nexport show 0\n' >unlike.map
+explained 'blocks of unlike types' 13 'link 10 2\n' \
+  'unlike.map:2:1: error: the imported block and the exported one do not have the same code type\n import show 2\n ^~~~~~~~~~~~~\n  line 4 exports it\n  integer variables: 0 in the import, 1 in the export\n' link unlike.map
+printf 'module said-count.obj\nmodule unlike.obj\n' >cells.map
+"$top/talft" dis five.obj | sed 's/^cell out int 0/cell other int 0/' >unlike.asm
+"$top/talft" asm unlike.asm >unlike.obj 2>errors
+explained 'a module with other cells' 13 'link 3 1\n' \
+  'unlike.obj: error: its cells differ from those of the first module\n  cell 0 has another name, type or initial word\n' link cells.map
+printf 'module said-count.obj\nexport a 1\nimport b 1\n' >named.map
+explained 'a block named twice' 13 'link 2 3\n' \
+  'named.map:3:1: error: this block is exported or imported already\n import b 1\n ^~~~~~~~~~\n  line 2 names this block\n' link named.map
+printf 'module said-count.obj\nmodule mixed.obj\n' >mixed.map
+explained 'a module that is not accepted' 8 'check block 0 index 3 premise 2\n' \
+  'mixed.obj: error: block 0, instruction 3: its two operands do not have the same colour (premise 2)\n  add r33 r1 B 0\n  r1: G int\n' \
+  link mixed.map
+printf 'module said-count.obj\nmodule five.asm\n' >text.map
+explained 'a text as a module' 7 'object 1 0\n' \
+  'five.asm: error: this is an assembly text, not an object: `talft asm FILE >OBJECT` makes an object\n' link text.map
+printf 'module said-count.obj\nmodule nosuch.obj\n' >missing.map
+explained 'a module that is missing' 3 '' 'nosuch.obj: error: no such file\n' link missing.map
+
+# What is quoted is short, and has no control characters.
+long=$(head -c 200000 /dev/zero | tr '\0' 9)
+for way in list map script assembly source word option name; do
+  case $way in
+    list) printf '4:r1:%s\n' "$long" >long.text; set -- campaign five.obj --faults long.text ;;
+    map) printf 'module %s\n' "${long:0:60000}" >long.text; set -- link long.text ;;
+    script) printf 'zap %s\n' "$long" >long.text; set -- debug five.obj ;;
+    assembly) printf 'mov r1 G %s int\n' "$long" >long.text; set -- asm long.text ;;
+    source) printf 'cell %s = 0;\n' "$long" >long.text; set -- compile long.text ;;
+    word) set -- "${long:0:100000}" ;;
+    option) set -- run five.obj --fault "4:r1:${long:0:100000}" ;;
+    name) set -- run "${long:0:100000}" ;;
+  esac
+  "$top/talft" "$@" >with 2>said <long.text
+  report "a long $way is cut" 'yes' "$([ "$(wc -c <said)" -lt 2200 ] && grep -q '\.\.' said && echo yes || wc -c <said)"
+done
+"$top/talft" $'r\e[2Jun' >with 2>said
+report 'no control character is quoted' 'talft: error: unknown command `r?[2Jun`' "$(head -n 1 said)"
+
+# Numbers, and lines of other systems.
+printf 'mov r1 G 18446744073709551616 int\n' >large.asm
+explained 'a number that is too large' 12 'asm 1 1\n' \
+  'large.asm:1:10: error: invalid `18446744073709551616`: the largest number is 18446744073709551615 (2^64 - 1)\n mov r1 G 18446744073709551616 int\n          ^~~~~~~~~~~~~~~~~~~~\n' \
+  asm large.asm
+printf '4:r1:06\n' >zeros.faults
+explained 'a leading zero' 11 'list 1 1\n' \
+  'zeros.faults:1:7: error: invalid fault: expected STEP:SITE:WORD; invalid word `06`: numbers have no leading zeros\n 4:r1:06\n       ^\n' \
+  campaign five.obj --faults zeros.faults
+printf '4:r1:6 \n' >blank.faults
+explained 'a trailing blank' 11 'list 1 1\n' 'blank.faults:1:7: error: the line ends with a blank\n 4:r1:6 \n       ^\n' \
+  campaign five.obj --faults blank.faults
+printf '4:r1:6\r\n' >return.faults
+explained 'a list with carriage returns' 11 'list 1 1\n' \
+  'return.faults:1:7: error: the line ends with a carriage return: save the file with Unix line ends\n 4:r1:6?\n       ^\n' \
+  campaign five.obj --faults return.faults
+printf '\xef\xbb\xbf4:r1:6\n' >mark.faults
+explained 'a list with a byte order mark' 11 'list 1 1\n' \
+  'mark.faults:1:1: error: the file begins with a byte order mark: save it without one\n ?4:r1:6\n ^\n' \
+  campaign five.obj --faults mark.faults
+printf '4:r1:6\n\n' >empty.faults
+explained 'an empty line in a list' 11 'list 1 2\n' 'empty.faults:2:1: error: the line is empty, and no line may be\n \n ^\n' \
+  campaign five.obj --faults empty.faults
+printf '# faults\n4:r1:6\n' >comment.faults
+explained 'a comment in a list' 11 'list 1 1\n' 'comment.faults:1:1: error: there are no comments in this file\n # faults\n ^\n' \
+  campaign five.obj --faults comment.faults
+printf 'module said-count.obj\r\n' >return.map
+explained 'a map with carriage returns' 13 'link 1 1\n' \
+  'return.map:1:22: error: the line ends with a carriage return: save the file with Unix line ends\n module said-count.obj?\n                      ^\n' \
+  link return.map
+
+# Files of the wrong kind.
+explained 'an assembly text in the place of an object' 7 'object 1 0\n' \
+  'five.asm: error: this is an assembly text, not an object: `talft asm FILE >OBJECT` makes an object\n' run five.asm
+explained 'an assembly text in the place of a source' 6 'source 2 471\n' \
+  'five.asm: error: this is an assembly text, not a source: `talft asm FILE >OBJECT` makes an object\n' compile five.asm
+explained 'a source in the place of an assembly text' 12 'asm 1 1\n' \
+  'eight.src: error: this is a source, not an assembly text: `talft compile FILE >OBJECT` makes an object\n' asm eight.src
+printf '4:r1:6\n' >said.list
+explained 'a fault list in the place of an object' 7 'object 2 7\n' \
+  'said.list: error: this is a fault list, not an object: it stands after `--faults`\n' check said.list
+explained 'an object in the place of a fault list' 11 'list 1 1\n' \
+  'five.obj: error: this is an object, not a fault list\n' campaign five.obj --faults five.obj
+explained 'an object in the place of a map' 13 'link 1 1\n' 'five.obj: error: this is an object, not a link map\n' link five.obj
+: >nothing
+explained 'an empty file in the place of an object' 7 'object 2 0\n' 'nothing: error: the file is empty\n' run nothing
+explained 'a device in the place of an object' 7 'object 2 0\n' '/dev/null: error: the file is empty\n' run /dev/null
+explained 'a name that is empty' 3 '' 'talft: error: the name of the file is empty\n' run ''
+
+# Help by an option of a command, and options in the place of an operand.
+while read -r command; do
+  for word in --help -h; do
+    "$top/talft" "$command" "$word" >with 2>said </dev/null
+    report "help on $command by $word" "$(help_of "$command")" "$(cat said)"
+  done
+done < <(sed -n 's/^    talft \([a-z]*\) .*/\1/p' "$top/docs/COMMANDS.md")
+explained 'help after an operand' 2 'usage\n' "$(help_of run)\n" run five.obj --help
+explained 'an option in the place of the operand' 3 '' \
+  'talft: error: missing OBJECT: it comes before options such as `--fault`\nusage: talft run OBJECT [--steps N] [--fault STEP:SITE:WORD] [--wild LIST]\n' \
+  run --fault
+explained 'an option that is misspelled' 2 'usage\n' \
+  'talft: error: unknown option `--step` for `run`; did you mean `--steps`?\nusage: talft run OBJECT [--steps N] [--fault STEP:SITE:WORD] [--wild LIST]\n' \
+  run five.obj --step 5
+
+# Habits of other languages. All are rows of ft_explain_tests, too.
+printf 'cell a[4];\n' >array.src
+explained 'a declaration without a value' 6 'source 4 9\n' \
+  'array.src:1:10: error: unexpected `;`: a cell begins with a value, as in `cell a = 0;` or `cell a[4] = 0;`\n cell a[4];\n          ^\n' \
+  compile array.src
+printf 'cell out = 0;\nwhile (out < 3) {\n  out = out + 1;\n' >brace.src
+explained 'a brace that is not closed' 6 'source 4 49\n' \
+  'brace.src:3:17: error: expected `}` after `;`\n   out = out + 1;\n                 ^\nbrace.src:2:17: note: it closes this `{`\n while (out < 3) {\n                 ^\n' \
+  compile brace.src
+printf 'main:\n' >label.asm
+explained 'a label' 12 'asm 1 1\n' \
+  'label.asm:1:1: error: unexpected `main:`: there are no labels: `block TYPE` begins a block, and blocks are numbered from 0\n main:\n ^~~~~\n' \
+  asm label.asm
+printf 'cell a[4] = 0;\na[5] = 2;\n' >beyond.src
+explained 'a constant index beyond its array' 0 'a[1] 2\n' \
+  'beyond.src:2:3: note: `a` has 4 cells: the index 5 means cell 1\n a[5] = 2;\n   ^\n' mean beyond.src
+
+# A script of the debugger that is a file is read once more, one that is a pipe is not.
+printf 'step 1\nstpe 2\n\nreg r64\n' >wrong.script
+said_of_script='standard input:2:1: error: unknown command `stpe`; did you mean `step`?
+ stpe 2
+ ^
+standard input:3:1: error: the line is empty, and no line may be
+ 
+ ^
+standard input:4:1: error: invalid command: expected `reg R`
+ reg r64
+ ^'
+"$top/talft" debug five.obj >with 2>said <wrong.script
+report 'what is said of a script' "0 $said_of_script" "$? $(cat said)"
+report 'what it writes' "$(printf 'at 1 running\nbad command\nbad command\nbad command')" "$(cat with)"
+cat wrong.script | "$top/talft" debug five.obj >with 2>said
+report 'what is said of a script of a pipe' '0 ' "$? $(cat said)"
 
 # The kit that is missing, or is another one.
-mkdir -p bare/docs bare/.ci another-kit && cp "$top/docs/PROMISES.md" bare/docs && cp "$top/.ci/run" bare/.ci
+mkdir -p bare/docs bare/.ci another-kit && cp "$top/docs/PROMISES.md" bare/docs
+report 'the version before the proof, and without a repository' "usage/2/talft $(cat "$top/VERSION") (commit unknown, $(rt version))" \
+  "$(bare/talft --version 2>without.said)/$?/$(cat without.said)"
+cp "$top/.ci/run" bare/.ci
 printf '#!/bin/sh\necho another kit\n' >another-kit/rt && chmod +x another-kit/rt
 kit=$(sed -n 's/.*`rt version`: \([^)]*\)).*/\1/p' "$top/docs/PROMISES.md")
 if PATH=/usr/bin:/bin command -v rt >rt.path; then
@@ -105,10 +446,10 @@ else
   for call in 'talft trial five.obj' build/prove.sh .ci/run; do
     PATH=/usr/bin:/bin bash bare/$call >with 2>said
     report "\`$call\` without the kit" \
-      "talft: error: the Rattle kit is missing: no \`rt\` is on PATH. It is in bin/ of the kit; the proofs need $kit" "$(cat said)"
+      "talft: error: the Rattle kit is missing: \`rt\` is not on PATH. Add the kit's folder bin/ to PATH; the proofs need $kit" "$(cat said)"
     TMPDIR=$PWD PATH=$PWD/another-kit:/usr/bin:/bin bash bare/$call >with 2>said
     report "\`$call\` with another kit" \
-      "talft: note: this is another kit, and the proofs were made with $kit: they may fail" "$(grep 'note: this is' said)"
+      "talft: note: this kit is another kit, but the proofs were made with $kit: they may fail" "$(grep 'note: this kit' said)"
   done
 fi
 
@@ -136,7 +477,7 @@ head -c 100 five.obj >once &
 got=$(timeout 60 "$top/talft" check once 2>said; printf '/%d' $?)
 report 'a refused pipe' "$(printf 'object 2 100\n/7')" "$got"
 report 'what is said of a refused pipe' \
-  'once: error: the number of bytes is not the one that the header gives, at byte 100' "$(cat said)"
+  'once: error: the object does not have as many bytes as its header gives: it differs at byte 100' "$(cat said)"
 wait
 rm -f once
 
@@ -144,7 +485,7 @@ rm -f once
 report 'a full device, explained' "4 talft: error: the output could not be written" "$? $(cat said)"
 "$top/talft" check missing >/dev/null 2>&-
 report 'standard error that is closed' 3 $?
-report 'standard error that is a pipe' 'missing: error: there is no such file' "$("$top/talft" check missing 2>&1 | cat)"
+report 'standard error that is a pipe' 'missing: error: no such file' "$("$top/talft" check missing 2>&1 | cat)"
 
 explained 'an argument that is no text' 2 'usage\n' 'talft: error: an argument is not UTF-8 text\n' check $'\xff'
 
@@ -161,13 +502,15 @@ if command -v script >script.path; then
   report 'a terminal as standard error' "$(printf 'check block 0 index 3 premise 2\nmixed.obj: error: block 0, instruction 3: its two operands do not have the same colour (premise 2)\n  add r33 r1 B 0\n  r1: G int\n/8')" "$got"
   got=$(script -qec "env TALFT_EXPLAIN=0 $top/talft check mixed.obj" typescript </dev/null | tr -d '\r'; printf '/%d' "${PIPESTATUS[0]}")
   report 'a terminal, and no explanation' "$(printf 'check block 0 index 3 premise 2\n/8')" "$got"
-  binary='talft: note: an object is no text: write it to a file, as in `talft compile SOURCE >FILE.obj`'
+  binary='talft: note: an object is binary: redirect it to a file, as in `talft compile SOURCE >FILE.obj`'
   for words in 'compile eight.src' 'asm five.asm' 'upgrade five.obj' 'schedule five.obj'; do
     script -qec "$top/talft $words 2>said" typescript </dev/null >/dev/null
     report "what is said of \`$words\` on a terminal" "$binary" "$(cat said)"
     "$top/talft" $words >written 2>said
     report "what is said of \`$words\` into a file" '' "$(cat said)"
   done
+  script -qec "$top/talft upgrade five.obj" typescript </dev/null >with
+  report 'what is said of an object stands on a line of its own' "$binary" "$(tail -n 1 with | tr -d '\r')"
   script -qec "env TALFT_EXPLAIN=0 $top/talft upgrade five.obj 2>said" typescript </dev/null >/dev/null
   report 'an object on a terminal, and no explanation' '' "$(cat said)"
 else

@@ -1,5 +1,5 @@
 //! Objects that are not accepted.
-ghost use Rattle.std.specs.Prelude.{◌≡◌, ◌<◌, length};
+ghost use Rattle.std.specs.Prelude.{◌≡◌, ◌<◌, length, IfSome};
 ghost use Rattle.ft_types.specs.Objects.{reg_rows};
 ghost use Rattle.ft_types.specs.Spellable.{IsSpellable};
 
@@ -87,32 +87,43 @@ fn differs(known: Option<RegKnown>, colour: Colour, basic: Basic) -> bool {
     }
 }
 
-/// Says the registers that have another colour or basic type than the rows of code type `t` say.
+/// Says the registers of the rows of code type `t`, one of which has another value than is wanted.
+fn say_rows<P: Program>(page: &mut Page, program: &P, t: u32, count: u32) -> Result<(), NoMemory>
+    requires there { t < length (P.object program.now).types }
+    requires count { count ≡ length (reg_rows (P.object program.now) t) }
+{
+    page.say(format_args!(
+        "  the colours and types are those of code type {t}, but one of these does not have the wanted value:"
+    ))?;
+    for j in 0..count {
+        let number = program.reg_row(t, j).reg.number();
+        page.say(format_args!(" r{number}"))?;
+    }
+    page.say("\n")
+}
+
+/// Says the registers that have another colour or basic type than the rows of code type `t` say; false where none
+/// has.
 fn say_unlike_rows<P: Program>(
     page: &mut Page,
     program: &P,
     known: &Known,
     t: u32,
     count: u32,
-) -> Result<(), NoMemory>
+) -> Result<bool, NoMemory>
     requires there { t < length (P.object program.now).types }
     requires count { count ≡ length (reg_rows (P.object program.now) t) }
 {
-    let mut all_alike = true;
+    let mut is_some_said = false;
     for j in 0..count {
         let row = program.reg_row(t, j);
         let here = known.reg(row.reg);
         if differs(here, row.colour, row.basic) {
-            all_alike = false;
+            is_some_said = true;
             say_unlike_row(page, t, row, here)?;
         }
     }
-    if all_alike {
-        page.say(format_args!(
-            "  the colours and types are those of code type {t}: a value is not\n"
-        ))?;
-    }
-    Ok(())
+    Ok(is_some_said)
 }
 
 /// Says the registers that have another colour or basic type than code type `t` says.
@@ -127,30 +138,95 @@ fn say_unlike<P: Program>(
     requires there { t < length (P.object program.now).types }
 {
     let head = program.code_type(t);
-    say_unlike_rows(page, program, known, t, head.regs)
+    if say_unlike_rows(page, program, known, t, head.regs)? {
+        return Ok(());
+    }
+    say_rows(page, program, t, head.regs)
 }
 
-/// Says what the target of a blue jump or branch wants of the registers.
-#[tactic(auto, using(ft_types::proofs::Counted::spellable_counted))]
+/// The code type of the target of a blue jump or branch.
+fn target_type<P: Program>(program: &P, known: &Known, rd: Reg) -> Option<u32>
+    requires { IsSpellable (P.object program.now) }
+    ensures { IfSome result (λ t. t < length (P.object program.now).types) }
+{
+    let Base::Code(t) = known.reg(rd)?.basic.base else {
+        return None;
+    };
+    let t = u32::from(t);
+    if t >= program.counts().types {
+        return None;
+    }
+    Some(t)
+}
+
+/// How many rows the substitution of an instruction has.
+fn row_count(instr: Instr) -> u32 {
+    match instr {
+        Instr::JmpB { subst, .. } | Instr::BzB { subst, .. } => {
+            subst.past.saturating_sub(subst.first)
+        }
+        _ => 0,
+    }
+}
+
+/// Says how many integer variables and stores that wait the target's code type has.
+fn say_counts<P: Program>(
+    page: &mut Page,
+    program: &P,
+    t: u32,
+    number: u64,
+    instr: Instr,
+) -> Result<(), NoMemory>
+    requires spellable { IsSpellable (P.object program.now) }
+    requires there { t < length (P.object program.now).types }
+{
+    let head = program.code_type(t);
+    if number == 16 {
+        page.say("  the substitution has ")?;
+        page.count(row_count(instr), "row")?;
+        page.say(format_args!(", and code type {t} has "))?;
+        page.count(u32::from(head.ints), "integer variable")?;
+        return page.say("\n");
+    }
+    page.say(format_args!("  code type {t} wants "))?;
+    page.count(head.queue, "waiting store")?;
+    page.say("\n")
+}
+
+/// Says what the target of a blue jump or branch wants.
 fn say_target<P: Program>(
     page: &mut Page,
     program: &P,
     known: &Known,
-    rd: Reg,
+    number: u64,
+    instr: Instr,
 ) -> Result<(), NoMemory>
     requires { IsSpellable (P.object program.now) }
 {
-    let Some(target) = known.reg(rd) else {
+    let Some(rd) = target_of(instr) else {
         return Ok(());
     };
-    let Base::Code(t) = target.basic.base else {
+    let Some(t) = target_type(program, known, rd) else {
         return Ok(());
     };
-    let t = u32::from(t);
-    if t >= program.counts().types {
-        return Ok(());
+    match number {
+        13 => say_unlike(page, program, known, t),
+        _ => say_counts(page, program, t, number, instr),
     }
-    say_unlike(page, program, known, t)
+}
+
+/// Says the type of the cell that a store writes to.
+fn say_stored(page: &mut Page, known: &Known, instr: Instr) -> Result<(), NoMemory> {
+    let Instr::St { rd, .. } = instr else {
+        return Ok(());
+    };
+    let Some(basic) = known.referred(rd) else {
+        return Ok(());
+    };
+    let number = rd.number();
+    page.say(format_args!("  the cell that r{number} refers to has the type "))?;
+    say_basic(page, basic)?;
+    page.say("\n")
 }
 
 /// Says what is known of the registers that an instruction reads.
@@ -177,7 +253,7 @@ pub(crate) fn find<P: Program>(program: &P, block: u64, index: u64) -> Option<(B
 
 /// Explains why the rule of an instruction does not apply.
 #[tactic(auto, using(ft_types::proofs::Counted::spellable_counted))]
-pub(crate) fn explain_instr<P: Program>(
+fn explain_instr<P: Program>(
     page: &mut Page,
     program: &P,
     name: &str,
@@ -202,19 +278,16 @@ pub(crate) fn explain_instr<P: Program>(
     say_instr(page, program, i)?;
     let known = Known::before(program, found.code_type, found.start, i);
     say_reads(page, &known, instr)?;
-    match target_of(instr) {
-        Some(rd) if number == 13 => say_target(page, program, &known, rd),
+    match number {
+        3 => say_stored(page, &known, instr),
+        13 | 14 | 16 => say_target(page, program, &known, number, instr),
         _ => Ok(()),
     }
 }
 
 /// Explains why no run may begin in the entry block.
 #[tactic(auto, using(ft_types::proofs::Counted::spellable_counted))]
-pub(crate) fn explain_entry<P: Program>(
-    page: &mut Page,
-    program: &P,
-    name: &str,
-) -> Result<(), NoMemory>
+fn explain_entry<P: Program>(page: &mut Page, program: &P, name: &str) -> Result<(), NoMemory>
     requires { IsSpellable (P.object program.now) }
 {
     let counts = program.counts();
@@ -228,24 +301,25 @@ pub(crate) fn explain_entry<P: Program>(
     }
     let head = program.code_type(t);
     page.head(name)?;
-    page.say(format_args!("no run may begin in block {entry}: its code type {t} "))?;
+    page.say(format_args!("a run cannot begin in block {entry}: its code type {t} "))?;
     if head.ints > 0 {
-        let ints = head.ints;
-        page.say(format_args!("has integer variables ({ints})\n"))
+        page.say("has ")?;
+        page.count(u32::from(head.ints), "integer variable")?;
     } else if head.regs > 0 {
-        let regs = head.regs;
-        page.say(format_args!("wants types of registers ({regs})\n"))
+        page.say("has ")?;
+        page.count(head.regs, "`reg` line")?;
     } else if head.queue > 0 {
-        let queue = head.queue;
-        page.say(format_args!("wants stores that wait ({queue})\n"))
+        page.say("has ")?;
+        page.count(head.queue, "`pend` line")?;
     } else {
-        page.say("wants a memory other than the one at the start\n")
+        return page.say("wants a memory other than the one at the start\n");
     }
+    page.say(", and must have none\n")
 }
 
 /// Explains why the initial word of a cell has not its type.
 #[tactic(auto, using(ft_types::proofs::Counted::spellable_counted))]
-pub(crate) fn explain_cell<P: Program>(
+fn explain_cell<P: Program>(
     page: &mut Page,
     program: &P,
     name: &str,
@@ -264,27 +338,26 @@ pub(crate) fn explain_cell<P: Program>(
     page.head(name)?;
     page.say(format_args!("cell {k}, `"))?;
     page.show(program.name(k))?;
-    page.say(format_args!("`, begins with {init}, which is no value of its type "))?;
+    page.say(format_args!("`, begins with {init}, which is not a value of its type "))?;
     say_basic(page, head.basic)?;
     page.say("\n")
 }
 
-/// Explains why one of the modules of a link map is not accepted. The refusal does not tell which.
-pub(crate) fn explain_some_check(
+/// Explains why an object is not accepted.
+pub(crate) fn explain_check<P: Program>(
     page: &mut Page,
+    program: &P,
     name: &str,
     refusal: Refusal,
-) -> Result<(), NoMemory> {
-    page.head(name)?;
-    page.say("a module is not accepted: ")?;
+) -> Result<(), NoMemory>
+    requires { IsSpellable (P.object program.now) }
+{
     match refusal {
-        Refusal::Cell(cell) => page.say(format_args!(
-            "the word of cell {cell} is no value of its type"
-        )),
+        Refusal::Entry => explain_entry(page, program, name),
+        Refusal::Cell(cell) => explain_cell(page, program, name, cell),
         Refusal::Instr(block, index, number) => {
-            page.say(format_args!("block {block}, instruction {index} (premise {number})"))
+            explain_instr(page, program, name, block, index, number)
         }
-        _ => page.say("no run may begin in its entry block"),
-    }?;
-    page.say("\n  `talft check` of each module tells more\n")
+        _ => Ok(()),
+    }
 }

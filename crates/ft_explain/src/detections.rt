@@ -55,7 +55,9 @@ fn say_counters(page: &mut Page, machine: &Machine) -> Result<(), NoMemory> {
     let green = machine.pc(Colour::Green);
     let blue = machine.pc(Colour::Blue);
     if green == blue {
-        return page.say(format_args!("both program counters are {green}, where no instruction is"));
+        return page.say(format_args!(
+            "both program counters are {green}, where there is no instruction"
+        ));
     }
     page.say(format_args!("the green program counter is {green}, the blue one is {blue}"))
 }
@@ -79,7 +81,7 @@ fn say_store(page: &mut Page, machine: &Machine, rd: Reg, rs: Reg) -> Result<(),
             "r{number} is {word}, and the oldest store in the queue has the value {value}"
         ));
     }
-    page.say(format_args!("no cell has the address {to}"))
+    page.say(format_args!("{to} is the address of no cell"))
 }
 
 /// Says what a blue jump, or a blue branch that is taken, found.
@@ -111,13 +113,13 @@ fn say_found(page: &mut Page, machine: &Machine, instr: Instr) -> Result<(), NoM
             let number = rs.number();
             let address = machine.reg(rs).word;
             page.say(format_args!(
-                "no cell has the address {address} in r{number}, and no answer is left (`--wild`)"
+                "r{number} is {address}, which is the address of no cell, and no answer of `--wild` is left"
             ))
         }
         Instr::St {
             colour: Colour::Green,
             ..
-        } => page.say("the queue has eight stores already"),
+        } => page.say("the queue is full: it has eight stores"),
         Instr::St {
             colour: Colour::Blue,
             rd,
@@ -125,7 +127,9 @@ fn say_found(page: &mut Page, machine: &Machine, instr: Instr) -> Result<(), NoM
         } => say_store(page, machine, rd, rs),
         Instr::JmpG { .. } | Instr::BzG { .. } => {
             let d = machine.d();
-            page.say(format_args!("d is {d} already, and not 0"))
+            page.say(format_args!(
+                "d is {d}, and must be 0: another green jump or branch waits for its blue half"
+            ))
         }
         Instr::JmpB { rd, .. } => say_target(page, machine, rd),
         Instr::BzB { rz, rd, .. } => say_branch(page, machine, rz, rd),

@@ -25,6 +25,13 @@ fn goes_on(byte: u8) -> bool {
     byte & 0xc0 == 0x80
 }
 
+/// The first place at or after this one where a character begins, or the end.
+pub(crate) fn letter_from(bytes: &[u8], at: usize) -> usize {
+    let at = at.min(bytes.len());
+    let next = part(bytes, at, at.saturating_add(3).min(bytes.len()));
+    at.saturating_add(next.iter().take_while(|byte| goes_on(**byte)).count())
+}
+
 /// How many characters begin in the bytes.
 fn letters(bytes: &[u8]) -> usize {
     bytes.iter().filter(|byte| !goes_on(**byte)).count()
@@ -107,26 +114,12 @@ impl<'a> Place<'a> {
 
     /// The first byte of the line that is shown.
     fn first(&self) -> usize {
-        let mut first = self.before.saturating_sub(BEFORE);
-        for byte in part(self.line, first, self.line.len()) {
-            if !goes_on(*byte) {
-                break;
-            }
-            first = first.saturating_add(1);
-        }
-        first
+        letter_from(self.line, self.before.saturating_sub(BEFORE))
     }
 
     /// The end of what is shown of the line.
     fn past(&self, first: usize) -> usize {
-        let mut past = first.saturating_add(WIDTH).min(self.line.len());
-        for byte in part(self.line, past, self.line.len()) {
-            if !goes_on(*byte) {
-                break;
-            }
-            past = past.saturating_add(1);
-        }
-        past
+        letter_from(self.line, first.saturating_add(WIDTH))
     }
 
     /// Shows the line, and below it a caret at the place, with a wave under the rest of so many bytes. A long
@@ -134,12 +127,12 @@ impl<'a> Place<'a> {
     pub fn show(&self, page: &mut Page, length: usize) -> Result<(), NoMemory> {
         let first = self.first();
         let past = self.past(first);
-        let cut = if first > 0 { "..." } else { "" };
+        let cut = if first > 0 { ".." } else { "" };
         page.say(" ")?;
         page.say(cut)?;
         page.show(part(self.line, first, past))?;
         page.say(if past < self.line.len() {
-            "...\n "
+            "..\n "
         } else {
             "\n "
         })?;

@@ -13,6 +13,8 @@ struct Before<'s> {
     assigned: bool,
     /// How many of its brackets are open.
     open: usize,
+    /// How many braces are open.
+    depth: usize,
     /// The last token.
     last: Option<Token<'s>>,
 }
@@ -23,6 +25,15 @@ pub(crate) struct Lack<'s> {
     pub what: &'static str,
     pub text: &'s [u8],
     pub end: usize,
+}
+
+/// How many braces are open after a token.
+fn deeper(depth: usize, kind: Kind) -> usize {
+    match kind {
+        Kind::LBrace => depth.saturating_add(1),
+        Kind::RBrace => depth.saturating_sub(1),
+        _ => depth,
+    }
 }
 
 /// How many brackets are open after a token.
@@ -38,14 +49,20 @@ impl<'s> Before<'s> {
     /// What stands before the next token, which follows this one.
     fn then(self, token: Token<'s>) -> Before<'s> {
         let last = Some(token);
+        let depth = deeper(self.depth, token.kind);
         if matches!(token.kind, Kind::Semi | Kind::LBrace | Kind::RBrace) {
-            return Before { last, ..START };
+            return Before {
+                last,
+                depth,
+                ..START
+            };
         }
         Before {
             first: Some(self.first.unwrap_or(token.kind)),
             count: self.count.saturating_add(1),
             assigned: self.assigned || token.kind == Kind::Assign,
             open: opened(self.open, token.kind),
+            depth,
             last,
         }
     }
@@ -57,6 +74,7 @@ const START: Before<'static> = Before {
     count: 0,
     assigned: false,
     open: 0,
+    depth: 0,
     last: None,
 };
 
@@ -140,12 +158,37 @@ pub(crate) fn lack_at(source: &[u8], at: usize) -> Option<Lack<'_>> {
     })
 }
 
+/// What a word that is no name in most languages stands for here.
+fn habit_of_word(word: &[u8]) -> Option<&'static str> {
+    match word {
+        b"for" | b"do" | b"loop" | b"repeat" | b"until" => {
+            Some("loops are written `while (..) { .. }`")
+        }
+        b"return" | b"break" | b"continue" | b"goto" | b"switch" | b"else" | b"elif" => {
+            Some("a statement is an assignment, `while` or `if` with `else`")
+        }
+        b"def" | b"fn" | b"func" | b"function" | b"void" => Some("there are no functions"),
+        b"print" | b"printf" | b"puts" | b"write" | b"echo" => {
+            Some("there are no calls: an assignment to a cell is the output")
+        }
+        _ => None,
+    }
+}
+
 /// What to write in the place of a habit that a token of this kind shows after a name that begins a statement.
-fn habit_after_first(next: Kind) -> Option<&'static str> {
+fn habit_after_first(word: &[u8], next: Kind) -> Option<&'static str> {
+    if next != Kind::Assign
+        && let Some(words) = habit_of_word(word)
+    {
+        return Some(words);
+    }
     match next {
-        Kind::Plus | Kind::Minus => Some("an assignment is written whole, as in `a = a + 1;`"),
+        Kind::Plus | Kind::Minus | Kind::Star | Kind::And | Kind::Or | Kind::Xor => {
+            Some("write the assignment in full, as in `a = a + 1;`")
+        }
         Kind::Name => Some("a declaration is `var a;` or `cell a = 0;`, without a type"),
-        Kind::LParen => Some("there are no calls, and `while` is the one loop"),
+        Kind::LParen => Some("there are no calls, and the only loop is `while`"),
+        Kind::EqEq => Some("write `=` to assign"),
         _ => None,
     }
 }
@@ -158,29 +201,85 @@ fn habit_after(last: Kind, next: Kind) -> Option<&'static str> {
         Kind::And if last == Kind::And => Some("write `&` for `&&`"),
         Kind::Or if last == Kind::Or => Some("write `|` for `||`"),
         Kind::LParen if last == Kind::Name => Some("there are no calls"),
-        Kind::Minus if !ends_term(last) => Some("a number has no sign: write `0 - 1`"),
+        Kind::Minus if !ends_term(last) => Some("numbers have no sign: write `0 - 1`"),
+        Kind::Var | Kind::Cell if matches!(last, Kind::Semi | Kind::LBrace | Kind::RBrace) => {
+            Some("declarations come before the first statement")
+        }
         _ => None,
     }
 }
 
-/// What to write in the place of a habit from C, where a token is not expected.
+/// What to write in the place of a habit that a token of this kind shows in a declaration or a test.
+fn habit_inside(before: Before<'_>, next: Kind) -> Option<&'static str> {
+    match (before.first, next) {
+        (Some(Kind::Var), Kind::Assign) if before.count == 2 => {
+            Some("a variable gets its value by a statement: `var a; a = 3;`")
+        }
+        (Some(Kind::Cell | Kind::Var), Kind::Number) if before.count == 1 => {
+            Some("a name begins with a letter or `_`")
+        }
+        (Some(Kind::Cell | Kind::Var), Kind::Cell | Kind::Var | Kind::While | Kind::If | Kind::Else)
+            if before.count == 1 => Some("a reserved word is not a name"),
+        (Some(Kind::Var), Kind::LBracket) => Some("an array is of cells: `cell a[4] = 0;`"),
+        (Some(Kind::Cell), Kind::Semi) if !before.assigned => {
+            Some("a cell begins with a value, as in `cell a = 0;` or `cell a[4] = 0;`")
+        }
+        (Some(Kind::Cell), Kind::LBrace) => Some("all cells of an array begin with the same value"),
+        (Some(Kind::While | Kind::If), Kind::Assign) if before.open > 0 => {
+            Some("write `==` to compare")
+        }
+        _ => None,
+    }
+}
+
+/// What to write in the place of a habit from another language, where a token is not expected.
 pub(crate) fn habit(source: &[u8], at: usize) -> Option<&'static str> {
     let before = read_before(source, at);
-    let last = before.last?;
     let next = kind_at(source, at)?;
+    if next == Kind::RBrace && before.depth == 0 {
+        return Some("there is no `{` that it closes");
+    }
+    let last = before.last?;
     if last.kind == Kind::Number
         && next == Kind::Name
         && last.at.saturating_add(last.text.len()) == at
     {
-        return Some("a number is decimal");
+        return Some("numbers are decimal");
     }
     if before.count == 1 && last.kind == Kind::Name {
-        return habit_after_first(next);
+        return habit_after_first(last.text, next);
     }
-    if before.count == 2 && before.first == Some(Kind::Var) && next == Kind::Assign {
-        return Some("a variable gets its value by a statement: `var a; a = 3;`");
+    match habit_inside(before, next) {
+        Some(words) => Some(words),
+        None => habit_after(last.kind, next),
     }
-    habit_after(last.kind, next)
+}
+
+/// Where the innermost brace that is still open at the end of a source was opened, with the last token.
+pub(crate) fn unclosed(source: &[u8]) -> Option<(usize, Token<'_>)> {
+    let end = read_before(source, source.len());
+    let last = end.last?;
+    if end.depth == 0 {
+        return None;
+    }
+    Some((opened_at(source, end.depth)?, last))
+}
+
+/// Where the last brace is opened that makes this many open ones.
+fn opened_at(source: &[u8], wanted: usize) -> Option<usize> {
+    let mut lexer = Lexer::new(source);
+    let mut depth: usize = 0;
+    let mut found = None;
+    for _ in 0..source.len() {
+        let Some(Ok(token)) = lexer.next() else {
+            break;
+        };
+        depth = deeper(depth, token.kind);
+        if token.kind == Kind::LBrace && depth == wanted {
+            found = Some(token.at);
+        }
+    }
+    found
 }
 
 /// What to write in the place of a byte that begins no token.
@@ -188,9 +287,15 @@ pub(crate) fn instead_of(byte: u8) -> &'static str {
     match byte {
         b'>' => ": write `b < a` for `a > b`, and `(a < b) == 0` for `a >= b`",
         b'!' => ": write `(a == b) == 0` for `a != b`",
-        b'/' => ": a comment begins with `#`, and there is no division",
+        b'/' => ": comments begin with `#`, and there is no division",
         b'%' => ": there is no division",
-        b',' => ": each name has its own declaration, as in `var a; var b;`",
+        b',' => ": there are no lists: each name has its own declaration, as in `var a; var b;`",
+        b'"' | b'\'' => ": there are no texts and no characters, only numbers",
+        b'.' => ": numbers are whole",
+        b':' => ": a block stands between `{` and `}`",
+        b'~' => ": write `a ^ 18446744073709551615` for `~a`",
+        b'?' => ": write `if (..) { .. } else { .. }`",
+        0x80.. => ": the language is written in ASCII",
         _ => "",
     }
 }

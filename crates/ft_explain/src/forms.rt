@@ -59,10 +59,10 @@ talft link updown.map >updown.obj",
 pub(crate) const OPTIONS: &[&str] = &[
     "--steps N                 run at most N steps: 0 to 1000000000, for campaign and survey 0 to 1000000 (default 1000000)",
     "--turns N                 take at most N turns of loops: 0 to 1000000000 (default 1000000)",
-    "--fault STEP:SITE:WORD    before this step, counted from 0, the word at the site becomes this one (default no fault);
-                            SITE is r0 to r63, d, pcg, pcb, qa0 to qa7 or qv0 to qv7, and a number is decimal, below 2^64",
-    "--wild LIST               answers to loads that no cell has, separated by commas, each a number or `stop` (default none)",
-    "--faults FILE             the fault list: a STEP:SITE:WORD on each line",
+    "--fault STEP:SITE:WORD    before step STEP, counted from 0, the word at SITE becomes WORD (default no fault);
+                            SITE is r0 to r63, d, pcg, pcb, qa0 to qa7 or qv0 to qv7; numbers are decimal, below 2^64",
+    "--wild LIST               answers to loads from addresses without a cell, separated by commas, each a number or `stop` (default none)",
+    "--faults FILE             the fault list: one STEP:SITE:WORD on each line",
 ];
 
 /// The command of a name, as three lines.

@@ -14,6 +14,11 @@ pub(crate) fn is_help(word: &str) -> bool {
     word == "help" || word == "--help" || word == "-h"
 }
 
+/// Whether a word after a command asks for its help.
+pub(crate) fn asks_for_help(word: &str) -> bool {
+    word == "--help" || word == "-h"
+}
+
 /// Whether a word asks for the version.
 pub(crate) fn is_version(word: &str) -> bool {
     word == "--version" || word == "-V"

@@ -65,7 +65,7 @@ impl Known {
     }
 
     /// The type that the address in a register refers to.
-    fn referred(&self, rs: Reg) -> Option<Basic> {
+    pub fn referred(&self, rs: Reg) -> Option<Basic> {
         let basic = self.reg(rs)?.basic;
         let refs = basic.refs.checked_sub(1)?;
         Some(Basic { refs, ..basic })

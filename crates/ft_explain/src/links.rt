@@ -2,7 +2,11 @@
 ghost use Rattle.ft_types.specs.Spellable.{IsSpellable};
 
 use crate::checks::{find, say_instr};
+use crate::content::{Content, say_other_kind};
 use crate::excerpt::Place;
+use crate::lines::wrong_line;
+use crate::near::{is_near, say_near};
+use crate::numbers::{is_number, say_misfit};
 use crate::page::Page;
 use ft_isa::{Instr, NoMemory};
 use ft_types::Program;
@@ -26,7 +30,7 @@ pub(crate) fn file_of(map: Option<&[u8]>, module: u64) -> Option<&str> {
 }
 
 /// How many lines before the one with this number, counted from 1, name a module.
-fn modules_before(map: &[u8], wanted: u64) -> u64 {
+pub(crate) fn modules_before(map: &[u8], wanted: u64) -> u64 {
     let mut modules: u64 = 0;
     let mut number: u64 = 1;
     for line in str::from_utf8(map).unwrap_or("").lines() {
@@ -38,26 +42,68 @@ fn modules_before(map: &[u8], wanted: u64) -> u64 {
     modules
 }
 
-/// What is wrong with a line that may not stand where it stands, after so many modules.
-fn misplaced(line: &[u8], modules: u64) -> &'static str {
-    if line.starts_with(b"module ") && modules >= MODULE_LIMIT {
-        return "a link map has at most 64 modules";
+/// The first words of the lines of a map.
+const WORDS: &[&str] = &["module", "export", "import"];
+
+/// Says that a line begins with none of the three words.
+fn say_unknown(page: &mut Page, first: &str) -> Result<(), NoMemory> {
+    page.say("unexpected ")?;
+    page.quote(first.as_bytes())?;
+    for word in WORDS {
+        if is_near(page.alloc(), first, *word)? {
+            return say_near(page, word.as_bytes());
+        }
     }
-    let asks = line.starts_with(b"export ") || line.starts_with(b"import ");
-    if asks && modules == 0 {
-        return "no `module` stands before this line";
-    }
-    "this is no line of a link map: `module FILE`, `export NAME B` or `import NAME B`"
+    page.say(": expected `module FILE`, `export NAME B` or `import NAME B`")
 }
 
-/// What is wrong with a line, after so many modules.
-fn line_words(number: u64, line: &[u8], modules: u64) -> &'static str {
+/// Says what is wrong with the words after `export` or `import`.
+fn say_asked(page: &mut Page, word: &str, rest: &str) -> Result<(), NoMemory> {
+    let Some((_, block)) = rest.split_once(' ') else {
+        return page.say(format_args!(
+            "expected `{word} NAME B`: the number of the block is missing"
+        ));
+    };
+    if !is_number(block.as_bytes(), 4_294_967_295) {
+        page.say("invalid block ")?;
+        page.quote(block.as_bytes())?;
+        page.say(": ")?;
+        return say_misfit(page, block.as_bytes(), 4_294_967_295);
+    }
+    page.say(format_args!(
+        "expected `{word} NAME B`: a name is at most 32 letters, digits and `_`, and begins with no digit"
+    ))
+}
+
+/// Says what is wrong with a line that may not stand where it stands, after so many modules.
+fn say_misplaced(page: &mut Page, line: &str, modules: u64) -> Result<(), NoMemory> {
+    let (first, rest) = match line.split_once(' ') {
+        Some(parts) => parts,
+        None => (line, ""),
+    };
+    match first.as_bytes() {
+        b"module" if modules >= MODULE_LIMIT && !rest.is_empty() => {
+            page.say("a link map has at most 64 modules")
+        }
+        b"module" => page.say(
+            "expected `module FILE`: FILE is 1 to 255 visible characters, without a blank",
+        ),
+        b"export" | b"import" if modules == 0 => {
+            page.say(format_args!("no `module` line stands before this `{first}`"))
+        }
+        b"export" | b"import" => say_asked(page, first, rest),
+        _ => say_unknown(page, first),
+    }
+}
+
+/// What is wrong with a line that is one of the three.
+fn line_words(number: u64, line: &[u8]) -> &'static str {
     match number {
-        1 => misplaced(line, modules),
+        1 => "this line is not allowed here",
         2 if line.starts_with(b"import ") => "this block is exported or imported already",
         2 => "this name is exported already, or this block is imported already",
         7 => "the module has no such block",
-        8 => "the imported block is no stub: a stub is the one instruction `halt`",
+        8 => "the imported block is not a stub: a stub is the one instruction `halt`",
         9 => "no line exports this name",
         _ => "the imported block and the exported one do not have the same code type",
     }
@@ -67,10 +113,11 @@ fn line_words(number: u64, line: &[u8], modules: u64) -> &'static str {
 fn module_words(number: u64, module: u64) -> &'static str {
     match number {
         3 if module == 0 => "a cell's type has the base `code`, which no cell of a module may have",
-        3 => "its cells are not those of the first module",
+        3 => "its cells differ from those of the first module",
         4 =>
             "a register row's type has the base `code`, which no register row of a module may have",
-        _ => "with this module the link has more parts of one kind than an object can have",
+        _ =>
+            "with this module the linked object is too large: it has more parts of one kind than are allowed",
     }
 }
 
@@ -87,6 +134,26 @@ fn code_words(instr: Instr) -> &'static str {
     }
 }
 
+/// Explains a line of a link map that is not allowed where it stands.
+fn explain_misplaced(
+    page: &mut Page,
+    name: &str,
+    place: Place<'_>,
+    modules: u64,
+) -> Result<(), NoMemory> {
+    if let Some((at, words)) = wrong_line(place.line()) {
+        let place = place.after(at);
+        page.head_at(name, &place)?;
+        page.say(words)?;
+        page.say("\n")?;
+        return place.show(page, 1);
+    }
+    page.head_at(name, &place)?;
+    say_misplaced(page, str::from_utf8(place.line()).unwrap_or(""), modules)?;
+    page.say("\n")?;
+    place.show(page, place.line().len())
+}
+
 /// Explains why a line of a link map is refused. The map is there where it can be read again.
 pub(crate) fn explain_line(
     page: &mut Page,
@@ -98,15 +165,21 @@ pub(crate) fn explain_line(
     let Some(map) = map else {
         page.head(name)?;
         page.say(format_args!("line {told}: "))?;
-        page.say(line_words(number, &[], 1))?;
+        page.say(line_words(number, &[]))?;
         return page.say("\n");
     };
+    if number == 1 && say_other_kind(page, name, map, Content::Map)? {
+        return Ok(());
+    }
     let Some(place) = Place::of_line(map, told as usize) else {
         page.head(name)?;
         return page.say("a link map has at least one module\n");
     };
+    if number == 1 {
+        return explain_misplaced(page, name, place, modules_before(map, told));
+    }
     page.head_at(name, &place)?;
-    page.say(line_words(number, place.line(), modules_before(map, told)))?;
+    page.say(line_words(number, place.line()))?;
     page.say("\n")?;
     place.show(page, place.line().len())
 }
@@ -182,5 +255,5 @@ pub(crate) fn explain_code<P: Program>(
 /// Explains why a link map is refused for its length.
 pub(crate) fn explain_long_map(page: &mut Page, name: &str, most: u64) -> Result<(), NoMemory> {
     page.head(name)?;
-    page.say(format_args!("a link map has at most {most} bytes\n"))
+    page.say(format_args!("the link map is too long: at most {most} bytes are allowed\n"))
 }

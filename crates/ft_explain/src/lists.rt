@@ -1,5 +1,7 @@
 //! Fault lists, campaigns and scripts that are refused.
+use crate::content::{Content, say_other_kind};
 use crate::excerpt::Place;
+use crate::lines::wrong_line;
 use crate::page::Page;
 use crate::strikes::say_wrong_part;
 use ft_isa::{NoMemory, read_strike};
@@ -15,13 +17,32 @@ fn begun(line: &[u8]) -> usize {
 /// What is wrong with a whole list, with a campaign or with a script.
 fn say_whole(page: &mut Page, number: u64, told: u64) -> Result<(), NoMemory> {
     match number {
-        1 => page.say(format_args!("line {told} is no fault")),
-        2 => page.say("a fault list has at most 65536 lines and 4194304 bytes"),
+        1 => page.say(format_args!("line {told} is not a fault: expected STEP:SITE:WORD")),
+        2 => page.say(
+            "the fault list is too long: at most 65536 lines and 4194304 bytes are allowed",
+        ),
         3 => page.say(format_args!(
-            "the number of faults times the number of steps is {told}: 1000000000 is allowed (`--steps`)"
+            "the campaign is too long: faults times steps is {told}, and at most 1000000000 is allowed; give fewer faults or a smaller `--steps`"
         )),
-        _ => page.say(format_args!("a script has at most {told} bytes")),
+        _ => page.say(format_args!("the script is too long: at most {told} bytes are allowed")),
     }
+}
+
+/// Explains why a line of a list is no fault.
+fn explain_line(page: &mut Page, name: &str, start: Place<'_>) -> Result<(), NoMemory> {
+    if let Some((at, words)) = wrong_line(start.line()) {
+        let place = start.after(at);
+        page.head_at(name, &place)?;
+        page.say(words)?;
+        page.say("\n")?;
+        return place.show(page, 1);
+    }
+    let place = start.after(begun(start.line()));
+    page.head_at(name, &place)?;
+    page.say("invalid fault: expected STEP:SITE:WORD; ")?;
+    say_wrong_part(page, str::from_utf8(start.line()).unwrap_or(""))?;
+    page.say("\n")?;
+    place.show(page, 1)
 }
 
 /// Explains why a fault list, a campaign or a script is refused. The list is there where the refusal has a line.
@@ -35,12 +56,10 @@ pub(crate) fn explain_list(
     if let Some(list) = list
         && let Some(start) = Place::of_line(list, told as usize)
     {
-        let place = start.after(begun(start.line()));
-        page.head_at(name, &place)?;
-        page.say("invalid fault: expected STEP:SITE:WORD; ")?;
-        say_wrong_part(page, str::from_utf8(start.line()).unwrap_or(""))?;
-        page.say("\n")?;
-        return place.show(page, 1);
+        if say_other_kind(page, name, list, Content::List)? {
+            return Ok(());
+        }
+        return explain_line(page, name, start);
     }
     page.head(name)?;
     say_whole(page, number, told)?;

@@ -6,6 +6,9 @@ use std::alloc::Global;
 /// The most bytes of an object.
 pub(crate) const OBJECT_LIMIT: usize = 67_108_864;
 
+/// The most bytes of a source.
+pub(crate) const SOURCE_LIMIT: usize = 1_048_576;
+
 /// The bytes of a file of at most so many; `None` where it cannot be read or has more.
 pub(crate) fn load<S: Shelf>(
     alloc: Global,

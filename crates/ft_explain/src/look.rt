@@ -17,8 +17,8 @@ impl Found {
     /// Why the file cannot be read.
     pub(crate) fn words(self) -> &'static str {
         match self {
-            Found::Missing => "there is no such file",
-            Found::Folder => "it is a folder",
+            Found::Missing => "no such file",
+            Found::Folder => "is a folder",
             Found::Forbidden => "permission denied",
             Found::Unknown => "cannot be read",
         }
@@ -29,4 +29,7 @@ impl Found {
 pub trait Look {
     /// What stands under a name.
     fn look(&self, name: &str) -> Found;
+
+    /// The name under which standard input can be read once more, from its beginning; `None` where it cannot.
+    fn script(&self) -> Option<&'static str>;
 }

@@ -1,5 +1,11 @@
 //! The operands of the lines of assembly texts.
-use ft_isa::{Site, read_number, read_site};
+use crate::lines::begins_comment;
+use crate::numbers::{is_number, say_misfit};
+use crate::page::Page;
+use ft_isa::{NoMemory, Site, read_site};
+
+/// How often `ref:` may stand in a basic type.
+const MOST_REFS: usize = 255;
 
 /// An operand that is not what its form says: the place in the line, its text, and what it should be.
 #[derive(Clone, Copy)]
@@ -27,6 +33,33 @@ pub(crate) fn word_at(line: &[u8], at: usize) -> &[u8] {
     rest.get(..length).unwrap_or(&[])
 }
 
+/// The place of a word of a line, counted from 0; the line's end where it has fewer.
+pub(crate) fn place_of_word(line: &[u8], number: usize) -> usize {
+    let mut at = word_start(line, 0);
+    for _ in 0..number {
+        let past = at.saturating_add(word_at(line, at).len());
+        at = word_start(line, past);
+    }
+    at
+}
+
+/// A word of a line, counted from 0; nothing where it has fewer.
+pub(crate) fn word(line: &[u8], number: usize) -> &[u8] {
+    word_at(line, place_of_word(line, number))
+}
+
+/// How many words a line has.
+pub(crate) fn count_words(line: &[u8]) -> usize {
+    let mut count: usize = 0;
+    let mut is_inside = false;
+    for byte in line {
+        let begins = !is_blank(*byte) && !is_inside;
+        count = count.saturating_add(usize::from(begins));
+        is_inside = !is_blank(*byte);
+    }
+    count
+}
+
 /// Whether a word is a register.
 fn is_register(word: &[u8]) -> bool {
     matches!(read_site(word), Some(Site::R(_)))
@@ -37,39 +70,98 @@ fn is_colour(word: &[u8]) -> bool {
     matches!(word, b"G" | b"B")
 }
 
-/// Whether a word may be a basic type.
-fn may_be_basic(word: &[u8]) -> bool {
-    word == b"int".as_slice() || word.starts_with(b"ref:") || word.starts_with(b"code:")
+/// A basic type without its `ref:`.
+fn base_of(word: &[u8]) -> &[u8] {
+    let mut base = word;
+    for _ in 0..MOST_REFS {
+        let Some(rest) = base.strip_prefix(b"ref:") else {
+            break;
+        };
+        base = rest;
+    }
+    base
 }
 
-/// Whether a word may be what a form says.
-fn may_be(word: &[u8], form: &str) -> bool {
-    match form.as_bytes() {
-        b"R" => is_register(word),
-        b"C" => is_colour(word),
-        b"BASIC" => may_be_basic(word),
-        b"NAME" => !word.is_empty(),
-        _ => read_number(word).is_some(),
+/// Whether a word is a basic type.
+fn is_basic(word: &[u8]) -> bool {
+    let base = base_of(word);
+    match base.strip_prefix(b"code:") {
+        Some(number) => is_number(number, 65_535),
+        None => base == b"int".as_slice(),
     }
 }
 
-/// What a word of this form is.
+/// The largest number of a form.
+fn most_of(form: &str) -> u64 {
+    match form.as_bytes() {
+        b"W" | b"INIT" => u64::MAX,
+        b"SCOPE" | b"I" | b"INTS" => 255,
+        _ => 4_294_967_295,
+    }
+}
+
+/// Whether a word is what a form says.
+fn fits(word: &[u8], form: &str) -> bool {
+    match form.as_bytes() {
+        b"R" => is_register(word),
+        b"C" => is_colour(word),
+        b"BASIC" => is_basic(word),
+        b"NAME" | b"KIND" => !word.is_empty(),
+        _ => is_number(word, most_of(form)),
+    }
+}
+
+/// What a word of this form is; nothing of a number.
 fn rule_of(form: &str) -> &'static str {
     match form.as_bytes() {
         b"R" => "a register is r0 to r63",
         b"C" => "a colour is G or B",
         b"BASIC" => "a basic type is `int` or `code:T`, after any number of `ref:`",
-        b"nothing" => "nothing more stands in this line",
-        _ => "a number is decimal, without a sign and without zeros before it",
+        b"nothing" => "nothing follows in this line",
+        b"KIND" => "a node is `word`, `var`, `sel`, `memory`, `upd`, `rem` or an operation",
+        _ => "",
     }
 }
 
-/// What is wrong with an operand.
-pub(crate) fn rule(operand: Operand<'_>) -> &'static str {
-    if operand.text.starts_with(b"#") {
-        return "a comment stands on a line of its own";
+/// What a missing operand is, where its form alone does not say it.
+pub(crate) fn meaning_of(form: &str) -> &'static str {
+    match form.as_bytes() {
+        b"R" => ", a register",
+        b"C" => ", a colour: G or B",
+        b"W" | b"INIT" => ", a number",
+        b"TYPE" => ", the number of a type",
+        b"NODE" | b"MEMORY" => ", the number of a node",
+        b"B" => ", the number of a block",
+        b"BASIC" =>
+            ", the type of the word: `int`, `ref:int` for the address of a cell, or `code:T` for that of a block",
+        _ => "",
     }
-    rule_of(operand.form)
+}
+
+/// What is wrong with an operand whatever it should be; nothing where it depends on that.
+fn habit_of(text: &[u8]) -> &'static str {
+    if begins_comment(text) {
+        "a comment begins with `#`, on a line of its own"
+    } else if text.ends_with(b",") {
+        "words are separated by spaces, without commas"
+    } else if text.ends_with(b";") {
+        "a line ends without `;`"
+    } else {
+        ""
+    }
+}
+
+/// Says what is wrong with an operand.
+pub(crate) fn say_rule(page: &mut Page, operand: Operand<'_>) -> Result<(), NoMemory> {
+    let habit = habit_of(operand.text);
+    if !habit.is_empty() {
+        return page.say(habit);
+    }
+    let rule = rule_of(operand.form);
+    if !rule.is_empty() {
+        return page.say(rule);
+    }
+    say_misfit(page, operand.text, most_of(operand.form))
 }
 
 /// The word of a line at or after a place, where nothing more should stand.
@@ -84,6 +176,23 @@ fn further(line: &[u8], at: usize) -> Option<Operand<'_>> {
         text,
         form: "nothing",
     })
+}
+
+/// The first word at or after a place that is no number of a node.
+fn wrong_row(line: &[u8], at: usize) -> Option<Operand<'_>> {
+    let mut at = at;
+    for _ in 0..line.len() {
+        let start = word_start(line, at);
+        let text = word_at(line, start);
+        if text.is_empty() {
+            return None;
+        }
+        if !fits(text, "ROW") {
+            return Some(wrong_at(at, start, text, "ROW"));
+        }
+        at = start.saturating_add(text.len());
+    }
+    None
 }
 
 /// An operand that is missing at a place, or stands wrong after it.
@@ -103,12 +212,12 @@ pub(crate) fn wrong_operand<'t>(line: &'t [u8], forms: &'static str) -> Option<O
         if form == "nothing" {
             break;
         }
-        if form == ".." {
-            return None;
+        if form == "ROW" {
+            return wrong_row(line, at);
         }
         let start = word_start(line, at);
         let text = word_at(line, start);
-        if !may_be(text, form) {
+        if !fits(text, form) {
             return Some(wrong_at(at, start, text, form));
         }
         at = start.saturating_add(text.len());

@@ -2,6 +2,7 @@
 ghost use Rattle.ft_types.specs.Spellable.{IsSpellable};
 
 use crate::detections::say_detection;
+use crate::indices::note_indices;
 use crate::loads::{OBJECT_LIMIT, load};
 use crate::page::Page;
 use crate::reruns::{Met, rerun};
@@ -17,14 +18,14 @@ const AGAIN: u64 = 1_000_000;
 
 /// Begins a line on a file.
 fn begin(page: &mut Page, name: &str) -> Result<(), NoMemory> {
-    page.show(name.as_bytes())?;
+    page.name(name)?;
     page.say(": ")
 }
 
 /// Says that a run or a meaning was cut.
 fn say_cut(page: &mut Page, name: &str, count: u64, what: &str) -> Result<(), NoMemory> {
     begin(page, name)?;
-    page.say(format_args!("cut after {count} {what} (`--{what}`)\n"))
+    page.say(format_args!("still running after {count} {what}: raise `--{what}`\n"))
 }
 
 /// Says why a strike found nothing to strike.
@@ -36,7 +37,7 @@ fn say_missed(page: &mut Page, strike: Strike, met: Met) -> Result<(), NoMemory>
         )),
         _ => {
             let taken = met.taken;
-            page.say(format_args!("at step {step} the run had ended, after {taken} steps"))
+            page.say(format_args!("the run had ended after {taken} steps, before step {step}"))
         }
     }
 }
@@ -51,14 +52,14 @@ fn say_unstruck(page: &mut Page, run: &Run, met: Met) -> Result<(), NoMemory> {
         begin(page, run.object)?;
         let step = strike.step;
         return page.say(format_args!(
-            "nothing was struck: the fault comes at step {step}, and the run takes at most {steps} steps (`--steps`)\n"
+            "the fault struck nothing: it comes at step {step}, and the run is limited to {steps} steps (`--steps`)\n"
         ));
     }
     if met.struck != Some(false) {
         return Ok(());
     }
     begin(page, run.object)?;
-    page.say("nothing was struck: ")?;
+    page.say("the fault struck nothing: ")?;
     say_missed(page, strike, met)?;
     page.say("\n")
 }
@@ -83,7 +84,9 @@ fn say_detected<P: Program>(
 /// Says that a fault was detected, where the place is not known.
 fn say_detected_late(page: &mut Page, run: &Run) -> Result<(), NoMemory> {
     begin(page, run.object)?;
-    page.say("detected; `talft campaign` or `talft debug` tells at which step\n")
+    page.say(
+        "detected after more than 1000000 steps; `talft campaign` or `talft debug` tells at which\n",
+    )
 }
 
 /// Runs an object again, and says what the run met.
@@ -149,6 +152,9 @@ pub(crate) fn explain_outcome<S: Shelf>(
         }
         Command::Exec(asked) if status == 9 => say_cut(page, asked.source, asked.steps, "steps"),
         Command::Mean(asked) if status == 9 => say_cut(page, asked.source, asked.turns, "turns"),
+        Command::Compile(source) if status == 0 => note_indices(page, *source, shelf),
+        Command::Exec(asked) if status == 0 => note_indices(page, asked.source, shelf),
+        Command::Mean(asked) if status == 0 => note_indices(page, asked.source, shelf),
         _ => Ok(()),
     }
 }

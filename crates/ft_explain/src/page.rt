@@ -1,8 +1,14 @@
 //! Explanations in the making.
-use crate::excerpt::Place;
+use crate::excerpt::{Place, letter_from, part};
 use ft_isa::NoMemory;
 use std::alloc::Global;
 use std::fmt::Display;
+
+/// How many bytes of a word are quoted at the most.
+const QUOTED: usize = 40;
+
+/// The longest name that a file can have.
+const LONGEST_NAME: usize = 4096;
 
 /// An explanation in the making.
 #[derive(Drop)]
@@ -11,9 +17,17 @@ pub(crate) struct Page {
     text: String,
 }
 
+/// Whether a character changes the direction of a text, or is not seen.
+fn is_unseen(letter: char) -> bool {
+    matches!(
+        letter,
+        '\u{200b}'..='\u{200f}' | '\u{2028}'..='\u{202e}' | '\u{2066}'..='\u{2069}' | '\u{feff}'
+    )
+}
+
 /// A character as it is shown: a control character could change what a terminal shows.
 fn shown(letter: char) -> char {
-    if letter.is_control() && letter != '\t' {
+    if letter != '\t' && (letter.is_control() || is_unseen(letter)) {
         '?'
     } else {
         letter
@@ -49,6 +63,36 @@ impl Page {
         Ok(())
     }
 
+    /// Adds the beginning of some bytes, up to a number of them, and `..` where more follow.
+    fn show_some(&mut self, bytes: &[u8], most: usize) -> Result<(), NoMemory> {
+        let end = letter_from(bytes, most);
+        self.show(part(bytes, 0, end))?;
+        self.say(if end < bytes.len() { ".." } else { "" })
+    }
+
+    /// Adds bytes of a file or of a name between back quotes. What is long is cut.
+    pub fn quote(&mut self, bytes: &[u8]) -> Result<(), NoMemory> {
+        self.say("`")?;
+        self.show_some(bytes, QUOTED)?;
+        self.say("`")
+    }
+
+    /// Adds how many there are of something.
+    pub fn count(&mut self, count: u32, what: &str) -> Result<(), NoMemory> {
+        let end = if count == 1 { "" } else { "s" };
+        self.say(format_args!("{count} {what}{end}"))
+    }
+
+    /// Adds the name of a file. What is too long for one is cut.
+    pub fn name(&mut self, name: &str) -> Result<(), NoMemory> {
+        let most = if name.len() > LONGEST_NAME {
+            QUOTED
+        } else {
+            LONGEST_NAME
+        };
+        self.show_some(name.as_bytes(), most)
+    }
+
     /// Adds blanks that are as wide as these bytes are when they are shown.
     pub fn indent(&mut self, bytes: &[u8]) -> Result<(), NoMemory> {
         let text = String::from_utf8_lossy(self.alloc, bytes)?;
@@ -68,13 +112,13 @@ impl Page {
 
     /// Adds `NAME: error: `.
     pub fn head(&mut self, name: &str) -> Result<(), NoMemory> {
-        self.show(name.as_bytes())?;
+        self.name(name)?;
         self.say(": error: ")
     }
 
     /// Adds `NAME:LINE:COLUMN: error: `.
     pub fn head_at(&mut self, name: &str, place: &Place<'_>) -> Result<(), NoMemory> {
-        self.show(name.as_bytes())?;
+        self.name(name)?;
         self.say(":")?;
         self.say(place.number())?;
         self.say(":")?;

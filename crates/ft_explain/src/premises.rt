@@ -23,7 +23,7 @@ fn colours(instr: Instr) -> &'static str {
 /// What is wrong with a basic type.
 fn basic_types(instr: Instr) -> &'static str {
     match instr {
-        Instr::Mov { .. } => "its word is no value of the type that it claims",
+        Instr::Mov { .. } => "its word is not a value of the type that it claims",
         _ => "the stored value does not have the type of the cell",
     }
 }
@@ -41,9 +41,8 @@ fn states(instr: Instr) -> &'static str {
 /// What is wrong with the end of a block.
 fn ends(instr: Instr) -> &'static str {
     match instr {
-        Instr::JmpB { .. } | Instr::Halt =>
-            "it ends the block, and instructions follow it in the block",
-        _ => "it is the last one of its block, which only `jmp_B` or `halt` ends",
+        Instr::JmpB { .. } | Instr::Halt => "it ends the block, but instructions follow it there",
+        _ => "it is the last instruction of its block, and a block ends with `jmp_B` or `halt`",
     }
 }
 
@@ -51,7 +50,7 @@ fn ends(instr: Instr) -> &'static str {
 fn queues(instr: Instr) -> &'static str {
     match instr {
         Instr::Halt => "a green store waits for its blue one",
-        _ => "the stores that wait are not those that the target's code type says",
+        _ => "the waiting stores are not those that the target's code type wants",
     }
 }
 
@@ -64,17 +63,17 @@ pub(crate) fn premise(number: u64, instr: Instr) -> &'static str {
         4 => "its address register holds no address of a cell (`ref`)",
         5 => "its target register holds no address of a block (`code`)",
         6 => states(instr),
-        7 => "eight stores wait already",
+        7 => "eight stores are waiting already",
         8 => "no green store waits for it",
-        9 => "its address is not known to be that of the oldest store that waits",
-        10 => "its value is not known to be that of the oldest store that waits",
+        9 => "its address is not known to be that of the oldest waiting store",
+        10 => "its value is not known to be that of the oldest waiting store",
         11 => "the word that it tests is not known to be the one that `bz_G` tests",
         12 => "its target is not known to be that of the green jump or branch",
-        13 => "a register is not what the target's code type says",
+        13 => "a register is not what the target's code type wants",
         14 => queues(instr),
-        15 => "the memory is not known to be what the target's code type says",
+        15 => "the memory is not known to be what the target's code type wants",
         16 => "its substitution does not fit the integer variables of the target or of this block",
         17 => ends(instr),
-        _ => "the cells of its run are not all of one type, or are `ref` eight times",
+        _ => "the cells of its run do not all have one type, or have 8 `ref` already",
     }
 }

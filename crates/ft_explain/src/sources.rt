@@ -1,20 +1,19 @@
 //! Sources that are refused.
-use crate::excerpt::{Place, part};
-use crate::expected::{Lack, habit, instead_of, lack_at};
-use crate::objects::begins_as_object;
+use crate::content::{Content, say_other_kind};
+use crate::excerpt::{Place, letter_from, part};
+use crate::expected::{Lack, habit, instead_of, lack_at, unclosed};
+use crate::lines::{MARKED, is_marked};
+use crate::near::{is_near, say_near};
 use crate::page::Page;
 use ft_isa::NoMemory;
-use ft_lexer::{Kind, Lexer};
-
-/// The most bytes that are shown of a token.
-const TOKEN_ROOM: usize = 40;
+use ft_lexer::{Kind, Lexer, Token};
 
 /// Whether a byte may stand in a name.
 fn is_in_name(byte: u8) -> bool {
     byte.is_ascii_alphanumeric() || byte == b'_'
 }
 
-/// The token that begins at a place; the one byte or run of digits there where no token begins, and nothing at the end.
+/// The token that begins at a place; the character or run of digits there where no token begins, and nothing at the end.
 fn token_at(source: &[u8], at: usize) -> &[u8] {
     let rest = part(source, at, source.len());
     if let Some(Ok(token)) = Lexer::new(rest).next()
@@ -23,7 +22,7 @@ fn token_at(source: &[u8], at: usize) -> &[u8] {
         return token.text;
     }
     let digits = rest.iter().take_while(|byte| byte.is_ascii_digit()).count();
-    part(rest, 0, digits.max(1).min(rest.len()))
+    part(rest, 0, digits.max(letter_from(rest, 1)))
 }
 
 /// Whether the next token after the one of so many bytes at a place opens an index.
@@ -52,34 +51,32 @@ fn first_declared(source: &[u8], name: &[u8]) -> Option<usize> {
 
 /// Says a token between back quotes, and then words.
 fn say_of(page: &mut Page, token: &[u8], words: &str) -> Result<(), NoMemory> {
-    page.say("`")?;
-    page.show(part(token, 0, token.len().min(TOKEN_ROOM)))?;
-    page.say(if token.len() > TOKEN_ROOM {
-        "...`"
-    } else {
-        "`"
-    })?;
+    page.quote(token)?;
     page.say(words)
 }
 
 /// What is wrong with a byte that begins no token.
-fn say_byte(page: &mut Page, token: &[u8]) -> Result<(), NoMemory> {
+fn say_byte(page: &mut Page, source: &[u8], at: usize, token: &[u8]) -> Result<(), NoMemory> {
+    if at == 0 && is_marked(source) {
+        return page.say(MARKED);
+    }
     match token {
         [byte, ..] if is_in_name(*byte) => page.say("a name has at most 32 bytes"),
         [byte, ..] => {
-            say_of(page, token, " begins no token")?;
-            page.say(instead_of(*byte))
+            page.say("unexpected character ")?;
+            say_of(page, token, instead_of(*byte))
         }
-        [] => page.say("no token begins here"),
+        [] => page.say("unexpected end of the source"),
     }
 }
 
-/// Says that a token is not expected, and what to write for a habit from C.
+/// Says that a token is not expected, and what to write for a habit from another language.
 fn say_unexpected(page: &mut Page, source: &[u8], at: usize, token: &[u8]) -> Result<(), NoMemory> {
     if token.is_empty() {
-        return page.say("the source ends too early");
+        return page.say("unexpected end of the source");
     }
-    say_of(page, token, " is not expected here")?;
+    page.say("unexpected ")?;
+    page.quote(token)?;
     match habit(source, at) {
         Some(words) => page.say(format_args!(": {words}")),
         None => Ok(()),
@@ -93,8 +90,46 @@ fn say_depth(page: &mut Page, token: &[u8]) -> Result<(), NoMemory> {
         _ => say_of(
             page,
             token,
-            " is the 201st operator of one assignment or test: 200 are allowed",
+            " is the 201st operator of one assignment or test, and at most 200 are allowed: split it with a variable",
         ),
+    }
+}
+
+/// Says which name was probably meant, of those that are declared.
+fn say_near_name(page: &mut Page, source: &[u8], name: &[u8]) -> Result<(), NoMemory> {
+    let mut lexer = Lexer::new(source);
+    let mut declares = false;
+    for _ in 0..source.len() {
+        let Some(Ok(token)) = lexer.next() else {
+            break;
+        };
+        if declares && is_near_name(page, name, token.text)? {
+            return say_near(page, token.text);
+        }
+        declares = matches!(token.kind, Kind::Cell | Kind::Var);
+    }
+    Ok(())
+}
+
+/// Whether a name was probably meant as one that is declared.
+fn is_near_name(page: &Page, name: &[u8], known: &[u8]) -> Result<bool, NoMemory> {
+    let alloc = page.alloc();
+    let Ok(name) = str::from_utf8(name) else {
+        return Ok(false);
+    };
+    let Ok(known) = str::from_utf8(known) else {
+        return Ok(false);
+    };
+    is_near(alloc, name, known)
+}
+
+/// Says that a name is not declared.
+fn say_undeclared(page: &mut Page, source: &[u8], name: &[u8]) -> Result<(), NoMemory> {
+    say_of(page, name, " is not declared")?;
+    match name {
+        b"true" => page.say(": write 1"),
+        b"false" => page.say(": write 0"),
+        _ => say_near_name(page, source, name),
     }
 }
 
@@ -102,28 +137,53 @@ fn say_depth(page: &mut Page, token: &[u8]) -> Result<(), NoMemory> {
 fn say_at(page: &mut Page, number: u64, source: &[u8], at: usize) -> Result<(), NoMemory> {
     let token = token_at(source, at);
     match number {
-        2 => say_byte(page, token),
-        3 => say_of(page, token, " is too large: a number is below 2^64"),
+        2 => say_byte(page, source, at, token),
+        3 => say_of(
+            page,
+            token,
+            " is too large: the largest number is 18446744073709551615 (2^64 - 1)",
+        ),
         4 => say_unexpected(page, source, at, token),
         5 => say_depth(page, token),
         6 => say_of(page, token, " is declared twice"),
-        7 => say_of(page, token, " is not declared"),
+        7 => say_undeclared(page, source, token),
         11 if is_indexed(source, at.saturating_add(token.len())) => {
-            say_of(page, token, " is no array, and takes no index")
+            say_of(page, token, " is not an array and takes no index")
         }
-        11 => say_of(page, token, " is an array, and needs an index"),
-        _ => say_of(page, token, " is no length: an array has 1 to 1024 cells"),
+        11 => say_of(page, token, " is an array and needs an index, as in `a[0]`"),
+        _ => {
+            page.say("invalid length ")?;
+            say_of(page, token, ": an array has 1 to 1024 cells")
+        }
     }
 }
 
 /// What is wrong with a whole source, or with one whose bytes are not there.
 fn say_whole(page: &mut Page, number: u64, told: u64) -> Result<(), NoMemory> {
     match number {
-        1 => page.say(format_args!("a source has at most {told} bytes")),
-        8 => page.say(format_args!("the source has {told} cells: 1024 are allowed")),
-        9 => page.say(format_args!("the source needs {told} pairs of registers: there are 32")),
-        10 => page.say(format_args!("the source weighs {told}: 65536 is allowed")),
-        _ => page.say(format_args!("the source is refused at byte {told}, by rule {number}")),
+        1 => page.say(format_args!("the source is too long: at most {told} bytes are allowed")),
+        8 => page.say(format_args!("the source has {told} cells: at most 1024 are allowed")),
+        9 => page.say(format_args!(
+            "the source needs {told} pairs of registers, and there are 32: use fewer variables or shorter expressions"
+        )),
+        10 => page.say(format_args!(
+            "the source is too large: its weight is {told}, and at most 65536 is allowed"
+        )),
+        _ => page.say(format_args!("the source is refused at byte {told}: {}", rule(number))),
+    }
+}
+
+/// What is wrong where a source is refused with this number.
+fn rule(number: u64) -> &'static str {
+    match number {
+        2 => "a character begins no token, or a name has more than 32 bytes",
+        3 => "a number is too large",
+        4 => "a token is not expected there",
+        5 => "it is nested too deep, or has too many operators",
+        6 => "a name is declared twice",
+        7 => "a name is not declared",
+        11 => "an array lacks an index, or something else has one",
+        _ => "an array has 1 to 1024 cells",
     }
 }
 
@@ -139,9 +199,9 @@ fn point_to_first(page: &mut Page, name: &str, source: &[u8], at: usize) -> Resu
         return Ok(());
     };
     let place = Place::of(source, first);
-    page.show(name.as_bytes())?;
+    page.name(name)?;
     page.say(format_args!(
-        ":{}:{}: note: the first declaration\n",
+        ":{}:{}: note: the first declaration is here\n",
         place.number(),
         place.column()
     ))?;
@@ -161,6 +221,35 @@ fn explain_lack(
     page.say(format_args!("expected `{what}` after "))?;
     say_of(page, lack.text, "\n")?;
     place.show(page, 1)
+}
+
+/// Explains that a brace is not closed, at the end of the source.
+fn explain_unclosed(
+    page: &mut Page,
+    name: &str,
+    source: &[u8],
+    opened: usize,
+    last: Token<'_>,
+) -> Result<(), NoMemory> {
+    let end = last.at.saturating_add(last.text.len());
+    let brace = Place::of(source, opened);
+    explain_lack(
+        page,
+        name,
+        source,
+        Lack {
+            what: "}",
+            text: last.text,
+            end,
+        },
+    )?;
+    page.name(name)?;
+    page.say(format_args!(
+        ":{}:{}: note: it closes this `{{`\n",
+        brace.number(),
+        brace.column()
+    ))?;
+    brace.show(page, 1)
 }
 
 /// Explains what is wrong at a place of a source.
@@ -196,15 +285,20 @@ pub(crate) fn explain_source(
         say_whole(page, number, told)?;
         return page.say("\n");
     };
-    if begins_as_object(source) {
-        page.head(name)?;
-        return page.say("it is an object, not a source\n");
+    if say_other_kind(page, name, source, Content::Source)? {
+        return Ok(());
     }
     let at = told as usize;
-    if number == 4
-        && let Some(lack) = lack_at(source, at)
-    {
+    if number != 4 {
+        return explain_at(page, name, number, at, source);
+    }
+    if let Some(lack) = lack_at(source, at) {
         return explain_lack(page, name, source, lack);
     }
-    explain_at(page, name, number, at, source)
+    match unclosed(source) {
+        Some((opened, last)) if token_at(source, at).is_empty() => {
+            explain_unclosed(page, name, source, opened, last)
+        }
+        _ => explain_at(page, name, number, at, source),
+    }
 }

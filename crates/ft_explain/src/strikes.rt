@@ -1,18 +1,17 @@
 //! Texts that are no fault.
+use crate::numbers::{is_number, say_misfit};
 use crate::page::Page;
-use ft_isa::{NoMemory, read_number, read_site};
+use ft_isa::{NoMemory, read_site};
 
-/// Says a part of a fault between back quotes.
-fn quote(page: &mut Page, part: &str) -> Result<(), NoMemory> {
-    page.say("`")?;
-    page.show(part.as_bytes())?;
-    page.say("`")
-}
-
-/// Says a word that is no number.
-pub(crate) fn say_no_number(page: &mut Page, word: &str) -> Result<(), NoMemory> {
-    quote(page, word)?;
-    page.say(" is not a decimal number below 2^64")
+/// Says why a part of a fault is no number.
+fn say_wrong_number(page: &mut Page, called: &str, word: &str) -> Result<(), NoMemory> {
+    if word.is_empty() {
+        return page.say(format_args!("the {called} is missing"));
+    }
+    page.say(format_args!("invalid {called} "))?;
+    page.quote(word.as_bytes())?;
+    page.say(": ")?;
+    say_misfit(page, word.as_bytes(), u64::MAX)
 }
 
 /// Says what is wrong with the site and the word of a fault.
@@ -21,16 +20,16 @@ fn say_site_and_word(page: &mut Page, rest: &str) -> Result<(), NoMemory> {
         Some((site, word)) => (site, Some(word)),
         None => (rest, None),
     };
+    if site.is_empty() {
+        return page.say("the site is missing");
+    }
     if read_site(site.as_bytes()).is_none() {
-        page.say("the site ")?;
-        quote(page, site)?;
-        return page.say(" is none of r0 to r63, d, pcg, pcb, qa0 to qa7 and qv0 to qv7");
+        page.say("invalid site ")?;
+        page.quote(site.as_bytes())?;
+        return page.say(": a site is r0 to r63, d, pcg, pcb, qa0 to qa7 or qv0 to qv7");
     }
     match word {
-        Some(word) => {
-            page.say("the word ")?;
-            say_no_number(page, word)
-        }
+        Some(word) => say_wrong_number(page, "word", word),
         None => page.say("the word is missing"),
     }
 }
@@ -41,9 +40,8 @@ pub(crate) fn say_wrong_part(page: &mut Page, text: &str) -> Result<(), NoMemory
         Some((step, rest)) => (step, Some(rest)),
         None => (text, None),
     };
-    if read_number(step.as_bytes()).is_none() {
-        page.say("the step ")?;
-        return say_no_number(page, step);
+    if !is_number(step.as_bytes(), u64::MAX) {
+        return say_wrong_number(page, "step", step);
     }
     match rest {
         Some(rest) => say_site_and_word(page, rest),

@@ -1,30 +1,28 @@
 //! Explanations of calls.
-ghost use Rattle.ft_types.specs.Spellable.{IsSpellable};
-
 use crate::assembly::explain_text;
-use crate::checks::{explain_cell, explain_entry, explain_instr, explain_some_check};
+use crate::checks::explain_check;
+use crate::joins::{explain_cells, explain_join};
 use crate::links::{
     explain_code, explain_line, explain_long_map, explain_module, explain_unmoved, file_of,
 };
 use crate::lists::explain_list;
-use crate::loads::{OBJECT_LIMIT, load, slice};
+use crate::loads::{OBJECT_LIMIT, SOURCE_LIMIT, load, slice};
 use crate::look::Look;
-use crate::objects::{explain_long, explain_object, explain_some_object, explain_tables};
+use crate::modules::{explain_bad_object, explain_unaccepted};
+use crate::objects::{explain_long, explain_object};
 use crate::outcomes::explain_outcome;
 use crate::page::Page;
 use crate::refusal::Refusal;
+use crate::sessions::explain_session;
 use crate::sources::{explain_source, has_place};
+use crate::tables::explain_tables;
 use crate::unread::{explain_unread, explain_unread_module};
-use crate::usage::explain_usage;
+use crate::usage::{explain_option_as_file, explain_usage};
 use ft_command::{Command, command_of};
 use ft_edge::Shelf;
 use ft_isa::NoMemory;
-use ft_types::Program;
 use ft_view::View;
 use std::alloc::Global;
-
-/// The most bytes of a source.
-const SOURCE_LIMIT: usize = 1_048_576;
 
 /// The most bytes of an assembly text.
 const TEXT_LIMIT: usize = 134_217_728;
@@ -107,31 +105,18 @@ fn refused_object<S: Shelf>(
         return explain_long(page, named.file, at);
     }
     match named.holds {
-        Holds::Text => explain_tables(page, named.file, number, at),
-        Holds::Map => explain_some_object(page, named.file, number, at),
+        Holds::Text => {
+            let text = load(page.alloc(), named.file, TEXT_LIMIT, shelf)?;
+            explain_tables(page, named.file, number, at, slice(&text))
+        }
+        Holds::Map => {
+            let map = load(page.alloc(), named.file, MAP_LIMIT, shelf)?;
+            explain_bad_object(page, named.file, slice(&map), (number, at), shelf)
+        }
         Holds::Object | Holds::Source => {
             let bytes = load(page.alloc(), named.file, OBJECT_LIMIT, shelf)?;
             explain_object(page, named.file, number, at, slice(&bytes))
         }
-    }
-}
-
-/// Explains why an object is not accepted.
-fn unaccepted<P: Program>(
-    page: &mut Page,
-    program: &P,
-    name: &str,
-    refusal: Refusal,
-) -> Result<(), NoMemory>
-    requires { IsSpellable (P.object program.now) }
-{
-    match refusal {
-        Refusal::Entry => explain_entry(page, program, name),
-        Refusal::Cell(cell) => explain_cell(page, program, name, cell),
-        Refusal::Instr(block, index, number) => {
-            explain_instr(page, program, name, block, index, number)
-        }
-        _ => Ok(()),
     }
 }
 
@@ -149,13 +134,14 @@ fn refused_check<S: Shelf>(
     shelf: &mut S,
 ) -> Result<(), NoMemory> {
     if named.holds == Holds::Map {
-        return explain_some_check(page, named.file, refusal);
+        let map = load(page.alloc(), named.file, MAP_LIMIT, shelf)?;
+        return explain_unaccepted(page, named.file, slice(&map), refusal, shelf);
     }
     let Some(bytes) = load(page.alloc(), named.file, OBJECT_LIMIT, shelf)? else {
         return say_refused(page, named.file);
     };
     match View::over(bytes.as_slice()) {
-        Ok(view) => unaccepted(page, &view, named.file, refusal),
+        Ok(view) => explain_check(page, &view, named.file, refusal),
         Err(_) => say_refused(page, named.file),
     }
 }
@@ -219,8 +205,18 @@ fn refused_link<S: Shelf>(
     }
     let map = load(page.alloc(), named.file, MAP_LIMIT, shelf)?;
     match number {
-        3 | 4 | 6 => { explain_module(page, named.file, number, told, file_of(slice(&map), told)) }
-        _ => explain_line(page, named.file, number, told, slice(&map)),
+        3 | 4 | 6 => {
+            let file = file_of(slice(&map), told);
+            explain_module(page, named.file, number, told, file)?;
+            if number == 3 && told > 0 {
+                explain_cells(page, file_of(slice(&map), 0), file, shelf)?;
+            }
+            Ok(())
+        }
+        _ => {
+            explain_line(page, named.file, number, told, slice(&map))?;
+            explain_join(page, number, told, slice(&map), shelf)
+        }
     }
 }
 
@@ -299,6 +295,9 @@ fn by_command<S: Shelf, L: Look>(
     let Some(named) = files_of(&command) else {
         return Ok(());
     };
+    if status == 3 && explain_option_as_file(page, words)? {
+        return Ok(());
+    }
     if status == 3 {
         return unread(page, named, shelf, look);
     }
@@ -309,13 +308,17 @@ fn by_command<S: Shelf, L: Look>(
 }
 
 /// Explains what happened in a call that was not refused.
-fn by_outcome<S: Shelf>(
+fn by_outcome<S: Shelf, L: Look>(
     page: &mut Page,
     words: &[String],
     status: u8,
     shelf: &mut S,
+    look: &L,
 ) -> Result<(), NoMemory> {
     let command = command_of(page.alloc(), words)?;
+    if let Command::Debug(_) = &command {
+        return explain_session(page, look.script(), shelf);
+    }
     explain_outcome(page, &command, status, shelf)
 }
 
@@ -333,7 +336,7 @@ pub fn explain<S: Shelf, L: Look>(
 ) -> Result<String, NoMemory> {
     let mut page = Page::new(alloc);
     match status {
-        0 | 1 | 9 => by_outcome(&mut page, words, status, shelf)?,
+        0 | 1 | 9 => by_outcome(&mut page, words, status, shelf, look)?,
         2 => explain_usage(&mut page, words)?,
         3 | 6 | 7 | 8 | 11 | 12 | 13 => by_command(&mut page, words, status, line, shelf, look)?,
         4 => page.say("talft: error: the output could not be written\n")?,

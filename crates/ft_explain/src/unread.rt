@@ -27,6 +27,9 @@ fn first_unread<'m, S: Shelf>(page: &Page, map: &'m [u8], shelf: &mut S) -> Opti
 
 /// Says why a file cannot be read.
 fn say_why<L: Look>(page: &mut Page, name: &str, look: &L) -> Result<(), NoMemory> {
+    if name.is_empty() {
+        return page.say("talft: error: the name of the file is empty\n");
+    }
     page.head(name)?;
     page.say(look.look(name).words())?;
     page.say("\n")

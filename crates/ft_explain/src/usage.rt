@@ -1,18 +1,13 @@
 //! Words that are no command.
-use crate::forms::{command_lines, first_word, most_of, operand_of, value_of};
+use crate::forms::{COMMANDS, OPTIONS, command_lines, first_word, most_of, operand_of, value_of};
 use crate::help::{
-    is_help, is_version, say_commands, say_form, say_help, say_help_of, say_version,
+    asks_for_help, is_help, is_version, say_commands, say_form, say_help, say_help_of, say_version,
 };
+use crate::near::{is_near, say_near};
+use crate::numbers::{is_number, say_misfit};
 use crate::page::Page;
 use crate::strikes::say_wrong_part;
-use ft_isa::{NoMemory, read_number, read_strike, read_wild};
-
-/// Says a word between back quotes.
-fn quote(page: &mut Page, word: &str) -> Result<(), NoMemory> {
-    page.say("`")?;
-    page.show(word.as_bytes())?;
-    page.say("`")
-}
+use ft_isa::{NoMemory, read_strike, read_wild};
 
 /// Whether an option was given among these words, which are options and values in turn.
 fn is_given(words: &[String], option: &str) -> bool {
@@ -30,7 +25,7 @@ fn say_fault(page: &mut Page, value: &str) -> Result<bool, NoMemory> {
         return Ok(false);
     }
     page.say("invalid fault ")?;
-    quote(page, value)?;
+    page.quote(value.as_bytes())?;
     page.say(": expected STEP:SITE:WORD; ")?;
     say_wrong_part(page, value)?;
     Ok(true)
@@ -41,24 +36,23 @@ fn say_wild(page: &mut Page, value: &str) -> Result<bool, NoMemory> {
     if read_wild(page.alloc(), value.as_bytes()).is_ok() {
         return Ok(false);
     }
-    page.say("invalid answers ")?;
-    quote(page, value)?;
+    page.say("invalid list ")?;
+    page.quote(value.as_bytes())?;
     page.say(
-        " for `--wild`: expected at most 4096 parts separated by commas, each a number or `stop`",
+        " for `--wild`: expected at most 4096 answers separated by commas, each a number or `stop`",
     )?;
     Ok(true)
 }
 
 /// Says what is wrong with the number of an option, which is at most `most`; false where nothing is.
 fn say_number(page: &mut Page, option: &str, value: &str, most: u64) -> Result<bool, NoMemory> {
-    if let Some(number) = read_number(value.as_bytes())
-        && number <= most
-    {
+    if is_number(value.as_bytes(), most) {
         return Ok(false);
     }
     page.say("invalid number ")?;
-    quote(page, value)?;
-    page.say(format_args!(" for `{option}`: expected 0 to {most}"))?;
+    page.quote(value.as_bytes())?;
+    page.say(format_args!(" for `{option}`: expected 0 to {most}; "))?;
+    say_misfit(page, value.as_bytes(), most)?;
     Ok(true)
 }
 
@@ -72,23 +66,44 @@ fn say_value(page: &mut Page, option: &str, value: &str, most: u64) -> Result<bo
     }
 }
 
+/// Says which option of a command was probably meant.
+fn say_near_option(page: &mut Page, command: &'static str, word: &str) -> Result<(), NoMemory> {
+    for option in OPTIONS {
+        let option = first_word(*option);
+        if value_of(command, option).is_some() && is_near(page.alloc(), word, option)? {
+            return say_near(page, option.as_bytes());
+        }
+    }
+    Ok(())
+}
+
+/// Says that a command does not take an option.
+fn say_unknown_option(page: &mut Page, command: &'static str, word: &str) -> Result<(), NoMemory> {
+    page.say("unknown option ")?;
+    page.quote(word.as_bytes())?;
+    let name = first_word(command);
+    page.say(format_args!(" for `{name}`"))?;
+    say_near_option(page, command, word)
+}
+
 /// Says that a command does not take this where an option may stand.
 fn say_untaken(page: &mut Page, command: &'static str, word: &str) -> Result<(), NoMemory> {
+    if word.is_empty() {
+        return page.say("an argument is empty");
+    }
     if !word.starts_with("-") {
-        page.say("unexpected word ")?;
-        quote(page, word)?;
+        page.say("unexpected argument ")?;
+        page.quote(word.as_bytes())?;
         let operand = operand_of(command);
-        return page.say(format_args!(" after the {operand}"));
+        return page.say(format_args!(" after {operand}"));
     }
     if let Some((option, _)) = word.split_once('=')
         && let Some(value) = value_of(command, option)
     {
-        quote(page, word)?;
+        page.quote(word.as_bytes())?;
         return page.say(format_args!(" is one word: write `{option} {value}`"));
     }
-    let name = first_word(command);
-    page.say(format_args!("`{name}` takes no option "))?;
-    quote(page, word)
+    say_unknown_option(page, command, word)
 }
 
 /// Says what is wrong with an option, after the words before it; false where nothing is.
@@ -125,12 +140,44 @@ fn say_options(page: &mut Page, command: &'static str, options: &[String]) -> Re
             return Ok(());
         }
     }
-    if first_word(command) == "demo" {
-        let most = most_of(command);
-        page.say(format_args!("`demo` takes a number N from 1 to {most}"))
-    } else {
-        page.say("missing `--faults FILE`")
+    page.say("missing `--faults FILE`")
+}
+
+/// Says that the operand of `demo` is no number of turns.
+fn say_turns(page: &mut Page, word: &str, most: u64) -> Result<(), NoMemory> {
+    page.say("invalid N ")?;
+    page.quote(word.as_bytes())?;
+    page.say(format_args!(": expected a number from 1 to {most}"))
+}
+
+/// Says that an option stands where the operand should.
+fn say_misplaced(page: &mut Page, command: &'static str, word: &str) -> Result<(), NoMemory> {
+    let called = operand_of(command);
+    page.say(format_args!("missing {called}: it comes before options such as "))?;
+    page.quote(word.as_bytes())
+}
+
+/// Explains that a file with the name of an option could not be read: probably the operand was forgotten. False
+/// where the words show no such thing.
+pub(crate) fn explain_option_as_file(page: &mut Page, words: &[String]) -> Result<bool, NoMemory> {
+    let [first, operand, ..] = words else {
+        return Ok(false);
+    };
+    let Some(command) = command_lines(first.as_str()) else {
+        return Ok(false);
+    };
+    if asks_for_help(operand.as_str()) {
+        say_help_of(page, command)?;
+        return Ok(true);
     }
+    if !operand.as_str().starts_with("--") {
+        return Ok(false);
+    }
+    page.say("talft: error: ")?;
+    say_misplaced(page, command, operand.as_str())?;
+    page.say("\n")?;
+    say_form(page, command)?;
+    Ok(true)
 }
 
 /// Says what is wrong with the words after a command.
@@ -141,17 +188,30 @@ fn say_words(page: &mut Page, command: &'static str, rest: &[String]) -> Result<
         return page.say(format_args!("missing {called} after `{name}`"));
     };
     if operand.as_str().starts_with("--") {
-        page.say(format_args!("the {called} comes before the options, and "))?;
-        quote(page, operand.as_str())?;
-        return page.say(" stands in its place");
+        return say_misplaced(page, command, operand.as_str());
+    }
+    if called == "N" && options.is_empty() {
+        return say_turns(page, operand.as_str(), most_of(command));
     }
     say_options(page, command, options)
+}
+
+/// Says which command was probably meant.
+fn say_near_command(page: &mut Page, word: &str) -> Result<(), NoMemory> {
+    for command in COMMANDS {
+        let name = first_word(*command);
+        if is_near(page.alloc(), word, name)? {
+            return say_near(page, name.as_bytes());
+        }
+    }
+    Ok(())
 }
 
 /// Says that there is no such command.
 fn say_unknown(page: &mut Page, word: &str) -> Result<(), NoMemory> {
     page.say("talft: error: unknown command ")?;
-    quote(page, word)?;
+    page.quote(word.as_bytes())?;
+    say_near_command(page, word)?;
     page.say("\n")?;
     say_commands(page)?;
     page.say("more: `talft help`, `talft help COMMAND`\n")
@@ -183,6 +243,9 @@ pub(crate) fn explain_usage(page: &mut Page, words: &[String]) -> Result<(), NoM
     let Some(command) = command_lines(first.as_str()) else {
         return say_unknown(page, first.as_str());
     };
+    if rest.iter().any(|word| asks_for_help(word.as_str())) {
+        return say_help_of(page, command);
+    }
     page.say("talft: error: ")?;
     say_words(page, command, rest)?;
     page.say("\n")?;

@@ -6,15 +6,15 @@ use std::test::Fail;
 const TEXTS: &[(&str, &str)] = &[
     (
         "cel out int 0\nentry 0\n",
-        "file:1:1: error: `cel` begins no line of an assembly text\n cel out int 0\n ^~~\n",
+        "file:1:1: error: unknown instruction `cel`; did you mean `cell`?\n cel out int 0\n ^~~\n",
     ),
     (
         "node 0 memory\ntype 0 0\nblock 0\n\tmov r0 G 7\nhalt\nentry 0\n",
-        "file:4:12: error: missing BASIC: `mov` is followed by R C W BASIC\n \tmov r0 G 7\n \t          ^\n",
+        "file:4:12: error: missing BASIC, the type of the word: `int`, `ref:int` for the address of a cell, or `code:T` for that of a block: `mov` is followed by R C W BASIC\n \tmov r0 G 7\n \t          ^\n",
     ),
     (
         "node 0 memory\ntype 0 0\nblock 0\nadd r0 r1\nhalt\nentry 0\n",
-        "file:4:10: error: missing R: `add` is followed by R R R, or R R C W\n add r0 r1\n          ^\n",
+        "file:4:10: error: missing R, a register: `add` is followed by R R R, or R R C W\n add r0 r1\n          ^\n",
     ),
     (
         "mov r64 G 5 int\n",
@@ -22,39 +22,168 @@ const TEXTS: &[(&str, &str)] = &[
     ),
     (
         "add r1 r2 G 0x5\n",
-        "file:1:13: error: invalid `0x5`: a number is decimal, without a sign and without zeros before it\n add r1 r2 G 0x5\n             ^~~\n",
+        "file:1:13: error: invalid `0x5`: numbers are decimal\n add r1 r2 G 0x5\n             ^~~\n",
+    ),
+    (
+        "mov r1 G 18446744073709551616 int\n",
+        "file:1:10: error: invalid `18446744073709551616`: the largest number is 18446744073709551615 (2^64 - 1)\n mov r1 G 18446744073709551616 int\n          ^~~~~~~~~~~~~~~~~~~~\n",
+    ),
+    (
+        "mov r1 G 05 int\n",
+        "file:1:10: error: invalid `05`: numbers have no leading zeros\n mov r1 G 05 int\n          ^~\n",
+    ),
+    (
+        "type 256 0\n",
+        "file:1:6: error: invalid `256`: the largest number here is 255\n type 256 0\n      ^~~\n",
+    ),
+    (
+        "mov r1, G 5 int\n",
+        "file:1:5: error: invalid `r1,`: words are separated by spaces, without commas\n mov r1, G 5 int\n     ^~~\n",
+    ),
+    (
+        "MOV r1 G 5 int\n",
+        "file:1:1: error: unknown instruction `MOV`; did you mean `mov`?\n MOV r1 G 5 int\n ^~~\n",
+    ),
+    (
+        "movi r1 G 5 int\n",
+        "file:1:1: error: unknown instruction `movi`; did you mean `mov`?\n movi r1 G 5 int\n ^~~~\n",
+    ),
+    (
+        "ld r1 r2\n",
+        "file:1:1: error: unknown instruction `ld`: write `ld_G` for green or `ld_B` for blue\n ld r1 r2\n ^~\n",
+    ),
+    (
+        "halt;\n",
+        "file:1:1: error: unexpected `halt;`: a line ends without `;`\n halt;\n ^~~~~\n",
+    ),
+    (
+        "cell out int\n",
+        "file:1:13: error: missing INIT, a number: `cell` is followed by NAME BASIC INIT\n cell out int\n             ^\n",
+    ),
+    (
+        "block\n",
+        "file:1:6: error: missing TYPE, the number of a type: `block` is followed by TYPE\n block\n      ^\n",
+    ),
+    (
+        "main:\n",
+        "file:1:1: error: unexpected `main:`: there are no labels: `block TYPE` begins a block, and blocks are numbered from 0\n main:\n ^~~~~\n",
+    ),
+    (
+        "; the end\n",
+        "file:1:1: error: unexpected `;`: a comment begins with `#`, on a line of its own\n ; the end\n ^\n",
+    ),
+    (
+        "halt // the end\n",
+        "file:1:6: error: unexpected `//`: a comment begins with `#`, on a line of its own\n halt // the end\n      ^~\n",
     ),
     (
         "halt # the end\n",
-        "file:1:6: error: invalid `#`: a comment stands on a line of its own\n halt # the end\n      ^\n",
+        "file:1:6: error: unexpected `#`: a comment begins with `#`, on a line of its own\n halt # the end\n      ^\n",
     ),
     (
         "st_G r0 r1 r2\n",
-        "file:1:12: error: invalid `r2`: nothing more stands in this line\n st_G r0 r1 r2\n            ^~\n",
+        "file:1:12: error: unexpected `r2`: nothing follows in this line\n st_G r0 r1 r2\n            ^~\n",
     ),
     (
         "block 0\r\n",
-        "file:1:8: error: a line ends with a line feed alone, without a carriage return before it\n block 0?\n        ^\n",
+        "file:1:8: error: the line ends with a carriage return: save the file with Unix line ends\n block 0?\n        ^\n",
+    ),
+    (
+        "\u{feff}halt\n",
+        "file:1:1: error: the file begins with a byte order mark: save it without one\n ?halt\n ^\n",
     ),
     (
         "node 0 word\n",
-        "file:1:1: error: `node` is followed by SCOPE and `word W`, `var I`, `OP A B`, `sel M A`, `memory`, `upd M A V` or `rem A LENGTH`\n node 0 word\n ^~~~\n",
+        "file:1:12: error: missing W, a number: `node` is followed by SCOPE and `word W`, `var I`, `OP A B`, `sel M A`, `memory`, `upd M A V` or `rem A LENGTH`\n node 0 word\n            ^\n",
+    ),
+    (
+        "node 0 sum 1 2\n",
+        "file:1:8: error: invalid `sum`: a node is `word`, `var`, `sel`, `memory`, `upd`, `rem` or an operation\n node 0 sum 1 2\n        ^~~\n",
     ),
     (
         "TALFT",
-        "file: error: it is an object, not an assembly text: `talft dis` writes its text\n",
+        "file: error: this is an object, not an assembly text: `talft dis FILE` writes its assembly text\n",
     ),
     (
+        "cell out = 0;\n",
+        "file: error: this is a source, not an assembly text: `talft compile FILE >OBJECT` makes an object\n",
+    ),
+    ("", "file: error: the file is empty\n"),
+    (
         "entry 0\nhalt\n",
-        "file:2:1: error: this line may not stand here: cells, nodes, code types with `reg` and then `pend`, blocks with their instructions, and `entry` follow each other\n halt\n ^~~~\n",
+        "file:2:1: error: this line is out of order: cells, nodes, types with their `reg` and then `pend` lines, blocks with their instructions, and `entry` follow each other\n halt\n ^~~~\n",
     ),
     (
         "node 0 memory\n",
-        "file: error: there is no line 2: the last line of a text is `entry B`\n",
+        "file: error: the text ends before line 2: its last line must be `entry B`\n",
     ),
+];
+
+/// Texts whose tables break a rule, each with what is said of it.
+const TABLES: &[(&str, &str)] = &[
     (
         "cell out int 0\nnode 5 memory\ntype 0 0\nblock 0\nhalt\nentry 0\n",
-        "file: error: the tables of the text are no object: a part that is named by its number is not there, or may not be named here\n  at byte 88 of their spelling in version 2 of the object format\n",
+        "file:3:8: error: invalid `0`: the scope of node 0 is larger than the one here\n type 0 0\n        ^\n",
+    ),
+    (
+        "node 0 memory\ntype 0 0\nblock 0\nhalt\nentry 3\n",
+        "file:5:7: error: there is no block 3: the text has 1 block, numbered from 0\n entry 3\n       ^\n",
+    ),
+    (
+        "node 0 memory\ntype 0 0\nblock 4\nhalt\nentry 0\n",
+        "file:3:7: error: invalid `4`: there is no type 4: the text has 1 type, numbered from 0\n block 4\n       ^\n",
+    ),
+    (
+        "# a comment\nnode 0 memory\n\nnode 0 var 3\ntype 0 0\nblock 0\nhalt\nentry 0\n",
+        "file:4:12: error: invalid `3`: a variable's number is below the scope of its node\n node 0 var 3\n            ^\n",
+    ),
+    (
+        "node 0 memory\ntype 0 7\nblock 0\nhalt\nentry 0\n",
+        "file:2:8: error: invalid `7`: there is no node 7: the text has 1 node, numbered from 0\n type 0 7\n        ^\n",
+    ),
+    (
+        "node 0 memory\nnode 0 add 1 1\ntype 0 0\nblock 0\nhalt\nentry 0\n",
+        "file:2:12: error: invalid `1`: this is node 1, and a node refers to earlier nodes only\n node 0 add 1 1\n            ^\n",
+    ),
+    (
+        "node 0 word 1\ntype 0 0\nblock 0\nhalt\nentry 0\n",
+        "file:2:8: error: invalid `0`: this node is an integer, and a memory is needed here\n type 0 0\n        ^\n",
+    ),
+    (
+        "cell out int 0\ncell out int 1\nnode 0 memory\ntype 0 0\nblock 0\nhalt\nentry 0\n",
+        "file:2:6: error: invalid `out`: an earlier cell has this name\n cell out int 1\n      ^~~\n",
+    ),
+    (
+        "cell 9out int 0\nnode 0 memory\ntype 0 0\nblock 0\nhalt\nentry 0\n",
+        "file:1:6: error: invalid `9out`: a name begins with a letter or `_`\n cell 9out int 0\n      ^~~~\n",
+    ),
+    (
+        "cell a code:2 0\nnode 0 memory\ntype 0 0\nblock 0\nhalt\nentry 0\n",
+        "file:1:8: error: invalid `code:2`: there is no type 2: the text has 1 type, numbered from 0\n cell a code:2 0\n        ^~~~~~\n",
+    ),
+    (
+        "node 0 memory\ntype 0 0\nreg r1 G int 0\nblock 0\nhalt\nentry 0\n",
+        "file:3:14: error: invalid `0`: this node is a memory, and an integer is needed here\n reg r1 G int 0\n              ^\n",
+    ),
+    (
+        "node 0 memory\nnode 0 word 1\ntype 0 0\nreg r2 G int 1\nreg r1 G int 1\nblock 0\nhalt\nentry 0\n",
+        "file:5:5: error: invalid `r1`: the `reg` lines of a type are in rising order of their registers, each once\n reg r1 G int 1\n     ^~\n",
+    ),
+    (
+        "node 0 memory\ntype 0 0\nblock 0\nblock 0\nhalt\nentry 0\n",
+        "file:4:1: error: the block before this one has no instruction\n block 0\n ^~~~~\n",
+    ),
+    (
+        "node 0 memory\nblock 0\nhalt\nentry 0\n",
+        "file: error: the text has 0 types: 1 to 4096 are allowed\n",
+    ),
+    (
+        "node 0 memory\ntype 0 0\nblock 0\njmp_B r1 0 5\nentry 0\n",
+        "file:4:12: error: invalid `5`: there is no node 5: the text has 1 node, numbered from 0\n jmp_B r1 0 5\n            ^\n",
+    ),
+    (
+        "node 0 memory\ntype 0 0\nblock 0\nidx r1 r2 0 3\nhalt\nentry 0\n",
+        "file:4:11: error: invalid `0`: there is no cell 0: the text has 0 cells, numbered from 0\n idx r1 r2 0 3\n           ^\n",
     ),
 ];
 
@@ -67,7 +196,15 @@ fn refused_texts_are_explained(rt: HostRuntime) -> Result<(), Fail> {
 }
 
 #[test]
+fn broken_rules_are_explained_at_their_lines(rt: HostRuntime) -> Result<(), Fail> {
+    for (source, text) in TABLES {
+        check_said(&rt, "asm file", &[("file", source.as_bytes())], text)?;
+    }
+    Ok(())
+}
+
+#[test]
 fn a_text_that_is_too_long_is_explained(rt: HostRuntime) -> Result<(), Fail> {
-    let text = "file: error: an assembly text has at most 134217728 bytes\n";
+    let text = "file: error: the text is too long: at most 134217728 bytes are allowed\n";
     check_told(&rt, "asm file", 12, "asm 3 134217728\n", &[], text)
 }

@@ -18,6 +18,10 @@ impl Look for Folders {
             _ => Found::Unknown,
         }
     }
+
+    fn script(&self) -> Option<&'static str> {
+        Some("script")
+    }
 }
 
 /// The words of a text.

@@ -13,12 +13,12 @@ const REFUSED: &[Refused] = &[
     (
         A,
         &[(92, 1)],
-        "file: error: no run may begin in block 0: its code type 0 has integer variables (1)\n",
+        "file: error: a run cannot begin in block 0: its code type 0 has 1 integer variable, and must have none\n",
     ),
     (
         A,
         &[(53, 1)],
-        "file: error: cell 0, `out`, begins with 0, which is no value of its type code:0\n",
+        "file: error: cell 0, `out`, begins with 0, which is not a value of its type code:0\n",
     ),
     (
         P1,
@@ -33,7 +33,7 @@ const REFUSED: &[Refused] = &[
     (
         P3,
         &[],
-        "file: error: block 0, instruction 1: its word is no value of the type that it claims (premise 3)\n  mov r1 G 5 ref:int\n",
+        "file: error: block 0, instruction 1: its word is not a value of the type that it claims (premise 3)\n  mov r1 G 5 ref:int\n",
     ),
     (
         P4,
@@ -53,7 +53,7 @@ const REFUSED: &[Refused] = &[
     (
         N,
         &[],
-        "file: error: block 0, instruction 10: eight stores wait already (premise 7)\n  st_G r0 r1\n  r0: G ref:int\n  r1: G int\n",
+        "file: error: block 0, instruction 10: eight stores are waiting already (premise 7)\n  st_G r0 r1\n  r0: G ref:int\n  r1: G int\n",
     ),
     (
         P8,
@@ -63,12 +63,12 @@ const REFUSED: &[Refused] = &[
     (
         P9,
         &[],
-        "file: error: block 0, instruction 5: its address is not known to be that of the oldest store that waits (premise 9)\n  st_B r32 r33\n  r32: B ref:int\n  r33: B int\n",
+        "file: error: block 0, instruction 5: its address is not known to be that of the oldest waiting store (premise 9)\n  st_B r32 r33\n  r32: B ref:int\n  r33: B int\n",
     ),
     (
         X2,
         &[],
-        "file: error: block 0, instruction 7: its value is not known to be that of the oldest store that waits (premise 10)\n  st_B r32 r34\n  r32: B ref:int\n  r34: B int\n",
+        "file: error: block 0, instruction 7: its value is not known to be that of the oldest waiting store (premise 10)\n  st_B r32 r34\n  r32: B ref:int\n  r34: B int\n",
     ),
     (
         P11,
@@ -83,12 +83,12 @@ const REFUSED: &[Refused] = &[
     (
         P13,
         &[],
-        "file: error: block 0, instruction 5: a register is not what the target's code type says (premise 13)\n  jmp_B r33 0 2\n  r33: B code:1\n  the colours and types are those of code type 1: a value is not\n",
+        "file: error: block 0, instruction 5: a register is not what the target's code type wants (premise 13)\n  jmp_B r33 0 2\n  r33: B code:1\n  the colours and types are those of code type 1, but one of these does not have the wanted value: r0 r32\n",
     ),
     (
         J,
         &[(203, 0)],
-        "file: error: block 0, instruction 5: a register is not what the target's code type says (premise 13)\n  jmp_B r33 0 2\n  r33: B code:1\n  r32: G int, and code type 1 wants B int\n",
+        "file: error: block 0, instruction 5: a register is not what the target's code type wants (premise 13)\n  jmp_B r33 0 2\n  r33: B code:1\n  r32: G int, and code type 1 wants B int\n",
     ),
     (
         P14,
@@ -98,22 +98,22 @@ const REFUSED: &[Refused] = &[
     (
         P15,
         &[],
-        "file: error: block 0, instruction 9: the memory is not known to be what the target's code type says (premise 15)\n  jmp_B r33 0 2\n  r33: B code:1\n",
+        "file: error: block 0, instruction 9: the memory is not known to be what the target's code type wants (premise 15)\n  jmp_B r33 0 2\n  r33: B code:1\n",
     ),
     (
         P16,
         &[],
-        "file: error: block 0, instruction 5: its substitution does not fit the integer variables of the target or of this block (premise 16)\n  jmp_B r33 0\n  r33: B code:1\n",
+        "file: error: block 0, instruction 5: its substitution does not fit the integer variables of the target or of this block (premise 16)\n  jmp_B r33 0\n  r33: B code:1\n  the substitution has 0 rows, and code type 1 has 1 integer variable\n",
     ),
     (
         P17,
         &[],
-        "file: error: block 0, instruction 5: it is the last one of its block, which only `jmp_B` or `halt` ends (premise 17)\n  st_B r32 r33\n  r32: B ref:int\n  r33: B int\n",
+        "file: error: block 0, instruction 5: it is the last instruction of its block, and a block ends with `jmp_B` or `halt` (premise 17)\n  st_B r32 r33\n  r32: B ref:int\n  r33: B int\n",
     ),
     (
         I,
         &[(68, 1), (77, 0x10)],
-        "file: error: block 0, instruction 1: the cells of its run are not all of one type, or are `ref` eight times (premise 18)\n  idx r1 r0 0 3\n  r0: G int\n",
+        "file: error: block 0, instruction 1: the cells of its run do not all have one type, or have 8 `ref` already (premise 18)\n  idx r1 r0 0 3\n  r0: G int\n",
     ),
 ];
 

@@ -1,6 +1,6 @@
 //! What is said of links that are refused, by status and line.
 use crate::calls::check_told;
-use ft_worked_objects::A2;
+use ft_worked_objects::{A, A2};
 use std::test::Fail;
 
 /// A map of two modules.
@@ -11,27 +11,23 @@ const MAPS: &[(&str, &str, &str)] = &[
     (
         "import go 1\nmodule a\n",
         "link 1 1\n",
-        "map:1:1: error: no `module` stands before this line\n import go 1\n ^~~~~~~~~~~\n",
+        "map:1:1: error: no `module` line stands before this `import`\n import go 1\n ^~~~~~~~~~~\n",
     ),
     (
         "module m\nimports go 1\n",
         "link 1 2\n",
-        "map:2:1: error: this is no line of a link map: `module FILE`, `export NAME B` or `import NAME B`\n imports go 1\n ^~~~~~~~~~~~\n",
+        "map:2:1: error: unexpected `imports`; did you mean `import`?\n imports go 1\n ^~~~~~~~~~~~\n",
     ),
-    (
-        "",
-        "link 1 1\n",
-        "map: error: a link map has at least one module\n",
-    ),
+    ("", "link 1 1\n", "map: error: the file is empty\n"),
     (
         "module m\nexport go 0\nexport go 1\n",
         "link 2 3\n",
-        "map:3:1: error: this name is exported already, or this block is imported already\n export go 1\n ^~~~~~~~~~~\n",
+        "map:3:1: error: this name is exported already, or this block is imported already\n export go 1\n ^~~~~~~~~~~\n  line 2 exports this name\n",
     ),
     (
         "module m\nexport go 0\nimport go 0\n",
         "link 2 3\n",
-        "map:3:1: error: this block is exported or imported already\n import go 0\n ^~~~~~~~~~~\n",
+        "map:3:1: error: this block is exported or imported already\n import go 0\n ^~~~~~~~~~~\n  line 2 names this block\n",
     ),
     (
         MAP,
@@ -41,7 +37,7 @@ const MAPS: &[(&str, &str, &str)] = &[
     (
         MAP,
         "link 3 1\n",
-        "a: error: its cells are not those of the first module\n",
+        "a: error: its cells differ from those of the first module\n",
     ),
     (
         MAP,
@@ -56,7 +52,7 @@ const MAPS: &[(&str, &str, &str)] = &[
     (
         MAP,
         "link 6 1\n",
-        "a: error: with this module the link has more parts of one kind than an object can have\n",
+        "a: error: with this module the linked object is too large: it has more parts of one kind than are allowed\n",
     ),
     (
         MAP,
@@ -66,12 +62,12 @@ const MAPS: &[(&str, &str, &str)] = &[
     (
         MAP,
         "link 8 2\n",
-        "map:2:1: error: the imported block is no stub: a stub is the one instruction `halt`\n import go 1\n ^~~~~~~~~~~\n",
+        "map:2:1: error: the imported block is not a stub: a stub is the one instruction `halt`\n import go 1\n ^~~~~~~~~~~\n",
     ),
     (
         MAP,
         "link 9 2\n",
-        "map:2:1: error: no line exports this name\n import go 1\n ^~~~~~~~~~~\n",
+        "map:2:1: error: no line exports this name\n import go 1\n ^~~~~~~~~~~\n  exported names: `go`\n",
     ),
     (
         MAP,
@@ -81,26 +77,99 @@ const MAPS: &[(&str, &str, &str)] = &[
     (
         MAP,
         "link 11 65536\n",
-        "map: error: a link map has at most 65536 bytes\n",
+        "map: error: the link map is too long: at most 65536 bytes are allowed\n",
     ),
 ];
+
+/// Maps whose line 2 is none of a map, each with what is said of it.
+const LINES: &[(&str, &str)] = &[
+    (
+        "module m\nexport go\n",
+        "map:2:1: error: expected `export NAME B`: the number of the block is missing\n export go\n ^~~~~~~~~\n",
+    ),
+    (
+        "module m\nexport go 01\n",
+        "map:2:1: error: invalid block `01`: numbers have no leading zeros\n export go 01\n ^~~~~~~~~~~~\n",
+    ),
+    (
+        "module m\nexport 2go 1\n",
+        "map:2:1: error: expected `export NAME B`: a name is at most 32 letters, digits and `_`, and begins with no digit\n export 2go 1\n ^~~~~~~~~~~~\n",
+    ),
+    (
+        "module m\nexport go 1\r\n",
+        "map:2:12: error: the line ends with a carriage return: save the file with Unix line ends\n export go 1?\n            ^\n",
+    ),
+    (
+        "module m\n\n",
+        "map:2:1: error: the line is empty, and no line may be\n \n ^\n",
+    ),
+    (
+        "module m\n# a\n",
+        "map:2:1: error: there are no comments in this file\n # a\n ^\n",
+    ),
+    (
+        "module m\nmodule \n",
+        "map:2:7: error: the line ends with a blank\n module \n       ^\n",
+    ),
+];
+
+#[test]
+fn lines_of_no_map_are_explained(rt: HostRuntime) -> Result<(), Fail> {
+    for (map, text) in LINES {
+        check_told(
+            &rt,
+            "link map",
+            13,
+            "link 1 2\n",
+            &[("map", map.as_bytes())],
+            text,
+        )?;
+    }
+    Ok(())
+}
+
+#[test]
+fn modules_are_found_and_what_could_be_meant(rt: HostRuntime) -> Result<(), Fail> {
+    let map: &str = "module a\nmodule m\nexport go 3\n";
+    let files: &[(&str, &[u8])] = &[("map", map.as_bytes()), ("a", A), ("m", A2)];
+    let text =
+        "m: error: block 0, instruction 3: its two operands do not have the same colour (premise 2)\n  add r33 r1 B 0\n  r1: G int\n";
+    check_told(
+        &rt,
+        "link map",
+        8,
+        "check block 0 index 3 premise 2\n",
+        files,
+        text,
+    )?;
+    let text =
+        "map:3:1: error: the module has no such block\n export go 3\n ^~~~~~~~~~~\n  blocks of m: 0 to 0\n";
+    check_told(&rt, "link map", 13, "link 7 3\n", files, text)?;
+    let text =
+        "map:3:1: error: the imported block is not a stub: a stub is the one instruction `halt`\n export go 3\n ^~~~~~~~~~~\n  stubs of m: none\n";
+    check_told(&rt, "link map", 13, "link 8 3\n", files, text)?;
+    let files: &[(&str, &[u8])] = &[("map", map.as_bytes()), ("a", A), ("m", b"halt\n")];
+    let text =
+        "m: error: this is an assembly text, not an object: `talft asm FILE >OBJECT` makes an object\n";
+    check_told(&rt, "link map", 7, "object 2 5\n", files, text)
+}
 
 /// Statuses and lines that come of a module's object, with what is said of the map.
 const MODULES: &[(u8, &str, &str)] = &[
     (
         7,
         "object 4 67\n",
-        "map: error: a module is no object: padding, or a field that the record does not use, is not zero, at byte 67\n  `talft check` of each module tells more\n",
+        "map: error: a module is not an object: padding, or a field that the record does not use, is not zero, at byte 67\n",
     ),
     (
         8,
         "check block 0 index 3 premise 2\n",
-        "map: error: a module is not accepted: block 0, instruction 3 (premise 2)\n  `talft check` of each module tells more\n",
+        "map: error: a module is not accepted; `talft check` of each tells which\n",
     ),
     (
         8,
         "check cell 2\n",
-        "map: error: a module is not accepted: the word of cell 2 is no value of its type\n  `talft check` of each module tells more\n",
+        "map: error: a module is not accepted; `talft check` of each tells which\n",
     ),
     (3, "", "m: error: cannot be read\n"),
 ];

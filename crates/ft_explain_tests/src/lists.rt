@@ -8,7 +8,7 @@ use std::test::Fail;
 fn a_line_that_is_no_fault_is_shown(rt: HostRuntime) -> Result<(), Fail> {
     let list = b"4:r1:6\n4:r99:6\n4:r1:6\n";
     let text =
-        "list:2:5: error: invalid fault: expected STEP:SITE:WORD; the site `r99` is none of r0 to r63, d, pcg, pcb, qa0 to qa7 and qv0 to qv7\n 4:r99:6\n     ^\n";
+        "list:2:5: error: invalid fault: expected STEP:SITE:WORD; invalid site `r99`: a site is r0 to r63, d, pcg, pcb, qa0 to qa7 or qv0 to qv7\n 4:r99:6\n     ^\n";
     check_said(
         &rt,
         "survey file --faults list",
@@ -21,7 +21,7 @@ fn a_line_that_is_no_fault_is_shown(rt: HostRuntime) -> Result<(), Fail> {
 fn a_campaign_that_is_too_long_is_explained(rt: HostRuntime) -> Result<(), Fail> {
     let list = repeated(&rt, "", "0:r0:0\n", 1_001)?;
     let text =
-        "list: error: the number of faults times the number of steps is 1001000000: 1000000000 is allowed (`--steps`)\n";
+        "list: error: the campaign is too long: faults times steps is 1001000000, and at most 1000000000 is allowed; give fewer faults or a smaller `--steps`\n";
     check_said(
         &rt,
         "campaign file --faults list",
@@ -30,34 +30,86 @@ fn a_campaign_that_is_too_long_is_explained(rt: HostRuntime) -> Result<(), Fail>
     )
 }
 
+/// Lines of a list that are no fault, each with what is said.
+const LINES: &[(&str, &str)] = &[
+    (
+        "4:r1:6\r\n",
+        "list:1:7: error: the line ends with a carriage return: save the file with Unix line ends\n 4:r1:6?\n       ^\n",
+    ),
+    (
+        "\u{feff}4:r1:6\n",
+        "list:1:1: error: the file begins with a byte order mark: save it without one\n ?4:r1:6\n ^\n",
+    ),
+    (
+        "4:r1:6\n\n",
+        "list:2:1: error: the line is empty, and no line may be\n \n ^\n",
+    ),
+    (
+        "# a\n",
+        "list:1:1: error: there are no comments in this file\n # a\n ^\n",
+    ),
+    (
+        "4:r1:6 \n",
+        "list:1:7: error: the line ends with a blank\n 4:r1:6 \n       ^\n",
+    ),
+    (
+        "4:r1:06\n",
+        "list:1:7: error: invalid fault: expected STEP:SITE:WORD; invalid word `06`: numbers have no leading zeros\n 4:r1:06\n       ^\n",
+    ),
+    (
+        "4:r1:18446744073709551616\n",
+        "list:1:25: error: invalid fault: expected STEP:SITE:WORD; invalid word `18446744073709551616`: the largest number is 18446744073709551615 (2^64 - 1)\n 4:r1:18446744073709551616\n                         ^\n",
+    ),
+    (
+        "halt\n",
+        "list: error: this is an assembly text, not a fault list: `talft asm FILE >OBJECT` makes an object\n",
+    ),
+    (
+        "4:r1\n",
+        "list:1:5: error: invalid fault: expected STEP:SITE:WORD; the word is missing\n 4:r1\n     ^\n",
+    ),
+];
+
+#[test]
+fn lines_that_are_no_fault_are_explained(rt: HostRuntime) -> Result<(), Fail> {
+    for (list, text) in LINES {
+        let files: &[(&str, &[u8])] = &[("file", A), ("list", list.as_bytes())];
+        check_said(&rt, "survey file --faults list", files, text)?;
+    }
+    Ok(())
+}
+
+#[test]
+fn lines_that_are_no_command_are_explained(rt: HostRuntime) -> Result<(), Fail> {
+    let script: &[u8] = b"step 1\nstpe 2\nreg r64\n\nwhere\n";
+    let text =
+        "standard input:2:1: error: unknown command `stpe`; did you mean `step`?\n stpe 2\n ^\nstandard input:3:1: error: invalid command: expected `reg R`\n reg r64\n ^\nstandard input:4:1: error: the line is empty, and no line may be\n \n ^\n";
+    check_told(&rt, "debug file", 0, "", &[("script", script)], text)
+}
+
 /// Calls by words, status and line, each with what is said where only the object is there.
 const TOLD: &[(&str, u8, &str, &str)] = &[
     (
         "campaign file --faults list",
         11,
         "list 1 7\n",
-        "list: error: line 7 is no fault\n",
+        "list: error: line 7 is not a fault: expected STEP:SITE:WORD\n",
     ),
     (
         "campaign file --faults list",
         11,
         "list 2 65536\n",
-        "list: error: a fault list has at most 65536 lines and 4194304 bytes\n",
+        "list: error: the fault list is too long: at most 65536 lines and 4194304 bytes are allowed\n",
     ),
     (
         "debug file",
         11,
         "list 4 1048576\n",
-        "standard input: error: a script has at most 1048576 bytes\n",
+        "standard input: error: the script is too long: at most 1048576 bytes are allowed\n",
     ),
     ("check missing", 3, "", "missing: error: cannot be read\n"),
-    (
-        "check nowhere",
-        3,
-        "",
-        "nowhere: error: there is no such file\n",
-    ),
-    ("check folder", 3, "", "folder: error: it is a folder\n"),
+    ("check nowhere", 3, "", "nowhere: error: no such file\n"),
+    ("check folder", 3, "", "folder: error: is a folder\n"),
     ("check secret", 3, "", "secret: error: permission denied\n"),
     ("check file", 3, "", "talft: error: a file cannot be read\n"),
     (
@@ -90,7 +142,7 @@ const TOLD: &[(&str, u8, &str, &str)] = &[
         "run file",
         9,
         "source 7 0\n",
-        "file: cut after 1000000 steps (`--steps`)\n",
+        "file: still running after 1000000 steps: raise `--steps`\n",
     ),
     ("survey file --faults file", 10, "faults 1\n", ""),
     ("check file", 8, "accepted\n", ""),

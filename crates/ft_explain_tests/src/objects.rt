@@ -8,7 +8,7 @@ const ALTERED: &[(usize, u8, &str)] = &[
     (
         0,
         0x55,
-        "file: error: the bytes do not begin as an object does, with TALFT and the number of a version\n",
+        "file: error: this is not an object: it does not begin with TALFT and the number of version 1 or 2\n",
     ),
     (
         10,
@@ -23,27 +23,27 @@ const ALTERED: &[(usize, u8, &str)] = &[
     (
         104,
         0x08,
-        "file: error: a code stands for nothing, `ref` is taken too often, or a node is of the wrong sort\n  byte 104, instruction 0: its kind, 8\n",
+        "file: error: a code has no meaning, a type has more than 8 `ref`, or a node is of the wrong sort\n  byte 104, instruction 0: its kind, 8\n",
     ),
     (
         64,
         0x02,
-        "file: error: a part that is named by its number is not there, or may not be named here\n  byte 68, node 0: its first part, 0\n",
+        "file: error: a number names a part that does not exist or may not be named here\n  byte 68, node 0: its first part, 0\n",
     ),
     (
         99,
         0x01,
-        "file: error: ends, beginnings or registers do not rise, or a row or a byte belongs to nothing\n  byte 96, block 0: its first instruction, 1\n",
+        "file: error: ends, starts or registers are not in rising order, or a row or a byte belongs to nothing\n  byte 96, block 0: its first instruction, 1\n",
     ),
     (
         216,
         0x30,
-        "file: error: a name is too long, has a byte that may not stand in it, or is another cell's\n  byte 216, name byte 0: the byte itself, 48\n",
+        "file: error: a cell's name is too long, has a byte that is not allowed, or is used twice\n  byte 216, name byte 0: the byte itself, 48\n",
     ),
     (
         47,
         0x01,
-        "file: error: the entry block is not there\n  byte 44, the header: the entry block, 1\n",
+        "file: error: the entry block does not exist\n  byte 44, the header: the entry block, 1\n",
     ),
 ];
 
@@ -61,13 +61,48 @@ fn lengths_are_explained(rt: HostRuntime) -> Result<(), Fail> {
     check_said(&rt, "trial file", &[("file", &A[..3])], text)?;
     let text = "file: error: the object has 218 bytes, and its header gives 219\n";
     check_said(&rt, "upgrade file", &[("file", &A[..218])], text)?;
-    let text = "file: error: an object has at most 67108864 bytes\n";
+    let text = "file: error: the object is too long: at most 67108864 bytes are allowed\n";
     check_told(&rt, "dis file", 7, "object 2 67108864\n", &[], text)
 }
 
+/// Files that are no objects, each with what is said.
+const OTHERS: &[(&[u8], &str)] = &[
+    (
+        b"cell out = 0;\n",
+        "file: error: this is a source, not an object: `talft compile FILE >OBJECT` makes an object\n",
+    ),
+    (
+        b"# five\ncell out int 0\n",
+        "file: error: this is an assembly text, not an object: `talft asm FILE >OBJECT` makes an object\n",
+    ),
+    (
+        b"4:r1:6\n",
+        "file: error: this is a fault list, not an object: it stands after `--faults`\n",
+    ),
+    (
+        b"module a.obj\n",
+        "file: error: this is a link map, not an object: `talft link FILE >OBJECT` makes an object\n",
+    ),
+    (
+        b"step 4\n",
+        "file: error: this is a debugger script, not an object: `talft debug OBJECT <FILE` carries it out\n",
+    ),
+    (
+        b"\0asm\x01\0\0\0",
+        "file: error: this is a WebAssembly module, not an object: `wasm2asm` makes an assembly text of it\n",
+    ),
+    (
+        b"\xff\xfec\0e\0",
+        "file: error: this is UTF-16 text, not an object: save it as ASCII text\n",
+    ),
+    (b"hello\n", "file: error: this is a text, not an object\n"),
+    (b"", "file: error: the file is empty\n"),
+];
+
 #[test]
-fn a_text_is_no_object(rt: HostRuntime) -> Result<(), Fail> {
-    let text =
-        "file: error: it is a text, not an object: `talft compile` makes one of a source, `talft asm` of an assembly text\n";
-    check_said(&rt, "check file", &[("file", b"cell out = 0;\n")], text)
+fn other_files_are_no_objects(rt: HostRuntime) -> Result<(), Fail> {
+    for (bytes, text) in OTHERS {
+        check_said(&rt, "check file", &[("file", *bytes)], text)?;
+    }
+    Ok(())
 }

@@ -9,19 +9,19 @@ const WORDS: &[(&str, &str)] = &[
     ("run file --fault 4:r1:5", ""),
     (
         "run file --steps 11",
-        "file: cut after 11 steps (`--steps`)\n",
+        "file: still running after 11 steps: raise `--steps`\n",
     ),
     (
         "run file --fault 4000:r1:6",
-        "file: nothing was struck: at step 4000 the run had ended, after 14 steps\n",
+        "file: the fault struck nothing: the run had ended after 14 steps, before step 4000\n",
     ),
     (
         "run file --fault 4:qa3:6",
-        "file: nothing was struck: at step 4 the queue has no entry 3\n",
+        "file: the fault struck nothing: at step 4 the queue has no entry 3\n",
     ),
     (
         "trial file --steps 3 --fault 4:r1:6",
-        "file: nothing was struck: the fault comes at step 4, and the run takes at most 3 steps (`--steps`)\nfile: cut after 3 steps (`--steps`)\n",
+        "file: the fault struck nothing: it comes at step 4, and the run is limited to 3 steps (`--steps`)\nfile: still running after 3 steps: raise `--steps`\n",
     ),
     (
         "run file --fault 4:r1:6",
@@ -48,6 +48,13 @@ fn runs_are_explained(rt: HostRuntime) -> Result<(), Fail> {
 #[test]
 fn a_meaning_that_is_cut_is_explained(rt: HostRuntime) -> Result<(), Fail> {
     let source = b"cell out = 0; while (1) { out = 1; }";
-    let text = "file: cut after 3 turns (`--turns`)\n";
+    let text = "file: still running after 3 turns: raise `--turns`\n";
     check_said(&rt, "mean file --turns 3", &[("file", source)], text)
+}
+
+#[test]
+fn a_constant_index_beyond_its_array_is_noted(rt: HostRuntime) -> Result<(), Fail> {
+    let source = b"cell a[4] = 0;\na[3] = 1;\na[5] = 2;\n";
+    let text = "file:3:3: note: `a` has 4 cells: the index 5 means cell 1\n a[5] = 2;\n   ^\n";
+    check_said(&rt, "compile file", &[("file", source)], text)
 }

@@ -10,11 +10,11 @@ const WORDS: &[(&str, &str)] = &[
     ),
     (
         "check a --steps 3",
-        "talft: error: `check` takes no option `--steps`\nusage: talft check OBJECT\n",
+        "talft: error: unknown option `--steps` for `check`\nusage: talft check OBJECT\n",
     ),
     (
         "check a b",
-        "talft: error: unexpected word `b` after the OBJECT\nusage: talft check OBJECT\n",
+        "talft: error: unexpected argument `b` after OBJECT\nusage: talft check OBJECT\n",
     ),
     (
         "exec a --steps 3 --steps 4",
@@ -30,11 +30,11 @@ const WORDS: &[(&str, &str)] = &[
     ),
     (
         "exec --steps 3 a",
-        "talft: error: the SOURCE comes before the options, and `--steps` stands in its place\nusage: talft exec SOURCE [--steps N]\n",
+        "talft: error: missing SOURCE: it comes before options such as `--steps`\nusage: talft exec SOURCE [--steps N]\n",
     ),
     (
         "mean a --turns 1000000001",
-        "talft: error: invalid number `1000000001` for `--turns`: expected 0 to 1000000000\nusage: talft mean SOURCE [--turns N]\n",
+        "talft: error: invalid number `1000000001` for `--turns`: expected 0 to 1000000000; the largest number here is 1000000000\nusage: talft mean SOURCE [--turns N]\n",
     ),
     (
         "run a --steps 5 --fault 1:r0",
@@ -42,15 +42,15 @@ const WORDS: &[(&str, &str)] = &[
     ),
     (
         "trial a --fault 4:r64:6",
-        "talft: error: invalid fault `4:r64:6`: expected STEP:SITE:WORD; the site `r64` is none of r0 to r63, d, pcg, pcb, qa0 to qa7 and qv0 to qv7\nusage: talft trial OBJECT [--steps N] [--fault STEP:SITE:WORD] [--wild LIST]\n",
+        "talft: error: invalid fault `4:r64:6`: expected STEP:SITE:WORD; invalid site `r64`: a site is r0 to r63, d, pcg, pcb, qa0 to qa7 or qv0 to qv7\nusage: talft trial OBJECT [--steps N] [--fault STEP:SITE:WORD] [--wild LIST]\n",
     ),
     (
         "trial a --fault 4:r1:0x6",
-        "talft: error: invalid fault `4:r1:0x6`: expected STEP:SITE:WORD; the word `0x6` is not a decimal number below 2^64\nusage: talft trial OBJECT [--steps N] [--fault STEP:SITE:WORD] [--wild LIST]\n",
+        "talft: error: invalid fault `4:r1:0x6`: expected STEP:SITE:WORD; invalid word `0x6`: numbers are decimal\nusage: talft trial OBJECT [--steps N] [--fault STEP:SITE:WORD] [--wild LIST]\n",
     ),
     (
         "debug a --wild go",
-        "talft: error: invalid answers `go` for `--wild`: expected at most 4096 parts separated by commas, each a number or `stop`\nusage: talft debug OBJECT [--wild LIST]\n",
+        "talft: error: invalid list `go` for `--wild`: expected at most 4096 answers separated by commas, each a number or `stop`\nusage: talft debug OBJECT [--wild LIST]\n",
     ),
     (
         "survey a --steps 5",
@@ -58,11 +58,36 @@ const WORDS: &[(&str, &str)] = &[
     ),
     (
         "link map --steps 3",
-        "talft: error: `link` takes no option `--steps`\nusage: talft link MAP\n",
+        "talft: error: unknown option `--steps` for `link`\nusage: talft link MAP\n",
     ),
     (
         "demo 10922",
-        "talft: error: `demo` takes a number N from 1 to 10921\nusage: talft demo N\n",
+        "talft: error: invalid N `10922`: expected a number from 1 to 10921\nusage: talft demo N\n",
+    ),
+    (
+        "run a --fautl 4:r1:6",
+        "talft: error: unknown option `--fautl` for `run`; did you mean `--fault`?\nusage: talft run OBJECT [--steps N] [--fault STEP:SITE:WORD] [--wild LIST]\n",
+    ),
+    (
+        "exec a --steps 05",
+        "talft: error: invalid number `05` for `--steps`: expected 0 to 1000000000; numbers have no leading zeros\nusage: talft exec SOURCE [--steps N]\n",
+    ),
+    (
+        "exec a -h",
+        "talft 0.9.0\nusage: talft exec SOURCE [--steps N]\n  compile a source and run its object\n\noptions:\n  --steps N                 run at most N steps: 0 to 1000000000, for campaign and survey 0 to 1000000 (default 1000000)\n\nexample:\n  talft exec fibonacci.src --steps 5000\n\nmore: `man talft`\n",
+    ),
+    (
+        "dis --help",
+        "talft 0.9.0\nusage: talft dis OBJECT\n  write the assembly text of an object\n\nexample:\n  talft dis five.obj\n\nmore: `man talft`\n",
+    ),
+    (
+        "check --steps",
+        "talft: error: missing OBJECT: it comes before options such as `--steps`\nusage: talft check OBJECT\n",
+    ),
+    ("check ", "talft: error: the name of the file is empty\n"),
+    (
+        "check a aaaaaaaaaabbbbbbbbbbccccccccccddddddddddeeeee",
+        "talft: error: unexpected argument `aaaaaaaaaabbbbbbbbbbccccccccccdddddddddd..` after OBJECT\nusage: talft check OBJECT\n",
     ),
     ("--version", "talft 0.9.0\n"),
     (

@@ -1,6 +1,6 @@
 //! Calls that are explained on standard error.
 use crate::looks::Folders;
-use crate::streams::{is_object_on_terminal, is_pipe};
+use crate::streams::{STANDARD_ERROR, is_object_on_terminal, is_pipe, is_terminal};
 use crate::{NOT_WRITTEN, answer, ended};
 use ft_edge::{FolderShelf, GatheringSink, MemShelf, Shelf};
 use ft_explain::{LastLine, explain};
@@ -15,7 +15,7 @@ const VARIABLE: &str = "TALFT_EXPLAIN";
 
 /// What is said after an object went to a terminal.
 const BINARY: &str =
-    "talft: note: an object is no text: write it to a file, as in `talft compile SOURCE >FILE.obj`\n";
+    "talft: note: an object is binary: redirect it to a file, as in `talft compile SOURCE >FILE.obj`\n";
 
 /// What is said of arguments that are no text.
 const NO_TEXT: &str = "talft: error: an argument is not UTF-8 text\n";
@@ -130,6 +130,10 @@ fn say<R: Env + Files + Eprint + AllocGlobal + Clone + Drop>(
         return;
     }
     if is_object_on_terminal(rt, words, status) {
+        // The bytes of an object end in no line feed.
+        if is_terminal(rt, STANDARD_ERROR) {
+            let _ = rt.eprint("\n");
+        }
         let _ = rt.eprint(BINARY);
     }
     if let Ok(text) = explanation(rt, words, status, line) {

@@ -34,8 +34,18 @@ fn found<R: Files>(rt: &R, name: &str) -> Found {
     }
 }
 
+/// The name of standard input.
+const STANDARD_INPUT: &str = "/dev/stdin";
+
 impl<R: Files> Look for Folders<'_, R> {
     fn look(&self, name: &str) -> Found {
         found(self.rt, name)
+    }
+
+    fn script(&self) -> Option<&'static str> {
+        match fs::metadata(self.rt, STANDARD_INPUT) {
+            Ok(found) if found.is_file() => Some(STANDARD_INPUT),
+            _ => None,
+        }
     }
 }

@@ -1,16 +1,19 @@
-//! What standard output is.
+//! What standard output and standard error are.
 use std::fs;
 use std::rt::Files;
 
 /// Where the system tells what standard output is.
 const STANDARD_OUTPUT: &str = "/proc/self/fd/1";
 
+/// Where the system tells what standard error is.
+pub(crate) const STANDARD_ERROR: &str = "/proc/self/fd/2";
+
 /// What the names of terminals begin with.
 const TERMINALS: &[&str] = &["/dev/pts/", "/dev/tty", "/dev/console", "/dev/hvc"];
 
-/// Whether standard output is a terminal, by its name.
-fn is_terminal<R: Files + AllocGlobal>(rt: &R) -> bool {
-    let Ok(name) = fs::read_link(rt, STANDARD_OUTPUT) else {
+/// Whether a standard stream is a terminal, by its name.
+pub(crate) fn is_terminal<R: Files + AllocGlobal>(rt: &R, stream: &str) -> bool {
+    let Ok(name) = fs::read_link(rt, stream) else {
         return false;
     };
     for terminal in TERMINALS {
@@ -46,5 +49,5 @@ pub(crate) fn is_object_on_terminal<R: Files + AllocGlobal>(
     words: &[String],
     status: u8,
 ) -> bool {
-    status == 0 && ask_for_object(words) && is_terminal(rt)
+    status == 0 && ask_for_object(words) && is_terminal(rt, STANDARD_OUTPUT)
 }

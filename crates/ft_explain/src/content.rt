@@ -1,0 +1,201 @@
+//! What a file holds, by how it begins.
+use crate::mnemonics::is_line;
+use crate::page::Page;
+use ft_isa::{NoMemory, read_strike};
+use ft_lexer::{Kind, Lexer, Token};
+use ft_text::read_line;
+
+/// How many bytes of a file are looked at.
+const LOOKED_AT: usize = 65_536;
+
+/// What a file holds, as far as its beginning tells.
+#[derive(Clone, Copy, Debug, PartialEq, Eq)]
+pub(crate) enum Content {
+    /// An object.
+    Object,
+    /// A source.
+    Source,
+    /// An assembly text.
+    Assembly,
+    /// A fault list.
+    List,
+    /// A link map.
+    Map,
+    /// A script of the debugger.
+    Script,
+    /// A module of WebAssembly.
+    Wasm,
+    /// A text with two bytes for each character.
+    Wide,
+    /// Nothing.
+    Empty,
+    /// Other bytes that are no text.
+    Binary,
+    /// Another text.
+    Unknown,
+}
+
+impl Content {
+    /// What it is called.
+    fn words(self) -> &'static str {
+        match self {
+            Content::Object => "an object",
+            Content::Source => "a source",
+            Content::Assembly => "an assembly text",
+            Content::List => "a fault list",
+            Content::Map => "a link map",
+            Content::Script => "a debugger script",
+            Content::Wasm => "a WebAssembly module",
+            Content::Wide => "UTF-16 text",
+            Content::Empty => "empty",
+            Content::Binary => "a binary file",
+            Content::Unknown => "a text",
+        }
+    }
+
+    /// What to do with it, where something else was wanted.
+    fn advice(self, wanted: Content) -> &'static str {
+        match self {
+            Content::Object if wanted == Content::Assembly =>
+                ": `talft dis FILE` writes its assembly text",
+            Content::Object if wanted == Content::Source => ": `talft run FILE` runs it",
+            Content::Source => ": `talft compile FILE >OBJECT` makes an object",
+            Content::Assembly => ": `talft asm FILE >OBJECT` makes an object",
+            Content::List => ": it stands after `--faults`",
+            Content::Map => ": `talft link FILE >OBJECT` makes an object",
+            Content::Script => ": `talft debug OBJECT <FILE` carries it out",
+            Content::Wasm => ": `wasm2asm` makes an assembly text of it",
+            Content::Wide => ": save it as ASCII text",
+            _ => "",
+        }
+    }
+}
+
+/// Whether bytes begin as those of an object.
+pub(crate) fn begins_as_object(bytes: &[u8]) -> bool {
+    bytes.starts_with(b"TALFT")
+}
+
+/// Whether a byte stands in texts.
+fn is_of_text(byte: u8) -> bool {
+    matches!(byte, b'\t' | b'\n' | 0x0c | b'\r' | 0x1b | b' '..=b'~' | 0x80..)
+}
+
+/// Whether bytes are a text.
+fn is_text(bytes: &[u8]) -> bool {
+    bytes.iter().all(|byte| is_of_text(*byte))
+}
+
+/// The first line of a text that has a word and is no comment; the empty text where it has none.
+fn first_said(text: &[u8]) -> &[u8] {
+    let mut rest = text;
+    for _ in 0..text.len() {
+        let Some((line, after)) = read_line(rest) else {
+            return &[];
+        };
+        let said = line.trim_ascii();
+        if !said.is_empty() && !said.starts_with(b"#") {
+            return said;
+        }
+        rest = after;
+    }
+    &[]
+}
+
+/// The kind of the next token.
+fn next_kind(lexer: &mut Lexer<'_>) -> Option<Kind> {
+    match lexer.next() {
+        Some(Ok(Token { kind, .. })) => Some(kind),
+        _ => None,
+    }
+}
+
+/// Whether a line begins a source.
+fn begins_source(line: &[u8]) -> bool {
+    let mut lexer = Lexer::new(line);
+    let first = next_kind(&mut lexer);
+    let second = next_kind(&mut lexer);
+    let third = next_kind(&mut lexer);
+    let is_declared = matches!(third, Some(Kind::Assign | Kind::LBracket | Kind::Semi));
+    match first {
+        Some(Kind::Cell | Kind::Var) => second == Some(Kind::Name) && is_declared,
+        Some(Kind::While | Kind::If) => second == Some(Kind::LParen),
+        Some(Kind::Name) => matches!(second, Some(Kind::Assign | Kind::LBracket)),
+        _ => false,
+    }
+}
+
+/// Whether a line begins a script of the debugger.
+fn begins_script(line: &[u8]) -> bool {
+    let begins = line.starts_with(b"step ")
+        || line.starts_with(b"go ")
+        || line.starts_with(b"zap ");
+    begins || line.starts_with(b"break ") || line == b"where".as_slice()
+}
+
+/// What a text holds, by its first line that says something.
+fn content_of_line(line: &[u8]) -> Content {
+    if is_line(line) {
+        Content::Assembly
+    } else if begins_source(line) {
+        Content::Source
+    } else if read_strike(line).is_ok() {
+        Content::List
+    } else if line.starts_with(b"module ") {
+        Content::Map
+    } else if begins_script(line) {
+        Content::Script
+    } else {
+        Content::Unknown
+    }
+}
+
+/// What bytes hold, as far as their beginning tells.
+pub(crate) fn content_of(bytes: &[u8]) -> Content {
+    let bytes = bytes.get(..LOOKED_AT).unwrap_or(bytes);
+    if bytes.is_empty() {
+        Content::Empty
+    } else if begins_as_object(bytes) {
+        Content::Object
+    } else if bytes.starts_with(b"\0asm") {
+        Content::Wasm
+    } else if bytes.starts_with(b"\xff\xfe") || bytes.starts_with(b"\xfe\xff") {
+        Content::Wide
+    } else if !is_text(bytes) {
+        Content::Binary
+    } else {
+        content_of_line(first_said(bytes))
+    }
+}
+
+/// Says what a file holds, that something else was wanted, and what to do.
+pub(crate) fn say_kind(
+    page: &mut Page,
+    name: &str,
+    content: Content,
+    wanted: Content,
+) -> Result<(), NoMemory> {
+    page.head(name)?;
+    if content == Content::Empty {
+        return page.say("the file is empty\n");
+    }
+    let is = content.words();
+    let not = wanted.words();
+    let advice = content.advice(wanted);
+    page.say(format_args!("this is {is}, not {not}{advice}\n"))
+}
+
+/// Says that a file holds something else than was wanted, and what to do; false where it may hold what was wanted.
+pub(crate) fn say_other_kind(
+    page: &mut Page,
+    name: &str,
+    bytes: &[u8],
+    wanted: Content,
+) -> Result<bool, NoMemory> {
+    let content = content_of(bytes);
+    if content == wanted || content == Content::Unknown {
+        return Ok(false);
+    }
+    say_kind(page, name, content, wanted)?;
+    Ok(true)
+}

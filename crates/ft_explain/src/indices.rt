@@ -1,0 +1,179 @@
+//! Constant indices of sources that are beyond their arrays.
+use crate::excerpt::Place;
+use crate::loads::{SOURCE_LIMIT, load};
+use crate::page::Page;
+use ft_edge::Shelf;
+use ft_isa::{NoMemory, read_number};
+use ft_lexer::{Kind, Lexer, Token};
+
+/// How many indices are looked at.
+const MOST_INDICES: usize = 256;
+
+/// A number in a source: its place, how many bytes it has, and its value.
+#[derive(Clone, Copy)]
+struct Number {
+    at: usize,
+    length: usize,
+    value: u64,
+}
+
+/// A name with a constant index, and whether it is declared there.
+#[derive(Clone, Copy)]
+struct Index<'s> {
+    name: &'s [u8],
+    number: Number,
+    is_declared: bool,
+}
+
+/// What is seen of a name with a constant index so far.
+#[derive(Clone, Copy)]
+struct Seen<'s> {
+    is_declared: bool,
+    name: Option<&'s [u8]>,
+    is_open: bool,
+    number: Option<Number>,
+}
+
+/// Nothing was seen.
+const NOTHING: Seen<'static> = Seen {
+    is_declared: false,
+    name: None,
+    is_open: false,
+    number: None,
+};
+
+/// The number of a token.
+fn number_of(token: Token<'_>) -> Option<Number> {
+    Some(Number {
+        at: token.at,
+        length: token.text.len(),
+        value: read_number(token.text)?,
+    })
+}
+
+impl<'s> Seen<'s> {
+    /// What is seen after one more token.
+    fn then(self, token: Token<'s>) -> Seen<'s> {
+        match token.kind {
+            Kind::Cell => Seen {
+                is_declared: true,
+                ..NOTHING
+            },
+            Kind::Name => Seen {
+                name: Some(token.text),
+                is_open: false,
+                number: None,
+                ..self
+            },
+            Kind::LBracket if !self.is_open => Seen {
+                is_open: true,
+                ..self
+            },
+            Kind::Number if self.is_open && self.number.is_none() => Seen {
+                number: number_of(token),
+                ..self
+            },
+            _ => NOTHING,
+        }
+    }
+
+    /// The name with its index, where this token closes it.
+    fn closed_by(self, token: Token<'_>) -> Option<Index<'s>> {
+        if token.kind != Kind::RBracket {
+            return None;
+        }
+        Some(Index {
+            name: self.name?,
+            number: self.number?,
+            is_declared: self.is_declared,
+        })
+    }
+}
+
+/// How many cells the array of a name has; `None` where the name is no array.
+fn length_of(source: &[u8], name: &[u8]) -> Option<u64> {
+    let mut lexer = Lexer::new(source);
+    let mut seen = NOTHING;
+    for _ in 0..source.len() {
+        let Some(Ok(token)) = lexer.next() else {
+            return None;
+        };
+        if let Some(index) = seen.closed_by(token)
+            && index.is_declared
+            && index.name == name
+        {
+            return Some(index.number.value);
+        }
+        seen = seen.then(token);
+    }
+    None
+}
+
+/// Says that an index is beyond its array, and which cell it means.
+fn say_beyond(
+    page: &mut Page,
+    name: &str,
+    source: &[u8],
+    index: Index<'_>,
+    length: u64,
+) -> Result<(), NoMemory> {
+    let place = Place::of(source, index.number.at);
+    let number = index.number.value;
+    let meant = number.checked_rem(length).unwrap_or(0);
+    page.name(name)?;
+    page.say(format_args!(":{}:{}: note: ", place.number(), place.column()))?;
+    page.quote(index.name)?;
+    page.say(format_args!(" has {length} cells: the index {number} means cell {meant}\n"))?;
+    place.show(page, index.number.length)
+}
+
+/// Says of an index whether it is beyond its array; false where it is not.
+fn say_if_beyond(
+    page: &mut Page,
+    name: &str,
+    source: &[u8],
+    index: Index<'_>,
+) -> Result<bool, NoMemory> {
+    if index.is_declared {
+        return Ok(false);
+    }
+    match length_of(source, index.name) {
+        Some(length) if index.number.value >= length => {
+            say_beyond(page, name, source, index, length)?;
+            Ok(true)
+        }
+        _ => Ok(false),
+    }
+}
+
+/// Says of the first constant index beyond its array that it is.
+fn say_first(page: &mut Page, name: &str, source: &[u8]) -> Result<(), NoMemory> {
+    let mut lexer = Lexer::new(source);
+    let mut seen = NOTHING;
+    let mut looked_at: usize = 0;
+    for _ in 0..source.len() {
+        let Some(Ok(token)) = lexer.next() else {
+            break;
+        };
+        if let Some(index) = seen.closed_by(token) {
+            looked_at = looked_at.saturating_add(1);
+            if looked_at > MOST_INDICES || say_if_beyond(page, name, source, index)? {
+                break;
+            }
+        }
+        seen = seen.then(token);
+    }
+    Ok(())
+}
+
+/// Says of a source that was taken where a constant index is beyond its array.
+pub(crate) fn note_indices<S: Shelf>(
+    page: &mut Page,
+    name: &str,
+    shelf: &mut S,
+) -> Result<(), NoMemory> {
+    match load(page.alloc(), name, SOURCE_LIMIT, shelf)? {
+        Some(source) => say_first(page, name, source.as_slice()),
+        None => Ok(()),
+    }
+}

@@ -1,0 +1,53 @@
+//! Lines of texts that have no room for comments, empty lines and the like: fault lists, scripts and link maps.
+
+/// What a byte order mark is.
+const MARK: &[u8] = b"\xef\xbb\xbf";
+
+/// What is said of a line that ends with a carriage return.
+pub(crate) const RETURN: &str =
+    "the line ends with a carriage return: save the file with Unix line ends";
+
+/// What is said of a text that begins with a byte order mark.
+pub(crate) const MARKED: &str = "the file begins with a byte order mark: save it without one";
+
+/// Whether a text begins with a byte order mark.
+pub(crate) fn is_marked(text: &[u8]) -> bool {
+    text.starts_with(MARK)
+}
+
+/// Whether a text begins as a comment of some language.
+pub(crate) fn begins_comment(text: &[u8]) -> bool {
+    text.starts_with(b"#")
+        || text.starts_with(b";")
+        || text.starts_with(b"//")
+        || text.starts_with(b"/*")
+}
+
+/// Whether a byte is a blank.
+fn is_blank(byte: Option<&u8>) -> bool {
+    matches!(byte, Some(b' ' | b'\t'))
+}
+
+/// What is wrong with a whole line that a person may take for a good one, and the place in it.
+pub(crate) fn wrong_line(line: &[u8]) -> Option<(usize, &'static str)> {
+    let last = line.len().saturating_sub(1);
+    if is_marked(line) {
+        return Some((0, MARKED));
+    }
+    if line.ends_with(b"\r") {
+        return Some((last, RETURN));
+    }
+    if line.trim_ascii().is_empty() {
+        return Some((0, "the line is empty, and no line may be"));
+    }
+    if begins_comment(line.trim_ascii_start()) {
+        return Some((0, "there are no comments in this file"));
+    }
+    if is_blank(line.first()) {
+        return Some((0, "the line begins with a blank"));
+    }
+    if is_blank(line.last()) {
+        return Some((last, "the line ends with a blank"));
+    }
+    None
+}

@@ -1,0 +1,59 @@
+//! Words that are no number.
+use crate::page::Page;
+use ft_isa::{NoMemory, read_number};
+
+/// Whether a word is a number of at most `most`.
+pub(crate) fn is_number(word: &[u8], most: u64) -> bool {
+    match read_number(word) {
+        Some(number) => number <= most,
+        None => false,
+    }
+}
+
+/// Whether a word is digits alone.
+fn is_digits(word: &[u8]) -> bool {
+    let count = word.iter().take_while(|byte| byte.is_ascii_digit()).count();
+    count > 0 && count == word.len()
+}
+
+/// Whether a byte of a word is this one.
+fn has(word: &[u8], wanted: u8) -> bool {
+    word.iter().any(|byte| *byte == wanted)
+}
+
+/// What is wrong with a word that is not written as a number is.
+fn misspelled(word: &[u8]) -> &'static str {
+    if word.starts_with(b"0x") || word.starts_with(b"0X") {
+        return "numbers are decimal";
+    }
+    if word.starts_with(b"-") || word.starts_with(b"+") {
+        return "numbers have no sign";
+    }
+    if word.ends_with(b",") {
+        return "words are separated by spaces, without commas";
+    }
+    if has(word, b' ') || has(word, b'\t') {
+        return "there is a blank in it";
+    }
+    if has(word, b'\r') {
+        return "there is a carriage return in it: save the file with Unix line ends";
+    }
+    if has(word, b'.') {
+        return "numbers are whole";
+    }
+    "numbers are decimal digits, as in `42`"
+}
+
+/// Says why a word is no number of at most `most`.
+pub(crate) fn say_misfit(page: &mut Page, word: &[u8], most: u64) -> Result<(), NoMemory> {
+    if !is_digits(word) {
+        return page.say(misspelled(word));
+    }
+    if word.starts_with(b"0") && word.len() > 1 {
+        return page.say("numbers have no leading zeros");
+    }
+    if most == u64::MAX {
+        return page.say("the largest number is 18446744073709551615 (2^64 - 1)");
+    }
+    page.say(format_args!("the largest number here is {most}"))
+}

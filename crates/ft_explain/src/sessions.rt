@@ -1,0 +1,102 @@
+//! Scripts of the debugger with lines that are no command.
+use crate::excerpt::Place;
+use crate::lines::wrong_line;
+use crate::loads::load;
+use crate::near::{is_near, say_near};
+use crate::page::Page;
+use ft_edge::Shelf;
+use ft_isa::NoMemory;
+use ft_script::{Command, read_script};
+
+/// The most bytes of a script.
+const SCRIPT_LIMIT: usize = 1_048_576;
+
+/// How many lines are explained at the most.
+const MOST_LINES: usize = 10;
+
+/// The commands of the debugger: the first word of each, and the whole.
+const COMMANDS: &[(&str, &str)] = &[
+    ("step", "step N"),
+    ("go", "go N"),
+    ("back", "back N"),
+    ("zap", "zap SITE WORD"),
+    ("reg", "reg R"),
+    ("queue", "queue"),
+    ("cell", "cell NAME"),
+    ("where", "where"),
+    ("break", "break B I"),
+];
+
+/// The first word of a line.
+fn first_word(line: &str) -> &str {
+    match line.split_once(' ') {
+        Some((first, _)) => first,
+        None => line,
+    }
+}
+
+/// Says what is wrong with a line that is no command.
+fn say_bad(page: &mut Page, line: &str) -> Result<(), NoMemory> {
+    let first = first_word(line);
+    for (word, form) in COMMANDS {
+        if first == *word {
+            return page.say(format_args!("invalid command: expected `{form}`"));
+        }
+    }
+    page.say("unknown command ")?;
+    page.quote(first.as_bytes())?;
+    for (word, _) in COMMANDS {
+        if is_near(page.alloc(), first, *word)? {
+            return say_near(page, word.as_bytes());
+        }
+    }
+    Ok(())
+}
+
+/// Explains why a line is no command.
+fn explain_bad(page: &mut Page, start: Place<'_>) -> Result<(), NoMemory> {
+    let line = start.line();
+    let (at, habit) = match wrong_line(line) {
+        Some(wrong) => wrong,
+        None => (0, ""),
+    };
+    let place = start.after(at);
+    page.head_at("standard input", &place)?;
+    if habit.is_empty() {
+        say_bad(page, str::from_utf8(line).unwrap_or(""))?;
+    } else {
+        page.say(habit)?;
+    }
+    page.say("\n")?;
+    place.show(page, 1)
+}
+
+/// Explains the lines of a script that are no command, the first of them.
+fn explain_lines(page: &mut Page, script: &[u8], commands: &[Command<'_>]) -> Result<(), NoMemory> {
+    let mut explained: usize = 0;
+    for (i, command) in commands.iter().enumerate() {
+        if matches!(command, Command::Bad) && explained < MOST_LINES {
+            explained = explained.saturating_add(1);
+            if let Some(start) = Place::of_line(script, i.saturating_add(1)) {
+                explain_bad(page, start)?;
+            }
+        }
+    }
+    Ok(())
+}
+
+/// Explains which lines of a session's script are no commands, where the script can be read again.
+pub(crate) fn explain_session<S: Shelf>(
+    page: &mut Page,
+    name: Option<&'static str>,
+    shelf: &mut S,
+) -> Result<(), NoMemory> {
+    let Some(name) = name else {
+        return Ok(());
+    };
+    let Some(script) = load(page.alloc(), name, SCRIPT_LIMIT, shelf)? else {
+        return Ok(());
+    };
+    let commands = read_script(page.alloc(), script.as_slice())?;
+    explain_lines(page, script.as_slice(), commands.as_slice())
+}
