@@ -1,9 +1,9 @@
 #!/usr/bin/env bash
 # The tools as a user has them at large: 1,000,000 faults of two programs, with their pictures and pages; machines over
-# ssh, of which one goes away; Slurm; programs in C; long walks of the debugger, and Emacs as its client. It starts
+# ssh, of which one goes away; Slurm; programs in C; long walks of the debugger, and Emacs as its client; the C library. It starts
 # servers of its own, for this test alone. It is no part of the gate.
 #
-#     bash tests/tools.sh [large | ssh | slurm | c | debugger | editor ..]
+#     bash tests/tools.sh [large | ssh | slurm | c | debugger | editor | embed ..]
 #
 # What is not installed is named, and what needs it is skipped. With KEEP=FOLDER the pictures and pages are kept there.
 set -u
@@ -307,6 +307,38 @@ END
 )" "$(cat told 2>&1)"
 }
 
+# The C library: sanitizers, valgrind, turned bits, a million damages, allocations that fail, and ARM.
+embed() {
+  local library=$top/crates/ft_c/out/library of words
+  bash "$top/build/library.sh" >said 2>&1 || { report 'the C library' 0 1; return; }
+  mkdir -p embed_objects
+  for of in "$top"/examples/*.src; do
+    "$top/crates/talft/out/talft" compile "$of" >"embed_objects/$(basename "$of" .src).obj" 2>/dev/null || rm "embed_objects/$(basename "$of" .src).obj"
+  done
+  set -- "$top"/examples/*.obj embed_objects/*.obj "$top"/tests/objects/*.obj
+  words=(-std=c99 -Wall -Wextra -Werror -pedantic -g -I"$top/include")
+  cc "${words[@]}" -O1 -fsanitize=address,undefined "$top/examples/c/loader.c" "$library/libtalft.a" -o loader_checked
+  report 'the loader under sanitizers' 'answers are the same' "$(bash "$top/tests/embed/compare.sh" \
+    "$top/crates/talft/out/talft" ./loader_checked -- "$@" 2>&1 | sed 's/^[0-9]* //')"
+  cc "${words[@]}" -O1 -fsanitize=address,undefined "$top/tests/embed/tries.c" "$library/libft_c.a" -o tries_checked
+  report 'a million damages under sanitizers' 0 "$(measured 'a million damages' ./tries_checked $((1000000 / $# + 1)) 7 "$@" >tried 2>&1; echo $?)"
+  cc "${words[@]}" -O2 "$top/tests/embed/tries.c" "$library/libft_c.a" -o tries
+  if has valgrind 'the library under valgrind'; then
+    report 'the library under valgrind' 0 "$(valgrind -q --error-exitcode=9 --leak-check=full ./tries 30 3 "$@" >tried 2>&1; echo $?)"
+  fi
+  # The library whose memory is one block of the caller.
+  cc "${words[@]}" -O2 "$top/tests/embed/arena.c" "$top/embed/arena.c" "$library/libft_c.a" -o in_arena
+  report 'the library in one block' 0 "$(./in_arena "$@" >tried 2>&1; echo $?)"
+  if has aarch64-linux-gnu-gcc 'the library for ARM' && has qemu-aarch64 'the library for ARM'; then
+    report 'the library for ARM is made' 0 "$(bash "$top/build/library.sh" aarch64 >said 2>&1; echo $?)"
+    aarch64-linux-gnu-gcc "${words[@]}" -O2 -static "$top/examples/c/loader.c" "$library-aarch64/libtalft.a" -o loader_arm
+    report 'the loader for ARM answers as the command' 'answers are the same' "$(bash "$top/tests/embed/compare.sh" \
+      "$top/crates/talft/out/talft" qemu-aarch64 ./loader_arm -- "$@" 2>&1 | sed 's/^[0-9]* //')"
+    aarch64-linux-gnu-gcc "${words[@]}" -O2 -static "$top/tests/embed/tries.c" "$library-aarch64/libft_c.a" -o tries_arm
+    report 'ARM answers as x86-64' "$(./tries 100 5 "$@")" "$(qemu-aarch64 ./tries_arm 100 5 "$@")"
+  fi
+}
+
 for part in "${@:-all}"; do
   case $part in
     large) large ;;
@@ -315,7 +347,8 @@ for part in "${@:-all}"; do
     c) in_c ;;
     debugger) debugger ;;
     editor) editor ;;
-    *) large; over_ssh; over_slurm; in_c; debugger; editor ;;
+    embed) embed ;;
+    *) large; over_ssh; over_slurm; in_c; debugger; editor; embed ;;
   esac
 done
 close

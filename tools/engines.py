@@ -32,6 +32,11 @@ class Progress:
         end = "\n" if over or not terminal else ""
         print(f"\r\033[K{line}" if terminal else line, end=end, file=sys.stderr, flush=True)
 
+    def clear(self):
+        """Takes the line off a terminal: what is told next begins a line."""
+        if sys.stderr.isatty():
+            print("\r\033[K", end="", file=sys.stderr, flush=True)
+
 
 def end(process):
     """Ends a process, and what it started."""
@@ -53,7 +58,7 @@ def local(campaign, asked, progress):
             for part, process in list(running.items()):
                 if process.poll() is not None:
                     del running[part]
-                    campaign.failures[part] = f"no answer came (the shell's status: {process.returncode})"
+                    campaign.failures[part] = f"no answer (status {process.returncode} of the shell)"
                     campaign.take(part)
             progress.tell()
             time.sleep(0.02)
@@ -86,8 +91,8 @@ def spread(campaign, progress, command, stop, grace=0):
         raise
     remove(out)
     for part in waiting:
-        campaign.failures[part] = ("no answer came: a machine may have gone away "
-                                   f"(the engine's status: {engine.returncode})")
+        campaign.failures[part] = ("no answer: a machine may have gone away "
+                                   f"(status {engine.returncode} of the engine)")
 
 
 def parallel(campaign, asked, progress):

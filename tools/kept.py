@@ -5,8 +5,9 @@ import os
 import re
 import subprocess
 
-from common import SITES, Refused, program
+from common import SITES, Refused, check_object, not_run, program
 from debugging.sessions import length_of_run
+from messages import named
 
 Kept = collections.namedtuple("Kept", "object words wild command faults version began is_cut steps")
 
@@ -14,6 +15,12 @@ Kept = collections.namedtuple("Kept", "object words wild command faults version 
 def kept_in(folder):
     """What the tool `campaign` keeps in a folder."""
     file = os.path.join(folder, "campaign.json")
+    if not os.path.isdir(folder):
+        raise Refused(f"--dir: {named(folder)}: {'is not a folder' if os.path.exists(folder) else 'no such folder'}; "
+                      "give the folder of the tool `campaign`")
+    if not os.path.exists(file):
+        raise Refused(f"--dir: {named(folder)}: no campaign is kept there (no campaign.json); give the folder of the "
+                      "tool `campaign`, or the object with --object")
     with open(file, encoding="utf-8") as text:
         try:
             told = json.load(text)
@@ -21,7 +28,7 @@ def kept_in(folder):
             return Kept(os.path.join(folder, "object"), words, told["wild"], told["asked"], told["faults"],
                         told.get("version"), told.get("began"), told.get("cut"), int(words[words.index("--steps") + 1]))
         except (ValueError, KeyError, IndexError) as error:
-            raise Refused(f"{file}: not a file of the tool `campaign`") from error
+            raise Refused(f"{named(file)}: is not a file of the tool `campaign`, or is damaged") from error
 
 
 def is_cut(object_file, steps, wild=None):
@@ -42,10 +49,14 @@ def version():
 
 def used_registers(object_file):
     """The registers that instructions of an object name; d is not among them."""
-    done = subprocess.run([program(), "dis", object_file], stdin=subprocess.DEVNULL, capture_output=True, text=True,
-                          check=False)
+    check_object(object_file)
+    try:
+        done = subprocess.run([program(), "dis", object_file], stdin=subprocess.DEVNULL, capture_output=True, text=True,
+                              check=False)
+    except OSError as error:
+        raise not_run(program(), error) from error
     if done.returncode != 0:
-        raise Refused(f"{object_file}: {(done.stdout + done.stderr).strip() or 'not an object'}")
+        raise Refused(f"{named(object_file)}: {(done.stdout + done.stderr).strip() or 'not an object'}")
     registers, found = set(SITES[:64]), set()
     for line in done.stdout.splitlines():
         words = line.split()

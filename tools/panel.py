@@ -3,6 +3,7 @@ import array
 import collections
 
 from common import SITES, VERDICTS, Refused, verdicts
+from messages import named
 
 # From the top of a cell to its bottom.
 ORDER = ("corrupt", "detected", "masked", "idle")
@@ -33,7 +34,7 @@ class Panel:
             if at is not None:
                 self.latencies[at - step] += 1
         if not self.steps:
-            raise Refused(f"{path}: there are no faults to draw")
+            raise Refused(f"{named(path)}: has no faults to draw: its campaign had an empty list")
         self.counts.update(dict(zip(ORDER, (self.kinds.count(at) for at in range(4)))))
         self.away = self.sites.count(FOLDED)
         self.shown = self.counts - collections.Counter(

@@ -3,7 +3,8 @@ import hashlib
 import os
 import re
 
-from common import SITES, VERDICTS, WORDS
+from common import SITES, VERDICTS, WORDS, Refused, wrong_fault
+from messages import named, reason
 
 MOST_FAULTS, MOST_PRODUCT = 65_536, 1_000_000_000
 # So many faults are worth a call of the program.
@@ -21,7 +22,8 @@ def write(path, data):
             os.fsync(out.fileno())
         os.replace(path + ".new", path)
     except OSError as error:
-        raise OSError(error.errno, f"{error.strerror}; what is done is kept: run it again to go on", path) from error
+        raise Refused(f"{named(path)}: {reason(error)}; finished parts are kept: run the same command again to "
+                      "continue") from error
 
 
 def remove(path):
@@ -64,11 +66,11 @@ def within(part, most):
 
 
 def bad_line(part):
-    """The place, counted from 0, and the text of the first line of a part that is no fault; or nothing."""
+    """The first line of a part that is no fault: its place, counted from 0, its text and what is wrong; or nothing."""
     for place, line in enumerate(part.decode("ascii", "replace").split("\n")[:-1]):
         match = FAULT.fullmatch(line)
         if not match or any(len(text) == 20 and int(text) >= WORDS for text in match.groups()):
-            return place, line
+            return place, line, wrong_fault(line)
     return None
 
 

@@ -53,8 +53,8 @@ for way in fails lies dies; do
   touch "$way"
   TALFT=$work/watched campaign 1 "a part that $way" --dir "$way.kept"
   case $way in
-    fails) reason='status 5, memory ran out' ;;
-    lies) reason='status 0, but faults are missing' ;;
+    fails) reason='status 5, out of memory' ;;
+    lies) reason='status 0, but verdicts are missing' ;;
     dies) reason='killed by signal 9' ;;
   esac
   report "what is said when a part $way" "  $way.kept/000001.faults: $reason" "$(tail -n 1 said)"
@@ -72,7 +72,8 @@ ended() {
   TALFT=$work/watched "$top/tools/campaign" "${words[@]}" --jobs 1 >written 2>under &
   run=$!
   for ((n = 0; n < 300; n++)); do grep -qs 000001 given || sleep 0.1; done
-  refuses 'a second run beside the first' "campaign: $signal.$engine: another run of this campaign is under way there" \
+  refuses 'a second run beside the first' \
+    "campaign: $signal.$engine: this campaign is running already: wait for it, or give another --dir" \
     campaign "${words[@]}"
   kill -"$signal" "$run"
   wait "$run" 2>errors
@@ -88,7 +89,7 @@ ended KILL local
 
 # A disk that fills: in a file system of its own, where the system lets a user have one.
 "$top/tools/campaign" fibonacci.obj --faults list --steps "$most" --dir here >/dev/full 2>said
-report 'a full disk for the lines' '1 campaign: standard output: No space left on device' "$? $(tail -n 1 said)"
+report 'a full disk for the lines' '1 campaign: standard output: no space left on the device' "$? $(tail -n 1 said)"
 mkdir full
 fills() {
   mount -t tmpfs -o size=128k none full || exit
@@ -102,20 +103,32 @@ if unshare -rm mount -t tmpfs none full 2>errors; then
   export top work most
   report 'a disk that fills, and room again' '4 passed, 0 failed' \
     "$(passed=0 failed=0 unshare -rm bash -c 'fills; echo "$passed passed, $failed failed"' 2>&1)"
-  grep -q 'No space left on device\|output could not be written' full.said
+  grep -q 'no space left on the device\|output could not be written' full.said
   report 'it is said that the disk is full' 0 $?
 else
   skip 'a disk that fills' 'the system lets no user mount'
 fi
 
 refuses 'another campaign in the same folder' \
-  'campaign: here: another campaign is kept there: give another --dir, or remove that one' \
+  'campaign: here: another campaign is kept there: give another --dir, or remove it' \
   campaign fibonacci.obj --faults piece.aa --steps "$most" --dir here
-for line in 4:r64:6 04:r1:6 4:r1:18446744073709551616 '4:r1:6 '; do
-  printf '4:r1:6\n%s\n' "$line" >bad.list
-  refuses "a list with the line $line" "campaign: bad.list:2: '$line' is no fault STEP:SITE:WORD" \
+no_number='is not a decimal number below 2^64'
+while IFS='|' read -r line told; do
+  printf '4:r1:6\n%b\n' "$line" >bad.list
+  refuses "a list with the line $line" "campaign: bad.list:2: invalid fault \`$line\`: expected STEP:SITE:WORD; $told" \
     campaign fibonacci.obj --faults bad.list
-done
+done <<END
+4:r64:6|the site \`r64\` is not one of r0 to r63, d, pcg, pcb, qa0 to qa7 and qv0 to qv7
+04:r1:6|the step \`04\` $no_number
+4:r1:18446744073709551616|the word \`18446744073709551616\` $no_number
+4:r1|the word is missing
+4|the site and the word are missing
+4:r1:6 |remove the spaces around it
+4:r1:6 masked|this has a verdict or other words
+4:r1:6\\r|the line ends in CR LF: expected LF alone
+# words|a fault list has no comments
+|this is an empty line
+END
 report 'nothing is kept of a list that is refused' '' "$(find . -maxdepth 1 -name fibonacci.obj.campaign)"
 
 # A long list is cut into as many parts for one job as for another, and a line is named by its place in the whole list.
@@ -126,12 +139,14 @@ report 'the faults of both parts, in order' '' "$(sed '$d; s/ .*//' written | cm
 sed '8000s/.*/8:r64:1/' long.list >bad.list
 mkdir other
 touch other/mine
-refuses 'a bad line of a later part' "campaign: bad.list:8000: '8:r64:1' is no fault STEP:SITE:WORD" \
+refuses 'a bad line of a later part' \
+  'campaign: bad.list:8000: invalid fault `8:r64:1`: expected STEP:SITE:WORD; the site `r64` is not one of '\
+'r0 to r63, d, pcg, pcb, qa0 to qa7 and qv0 to qv7' \
   campaign fibonacci.obj --faults bad.list --steps 1000 --jobs 2 --dir other
 report 'what else the folder holds' other/mine "$(find other -type f)"
-refuses 'a missing list' 'campaign: missing: No such file or directory' campaign fibonacci.obj --faults missing
+refuses 'a missing list' 'campaign: missing: no such file' campaign fibonacci.obj --faults missing
 refuses 'an object that is not accepted' \
-  'campaign: mixed.obj.campaign/000000.faults: status 8: check block 0 index 3 premise 2' \
+  "campaign: $top/examples/mixed.obj: not accepted: check block 0 index 3 premise 2; --survey runs the faults unchecked" \
   campaign "$top/examples/mixed.obj" --faults "$top/examples/mixed.faults" --steps 14
 tool 'a survey with a corrupt fault' 10 '4:r1:6 corrupt\nfaults 1 masked 0 detected 0 idle 0 corrupt 1\n' \
   campaign "$top/examples/mixed.obj" --survey --faults "$top/examples/mixed.faults" --steps 14
@@ -161,7 +176,7 @@ if has parallel 'a campaign by GNU parallel'; then
   rm -f given
   touch fails
   TALFT=$work/watched campaign 1 'a part that fails under GNU parallel' --engine parallel --dir parallel.kept
-  report 'what is said of it' '  parallel.kept/000001.faults: status 5, memory ran out' "$(tail -n 1 said)"
+  report 'what is said of it' '  parallel.kept/000001.faults: status 5, out of memory' "$(tail -n 1 said)"
   rm fails given
   TALFT=$work/watched campaign 0 'GNU parallel goes on' --engine parallel --dir parallel.kept
   report 'only the part that failed is done again' '000001.faults 1' "$(given)"
@@ -169,7 +184,7 @@ if has parallel 'a campaign by GNU parallel'; then
     campaign 0 'a machine that is away' --engine parallel --hosts "$work/near one,$work/near away" --jobs 1 --dir hosts
     report 'nothing is left on a machine' '' "$(find one -type f)"
     campaign 1 'no machine that is there' --engine parallel --hosts "$work/near away" --dir away.kept
-    report 'what is said of that' '  away.kept/000000.faults and 2 more: no answer came: a machine may have gone away' \
+    report 'what is said of that' '  away.kept/000000.faults and 2 more: no answer: a machine may have gone away' \
       "$(tail -n 1 said | sed 's/ (.*//')"
     campaign 0 'the machine is there again' --engine parallel --hosts "$work/near one" --dir away.kept
   fi

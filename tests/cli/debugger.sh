@@ -31,7 +31,7 @@ report 'a recorded session is a plain script' "$(printf '%s\n' "${commands[@]}")
 report 'which anybody can run again' 'at 14 done' "$("$top/talft" debug "$five" <script | tail -n 1)"
 report 'a plain script is a source of commands' 'at 12 detected|at 14 done' \
   "$(session "$five" "source $work/script" | kept '^at 1')"
-report 'a record overwrites no file' "$work/script is there already, and stays as it is: say another file" \
+report 'a record overwrites no file' "$work/script: exists already, and is kept; give another file" \
   "$(session "$five_text" "record $work/script" step | grep script)"
 report 'the file is as it was' 8 "$(wc -l <script)"
 report 'a refused command is told by the status' 1 "$(session "$five_text" nonsense >said; echo $?)"
@@ -47,18 +47,18 @@ report 'conditions, hits, until and finish' \
     grep -oE '^(at (296|120|208).*|  a: r0 G 2,.*)|3 hits so far' | paste -sd '|')"
 report 'lines of a source' '5 6 8 9 10 13 14 15' "$(session "$debugging/lines.src" line line line line line line line |
   sed -n 's/.*, lines.src:\([0-9]*\))$/\1/p' | paste -sd ' ')"
-report 'a variable is struck in one colour' 'i: say r3 to strike its green word, r35 to strike its blue one' \
+report 'a variable is struck in one colour' '`i` is a variable: strike its green word in r3, or its blue one in r35' \
   "$(session "$fibonacci" 'zap i 1' | tail -n 1)"
 
-refuses 'a missing object of the debugger' 'debugger: /nowhere: No such file or directory' debugger /nowhere
+refuses 'a missing object of the debugger' 'debugger: /nowhere: no such file' debugger /nowhere
 head -c 1 "$five" >cut.obj
 TALFT_EXPLAIN=1 "$top/talft" dis cut.obj >written 2>said
 refuses 'an object that is refused' "debugger: $(tail -n 1 said)" debugger cut.obj
 tool 'a source that does not compile' 1 '' debugger "$top/examples/unknown.src"
 report 'what is said of it' 'debugger: unknown.src:2:7: error: `total` is not declared' \
   "$(head -n 1 said | sed 's|/.*/||')"
-TALFT=$work/none refuses 'a missing program of the debugger' "debugger: $work/none: No such file or directory" \
-  debugger "$five"
+TALFT=$work/none refuses 'a missing program of the debugger' \
+  "debugger: $work/none: not found; set \$TALFT to the program \`talft\`, or add its folder to PATH" debugger "$five"
 mkdir bare
 cp -r "$top"/{talft,build,tools,crates.txt,HANDLES} bare
 bare/tools/debugger "$five" </dev/null >written 2>said
@@ -74,9 +74,10 @@ replace() {
   sed -i 's/G 5/G 6/' replaced.asm
   echo step
 }
-report 'a program that is replaced' 'replaced.asm was replaced: this session stays with what was read at its start' \
+report 'a program that is replaced' 'replaced.asm was replaced: this session keeps what it read at its start' \
   "$(>said; replace | "$top/tools/debugger" replaced.asm >said; grep was.replaced said)"
-report 'a position that is too far' 'a session goes to step 3000000000 at most, not to 99999999999999999999' \
+report 'a position that is too far' \
+  'the position 99999999999999999999 is too far: a session ends at 3000000000' \
   "$(session "$five_text" 'goto 99999999999999999999' | tail -n 1)"
 report 'a fault that is too far ahead' 'at 14 done' \
   "$(echo c | "$top/tools/debugger" "$five_text" --fault 99999999999999999999:r1:6 | grep '^at 1')"
@@ -102,41 +103,43 @@ says() {
   report "$name" "$said" "$(printf '%b\n' "$commands" | "$top/tools/debugger" "$program" 2>&1 | tail -n 1)"
 }
 program=$five_text
-says 'no number' 'goto abc' 'abc: no number'
-says 'a position before the start' 'goto -1' '-1: say a number from 0 on'
-says 'a count below 0' 'step -3' '-3: say a number from 0 on'
-says 'a word too many' 'step 1 2' '2: one word too many'
-says 'a command that takes no word' 'finish 3' '3: `finish` takes no word'
-says 'no cell' 'x foo' 'foo: no cell, no array and no address of a cell'
-says 'no cells' 'x/0 out' 'x/0: say how many cells, from 1 on'
-says 'an empty queue' 'zap qa0 5' 'nothing there: qa0 is a part of the queue, which is empty'
-says 'a short queue' 'goto 10\nzap qv1 5' 'nothing there: qv1 is a part of the queue, which ends with qa0 and qv0'
+says 'no number' 'goto abc' 'invalid number `abc`'
+says 'a position before the start' 'goto -1' 'invalid number `-1`: expected at least 0'
+says 'a count below 0' 'step -3' 'invalid number `-3`: expected at least 0'
+says 'a word too many' 'step 1 2' 'unexpected argument `2`'
+says 'a command that takes no word' 'finish 3' 'unexpected argument `3`: `finish` takes none'
+says 'no cell' 'x foo' 'unknown name `foo`: expected a cell, an array or the address of a cell'
+says 'no cells' 'x/0 out' 'invalid count in `x/0`: expected at least 1 cell'
+says 'an empty queue' 'zap qa0 5' 'nothing there: `qa0` is a part of the queue, which is empty'
+says 'a short queue' 'goto 10\nzap qv1 5' 'nothing there: `qv1` is a part of the queue, which ends with qa0 and qv0'
 says 'a stopped machine' 'goto 14\nzap r1 5' 'nothing there: the machine has stopped'
-says 'no register' 'print r64' 'r64: no register (r0 to r63, d, pcg, pcb), no part of the queue (qa0 to qv7), no cell'
-says 'no base' 'print/q r1' '/q: no base: /x, /b, /o or /d'
-says 'a word below 0' 'zap r1 -1' '-1: no word of 64 bits: 0 to 18446744073709551615'
-says 'a strike of a cell' 'zap out 3' 'out: no fault strikes a cell (docs/PROMISES.md)'
+says 'no register' 'print r64' 'unknown name `r64`: expected a register (r0 to r63, d, pcg, pcb), a part of the queue '\
+'(qa0 to qv7) or a cell'
+says 'no base' 'print/q r1' 'unknown format `/q`: expected /x, /b, /o or /d'
+says 'a word below 0' 'zap r1 -1' '`-1` is out of range: expected 0 to 18446744073709551615'
+says 'a strike of a cell' 'zap out 3' '`out` is a cell, and no fault strikes a cell (docs/PROMISES.md)'
 says 'no line' 'break 99' \
-  '99: no instruction is on this line or behind it: they are on lines 13 to 21'
-says 'no index' 'break 0:9' '0:9: no index 9: block 0 has 0 to 6'
-says 'no block' 'break 7:0' '7:0: no block 7: the blocks are 0 to 0'
+  '`99`: no instruction is on this line or after it: instructions are on lines 13 to 21'
+says 'no index' 'break 0:9' '`0:9`: unknown index 9: block 0 has 0 to 6'
+says 'no block' 'break 7:0' '`7:0`: unknown block 7: the blocks are 0 to 0'
 says 'a line without an instruction' 'break 15' 'no instruction is on line 15: this is the next one, on line 16'
-says 'a breakpoint twice' 'break 0:2\nbreak 0:2' '0:2: breakpoint 1 is this one already'
-says 'a watch twice' 'watch r1\nwatch r1' 'r1: watch 1 is this one already'
-says 'a plan twice' 'plan 4:r1:6\nplan 4:r1:6' '4:r1:6: planned already'
+says 'a breakpoint twice' 'break 0:2\nbreak 0:2' '`0:2` is breakpoint 1 already'
+says 'a watch twice' 'watch r1\nwatch r1' '`r1` is watched already, by watch 1'
+says 'a plan twice' 'plan 4:r1:6\nplan 4:r1:6' '`4:r1:6` is planned already'
 says 'half a condition' 'break 0:1 if r1 == 5 and' \
-  '`r1 == 5 and`: a comparison is missing: say WORD OP WORD, with OP one of == != <= >= < >, and a WORD that is '\
-'a register, a cell, or a number'
-says 'a breakpoint at no place' tbreak 'say a place: tbreak 1:0'
-says 'no topic' 'info foo' 'foo: no topic: info registers|queue|cells|breaks|strikes|position|outputs|names'
+  '`r1 == 5 and`: missing comparison: expected WORD OP WORD, where OP is one of == != <= >= < >, and WORD a register, '\
+'a cell, or a number'
+says 'a breakpoint at no place' tbreak 'missing place, as in `tbreak 1:0`'
+says 'no topic' 'info foo' \
+  'unknown topic `foo`: expected info registers|queue|cells|breaks|strikes|position|outputs|names'
 says 'a position after the end' 'goto 1000000000' 'the run ended at 14, before 1000000000'
 says 'explain before the strike' 'plan 4:r1:6\nexplain' 'the strike 4:r1:6 is ahead: `continue`, and ask then'
 says 'at the strike' 'plan 4:r1:6\ngoto 4' 'the strike 4:r1:6 is made here'
 says 'back past a planned strike' 'plan 4:r1:6\ngoto 9\nback 6' 'the strike 4:r1:6 is ahead again'
 says 'back past a strike' 'goto 4\nzap r1 6\nback' 'the strike 4:r1:6 is forgotten: `undo` brings it back'
 says 'a record that cannot be written' 'record /nowhere/script' \
-  '/nowhere/script: it cannot be written: No such file or directory'
-says 'a record in the place of a folder' "record $work" "$work: a folder: say a file"
+  '/nowhere/script: cannot be written: there is no folder `/nowhere`'
+says 'a record in the place of a folder' "record $work" "$work: is a folder; give a file"
 says 'an empty line of a script' 'print r1\n' 'r1 G 0'
 program=$top/examples/sieve.src
 says 'a variable is watched in both colours' 'watch j\ninfo breaks' '  1  watch r1 r33'
@@ -144,14 +147,14 @@ says 'what is said of it' 'watch j' 'watch 1: j: r1 G 0, r33 G 0'
 # Its first word is 2 * 2, by sieve.src. Before that r33 takes its colour.
 says 'its green register' 'watch j\ncontinue\ncontinue' 'watch 1: r1 G 0 -> r1 G 4'
 says 'its blue register' 'watch j\ncontinue\ncontinue\ncontinue' 'watch 1: r33 B 0 -> r33 B 4'
-array='composite: an array of 30 cells: say composite[0] to composite[29], or x/30 composite'
+array='`composite` is an array of 30 cells: use composite[0] to composite[29], or `x/30 composite`'
 says 'an array is no word' 'print composite' "$array"
 says 'an array is not watched' 'watch composite' "$array"
 says 'a cell of an array' 'watch composite[4]\ncontinue' 'watch 1: composite[4] 0 -> composite[4] 1'
 report 'cells of an array' 'composite[0] 0|composite[1] 0|composite[2] 0' \
   "$(session "$program" 'x/3 composite' | kept '^composite')"
-says 'a cell behind an array is not watched' 'watch composite[40]' 'composite[40]: composite has 30 cells: 0 to 29'
-says 'a cell behind an array' 'print composite[30]' 'composite[30]: composite has 30 cells: 0 to 29'
+says 'a cell behind an array is not watched' 'watch composite[40]' '`composite[40]`: composite has 30 cells: 0 to 29'
+says 'a cell behind an array' 'print composite[30]' '`composite[30]`: composite has 30 cells: 0 to 29'
 report 'an array ends' 'composite[28] 0|composite[29] 0|composite has 30 cells: 0 to 29' \
   "$(session "$program" 'x/99 composite[28]' | kept '^composite')"
 # Line 11 is entered in 1:38, and tested in 2:0. The first test comes after 54 instructions, at 108. A turn has 30
@@ -164,10 +167,10 @@ report 'which halts at both' 'block 1 index 38, sieve.src:11|block 2 index 0, si
   "$(session "$program" 'break 11' c c c | sed -n '/breakpoint 1:/d; s/^the next .*(\(block.*11\))$/\1/p' | paste -sd '|')"
 says 'until a line' 'until sieve.src:12' 'the next step fetches add r3 r1 G 0  (block 2 index 10, sieve.src:12)'
 says 'goto goes to no line' 'goto sieve.src:12' \
-  'sieve.src:12: a place, and `goto` takes a position: `until sieve.src:12` goes to a place or a line'
-says 'a line of another file' 'break other.src:12' 'other.src:12: no line: those of sieve.src are known'
+  '`sieve.src:12` is a place, and `goto` takes a position: `until sieve.src:12` goes to a place or a line'
+says 'a line of another file' 'break other.src:12' '`other.src:12`: unknown file: only the lines of sieve.src are known'
 says 'until a place that is never reached' 'goto 4000\nuntil sieve.src:5' \
-  'the run ended at 4106, and never came to 0:2'
+  'the run ended at 4106 without reaching 0:2'
 three=('break 2:0' 'break 2:0 hit 5' 'break 2:0 if i == 77')
 report 'only the breakpoints that are met are named' \
   'breakpoint 1|breakpoint 1|breakpoint 1|breakpoint 1|breakpoint 1|breakpoint 2  from hit 5 on' \
@@ -176,38 +179,41 @@ report 'back, too' 'at 348 running|breakpoint 1|breakpoint 2  from hit 5 on|at 2
   "$(session "$program" "${three[@]}" 'goto 360' rc rc | kept '^(at 348.*|at 288.*|breakpoint [0-9](  from.*)?)$')"
 report 'a line goes past a breakpoint that is not met' '12|13|14' "$(session "$program" 'until 2:0' 'break 2:12 if j == 5' \
   line line line | sed -n 's/^the next .*sieve.src:\(1[1-4]\))$/\1/p' | tail -n +2 | paste -sd '|')"
-says 'only `and` joins' 'break 11 if i == 3 or j == 4' 'i == 3 or j == 4: only `and` joins comparisons'
-says 'one sign of equality' 'break 11 if i = 3' 'i = 3: `=` is `==` here'
-says 'parentheses' 'break 11 if (i == 3)' '(i == 3): no parentheses: comparisons are joined by `and` alone'
-says 'a condition without a place' 'break if i == 3' 'if i == 3: say a place first: break 1:0 if i == 3'
-says 'a condition over an unknown name' 'break 11 if k == 3' 'k: no register, no cell, no variable, and no number'
-says 'no comparison' 'break 11 if i' 'i: no comparison: say WORD OP WORD, with OP one of == != <= >= < >, and a WORD '\
-'that is a register, a cell, a variable, or a number'
+says 'only `and` joins' 'break 11 if i == 3 or j == 4' '`i == 3 or j == 4`: comparisons can be joined only by `and`'
+says 'one sign of equality' 'break 11 if i = 3' '`i = 3`: write `==` for `=`'
+says 'parentheses' 'break 11 if (i == 3)' \
+  '`(i == 3)`: parentheses are not supported: join comparisons by `and`'
+says 'a condition without a place' 'break if i == 3' 'missing place before `if i == 3`: as in `break 1:0 if i == 3`'
+says 'a condition over an unknown name' 'break 11 if k == 3' \
+  'unknown name `k`: expected a register, a cell, a variable, or a number'
+says 'no comparison' 'break 11 if i' 'invalid comparison `i`: expected WORD OP WORD, where OP is one of == != <= >= < >, '\
+'and WORD a register, a cell, a variable, or a number'
 says 'a planned strike behind the end' 'plan 9000:r1:7\nend' \
   'the strike 9000:r1:7 is not made: the run ended at 4106, before it'
 says 'a strike in hexadecimal' 'plan 700:r0:0x10\ninfo strikes' '  700:r0:16 planned, not made yet'
 says 'a planned strike is forgotten' 'plan 700:r0:16\nplan 9:r1:7\nunplan 700:r0:0x10\ninfo strikes' \
   '  9:r1:7 planned, not made yet'
-says 'no such strike' 'unplan 9:r1:7' '9:r1:7: no such strike is planned: `info strikes` has them'
-says 'a sum is not printed' 'print i + 1' 'i + 1: `print` writes words, and computes nothing: print r1 out'
-says 'words have no dollar' 'print $r1' '$r1: words have no `$` here: say r1'
-says 'a command of others' 'list' 'list: no command: `disassemble` shows the code with the lines of the source'
+says 'no such strike' 'unplan 9:r1:7' '`9:r1:7` is not planned: `info strikes` lists the strikes'
+says 'a sum is not printed' 'print i + 1' '`i + 1`: `print` takes names, not expressions, as in `print r1 out`'
+says 'words have no dollar' 'print $r1' '`$r1`: names have no `$` here: write `r1`'
+says 'a command of others' 'list' 'unknown command `list`: `disassemble` shows the code with the lines of the source'
 says 'a topic of others' 'info locals' \
-  'locals: no topic: `info names` says where names are kept, `print` and `display` write their words'
+  'unknown topic `locals`: `info names` says where names are kept, `print` and `display` write their words'
 says 'what is displayed' 'display i prime\nundisplay i\ndisplay' '  prime 0'
 printf 'step\nnonsense\nstep\n' >broken
 says 'a script ends at what is refused' "source $work/broken" \
-  "$work/broken:2: nonsense: no command; \`help\` has them all; the script ends here"
+  "$work/broken:2: unknown command \`nonsense\`; \`help\` lists the commands; the script ends here"
 report 'a file with a blank' 'zap r0 1|step 2' \
   "$(session "$program" "record $work/a b" 'flip r0 0' 'step 2' >said; paste -sd '|' "$work/a b")"
 report 'each instruction has its help' '' "$(for name in add sub mul ltu eq and or xor shl shr mov idx ld_G ld_B st_G st_B \
   jmp_G jmp_B bz_G bz_B halt sites d faults; do echo "help $name"; done | "$top/tools/debugger" "$program" 2>&1 |
-  grep 'no command')"
+  grep 'unknown command')"
 says 'what d is' 'help d' 'detected. So a strike that changes d is detected by the next jump or branch.'
 program=endless.obj
-says 'an end that does not come' end 'the run has not ended in 1,000,000 steps: `end` goes on'
+says 'an end that does not come' end 'the run has not ended after 1,000,000 more steps: `end` continues'
 says 'no lines of an object alone' line \
-  'no lines of a source are known here: `next` takes an instruction; `debugger OBJ --source SRC` names the source of an object'
+  'no source lines are known: `next` executes an instruction; `debugger OBJECT --source SOURCE` names the source of an '\
+'object'
 program=$top/examples/sieve.src
 # What a recording states runs it again.
 again=$(cd "$top/examples" && session sieve.src "record $work/recorded" 'goto 50' 'zap r1 7' |
@@ -222,7 +228,8 @@ report 'no lines of an object' 'at 12 running|the next step fetches st_B r32 r33
   "$(session "$five" 'zap r1 9' 'goto 10' | tail -n 2 | sed 's/^at 10/at 12/' | paste -sd '|')"
 report 'pairs that differ by a strike, and without one' '~ r0 G 1048576 out r32 G 0|* r0 G 7 r32 G 0' \
   "$(session "$five_text" 'goto 4' registers 'zap r0 7' registers | tr -s ' ' | kept '^. r0 ')"
-refuses 'lines of an object' "lines: $five: no source: say the source, and the object by --object" lines "$five"
+refuses 'lines of an object' \
+  "lines: $five: is an object, not a source; give the source, and the object with --object" lines "$five"
 
 tool 'the way of a fault, and its cause' 0 "$(cat <<END
 done after 14 steps: 1 output, nothing was detected
@@ -243,12 +250,20 @@ the checker refuses this object (check block 0 index 3 premise 2), so no promise
     r1: G int
 END
 )\n" explain "$top/examples/mixed.obj" --fault 4:r1:6
-refuses 'a fault that strikes nothing' 'explain: 4:qa0:6: nothing is there at that step' explain "$five" --fault 4:qa0:6
-refuses 'a fault after the end' 'explain: 14:r1:6: the run is at its end after 14 steps' explain "$five" --fault 14:r1:6
-refuses 'a fault at no site' 'explain: r64: no site: r0 to r63, d, pcg, pcb, qa0 to qa7, qv0 to qv7' \
+refuses 'a fault that strikes nothing' \
+  'explain: --fault 4:qa0:6: nothing was struck: at step 4 the queue has no entry 0' explain "$five" --fault 4:qa0:6
+refuses 'a fault after the end' \
+  'explain: --fault 14:r1:6: nothing was struck: the run ended after 14 steps' explain "$five" --fault 14:r1:6
+refuses 'a fault at no site' \
+  'explain: invalid fault `4:r64:6`: expected STEP:SITE:WORD; the site `r64` is not one of '\
+'r0 to r63, d, pcg, pcb, qa0 to qa7 and qv0 to qv7' \
   explain "$five" --fault 4:r64:6
-refuses 'a step below 0' 'explain: -1: say a number from 0 on' explain "$five" --fault -1:r0:3
-refuses 'a word below 0' "explain: -1: no word of 64 bits: 0 to 18446744073709551615" explain "$five" --fault 4:r0:-1
+refuses 'a step below 0' \
+  'explain: invalid fault `-1:r0:3`: expected STEP:SITE:WORD; invalid number `-1`: expected at least 0' \
+  explain "$five" --fault -1:r0:3
+refuses 'a word below 0' \
+  'explain: invalid fault `4:r0:-1`: expected STEP:SITE:WORD; `-1` is out of range: expected 0 to 18446744073709551615' \
+  explain "$five" --fault 4:r0:-1
 # The struck i is seen first where j grows by it, and j < 30 holds for one colour alone: 24 + 16 is 40, 24 + 2 is 26.
 report 'a branch that is not taken by both' 'r35 = 1: blue does not jump, so d must be 0; d = 85 (block 3 index 0)' \
   "$("$top/tools/explain" "$top/examples/sieve.src" --fault 700:r0:0x10 | sed -n '4s/^ *//p')"
@@ -256,7 +271,7 @@ report 'a branch that is not taken by both' 'r35 = 1: blue does not jump, so d m
 report 'a fault that is gone' \
   'gone at 702: from there on no word differs|at 4106: no word differs, and no output does: the fault is gone' \
   "$("$top/tools/explain" "$top/examples/sieve.src" --fault 690:r2:3 | tail -n 2 | paste -sd '|')"
-refuses 'a fault that is none' 'explain: 4: no fault: say STEP:SITE:WORD' explain "$five" --fault 4
+refuses 'a fault that is none' 'explain: invalid fault `4`: expected STEP:SITE:WORD, as 4:r1:6' explain "$five" --fault 4
 # What README shows of `explain` is what it writes.
 report 'the way of a fault in README' '' "$(sed -n '/^\$ tools\/explain/,/^```/p' "$top/README.md" | sed '1d; $d' |
   diff - <("$top/tools/explain" "$fibonacci" --fault 296:r32:7))"
@@ -269,7 +284,8 @@ for source in "$top"/examples/*.src; do
 done
 report 'the names of a source' 'a    registers r0 and r32' "$("$top/tools/lines" "$fibonacci" | sed -n 2p)"
 "$top/talft" compile "$top/examples/sum.src" >sum.obj
-refuses 'lines of another object' "lines: $fibonacci: the instructions of sum.obj are not those of this source" \
+refuses 'lines of another object' \
+  "lines: $fibonacci: is not the source of sum.obj: the instructions differ" \
   lines "$fibonacci" --object sum.obj
 
 wait "$walks"
@@ -279,37 +295,37 @@ report 'what the tools know of the machine' '0 wrong' "$(tail -n 1 facts.said | 
 wait "$adapter"
 report 'the adapter for editors' '0 failed' "$(sed 's/.* passed, \(.*\);.*/\1/' adapter.said)"
 
-refuses 'a screen without a terminal' 'debugger: --tui: standard input and output have to be a terminal' \
+refuses 'a screen without a terminal' 'debugger: --tui needs a terminal for standard input and output' \
   debugger "$five_text" --tui
 if has tmux 'the screen and the prompt in a terminal'; then
   # `on LINE..` is what keys.sh writes of these lines.
   on() { printf '%s\n' "$@" | bash "$debugging/keys.sh" 100 30 "$keyed"; }
   keyed="$top/tools/debugger $five_text --tui"
-  screen=$(on 'await has the keys' n n n n z 'text:r1 6' Enter 'await ! 4:r1:6' shot c 'await detected' shot \
+  screen=$(on 'await lists the keys' n n n n z 'text:r1 6' Enter 'await ! 4:r1:6' shot c 'await detected' shot \
     'size 40 8' shot 'size 9 3' shot Home n 'size 120 40' 'await o at 1 running' shot q)
   report 'the screen has the strike' 1 "$(grep -c 'o at 4 running   ! 4:r1:6' <<<"$screen")"
   report 'the screen marks the pair' yes "$(grep -q '\* r1  G 6' <<<"$screen" && echo yes)"
   report 'the screen says that it is detected' 1 \
     "$(grep -c 'at 12 detected   the machine has stopped itself' <<<"$screen")"
   report 'the screen has other sizes' 1 "$(grep -c '^o at 1 running' <<<"$screen")"
-  screen=$(on 'await has the keys' 'size 80 24' shot l 'await no lines' shot a a 'await o here' shot \
+  screen=$(on 'await lists the keys' 'size 80 24' shot l 'await no source lines' shot a a 'await o here' shot \
     'size 60 24' 'await blue: ' shot q)
   report 'the screen of 80 columns, and of 60' \
-    '14 steps|7 instructions, 1 block, 1 cell; ? has the keys|: command  ? help  q quit|'\
-'no lines of a source are known: one instruction|o here  ! strike  @ both|green  blue: 75 columns' \
-    "$(grep -oE -e '[0-9]+ steps$' -e '^7 instructions, .* keys' -e '^: command  \? help  q quit' -e '^no lines .*' \
+    '14 steps|7 instructions, 1 block, 1 cell; ? lists the keys|: command  ? help  q quit|'\
+'no source lines are known: one instruction|o here  ! strike  @ both|green  blue: 75 columns' \
+    "$(grep -oE -e '[0-9]+ steps$' -e '^7 instructions, .* keys' -e '^: command  \? help  q quit' -e '^no source lines .*' \
       -e '^o here  ! strike  @ both' -e 'green  blue: .*' <<<"$screen" | awk '!seen[$0]++' | paste -sd '|')"
   # Where 80 columns are too few, the names of cells go, and columns stay apart. A move stays on the screen.
   keyed="$top/tools/debugger $top/examples/sieve.src --tui"
-  screen=$(on 'await has the keys' 'size 80 24' g text:700 Enter 'await o at 700' : 'text:display prime' Enter : \
-    'text:watch composite[4]' Enter 'await watch 1' shot x 'await no key' shot q)
+  screen=$(on 'await lists the keys' 'size 80 24' g text:700 Enter 'await o at 700' : 'text:display prime' Enter : \
+    'text:watch composite[4]' Enter 'await watch 1' shot x 'await does nothing' shot q)
   report 'words of 80 columns' '| r2 G 1048598 r34 B 1048598' \
     "$(grep -o '|   r2 .*' <<<"$screen" | head -n 1 | tr -s ' ' | sed 's/ $//')"
   report 'cells that are displayed and watched' '  prime 2|  prime 2|  composite[4] 1' \
     "$(sed -n '/-----/q; s/.*| \(  prime .*\|  composite.4. .*\)/\1/p' <<<"$screen" | sed 's/ *$//' | paste -sd '|')"
-  report 'an unknown key' 1 "$(grep -c '^x: no key of this screen; ? has the keys' <<<"$screen")"
+  report 'an unknown key' 1 "$(grep -c '^x: this key does nothing; ? lists the keys' <<<"$screen")"
   keyed="$top/tools/debugger $top/examples/sieve.src --tui --fault 700:r0:16"
-  screen=$(on 'await has the keys' 'size 80 24' c 'await detected' e 'await any key' shot Enter End \
+  screen=$(on 'await lists the keys' 'size 80 24' c 'await detected' e 'await any key' shot Enter End \
     'await o at 788' q)
   report 'the page of a way has its lines' '  at 754  r3 40, not 26  add r3 r3 r4  (sieve.src:13)' \
     "$(grep 'at 754' <<<"$screen")"
@@ -328,8 +344,8 @@ if has tmux 'the screen and the prompt in a terminal'; then
   screen=$(on 'await (talft)' text:c Enter 'pause 2' C-c 'await interrupted' text:where Enter 'await pcb' shot text:c \
     Enter kill)
   report 'a run that is interrupted' \
-    'at P running|interrupted: the run got to P, and stays there; `continue` goes on|at P running' \
-    "$(position=$(sed -n 's/.*the run got to \([1-9][0-9]*\),.*/\1/p' <<<"$screen"); sed "s/^^C//; s/ pcg.*//
+    'at P running|interrupted: the run stays at P; `continue` continues it|at P running' \
+    "$(position=$(sed -n 's/.*the run stays at \([1-9][0-9]*\);.*/\1/p' <<<"$screen"); sed "s/^^C//; s/ pcg.*//
       s/\<$position\>/P/" <<<"$screen" | kept '^(interrupted|at P running)')"
   for ((n = 0; n < 50; n++)); do pgrep -f 'debugger endless.obj' >written || break; sleep 0.1; done
   report 'nothing is left running' '' "$(pgrep -f 'debugger endless.obj')"

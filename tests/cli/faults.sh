@@ -43,22 +43,30 @@ done
 tool 'a run that is cut' 0 '5:r0:1\n' faults "$five" --most 6 --steps 5: --sites r0 --values 1
 report 'what is said of a run that is cut' 'faults: the run is still running after 6 steps: raise --most to strike later ones' "$(head -n 1 said)"
 
-refuses 'a site that is none' "faults: --sites: 'r64': there is no site r64" faults "$five" --sites r0,r64
-refuses 'a range of sites across kinds' "faults: --sites: 'd-r3' is no site and no range of them" \
+refuses 'a site that is none' \
+  'faults: --sites: unknown site `r64`: the sites are r0 to r63, d, pcg, pcb, qa0 to qa7 and qv0 to qv7' \
+  faults "$five" --sites r0,r64
+refuses 'a range of sites across kinds' 'faults: --sites: invalid site `d-r3`: expected a list such as r0-r3,d' \
   faults "$five" --sites d-r3
-refuses 'a range of sites that goes down' "faults: --sites: 'r9-r2' goes down" faults "$five" --sites r9-r2
-refuses 'a bit that is none' "faults: --flip: '64': the bits of a word are 0 to 63" faults "$five" --flip 64
-refuses 'a word that is none' "faults: --values: '18446744073709551616' is no number below 2^64" \
+refuses 'a range of sites that goes down' \
+  'faults: --sites: the range `r9-r2` is empty: write the smaller number first' faults "$five" --sites r9-r2
+refuses 'a bit that is none' 'faults: --flip: invalid bit in `64`: the bits of a word are 0 to 63' \
+  faults "$five" --flip 64
+refuses 'a word that is none' \
+  'faults: --values: invalid number `18446744073709551616`: expected decimal numbers below 2^64, separated by commas' \
   faults "$five" --values 18446744073709551616
-refuses 'words and bits' 'faults: give --values or --flip, not both' faults "$five" --values 1 --flip 1
-refuses 'steps that are no range' "faults: --steps: '3' is neither FIRST:LAST nor FIRST:LAST:EVERY" \
+refuses 'words and bits' 'faults: --values and --flip exclude each other' faults "$five" --values 1 --flip 1
+refuses 'steps that are no range' \
+  'faults: --steps: invalid range `3`: expected FIRST:LAST or FIRST:LAST:EVERY, as 4:5 for the step 4 alone' \
   faults "$five" --steps 3
-refuses 'steps after the end' "faults: --steps: '14:': the run of 14 steps has none of these" \
+refuses 'steps after the end' \
+  'faults: --steps: `14:` has no step of the run, which takes 14 steps; LAST is left out' \
   faults "$five" --steps 14:
-refuses 'a missing object' 'faults: missing.obj: status 3, a file could not be read' faults missing.obj
+refuses 'a missing object' 'faults: missing.obj: no such file' faults missing.obj
 head -c 1 "$five" >cut.obj
 refuses 'an object that is cut off' 'faults: cut.obj: status 7: object 2 1' faults cut.obj
-TALFT=$work/none refuses 'a missing program' "faults: $work/none: No such file or directory" faults "$five"
+TALFT=$work/none refuses 'a missing program' \
+  "faults: $work/none: not found; set \$TALFT to the program \`talft\`, or add its folder to PATH" faults "$five"
 report 'the help' 'usage: faults' "$("$top/tools/faults" --help | head -n 1 | cut -c1-13)"
 "$top/tools/faults" "$five" >/dev/full 2>said
-report 'a full disk' '1 faults: standard output: No space left on device' "$? $(tail -n 1 said)"
+report 'a full disk' '1 faults: standard output: no space left on the device' "$? $(tail -n 1 said)"

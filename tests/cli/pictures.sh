@@ -67,18 +67,22 @@ fi
 
 head -n 5 few.lines >cut.lines
 refuses 'lines that are cut off' \
-  'plot: cut.lines:6: the line `faults ..` with the totals is missing: the file is cut off' plot cut.lines
+  'plot: cut.lines:6: missing last line `faults ..`, with the totals: the file is incomplete' plot cut.lines
 sed 's/idle 4/idle 5/' few.lines >wrong.lines
 refuses 'totals that are not those of the lines' \
-  'plot: wrong.lines:21: the totals are not those of the lines: masked 10 detected 5 idle 4 corrupt 1' plot wrong.lines
+  'plot: wrong.lines:21: the totals do not match the lines, which have masked 10 detected 5 idle 4 corrupt 1' plot wrong.lines
 sed '3s/masked/broken/' few.lines >broken.lines
-refuses 'a line that is none' "plot: broken.lines:3: '2:r0:1 broken' is no line of a campaign" plot broken.lines
+refuses 'a line that is none' \
+  'plot: broken.lines:3: unexpected `2:r0:1 broken`: expected STEP:SITE:WORD VERDICT, as `talft campaign` writes it' \
+  plot broken.lines
 echo 'faults 0 masked 0 detected 0 idle 0 corrupt 0' >none.lines
-refuses 'a campaign without a fault' 'plot: none.lines: there are no faults to draw' plot none.lines
-refuses 'a missing file' 'plot: missing: No such file or directory' plot missing
-refuses 'a page without an object' 'report: give the object: --dir or --object' report few.lines
+refuses 'a campaign without a fault' 'plot: none.lines: has no faults to draw: its campaign had an empty list' \
+  plot none.lines
+refuses 'a missing file' 'plot: missing: no such file' plot missing
+refuses 'a page without an object' \
+  'report: missing object: give `--dir DIR`, the folder of the tool `campaign`, or `--object OBJECT`' report few.lines
 refuses 'a page of lines that are cut off' \
-  'report: cut.lines:6: the line `faults ..` with the totals is missing: the file is cut off' \
+  'report: cut.lines:6: missing last line `faults ..`, with the totals: the file is incomplete' \
   report cut.lines --object "$top/examples/five.obj"
 for script in plot report; do
   report "the help of $script" "usage: $script" "$("$top/tools/$script" --help | head -n 1 | grep -o "usage: $script")"

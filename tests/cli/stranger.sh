@@ -5,13 +5,16 @@ tool 'an object is built' 0 '' build built.asm
 expect 'the object that was built' 0 'out 5\n' run built.obj
 cp built.obj old.obj
 echo 'cell out = 0; out = x;' >built.src
-refuses 'a source that is refused' 'build: built.src: source 7 20' build built.src
+refuses 'a source that is refused' 'build: built.src: refused by `talft compile`: source 7 20' build built.src
 report 'the old object stays' '' "$(cmp built.obj old.obj 2>&1)"
 cp "$top/examples/mixed.obj" wrong.obj
 "$top/talft" dis wrong.obj >wrong.asm
-refuses 'an object that is not accepted' 'build: wrong.obj: check block 0 index 3 premise 2' build wrong.asm
+refuses 'an object that is not accepted' 'build: wrong.obj: refused by `talft check`: check block 0 index 3 premise 2' \
+  build wrong.asm
 report 'nothing is left over' '' "$(ls ./*.new 2>&1 | grep -v 'No such file')"
-refuses 'a name of another kind' 'build: built.txt: expected a name that ends with .src, .asm or .map' build built.txt
+cp built.src built.txt
+refuses 'a name of another kind' \
+  'build: built.txt: unknown kind of file; expected a name that ends in .src, .asm or .map' build built.txt
 
 # Of five.obj, 14 steps long, a run of 12 steps is cut. Both faults strike, and the second is detected in step 11.
 printf '0:r9:1\n4:r1:6\n' >cut.faults
@@ -96,3 +99,30 @@ END
 report 'Ctrl-C before the proof' '130 nothing runs' \
   "$(TMPDIR=$work/left PATH=$work/kit:$PATH timeout 60 python3 ctrl_c.py left/one unproved/talft run "$top/examples/five.obj" 2>&1)"
 report 'the files that the call left' one "$(ls left)"
+
+# A file that is read is not written, by whatever name.
+cp "$top/tests/c/control.wasm" read.wasm
+cp "$top/examples/five.asm" read.asm
+ln -s read.asm text-again.asm
+touch read.lines read.svg
+refuses 'an object over its module' 'cc: read.wasm: is an input; give the output another name' \
+  cc read.wasm -o read.wasm
+refuses 'a text over its module' 'wasm2asm: ./read.wasm: is an input; give the output another name' \
+  wasm2asm read.wasm -o ./read.wasm
+refuses 'an object over its text' 'build: text-again.asm: is an input; give the output another name' \
+  build read.asm -o text-again.asm
+refuses 'a page over its lines' 'report: read.lines: is an input; give the output another name' \
+  report read.lines --dir cut.kept --out read.lines
+refuses 'a picture over its lines' 'plot: read.svg: is an input; give the output another name' \
+  plot read.svg --out read.svg
+report 'the module' '' "$(cmp read.wasm "$top/tests/c/control.wasm" 2>&1)"
+report 'the text' '' "$(cmp read.asm "$top/examples/five.asm" 2>&1)"
+
+# Streams that are closed.
+for words in "explain $top/examples/five.obj --fault 4:r1:6" "debugger $top/examples/five.obj" "lines $top/examples/sieve.src" \
+  "faults $top/examples/five.obj --steps 4 --sites r1 --values 6" "set $top/examples/five.obj --list"; do
+  # shellcheck disable=SC2086
+  report "standard output that is closed: ${words%% *}" "${words%% *}: standard output: is closed" \
+    "$(timeout 20 "$top/tools/"$words 2>&1 >&- </dev/null)"
+done
+report 'standard input that is closed' 'at 0 running' "$("$top/tools/debugger" "$top/examples/five.obj" <&- 2>&1 | head -n 1)"

@@ -154,7 +154,7 @@ def refusals(tests):
     """What cannot be launched."""
     client = Client()
     answer = client.begin({"program": "/nowhere.obj"})
-    tests.check("no file", "/nowhere.obj: No such file or directory", answer["message"])
+    tests.check("no file", "/nowhere.obj: no such file", answer["message"])
     tests.check("nothing is launched", False, client.ask("threads")["success"])
     tests.close(client)
 

@@ -54,9 +54,9 @@ class Adapter(Views, Breaks):
             self.taken()
         call = getattr(self, "on_" + command, None)
         if not call:
-            return self.wire.refuse(request, f"{command}: no request of this adapter")
+            return self.wire.refuse(request, f"unknown request `{command}`")
         if not self.session and command not in FIRST:
-            return self.wire.refuse(request, "nothing is launched")
+            return self.wire.refuse(request, "no program is launched: send `launch` first")
         try:
             return call(request, request.get("arguments") or {})
         except Refused as error:
@@ -64,7 +64,7 @@ class Adapter(Views, Breaks):
         except Interrupted:
             return self.wire.refuse(request, "interrupted")
         except (AttributeError, IndexError, KeyError, TypeError, ValueError) as error:
-            return self.wire.refuse(request, f"{command}: bad arguments: {error!r}")
+            return self.wire.refuse(request, f"`{command}`: invalid arguments: {error!r}")
 
     # BEGIN AND END
 
@@ -73,11 +73,11 @@ class Adapter(Views, Breaks):
         self.wire.answer(request, dict(dict.fromkeys(CAN, True), exceptionBreakpointFilters=[FILTER]))
 
     def on_attach(self, request, asked):
-        raise Refused("nothing can be attached to: a session is a run from its start; use launch")
+        raise Refused("`attach` is not possible: a session runs a program from its start; use `launch`")
 
     def on_launch(self, request, asked):
         if not isinstance(asked.get("program"), str):
-            raise Refused("launch: `program` has to name an object, an assembly text or a source")
+            raise Refused("`launch`: missing `program`: the name of an object, an assembly text or a source")
         wild = asked.get("wild")
         wild = ",".join(str(part) for part in wild) if isinstance(wild, list) else wild
         target = Target(asked["program"], wild, asked.get("text"), asked.get("source"))

@@ -6,6 +6,7 @@ from debugging import explaining, views
 from debugging.commands import Commands, Quit
 from debugging.machine import is_fetch
 from debugging.reading import word_of
+from messages import quoted
 
 # The only thread, and the reference of the text that `dis` writes.
 THREAD, DIS = 1, 1
@@ -104,7 +105,7 @@ class Views:
     def on_variables(self, request, asked):
         number = asked["variablesReference"]
         if not 1 <= number <= len(SCOPES):
-            raise Refused(f"variables: there is no reference {number}")
+            raise Refused(f"`variables`: unknown reference {number}")
         rows = self.rows(SCOPES[number - 1], asked)
         start, count = asked.get("start") or 0, asked.get("count") or len(rows)
         variables = []
@@ -122,7 +123,7 @@ class Views:
     def strike(self, request, name, text, asked):
         """Puts a word where the client wants it."""
         if name in self.session.target.listing.cells:
-            raise Refused(f"{name}: no fault strikes a cell (docs/PROMISES.md)")
+            raise Refused(f"`{name}` is a cell, and no fault strikes a cell (docs/PROMISES.md)")
         self.session.zap(name, word_of((text.split() or [""])[0]))
         self.wire.answer(request, {"value": self.value(self.session.word(name), asked), "variablesReference": 0})
         if self.client.get("supportsInvalidatedEvent"):
@@ -142,7 +143,7 @@ class Views:
         if site in SITES or site in session.target.listing.cells:
             self.wire.answer(request, {"result": self.value(session.word(site), asked), "variablesReference": 0})
         elif asked.get("context") not in ("repl", None):
-            raise Refused(f"{text}: nothing has this name")
+            raise Refused(f"unknown name {quoted(text)}")
         else:
             self.command(request, text)
 
@@ -178,7 +179,7 @@ class Views:
 
     def on_source(self, request, asked):
         if ((asked.get("source") or {}).get("sourceReference") or asked.get("sourceReference")) != DIS:
-            raise Refused("no such source")
+            raise Refused("unknown source reference")
         lines = self.session.target.listing.lines
         self.wire.answer(request, {"content": "".join(line + "\n" for line in lines), "mimeType": "text/x-talft-asm"})
 

@@ -5,17 +5,18 @@ import re
 from common import SITES, WORDS, Refused
 from debugging.reading import NO_WORD
 from debugging.runs import Wanted
+from messages import quoted
 
 COMPARES = {"==": operator.eq, "!=": operator.ne, "<=": operator.le, ">=": operator.ge, "<": operator.lt,
             ">": operator.gt}
 COMPARISON = re.compile(r"\s*([^\s=!<>()]+)\s*(==|!=|<=|>=|<|>)\s*([^\s=!<>()]+)\s*")
 SPLIT = re.compile(r"(?:^|\s+)(?:if|hit)(?:\s+|$)")
 # What other debuggers take in a condition, and what is said of it.
-NOT_TAKEN = ((re.compile(r"(?:^|\s)or(?:\s|$)|\|\|"), "only `and` joins comparisons"),
-             (re.compile(r"[()]"), "no parentheses: comparisons are joined by `and` alone"),
-             (re.compile(r"(?<![=!<>])=(?!=)"), "`=` is `==` here"))
+NOT_TAKEN = ((re.compile(r"(?:^|\s)or(?:\s|$)|\|\|"), "comparisons can be joined only by `and`"),
+             (re.compile(r"[()]"), "parentheses are not supported: join comparisons by `and`"),
+             (re.compile(r"(?<![=!<>])=(?!=)"), "write `==` for `=`"))
 MOST = 64
-TOO_MANY = f"too many breakpoints: the program takes {MOST}"
+TOO_MANY = f"too many breakpoints: at most {MOST} are possible"
 
 
 class Condition:
@@ -33,11 +34,13 @@ class Condition:
         """Why a part is no comparison."""
         for pattern, why in NOT_TAKEN:
             if pattern.search(self.text):
-                return f"{self.text}: {why}"
-        what = f"{part.strip()}: no comparison" if part.strip() else f"`{self.text}`: a comparison is missing"
+                return f"{quoted(self.text)}: {why}"
+        what = f"{quoted(self.text)}: missing comparison"
+        if part.strip():
+            what = f"invalid comparison {quoted(part.strip())}"
         variable = "" if target.names is None else "a variable, "
-        return (f"{what}: say WORD OP WORD, with OP one of {' '.join(COMPARES)}, and a WORD that is a register, "
-                f"a cell, {variable}or a number")
+        return (f"{what}: expected WORD OP WORD, where OP is one of {' '.join(COMPARES)}, and WORD a register, a cell, "
+                f"{variable}or a number")
 
     @staticmethod
     def operand(text, target):
@@ -48,10 +51,10 @@ class Condition:
         try:
             found = int(text.replace("_", ""), 0)
         except ValueError:
-            variable = "" if target.names is None else " no variable,"
-            raise Refused(f"{text}: no register, no cell,{variable} and no number") from None
+            variable = "" if target.names is None else "a variable, "
+            raise Refused(f"unknown name {quoted(text)}: expected a register, a cell, {variable}or a number") from None
         if not 0 <= found < WORDS:
-            raise Refused(f"{text}: {NO_WORD}")
+            raise Refused(f"{quoted(text)} is {NO_WORD}")
         return found
 
     def questions(self):
@@ -103,14 +106,14 @@ def read(text, target, temporary=False):
     marks = [mark.strip() for mark in SPLIT.findall(text)]
     condition, least, place = None, 1, place_in(text)
     if not place:
-        raise Refused(f"{text}: say a place first: break 1:0 {text}")
+        raise Refused(f"missing place before {quoted(text)}: as in `break 1:0 {text[:40]}`")
     for mark, part in zip(marks, parts[1:]):
         if mark == "if":
             condition = Condition(part, target)
         elif part.strip().isdigit() and int(part) > 0:
             least = int(part)
         else:
-            raise Refused(f"{part.strip()}: no number of a hit: from 1 on")
+            raise Refused(f"invalid hit {quoted(part.strip())}: expected a number, at least 1")
     return Break(target.find_parts(place), temporary, condition, least)
 
 

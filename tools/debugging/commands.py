@@ -6,6 +6,7 @@ from debugging import breaks, explaining, stepping, views
 from debugging.commands_shown import Shown
 from debugging.help import ALONE, ELSEWHERE, HELP, SHORT
 from debugging.reading import no_more, number, one_word, word_of
+from messages import listed, named, near, quoted, reason
 
 # How many outputs of a move are written, and how long a move is for its changes to be.
 MOST_OUTPUTS, MOST_CHANGED = 20, 64
@@ -34,12 +35,13 @@ class Commands(Shown):
         if name in HELP:
             return name
         if name in ELSEWHERE:
-            raise Refused(f"{name}: no command: {ELSEWHERE[name]}")
+            raise Refused(f"unknown command `{name}`: {ELSEWHERE[name]}")
         begun = [full for full in HELP if full.startswith(name)]
         if len(begun) == 1:
             return begun[0]
-        what = "which of " + " ".join(begun) if begun else "no command"
-        raise Refused(f"{name}: {what}; `help` has them all")
+        if begun:
+            raise Refused(f"ambiguous command `{name}`: {listed(begun)}")
+        raise Refused(f"unknown command {quoted(name)}{near(name, HELP)}; `help` lists the commands")
 
     def do(self, line):
         """One line; the command's name, for whoever repeats it."""
@@ -48,7 +50,7 @@ class Commands(Shown):
             return None
         match = re.match(r"([a-z?-]+)(?:/(\w+))?(?:\s+|$)(.*)", line)
         if not match:
-            raise Refused(f"{line}: no command; `help` has them all")
+            raise Refused(f"unknown command {quoted(line)}; `help` lists the commands")
         name, words = self.resolve(match[1]), match[3].split()
         call = getattr(self, "do_" + name.replace("-", "_"))
         if name in ("source", "record") and words:
@@ -58,7 +60,7 @@ class Commands(Shown):
             call(words, match[2] or "")
             return name
         if match[2]:
-            raise Refused(f"/{match[2]}: `{name}` takes no format")
+            raise Refused(f"unexpected format `/{match[2][:40]}`: `{name}` takes none")
         if name in ALONE:
             no_more(words, name)
         call(words)
@@ -101,7 +103,7 @@ class Commands(Shown):
             self.say(*self.display_lines())
         if not self.told_replaced and self.session.target.is_replaced():
             self.told_replaced = True
-            self.say(f"{self.session.target.path} was replaced: this session stays with what was read at its start")
+            self.say(f"{named(self.session.target.path)} was replaced: this session keeps what it read at its start")
 
     def display_lines(self):
         """The words that are displayed; one that is not there now is said so."""
@@ -135,8 +137,8 @@ class Commands(Shown):
     def lines_known(self):
         """Refuses where no lines of a source are known."""
         if self.session.target.source is None:
-            raise Refused("no lines of a source are known here: `next` takes an instruction; `debugger OBJ --source SRC`"
-                          " names the source of an object")
+            raise Refused("no source lines are known: `next` executes an instruction; "
+                          "`debugger OBJECT --source SOURCE` names the source of an object")
 
     def do_line(self, words):
         self.lines_known()
@@ -161,11 +163,11 @@ class Commands(Shown):
         else:
             parts = [one for one in [self.session.following()] if one]
         if not parts:
-            raise Refused("nothing comes after this in the text: say a place")
+            raise Refused("no instruction follows in the text: give a place, as in `until 1:0`")
         stop = self.moved(self.session.until, parts)
         self.halted(stop)
         if stop.reason in ("done", "detected"):
-            self.say(f"the run ended at {stop.position}, and never came to {' or '.join(one.place() for one in parts)}")
+            self.say(f"the run ended at {stop.position} without reaching {' or '.join(one.place() for one in parts)}")
 
     def told_breaks(self):
         """Names the breakpoints that halt here; those for one halt are forgotten."""
@@ -183,11 +185,11 @@ class Commands(Shown):
         elif stop.reason == "start":
             self.say("this is the start")
         elif stop.reason == "interrupted":
-            self.say(f"interrupted: the run got to {stop.position}, and stays there; `continue` goes on")
+            self.say(f"interrupted: the run stays at {stop.position}; `continue` continues it")
 
     def do_goto(self, words):
         if not words:
-            raise Refused("say a position: goto 12")
+            raise Refused("missing position, as in `goto 12`")
         try:
             wanted = number(words)
         except Refused:
@@ -203,7 +205,8 @@ class Commands(Shown):
             self.session.target.find_parts(text)
         except Refused:
             return
-        raise Refused(f"{text}: a place, and `goto` takes a position: `until {text}` goes to a place or a line")
+        raise Refused(f"{quoted(text)} is a place, and `goto` takes a position: `until {text[:60]}` goes to a place or "
+                      "a line")
 
     def do_run(self, words):
         self.moved(self.session.go_to, 0)
@@ -211,7 +214,7 @@ class Commands(Shown):
     def do_end(self, words):
         self.moved(self.session.go_to, self.session.position + MOST_TO_END)
         if self.session.state().status == "running":
-            self.say(f"the run has not ended in {MOST_TO_END:,} steps: `end` goes on")
+            self.say(f"the run has not ended after {MOST_TO_END:,} more steps: `end` continues")
 
     def do_undo(self, words):
         self.moved(self.session.undo)
@@ -232,11 +235,11 @@ class Commands(Shown):
 
     def do_tbreak(self, words):
         if not words:
-            raise Refused("say a place: tbreak 1:0")
+            raise Refused("missing place, as in `tbreak 1:0`")
         self.do_break(words, True)
 
     def do_watch(self, words):
-        name = one_word(words, "say a cell, a register or a variable: watch r1")
+        name = one_word(words, "missing cell, register or variable, as in `watch r1`")
         at = self.session.add_watch(name)
         self.say(f"watch {at}: {self.told_word(name)}")
 
@@ -249,23 +252,23 @@ class Commands(Shown):
             self.told_word(name)
         self.displayed += [name for name in words if name not in self.displayed]
         if not self.is_shown or not words:
-            self.say(*self.display_lines() or ["nothing is displayed: display r1"])
+            self.say(*self.display_lines() or ["nothing is displayed: `display r1` adds a word"])
 
     def do_undisplay(self, words):
         for name in words:
             if name not in self.displayed:
-                raise Refused(f"{name}: it is not displayed")
+                raise Refused(f"{quoted(name)} is not displayed")
         self.displayed = [name for name in self.displayed if words and name not in words]
 
     def do_zap(self, words):
         if len(words) < 2:
-            raise Refused("say a site and a word: zap r1 6")
+            raise Refused("missing site or word, as in `zap r1 6`")
         no_more(words[2:])
         self.struck(words[0], self.session.zap(words[0], word_of(words[1])))
 
     def do_flip(self, words):
         if len(words) < 2:
-            raise Refused("say a site and a bit: flip r1 0")
+            raise Refused("missing site or bit, as in `flip r1 0`")
         no_more(words[2:])
         self.struck(words[0], self.session.flip(words[0], number(words[1:])))
 
@@ -274,7 +277,7 @@ class Commands(Shown):
         self.say(f"zapped at {self.session.position}: {site} was {old}, is {self.session.word(site)}")
 
     def do_plan(self, words):
-        text = one_word(words, "say a fault: plan 4:r1:6")
+        text = one_word(words, "missing fault, as in `plan 4:r1:6`")
         position = self.session.position
         self.session.plan(text)
         self.say(f"planned: {text}")
@@ -292,28 +295,28 @@ class Commands(Shown):
             self.say(self.paint("differs" if "DIFFER" in line else None, line))
 
     def do_source(self, words):
-        path = one_word(words, "say a file")
+        path = one_word(words, "missing file, as in `source script`")
         if self.depth >= MOST_NESTED:
-            raise Refused(f"{path}: scripts nest too deep")
+            raise Refused(f"{named(path)}: scripts nest more than {MOST_NESTED} deep")
         try:
             with open(path, encoding="utf-8", errors="replace") as file:
                 lines = file.read().splitlines()
         except OSError as error:
-            raise Refused(f"{path}: {error.strerror}") from error
+            raise Refused(f"{named(path)}: {reason(error)}") from error
         self.depth += 1
         try:
             for at, line in enumerate(lines, 1):
                 try:
                     self.do(line)
                 except Refused as error:
-                    raise Refused(f"{path}:{at}: {error}; the script ends here") from error
+                    raise Refused(f"{named(path)}:{at}: {error}; the script ends here") from error
         finally:
             self.depth -= 1
 
     def do_record(self, words):
-        path = one_word(words, "say a file: record script")
+        path = one_word(words, "missing file, as in `record script`")
         self.session.journal.record(path, self.sure)
-        self.say(f"recording to {path}; this runs it again: {self.session.target.command_of(path)}")
+        self.say(f"recording to {named(path)}; this runs it again: {self.session.target.command_of(path)}")
 
     def do_quit(self, words):
         raise Quit

@@ -6,6 +6,7 @@ from common import SITES, Refused
 from debugging import explaining, views
 from debugging.help import ELSEWHERE, HELP, INFO, SHORT, TOPICS, help_lines, help_of
 from debugging.reading import number, one_word, word_of
+from messages import near, quoted
 
 
 class Shown:
@@ -14,9 +15,10 @@ class Shown:
     def do_info(self, words):
         topics = [topic for topic in INFO if words and topic.startswith(words[0])]
         if words and words[0] in ELSEWHERE:
-            raise Refused(f"{words[0]}: no topic: {ELSEWHERE[words[0]]}")
+            raise Refused(f"unknown topic `{words[0]}`: {ELSEWHERE[words[0]]}")
         if len(topics) != 1:
-            raise Refused((f"{words[0]}: no topic: " if words else "say a topic: ") + "info " + "|".join(INFO))
+            told = f"unknown topic {quoted(words[0])}" if words else "missing topic"
+            raise Refused(f"{told}: expected info {'|'.join(INFO)}{near(words[0], INFO) if words else ''}")
         call = {"breaks": self.breaks, "strikes": self.strikes, "names": self.names}.get(topics[0])
         if call:
             call()
@@ -54,7 +56,7 @@ class Shown:
         """What the source's names are."""
         names = self.session.target.names
         lines = [f"  {name}  {place.told()}" for name, place in (names or {}).items()]
-        self.say(*lines or ["no names of a source are known: `debugger OBJ --source SRC` names the source of an object"])
+        self.say(*lines or ["no source names are known: `debugger OBJECT --source SOURCE` names an object's source"])
 
     def note(self, *lines):
         """Records the lines of `talft debug` that tell what was asked."""
@@ -86,11 +88,11 @@ class Shown:
 
     def do_print(self, words, base=""):
         if not words:
-            raise Refused("say a word: print r1")
+            raise Refused("missing name, as in `print r1`")
         if base not in views.BASES:
-            raise Refused(f"/{base}: no base: /x, /b, /o or /d")
+            raise Refused(f"unknown format `/{base[:40]}`: expected /x, /b, /o or /d")
         if any(not name[0].isalnum() and name[0] != "$" for name in words):
-            raise Refused(f"{' '.join(words)}: `print` writes words, and computes nothing: print r1 out")
+            raise Refused(f"{quoted(' '.join(words))}: `print` takes names, not expressions, as in `print r1 out`")
         for name in words:
             line = self.told_word(name, base)
             for site in self.session.registers_of(name):
@@ -99,16 +101,18 @@ class Shown:
             self.say(line)
 
     def do_x(self, words, count=""):
-        names, word = self.session.target.listing.cells, one_word(words, "say a cell, an array or an address: x/3 out")
+        names = self.session.target.listing.cells
+        word = one_word(words, "missing cell, array or address, as in `x/3 out`")
         first = next((name for name in (word, word + "[0]") if name in names), None)
         if first is None and word.replace("_", "").isalnum() and word[0].isdigit():
             first = self.session.target.cell_at(word_of(word))
         if first is None:
             self.session.target.check_array(word)
-            raise Refused(f"{word}: no cell, no array and no address of a cell")
+            raise Refused(f"unknown name {quoted(word)}: expected a cell, an array or the address of a cell"
+                          f"{near(word, names)}")
         digits = re.match(r"\d*", count)[0]
         if digits and int(digits) == 0:
-            raise Refused(f"x/{count}: say how many cells, from 1 on")
+            raise Refused(f"invalid count in `x/{count[:40]}`: expected at least 1 cell")
         at, array = names.index(first), first.partition("[")[0]
         wanted = names[at:at + int(digits or 1)]
         shown = [name for name in wanted if name.partition("[")[0] == array] if "[" in first else wanted

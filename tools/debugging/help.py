@@ -15,7 +15,7 @@ HELP = {
               "PLACE is as for `break`: sieve.src:11 is a line; breakpoints halt, too"),
     "finish": ("finish, fin", "on out of this block", "finish",
                "to the start of the next block that the run comes to; breakpoints halt, too"),
-    "goto": ("goto P, g", "to position P, forward or back", "goto 12",
+    "goto": ("goto POSITION, g", "to a position, forward or back", "goto 12",
              "positions: see `help positions`; `until` goes to a place or a line"),
     "run": ("run", "to the start", "run", "strikes of `plan` stay"),
     "end": ("end", "to the end of the run, past breakpoints", "end", "at most 1,000,000 steps"),
@@ -45,8 +45,8 @@ HELP = {
     "where": ("where, bt", "position, status, counters", "where", ""),
     "zap": ("zap SITE WORD, z", "strike now: the word at SITE becomes WORD", "zap r1 6",
             "sites: see `help sites`; strikes: see `help faults`"),
-    "flip": ("flip SITE BIT", "strike now: turn one bit, 0 to 63", "flip r1 0", "sites: see `help sites`"),
-    "plan": ("plan STEP:SITE:WORD", "strike whenever position K is passed", "plan 4:r1:6", "until `unplan`"),
+    "flip": ("flip SITE BIT", "strike now: flip one bit, 0 to 63", "flip r1 0", "sites: see `help sites`"),
+    "plan": ("plan STEP:SITE:WORD", "strike whenever position STEP is passed", "plan 4:r1:6", "until `unplan`"),
     "unplan": ("unplan [STRIKE]", "forget planned strikes, or this one", "unplan 4:r1:6", ""),
     "outputs": ("outputs [N], o", "how many there are, and the last N (20)", "outputs 5", ""),
     "explain": ("explain, e", "why the run was detected or corrupt, and the way of the fault", "explain", ""),
@@ -86,8 +86,8 @@ A cell is no site: no fault strikes memory."""
 D_TOLD = """d is a word between two jumps. `jmp_G r2` puts its target there; `jmp_B r34` jumps if its own target is the same,
 and makes d 0 again. `bz_G` and `bz_B` do so where they branch. If the two disagree the machine stops itself:
 detected. So a strike that changes d is detected by the next jump or branch."""
-FAULTS_TOLD = """A fault is one strike: before step K the word at a site becomes another. It keeps the colour. `zap` and `flip`
-strike here, `plan STEP:SITE:WORD` (and --fault) at K whenever the session comes by. Numbers are decimal, or
+FAULTS_TOLD = """A fault is one strike: before step STEP the word at SITE becomes WORD. It keeps the colour. `zap` and `flip`
+strike here, `plan STEP:SITE:WORD` (and --fault) at STEP whenever the session comes by. Numbers are decimal, or
 hexadecimal as 0x10. A run with a fault is masked if its outputs are those without it, detected if the machine
 has stopped itself, idle if nothing was at the site, and corrupt if its outputs are others. `explain` says which
 and why. Of an object that the checker accepts, no single fault is corrupt."""

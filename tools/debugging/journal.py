@@ -3,6 +3,7 @@ import os
 
 from common import Refused
 from debugging.sessions import made_by, path
+from messages import named, reason
 
 # How far one script can go back (docs/COMMANDS.md).
 MOST_BACK = 4_096
@@ -18,14 +19,14 @@ class Journal:
         """Keeps the lines in a file; one that is there is overwritten only if `sure` says so."""
         path = os.path.abspath(path)
         if os.path.isdir(path):
-            raise Refused(f"{path}: a folder: say a file")
-        if os.path.lexists(path) and path != self.file and not sure(f"{path} is there: overwrite it? (y or n) "):
-            raise Refused(f"{path} is there already, and stays as it is: say another file")
+            raise Refused(f"{named(path)}: is a folder; give a file")
+        if os.path.lexists(path) and path != self.file and not sure(f"{named(path)} exists: overwrite it? (y or n) "):
+            raise Refused(f"{named(path)}: exists already, and is kept; give another file")
         try:
             with open(path, "w", encoding="ascii"):
                 self.file = path
         except OSError as error:
-            raise Refused(f"{path}: it cannot be written: {error.strerror}") from error
+            raise Refused(f"{named(path)}: cannot be written: {reason(error)}") from error
         self.put()
 
     def put(self, *lines):
@@ -38,7 +39,7 @@ class Journal:
                 out.write("".join(line + "\n" for line in self.lines))
         except OSError as error:
             path, self.file = self.file, None
-            raise Refused(f"{path}: {error.strerror}; it is recorded no more") from error
+            raise Refused(f"{named(path)}: {reason(error)}; recording ends") from error
 
     def move(self, old, new, strikes):
         """From a position to another; what is too far back is gone to from the start, in place of all lines before."""

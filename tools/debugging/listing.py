@@ -82,14 +82,14 @@ class Listing:
     def why_not(self, text):
         """Why `find` finds nothing."""
         if text.startswith("*"):
-            return f"no instruction has this address: 1 to {len(self.code)}"
+            return f"no instruction has this address: they are 1 to {len(self.code)}"
         if match := PLACE.fullmatch(text):
             block, most = int(match[1]), len(self.blocks) - 1
             if block > most:
-                return f"no block {block}: the blocks are 0 to {most}"
+                return f"unknown block {block}: the blocks are 0 to {most}"
             count = (self.blocks + [len(self.code)])[block + 1] - self.blocks[block]
-            return f"no index {match[2]}: block {block} has 0 to {count - 1}"
-        return "no place: say B I, B:I, bB, *ADDRESS, a label or a line"
+            return f"unknown index {match[2]}: block {block} has 0 to {count - 1}"
+        return "unknown place: expected BLOCK:INDEX, bBLOCK, *ADDRESS, a label or a line"
 
     def label_of(self, block):
         """The block's label, or None."""

@@ -1,12 +1,13 @@
 """A person's session: where it is, its strikes, breakpoints and watches, and what can be undone.
 
 The prompt, the screen and the adapter of editors all stand on it."""
-from common import SITES, WORDS, Refused
+from common import ALL_SITES, SITES, WORDS, Refused, invalid_fault
 from debugging import breaks, changes, runs
 from debugging.journal import Journal
 from debugging.machine import is_fetch
 from debugging.reading import NO_WORD, number, word_of
 from debugging.sessions import Interrupted, Strike, Timeline
+from messages import near, quoted
 
 MOST_UNDONE = 1_000
 
@@ -66,13 +67,19 @@ class Session:
         if word is None and name in self.target.listing.cells:
             word = self.cells([name])[name]
         if word is None and name.startswith("$"):
-            raise Refused(f"{name}: words have no `$` here: say {name[1:] or 'r1'}")
+            raise Refused(f"{quoted(name)}: names have no `$` here: write {quoted(name[1:] or 'r1')}")
         if word is None and name in SITES:
-            raise Refused(f"{name}: the queue has {len(self.state().queue)} pairs here")
+            raise Refused(f"`{name}`: the queue has {len(self.state().queue)} entries here")
         if word is None:
-            raise Refused(f"{name}: no register (r0 to r63, d, pcg, pcb), no part of the queue (qa0 to qv7), no cell"
-                          + (" and no variable" if self.target.names is not None else ""))
+            raise self.unknown(name)
         return word
+
+    def unknown(self, name):
+        """What is told of a name that nothing has."""
+        variable = ", a cell or a variable" if self.target.names is not None else " or a cell"
+        known = list(self.target.listing.cells) + list(self.target.names or {})
+        return Refused(f"unknown name {quoted(name)}: expected a register (r0 to r63, d, pcg, pcb), a part of the "
+                       f"queue (qa0 to qv7){variable}{near(name, known)}")
 
     def registers_of(self, name):
         """The pair of registers of a variable of the source, or the name itself."""
@@ -109,7 +116,7 @@ class Session:
     def back(self, count):
         """So many steps back."""
         if count > self.position:
-            raise Refused(f"there are {self.position} steps back to the start, not {count}")
+            raise Refused(f"cannot go {count} steps back: the start is {self.position} steps back")
         return self.go_to(self.position - count)
 
     def undo(self):
@@ -237,13 +244,13 @@ class Session:
         if self.state().status != "running":
             return "the machine has stopped"
         pairs = len(self.state().queue)
-        return f"{site} is a part of the queue, which " + (f"ends with qa{pairs - 1} and qv{pairs - 1}" if pairs
-                                                           else "is empty")
+        return f"`{site}` is a part of the queue, which " + (f"ends with qa{pairs - 1} and qv{pairs - 1}" if pairs
+                                                             else "is empty")
 
     def flip(self, site, bit):
         """Strikes now, with the word that is there but for one bit."""
         if not 0 <= bit < 64:
-            raise Refused(f"{bit}: no bit: 0 to 63")
+            raise Refused(f"invalid bit {bit}: expected 0 to 63")
         self.check_strike(site, 0)
         old = self.state().word(site)
         return self.zap(site, 0 if old is None else old ^ 1 << bit)
@@ -252,13 +259,14 @@ class Session:
         """Refuses what cannot be struck, or put there."""
         registers = self.registers_of(site)
         if len(registers) == 2:
-            raise Refused(f"{site}: say {registers[0]} to strike its green word, {registers[1]} to strike its blue one")
+            raise Refused(f"`{site}` is a variable: strike its green word in {registers[0]}, or its blue one in "
+                          f"{registers[1]}")
         if site in self.target.listing.cells:
-            raise Refused(f"{site}: no fault strikes a cell (docs/PROMISES.md)")
+            raise Refused(f"`{site}` is a cell, and no fault strikes a cell (docs/PROMISES.md)")
         if site not in SITES:
-            raise Refused(f"{site}: no site: r0 to r63, d, pcg, pcb, qa0 to qa7, qv0 to qv7")
+            raise Refused(f"the site {quoted(site)} is not one of {ALL_SITES}")
         if not 0 <= word < WORDS:
-            raise Refused(f"{word}: {NO_WORD}")
+            raise Refused(f"`{word}` is {NO_WORD}")
 
     def add_strike(self, strike):
         """One more strike, in the order of the steps."""
@@ -268,7 +276,7 @@ class Session:
         """A strike STEP:SITE:WORD that is made whenever the session comes by."""
         strike = self.read_strike(text)
         if strike in self.strikes:
-            raise Refused(f"{text}: planned already")
+            raise Refused(f"{quoted(text)} is planned already")
         self.keep()
         self.add_strike(strike)
         if strike.step <= self.position:
@@ -279,9 +287,12 @@ class Session:
         """`STEP:SITE:WORD` as a planned strike."""
         parts = text.split(":")
         if len(parts) != 3 or not all(parts):
-            raise Refused(f"{text}: no fault: say STEP:SITE:WORD")
-        strike = Strike(number(parts[:1]), parts[1], word_of(parts[2]), True)
-        self.check_strike(strike.site, strike.word)
+            raise Refused(f"invalid fault {quoted(text)}: expected STEP:SITE:WORD, as 4:r1:6")
+        try:
+            strike = Strike(number(parts[:1]), parts[1], word_of(parts[2]), True)
+            self.check_strike(strike.site, strike.word)
+        except Refused as error:
+            raise Refused(invalid_fault(text, error)) from error
         return strike
 
     def unplan(self, text=None):
@@ -289,7 +300,7 @@ class Session:
         planned = {s for s in self.strikes if s.planned}
         gone = planned if text is None else {self.read_strike(text)}
         if not gone <= planned:
-            raise Refused(f"{text}: no such strike is planned: `info strikes` has them")
+            raise Refused(f"{quoted(text)} is not planned: `info strikes` lists the strikes")
         self.keep()
         self.strikes = tuple(s for s in self.strikes if s not in gone)
         self.take_new_past()
@@ -306,7 +317,7 @@ class Session:
         one = breaks.read(text, self.target, temporary)
         for number, other in self.breaks.items():
             if one.is_as(other):
-                raise Refused(f"{text}: breakpoint {number} is this one already")
+                raise Refused(f"{quoted(text)} is breakpoint {number} already")
         if len(self.places() | one.places) > breaks.MOST:
             raise Refused(breaks.TOO_MANY)
         number = self.number()
@@ -323,11 +334,10 @@ class Session:
         """A watch of a register, a counter or a cell, or of both registers of a variable."""
         sites = self.registers_of(name)
         if sites[0] not in self.target.listing.cells and sites[0] not in SITES[:67]:
-            raise Refused(f"{name}: no cell and no register; parts of the queue cannot be watched" if name in SITES
-                          else f"{name}: no cell and no register")
+            raise Refused(f"`{name}`: parts of the queue cannot be watched") if name in SITES else self.unknown(name)
         if sites in self.watches.values():
             number = next(number for number, watched in self.watches.items() if watched == sites)
-            raise Refused(f"{name}: watch {number} is this one already")
+            raise Refused(f"`{name}` is watched already, by watch {number}")
         number = self.number()
         self.watches[number] = sites
         return number
@@ -340,4 +350,4 @@ class Session:
     def delete(self, number):
         """Forgets a breakpoint or a watch."""
         if self.breaks.pop(number, None) is None and self.watches.pop(number, None) is None:
-            raise Refused(f"{number}: no breakpoint and no watch")
+            raise Refused(f"no breakpoint or watch has the number {number}: `info breaks` lists them")

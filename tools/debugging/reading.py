@@ -1,7 +1,8 @@
 """Reads the words of commands."""
 from common import WORDS, Refused
+from messages import quoted
 
-NO_WORD = f"no word of 64 bits: 0 to {WORDS - 1}"
+NO_WORD = f"out of range: expected 0 to {WORDS - 1}"
 
 
 def number(words, default=None, least=0):
@@ -9,21 +10,21 @@ def number(words, default=None, least=0):
     if not words and default is not None:
         return default
     if not words:
-        raise Refused("say a number")
+        raise Refused("missing number")
     no_more(words[1:])
     try:
         found = int(words[0], 0)
     except ValueError:
-        raise Refused(f"{words[0]}: no number") from None
+        raise Refused(f"invalid number {quoted(words[0])}") from None
     if found < least:
-        raise Refused(f"{words[0]}: say a number from {least} on")
+        raise Refused(f"invalid number {quoted(words[0])}: expected at least {least}")
     return found
 
 
 def no_more(words, command=None):
     """Refuses words that nothing wants."""
     if words:
-        raise Refused(f"{words[0]}: `{command}` takes no word" if command else f"{words[0]}: one word too many")
+        raise Refused(f"unexpected argument {quoted(words[0])}" + (f": `{command}` takes none" if command else ""))
 
 
 def fault_joined(words):
@@ -42,9 +43,9 @@ def word_of(text):
     try:
         found = int(text.replace("_", ""), 0)
     except ValueError:
-        raise Refused(f"{text}: no number") from None
+        raise Refused(f"invalid number {quoted(text)}: expected decimal digits, or hex as 0x10") from None
     if not 0 <= found < WORDS:
-        raise Refused(f"{text}: {NO_WORD}")
+        raise Refused(f"{quoted(text)} is {NO_WORD}")
     return found
 
 

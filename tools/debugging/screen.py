@@ -20,7 +20,7 @@ HELP = ["n p        one machine step forward, back (arrows right and left, too)"
         "o          out of this block",
         "up down    choose an instruction; b sets or forgets a breakpoint there",
         "w          watch a cell or a register",
-        "z f        strike: a site and a word, or a bit to turn", "u          undo",
+        "z f        strike: a site and a word, or a bit to flip", "u          undo",
         "e          why was it detected?", "d          what differs from the run without the strikes",
         "g          go to a position; Home and End go to the start and to the stop",
         "a          all registers, or those that were set",
@@ -48,7 +48,7 @@ class Screen(Panes):
         end = runs.place_at(session.timeline, 1_000_000, ())
         self.length, self.ends = end.position, end.status != "running"
         target = session.target
-        self.message = f"{views.size_of(target)}; ? has the keys, q ends"
+        self.message = f"{views.size_of(target)}; ? lists the keys, q quits"
         self.styles()
 
     def styles(self):
@@ -122,7 +122,7 @@ class Screen(Panes):
         session = self.session
         instruction = session.target.at(self.cursor) if self.cursor else session.current()
         if not instruction:
-            raise Refused("no instruction is here")
+            raise Refused("there is no instruction here")
         there = [number for number, one in session.breaks.items() if instruction.key() in one.places]
         for number in there:
             session.delete(number)
@@ -134,13 +134,13 @@ class Screen(Panes):
         """A move, and why it stopped."""
         self.before, self.cursor = self.session.state(), None
         if call in (stepping.forward, stepping.back) and len(words) == 1 and self.session.target.source is None:
-            self.message = "no lines of a source are known: one instruction"
+            self.message = "no source lines are known: one instruction"
         old, strikes = self.session.position, self.session.strikes
         stop = call(*words)
         if told := views.strike_lines(self.session, old, strikes):
             self.message = "; ".join(told)
         if call == self.session.go_to and words[0] and self.session.state().status == "running":
-            self.message = f"the run has not ended in {MOST_TO_END:,} steps: End goes on"
+            self.message = f"the run has not ended after {MOST_TO_END:,} more steps: End continues"
         if isinstance(stop, runs.Stop):
             changed = stop.reason == "watch"
             self.message = f"{stop.what[2]} -> {stop.what[3]}" if changed else ENDS.get(stop.reason, stop.reason)
@@ -164,7 +164,7 @@ class Screen(Panes):
 
     def key(self, key):
         """One key."""
-        typed_for = {"z": "zap SITE V:", "f": "flip SITE BIT:", "g": "goto P:", "w": "watch WORD:"}
+        typed_for = {"z": "zap SITE WORD:", "f": "flip SITE BIT:", "g": "goto POSITION:", "w": "watch WORD:"}
         shown = {"e": lambda: explaining.explain(self.session), "?": lambda: HELP, "h": lambda: HELP}
         moves = self.moves()
         if key in moves:
@@ -188,7 +188,7 @@ class Screen(Panes):
         elif key == "q":
             raise Quit
         else:
-            self.message = f"{views.key_name(key)}: no key of this screen; ? has the keys"
+            self.message = f"{views.key_name(key)}: this key does nothing; ? lists the keys"
 
     def loop(self):
         """Draws, and takes keys, up to the end."""
@@ -203,12 +203,12 @@ class Screen(Panes):
             except Refused as error:
                 self.message = str(error)
             except Interrupted:
-                self.message = "interrupted: the session is where it was"
+                self.message = "interrupted: the session stays where it was"
             except curses.error:
                 # The window changed its size, or is too small for what was put.
                 pass
             except KeyboardInterrupt:
-                self.message = "q ends"
+                self.message = "q quits"
             except Quit:
                 return 0
 
@@ -228,7 +228,7 @@ def wrapped(line, width):
 def show(session):
     """Shows the full screen up to its end."""
     if not (sys.stdin.isatty() and sys.stdout.isatty()):
-        raise Refused("--tui: standard input and output have to be a terminal")
+        raise Refused("--tui needs a terminal for standard input and output")
     os.environ.setdefault("ESCDELAY", "25")
 
     def begin(window):

@@ -10,7 +10,8 @@ import subprocess
 import tempfile
 import threading
 
-from common import Refused, program, why
+from common import Refused, not_run, program, why
+from messages import named
 from debugging.leaving import RUNNING, end_with_parent
 from debugging.machine import REGISTERS, cell_number
 
@@ -47,7 +48,7 @@ def made_by(strikes, position):
 def check_position(position):
     """Refuses what is too far."""
     if position > MOST_POSITION:
-        raise Refused(f"a session goes to step {MOST_POSITION} at most, not to {position}")
+        raise Refused(f"the position {position} is too far: a session ends at {MOST_POSITION}")
 
 
 def path(strikes, start, end):
@@ -68,9 +69,9 @@ def ask(object_file, lines, wild=None):
     try:
         run = subprocess.run(words, input=script, stdout=subprocess.PIPE, universal_newlines=True, check=False)
     except OSError as error:
-        raise Refused(f"{words[0]}: {error.strerror}") from error
+        raise not_run(words[0], error) from error
     if run.returncode != 0:
-        raise Refused(f"{object_file}: {why(run.returncode, run.stdout)}")
+        raise Refused(f"{named(object_file)}: {why(run.returncode, run.stdout)}")
     return Answers(run.stdout)
 
 
@@ -113,7 +114,7 @@ class Calls:
                 run = subprocess.Popen(words, stdin=script, stdout=subprocess.PIPE, universal_newlines=True,
                                        start_new_session=True, pass_fds=[target.file], preexec_fn=end_with_parent)
             except OSError as error:
-                raise Refused(f"{words[0]}: {error.strerror}") from error
+                raise not_run(words[0], error) from error
         return Answers(self.wait(run))
 
     def wait(self, run):
@@ -136,7 +137,7 @@ class Calls:
             RUNNING.discard(run)
         if run.returncode != 0:
             wild = f" --wild {self.target.wild}" if self.target.wild else ""
-            raise Refused(f"{self.target.path}{wild}: {why(run.returncode, said)}")
+            raise Refused(f"{named(self.target.path)}{wild}: {why(run.returncode, said)}")
         return said
 
 
@@ -150,7 +151,7 @@ class Answers:
         """The next line, whatever it is."""
         end = self.text.find("\n", self.at)
         if end < 0:
-            raise Refused("the debugger's answers end too soon")
+            raise Refused("`talft debug` ended too soon: its answers are incomplete")
         line = self.text[self.at:end]
         self.at = end + 1
         return line
@@ -159,7 +160,7 @@ class Answers:
         """The answer of `step` or `go`: the outputs as lines of text, the position and the status."""
         match = REACHED.search(self.text, self.at)
         if not match:
-            raise Refused("the debugger's answers end too soon")
+            raise Refused("`talft debug` ended too soon: its answers are incomplete")
         outputs = self.text[self.at:match.start()]
         self.at = match.end()
         return outputs, int(match[1]), match[2]

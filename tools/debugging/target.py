@@ -4,10 +4,11 @@ import re
 import shlex
 import subprocess
 
-from common import Refused, program, why
+from common import Refused, not_run, program, why
 from debugging.listing import Listing
 from debugging.machine import cell_number
 from debugging.source_lines import lines_of
+from messages import named, quoted, reason
 
 MAGIC = b"TALFT"
 NOT_BUILT = "the program is not proved yet, and unproved each answer takes most of a minute: run `make` first"
@@ -34,7 +35,7 @@ def asked_of(words, files=()):
         run = subprocess.run(words, stdout=subprocess.PIPE, stderr=subprocess.PIPE, env=environment, pass_fds=files,
                              stdin=subprocess.DEVNULL, check=False)
     except OSError as error:
-        raise Refused(f"{words[0]}: {error.strerror}") from error
+        raise not_run(words[0], error) from error
     if run.returncode != 0:
         told = run.stderr.decode("utf-8", "replace").strip()
         raise Refused(told or f"{words[2]}: {why(run.returncode, run.stdout.decode('utf-8', 'replace'))}")
@@ -45,6 +46,8 @@ def kind_of(path, data):
     """Whether a file is an object, an assembly text or a source: by its first bytes, its name, or its last word."""
     if data.startswith(MAGIC):
         return "object"
+    if not data.strip():
+        raise Refused(f"{named(path)}: is empty; expected an object, an assembly text or a source")
     for kind, endings in (("object", (".obj",)), ("source", (".src",)), ("text", (".asm", ".txt", ".s"))):
         if path.endswith(endings):
             return kind
@@ -57,9 +60,10 @@ def kind_of_file(path):
     """The kind of a file."""
     try:
         with open(path, "rb") as file:
-            return kind_of(path, file.read())
+            data = file.read()
     except OSError as error:
-        raise Refused(f"{path}: {error.strerror}") from error
+        raise Refused(f"{named(path)}: {reason(error)}") from error
+    return kind_of(path, data)
 
 
 class Target:
@@ -72,7 +76,7 @@ class Target:
                 data = file.read()
             self.stamp = self.stamp_now()
         except OSError as error:
-            raise Refused(f"{path}: {error.strerror}") from error
+            raise Refused(f"{named(path)}: {reason(error)}") from error
         self.kind = kind_of(path, data)
         if self.kind != "object":
             data = asked_of([self.program, "asm" if self.kind == "text" else "compile", path])
@@ -131,11 +135,12 @@ class Target:
     def take_text(self, own):
         """The user's own text in place of that of `dis`, if it assembles to the same object."""
         if asked_of([self.program, "asm", own]) != self.ask("upgrade"):
-            raise Refused(f"{own}: it assembles to another object than {self.path}")
+            raise Refused(f"{named(own)}: assembles to another object than {named(self.path)}; give the text that the "
+                          "object was made from")
         with open(own, encoding="utf-8", errors="replace") as file:
             listing = Listing(file.read().splitlines())
         if listing.said() != self.listing.said():
-            raise Refused(f"{own}: its words are not those that `dis` writes")
+            raise Refused(f"{named(own)}: differs from what `talft dis` writes; leave out --text")
         self.listing, self.text_file = listing, os.path.abspath(own)
 
     def take_source(self, own):
@@ -144,11 +149,11 @@ class Target:
             with open(own, encoding="utf-8", errors="replace") as file:
                 text = file.read()
         except OSError as error:
-            raise Refused(f"{own}: {error.strerror}") from error
+            raise Refused(f"{named(own)}: {reason(error)}") from error
         lines, names = lines_of(text, self.code)
         if lines is None:
             if self.kind != "source":
-                raise Refused(f"{own}: the instructions of {self.path} are not those of this source")
+                raise Refused(f"{named(own)}: is not the source of {named(self.path)}: the instructions differ")
             return
         for instruction, line in zip(self.code, lines):
             instruction.source_line = line
@@ -186,13 +191,14 @@ class Target:
         if named := self.line_named(text):
             found = self.listing.parts_of_line(*named)
             lines = [i.source_line if named[1] else i.line for i in self.code]
-            why = f"no instruction is on this line or behind it: they are on lines {min(lines)} to {max(lines)}"
+            why = f"no instruction is on this line or after it: instructions are on lines {min(lines)} to {max(lines)}"
         else:
             found, why = [one for one in [self.listing.find(text)] if one], self.listing.why_not(text)
             if re.fullmatch(r".*[A-Za-z]\w*:\d+", text) and (self.source_file or self.text_file):
-                why = f"no line: those of {os.path.basename(self.source_file or self.text_file)} are known"
+                file = os.path.basename(self.source_file or self.text_file)
+                why = f"unknown file: only the lines of {file} are known"
         if not found:
-            raise Refused(f"{text}: {why}")
+            raise Refused(f"{quoted(text)}: {why}")
         return found
 
     def find(self, text):
@@ -213,11 +219,11 @@ class Target:
         array, _, rest = name.partition("[")
         count = sum(cell.startswith(array + "[") for cell in self.listing.cells)
         if rest[:-1].isdigit() and count and name not in self.listing.cells:
-            raise Refused(f"{name}: {self.size_of_array(array, count)}")
+            raise Refused(f"{quoted(name)}: {self.size_of_array(array, count)}")
         place = (self.names or {}).get(name)
         if place and place.length is not None:
-            raise Refused(f"{name}: an array of {place.length} cells: say {name}[0] to {name}[{place.length - 1}], "
-                          f"or x/{place.length} {name}")
+            raise Refused(f"`{name}` is an array of {place.length} cells: use {name}[0] to {name}[{place.length - 1}], "
+                          f"or `x/{place.length} {name}`")
 
     @staticmethod
     def size_of_array(name, count):

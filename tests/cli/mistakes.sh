@@ -1,0 +1,200 @@
+# What the tools say of mistakes that people make: each answer says what is wrong, where, and what to do.
+
+mkdir mistakes && cd mistakes || exit 2
+cp "$top/examples/five.obj" five.obj
+cp "$top/examples/five.asm" five.asm
+cp "$top/examples/unknown.src" unknown.src
+echo 'var a; a = 1;' >one.src
+printf '4:r1:6\n' >list
+printf '4:r1:6\n4:r64:6\n' >bad
+printf '4:r1:6 detected 11\nfaults 1 masked 0 detected 1 idle 0 corrupt 0\n' >lines
+echo 'faults 0 masked 0 detected 0 idle 0 corrupt 0' >none
+cat lines lines >twice
+head -n 1 lines >cut
+: >empty
+echo 'int x; void run(void) { x = 1; }' >one.c
+mkdir folder kept
+echo '{' >kept/campaign.json
+five_sites='r0 to r63, d, pcg, pcb, qa0 to qa7 and qv0 to qv7'
+
+# Each row has the status, the words and what is said: of status 2 in the first line, of status 1 in the last one.
+while IFS='|' read -r status words message; do
+  # shellcheck disable=SC2086
+  tool "the status of $words" "$status" '' $words
+  report "what is said of $words" "$message" "$(if [ "$status" = 2 ]; then head -n 1 said; else tail -n 1 said; fi)"
+done <<END
+2|build|build: missing FILE
+2|build five.asm --uncheked|build: unknown option \`--uncheked\`; did you mean \`--unchecked\`?
+2|build five.asm one.src|build: unexpected argument \`one.src\`
+2|build five.asm -o a.obj -o b.obj|build: \`-o\` is given twice
+2|build five.asm -o|build: \`-o\` needs a value, OBJECT
+2|build five.asm —unchecked|build: \`—unchecked\` begins with a typographic dash: write \`--\`
+1|build nosuch.src|build: nosuch.src: no such file
+1|build nofolder/a.src|build: nofolder/a.src: there is no folder \`nofolder\`
+1|build folder|build: folder: is a folder
+1|build /dev/null|build: /dev/null: unknown kind of file; expected a name that ends in .src, .asm or .map
+1|build five.obj|build: five.obj: is an object already; expected a .src, .asm or .map file
+1|build one.c|build: one.c: use \`cc\` for C and for WebAssembly modules
+1|build five.asm -o nofolder/x|build: nofolder/x: there is no folder \`nofolder\`
+1|build five.asm -o folder|build: folder: is a folder; give the output the name of a file
+1|build five.asm -o /dev/null|build: /dev/null: is not a regular file, so no object can replace it
+1|build unknown.src|build: unknown.src: refused by \`talft compile\`: source 7 20
+2|campaign five.obj|campaign: missing \`--faults FILE\`
+2|campaign five.obj --falts list|campaign: unknown option \`--falts\`; did you mean \`--faults\`?
+2|campaign five.obj --faults list --engine loca|campaign: \`--engine\`: unknown value \`loca\`: expected \`local\`, \`parallel\` or \`slurm\`; did you mean \`local\`?
+2|campaign five.obj --faults list --steps 0|campaign: \`--steps\`: invalid number \`0\`: expected 1 to 1000000
+2|campaign five.obj --faults list --wild 5,z|campaign: \`--wild\`: invalid answers \`5,z\`: expected at most 4096 parts separated by commas, each a number or \`stop\`
+1|campaign five.obj --faults list --dir list|campaign: --dir: list: is a file; give a folder, or the name of a new one
+1|campaign five.obj --faults list --dir kept|campaign: kept/campaign.json: is damaged: remove the folder
+1|campaign five.obj --faults list --hosts a|campaign: --hosts needs --engine parallel
+1|campaign five.asm --faults list|campaign: five.asm: is an assembly text; \`talft asm\` makes an object of it
+1|campaign empty --faults list|campaign: empty: is empty; expected an object
+1|campaign five.obj --faults bad --dir bad.kept|campaign: bad:2: invalid fault \`4:r64:6\`: expected STEP:SITE:WORD; the site \`r64\` is not one of $five_sites
+1|campaign five.obj --faults five.obj --dir object.kept|campaign: five.obj:1: invalid fault \`TALFT\\x00\\x00\\x01\\x00\\x00\\x00\\x01\\x00\\x00\\x00\\x01\\x00\\x00..\`: expected STEP:SITE:WORD; this is an object
+1|faults nosuch.obj|faults: nosuch.obj: no such file
+1|faults one.src|faults: one.src: is a source; \`talft compile\` makes an object of it
+1|faults list|faults: list: is not an object; \`talft compile\`, \`talft asm\` and \`cc\` make objects
+2|faults five.obj --sample -1|faults: \`--sample\`: invalid number \`-1\`: expected a whole number, at least 0
+2|faults five.obj --sample 1 --sample 2|faults: \`--sample\` is given twice
+1|plot nosuch|plot: nosuch: no such file
+1|plot folder|plot: folder: is a folder
+1|plot empty|plot: empty: is empty; expected the lines of a campaign
+1|plot /dev/null|plot: /dev/null: is empty; expected the lines of a campaign
+1|plot none|plot: none: has no faults to draw: its campaign had an empty list
+1|plot list|plot: list:1: \`4:r1:6\` is a fault without its verdict: run \`campaign\` over the list, and give its lines
+1|plot five.obj|plot: five.obj:1: this is an object: expected the lines that a campaign writes
+1|plot twice|plot: twice:3: unexpected \`4:r1:6 detected 11\` after the totals; give one file for each campaign
+1|plot cut|plot: cut:2: missing last line \`faults ..\`, with the totals: the file is incomplete
+1|plot lines --out nofolder/x|plot: nofolder/x.png: there is no folder \`nofolder\`
+1|plot lines --out .|plot: --out: .: expected the name of a picture
+1|plot lines --dir folder|plot: --dir: folder: no campaign is kept there (no campaign.json); give the folder of the tool \`campaign\`, or the object with --object
+1|plot lines --dir kept --object five.obj|plot: --dir and --object exclude each other
+1|plot lines --object list|plot: list: is not an object; \`talft compile\`, \`talft asm\` and \`cc\` make objects
+1|report lines --dir .|report: --dir: .: no campaign is kept there (no campaign.json); give the folder of the tool \`campaign\`, or the object with --object
+1|report lines --dir nosuch|report: --dir: nosuch: no such folder; give the folder of the tool \`campaign\`
+1|report lines --dir list|report: --dir: list: is not a folder; give the folder of the tool \`campaign\`
+1|report lines --dir kept|report: kept/campaign.json: is not a file of the tool \`campaign\`, or is damaged
+1|report none --object five.obj|report: none: has no faults to show: its campaign had an empty list
+1|report lines --object five.obj --out folder|report: folder: is a folder; give the output the name of a file
+1|report lines --object five.obj --source one.src|report: one.src: is not the source of five.obj: the instructions differ
+2|explain five.obj|explain: missing \`--fault STEP:SITE:WORD\`
+1|explain folder --fault 4:r1:6|explain: folder: is a folder
+1|explain empty --fault 4:r1:6|explain: empty: is empty; expected an object, an assembly text or a source
+1|explain five.obj --fault 4:r1|explain: invalid fault \`4:r1\`: expected STEP:SITE:WORD, as 4:r1:6
+1|explain five.obj --fault 4:r1:6 --steps 3|explain: --fault 4:r1:6: nothing was struck: the run was cut after 3 steps: raise --steps
+1|lines five.asm|lines: five.asm: is an assembly text, not a source; give the source, and the object with --object
+1|debugger nosuch|debugger: nosuch: no such file
+1|debugger /dev/null|debugger: /dev/null: is empty; expected an object, an assembly text or a source
+2|debugger five.obj --comand step|debugger: unknown option \`--comand\`; did you mean \`--command\`?
+2|dap --port 70000|dap: \`--port\`: invalid number \`70000\`: expected 0 to 65535
+2|ending five.obj --steps ten|ending: \`--steps\`: invalid number \`ten\`: expected a whole number, at least 1
+1|ending five.obj --fault 40:r1:1 --steps 20|ending: --fault: the step 40 is not below the 20 steps of the run: raise --steps
+1|ending five.obj --text nosuch|ending: nosuch: no such file
+2|set|set: missing OBJECT
+1|set five.obj out|set: invalid argument \`out\`: expected NAME=WORD
+1|set five.obj =3|set: invalid argument \`=3\`: expected NAME=WORD
+1|set five.obj ou=1|set: five.obj: unknown cell \`ou\`; did you mean \`out\`?; --list lists the cells
+1|set empty out=1|set: empty: is empty; expected an object
+2|wasm2asm|wasm2asm: missing MODULE.wasm
+1|wasm2asm folder|wasm2asm: folder: is a folder
+1|wasm2asm one.c|one.c: offset 0x0: is not a WebAssembly module of version 1; give the output of wasm-ld; \`cc\` takes C
+2|cc|cc: missing FILE and \`-o OBJECT\`
+2|cc one.c -o x.obj --stack 7|cc: \`--stack\`: invalid number \`7\`: expected a multiple of 16 from 16 to 65536
+2|cc one.c -o x.obj -lm|cc: unknown option \`-lm\`; only \`-O\`, \`-I\`, \`-D\`, \`-U\`, \`-W\`, \`-f\`, \`-g\`, \`-m\`, \`-std=\` and \`-w\` are passed on
+2|cc one.c -o x.obj --stak 16|cc: unknown option \`--stak\`; did you mean \`--stack\`?
+1|cc one.c one.c -o x.obj|cc: one.c: is given twice
+1|cc one.c -o nofolder/x.obj|cc: nofolder/x.obj: there is no folder \`nofolder\`
+1|cc one.c -o x.obj --text x.obj|cc: x.obj: is given for two outputs; give each its own name
+1|cc five.asm -o x.obj|cc: five.asm: is an assembly text: use \`build\`; expected C files, or one module .wasm
+1|cc one.src -o x.obj|cc: one.src: is a source: use \`build\`; expected C files, or one module .wasm
+1|cc five.obj -o x.obj|cc: five.obj: is an object already; expected C files, or one module .wasm
+1|cc /dev/null -o x.obj|cc: /dev/null: is empty; expected C files, or one module .wasm
+1|cc nosuch.c -o x.obj|cc: nosuch.c: no such file
+END
+report 'no file is made' '' "$(ls x.obj ./*.new nofolder 2>/dev/null)"
+
+# What clang says stays, and is explained: a stand-in says it.
+cat >clang <<'END'
+#!/bin/sh
+case "$*" in *runtime.c*) exit 0 ;; esac
+cat "$CLANG_SAYS" >&2
+exit 1
+END
+chmod +x clang
+printf "one.c:1:10: fatal error: 'stdio.h' file not found\n" >stdio
+printf "one.c:1:10: fatal error: 'string.h' file not found\n" >string
+printf "one.c:1:10: fatal error: 'mine.h' file not found\n" >mine
+printf 'wasm-ld: error: /tmp/a.o: undefined symbol: printf\nwasm-ld: error: /tmp/a.o: undefined symbol: exit\n' >symbols
+printf "clang: error: unable to execute command: Executable \"wasm-ld\" doesn't exist!\n" >linker
+refuses_clang() {
+  CLANG=$PWD/clang CLANG_SAYS=$PWD/$1 refuses "the message $1 of clang" "cc: clang cannot compile or link one.c: its messages are above; $2" \
+    cc one.c -o x.obj
+  report "the message $1 itself" '' "$(diff <(head -n -1 said) "$1")"
+}
+refuses_clang stdio 'there is no C library: do without `stdio.h`; outputs are stores to global variables (docs/C.md)'
+refuses_clang string 'there is no C library: do without `string.h`; declare `memcpy`, `memmove`, `memset`, `memcmp` and `strlen` '\
+'yourself, which are linked (docs/C.md)'
+refuses_clang mine '`mine.h` is not found: give its folder with -I'
+refuses_clang symbols \
+  '`printf` and `exit` are not defined: give the C file that does, or do without: there is no C library (docs/C.md)'
+refuses_clang linker 'the linker wasm-ld is not found: install lld'
+if has clang 'the functions of a C file' && has wasm-ld 'the functions of a C file'; then
+  printf 'int x;\nint foo(void) { return x + 1; }\nvoid step(int a) { x = a; }\n' >two.c
+  echo 'static int x;' >nothing.c
+  refuses 'a C file without an entry' 'cc: two.c: defines no function `run` or `main`; use --entry with `foo` or `step`' \
+    cc two.c -o x.obj
+  refuses 'an entry that is misspelled' 'cc: two.c: defines no function `fooo`; did you mean `foo`?' \
+    cc two.c --entry fooo -o x.obj
+  refuses 'an entry with a parameter' \
+    'cc: two.c: function step: offset 0x38: the entry takes 1 parameter; name a function without parameters' \
+    cc two.c --entry step -o x.obj
+  refuses 'a C file without a function' \
+    'cc: nothing.c: defines no function `run` or `main`; the entry is `void run(void)`, and not static' cc nothing.c -o x.obj
+fi
+
+# Control characters are not written raw, and long words are cut.
+refuses 'a name with an escape' 'debugger: a\x1b[31mb: no such file' debugger $'a\e[31mb'
+refuses 'a name of two lines' 'plot: a\nb: no such file' plot $'a\nb'
+refuses 'a name that is not UTF-8' 'faults: a\xffb: no such file' faults $'a\xffb'
+refuses 'an empty name' 'ending: the empty name: no such file' ending ''
+long=$(printf 'r%.0s' {1..5000})
+refuses 'a site that is long' "faults: --sites: unknown site \`${long:0:58}..\`: the sites are $five_sites" \
+  faults five.obj --sites "$long"
+refuses 'a name that is too long' "build: ${long:0:99}..${long:0:99}: the name is too long" build "$long"
+report 'an escape at the prompt' 'invalid number `\x1b[31m`: expected decimal digits, or hex as 0x10' \
+  "$(printf 'zap r1 \e[31m\n' | "$top/tools/debugger" five.obj 2>&1 | tail -n 1)"
+if [ "$(id -u)" != 0 ]; then
+  cp five.obj secret.obj
+  chmod 0 secret.obj
+  refuses 'a file that may not be read' 'faults: secret.obj: permission denied' faults secret.obj
+fi
+
+# Commands of the debugger.
+for row in 'stepp|unknown command `stepp`; did you mean `step`?; `help` lists the commands' \
+  're|ambiguous command `re`: `reverse-next`, `reverse-line`, `reverse-continue`, `registers` or `record`' \
+  'info queues|unknown topic `queues`: expected info registers|queue|cells|breaks|strikes|position|outputs|names; did you mean `queue`?' \
+  'print ou|unknown name `ou`: expected a register (r0 to r63, d, pcg, pcb), a part of the queue (qa0 to qv7) or a cell; did you mean `out`?' \
+  'plan 4:r1|invalid fault `4:r1`: expected STEP:SITE:WORD, as 4:r1:6' \
+  'delete 7|no breakpoint or watch has the number 7: `info breaks` lists them' 'source nosuch|nosuch: no such file' \
+  'source folder|folder: is a folder' 'zap r1|missing site or word, as in `zap r1 6`'; do
+  report "the command ${row%%|*}" "${row#*|}" "$(echo "${row%%|*}" | "$top/tools/debugger" five.obj 2>&1 | tail -n 1)"
+done
+
+# On a terminal: an object is not written there, and an error begins a line.
+if has script 'mistakes on a terminal'; then
+  on_terminal() { timeout 60 script -qec "$1" /dev/null </dev/null | tr -d '\r'; }
+  report 'an object to a terminal' \
+    'set: not written: an object is binary, and standard output is a terminal; use -o FILE or >FILE' \
+    "$(on_terminal "$top/tools/set five.obj out=1")"
+  report 'an unknown option on a terminal' 'plot: unknown option `--ot`; did you mean `--out`?' \
+    "$(on_terminal "$top/tools/plot lines --ot x" | head -n 1)"
+  report 'a bad line on a terminal' 'campaign: bad:2: invalid fault `4:r64:6`' \
+    "$(on_terminal "$top/tools/campaign five.obj --faults bad --dir terminal.kept" | tail -n 1 | sed 's/.*\x1b\[K//; s/: expected.*//')"
+  report 'the prompt on a terminal' 'unknown command `stepp`; did you mean `step`?; `help` lists the commands' \
+    "$(on_terminal "$top/tools/debugger five.obj -c stepp -c quit" | grep unknown | sed 's/\x1b\[[0-9;]*m//g')"
+fi
+
+# Standard streams that are closed.
+report 'standard error that is closed' 1 "$("$top/tools/faults" nosuch 2>&- >closed.out; echo $?)"
+report 'nothing is written into a file' '' "$(cat closed.out)"
+cd "$work" || exit 2

@@ -1,0 +1,128 @@
+"""The command line of a tool: argparse, with messages that say what is wrong and what is expected."""
+import argparse
+import re
+
+from common import is_word
+from messages import listed, near, quoted
+
+MOST_ANSWERS = 4_096
+
+# What argparse says, and how it is told here.
+TOLD = ((r"argument (?P<name>.*?): expected one argument", "{name} needs a value, {value}"),
+        (r"argument (?P<name>.*?): expected at least one argument", "missing {name}"),
+        (r"argument (?P<name>.*?): ignored explicit argument .*", "{name} takes no value"),
+        (r"argument (?P<name>.*?): (?P<rest>.*)", "{name}: {rest}"))
+DASHES = "\u2010\u2011\u2012\u2013\u2014\u2212"
+
+
+class Once(argparse.Action):
+    """Keeps a value. An option is given once."""
+
+    def __call__(self, parser, namespace, values, option_string=None):
+        if option_string and self.dest in parser.given:
+            parser.error(f"`{option_string}` is given twice")
+        parser.given.add(self.dest)
+        setattr(namespace, self.dest, values)
+
+
+class Parser(argparse.ArgumentParser):
+    """Reads the words of a tool. `others` are beginnings of words that another program takes."""
+
+    def __init__(self, name, about, more, others=(), **rest):
+        super().__init__(prog=name, description=about, epilog=more,
+                         formatter_class=argparse.RawDescriptionHelpFormatter, **rest)
+        self.others, self.given, self.spare = tuple(others), set(), set()
+        for action in (None, "store"):
+            self.register("action", action, Once)
+
+    def parse_intermixed_args(self, args=None, namespace=None):
+        # It asks for words that may be missing, too.
+        self.spare = {action.metavar for action in self._actions if action.nargs == "*"}
+        self.check(args)
+        return self.none_more(*self.parse_known_intermixed_args(args, namespace))
+
+    def parse_known_args(self, args=None, namespace=None):
+        self.given = set()
+        self.check(args)
+        return super().parse_known_args(args, namespace)
+
+    def parse_args(self, args=None, namespace=None):
+        return self.none_more(*self.parse_known_args(args, namespace))
+
+    def none_more(self, asked, more):
+        """What was asked, if no word is left."""
+        if more:
+            self.error(f"unexpected argument {quoted(more[0])}")
+        return asked
+
+    def options(self):
+        """The names of the options."""
+        return [name for action in self._actions for name in action.option_strings]
+
+    def check(self, words):
+        """Refuses an option that there is not, before what is missing is told."""
+        for word in words[:words.index("--")] if "--" in words else words:
+            name, known = word.partition("=")[0], self.options()
+            if word[:1] in tuple(DASHES) and "--" + name.strip(DASHES) in known:
+                self.error(f"{quoted(word)} begins with a typographic dash: write `--`")
+            if not re.match(r"-[^\d\s]", word) or " " in name or word.startswith(self.others):
+                continue
+            if not any(option.startswith(name) if name.startswith("--") else name.startswith(option)
+                       for option in known if option.startswith("--") == name.startswith("--")):
+                self.unknown(name)
+
+    def unknown(self, name):
+        """Refuses an option, and names those that may be meant."""
+        passed = f"; only {listed(self.others, 'and')} are passed on" if self.others else ""
+        self.error(f"unknown option {quoted(name)}{near('--' + name.strip('-'), self.options()) or passed}")
+
+    def told_name(self, name):
+        """An option or a word as messages name it, and what its value is called."""
+        for action in self._actions:
+            if "/".join(action.option_strings) == name or name in (action.metavar, action.dest):
+                called = action.option_strings[-1] if action.option_strings else None
+                return f"`{called}`" if called else action.metavar or name, action.metavar or action.dest.upper()
+        return name, "VALUE"
+
+    def told(self, message):
+        """A message of argparse in other words."""
+        if match := re.fullmatch(r"the following arguments are required: (.*)", message):
+            told = [self.told_name(name) for name in match[1].split(", ") if name not in self.spare]
+            return "missing " + " and ".join(f"`{name[1:-1]} {value}`" if name[0] == "`" else name
+                                             for name, value in told)
+        if match := re.fullmatch(r"ambiguous option: (\S+?)(?:=.*)? could match (.*)", message):
+            return f"ambiguous option {quoted(match[1])}: {listed(match[2].split(', '))}"
+        if match := re.fullmatch(r"argument (\S+): invalid choice: (.*) \(choose from (.*)\)", message):
+            known, word = re.findall(r"[\w-]+", match[3]), match[2].strip("'")
+            return f"`{match[1]}`: unknown value {quoted(word)}: expected {listed(known)}{near(word, known)}"
+        for pattern, text in TOLD:
+            if match := re.fullmatch(pattern, message, re.DOTALL):
+                name, value = self.told_name(match["name"])
+                return text.format(**{**match.groupdict(), "name": name, "value": value})
+        return message
+
+    def error(self, message):
+        """Ends the tool: it cannot do what was asked."""
+        self.exit(2, f"{self.prog}: {self.told(message)}\n`{self.prog} --help` lists the arguments and options\n")
+
+
+def wild_answers(text):
+    """The answers to wild loads, as the program reads them."""
+    parts = text.split(",")
+    if len(parts) > MOST_ANSWERS or not all(is_word(part) or part == "stop" for part in parts):
+        raise argparse.ArgumentTypeError(f"invalid answers {quoted(text)}: expected at most {MOST_ANSWERS} parts "
+                                         "separated by commas, each a number or `stop`")
+    return text
+
+
+def number(least=0, most=None, step=1):
+    """Reads a whole number between these."""
+    def read(text):
+        if re.fullmatch(r"[0-9]{1,20}", text):
+            found = int(text)
+            if found >= least and (most is None or found <= most) and found % step == 0:
+                return found
+        told = f"{least} to {most}" if most is not None else f"a whole number, at least {least}"
+        told = f"a multiple of {step} from {told}" if step > 1 else told
+        raise argparse.ArgumentTypeError(f"invalid number {quoted(text)}: expected {told}")
+    return read
