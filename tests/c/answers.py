@@ -1,5 +1,6 @@
 #!/usr/bin/env python3
-"""Prints what a program of examples/c must write, by Python's libraries, vectors or numbers: `answers.py NAME`."""
+"""Prints what a program of examples/c or tests/c must write, by Python's libraries, vectors or numbers:
+`answers.py NAME`."""
 import hashlib
 import sys
 import zlib
@@ -194,8 +195,19 @@ def control():
         place += speed >> 2
 
 
+def results():
+    words = []
+    for x in range(1, 35):
+        x = (x ^ x >> 3) * 5
+        words.append((x ^ x << 7) + x)
+    for word in words:
+        put("now", word + 1)
+    for word in words:
+        put("later", word)
+
+
 if __name__ == "__main__":
     {function.__name__: function for function in (
-        aes128, bits, chacha20, control, crc32, divide, fsm, kalman, matrix, pid, ring, search, sha256, sha3, sorts,
-        strings, vote, xtea)}[sys.argv[1]]()
+        aes128, bits, chacha20, control, crc32, divide, fsm, kalman, matrix, pid, results, ring, search, sha256, sha3,
+        sorts, strings, vote, xtea)}[sys.argv[1]]()
     print("\n".join(LINES))

@@ -41,7 +41,9 @@ int printf(const char *, ...);
 
 
 def program(seed, folder):
-    made = subprocess.run(["csmith", "--seed", str(seed), *SMALL], stdout=subprocess.PIPE, text=True, check=True).stdout
+    # csmith leaves a file `platform.info` where it runs.
+    made = subprocess.run(["csmith", "--seed", str(seed), *SMALL], stdout=subprocess.PIPE, text=True, check=True,
+                          cwd=folder).stdout
     made = re.sub(r"^(\s+)csmith_sink_ = (.*);$", r"\1SINK(\2);", made, flags=re.MULTILINE)
     made = made.replace('#include "csmith.h"', HEADER)
     made = made.replace("uint64_t csmith_sink_ = 0;", "uint64_t csmith_sink_ __attribute__((aligned(8))) = 0;")

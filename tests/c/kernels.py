@@ -13,7 +13,7 @@ import subprocess
 import sys
 import tempfile
 
-from tries import LEVELS, TALFT, here, top
+from tries import CC, LEVELS, TALFT, here, top
 
 DIVIDE = "divide", "kalman"
 SAID = re.compile(r"accepted: (\d+) instructions, .* (\d+) cells; (?:.*; )?verified: (\d+) stores in (\d+) steps "
@@ -50,7 +50,7 @@ def tried(name, level, folder):
     if name.endswith(".rs"):
         words = [of_rust(name, level, folder)]
         name = name[:-3]
-    _, said = run(os.path.join(top, "tools", "cc"), *words, "-o", made)
+    _, said = run(CC, *words, "-o", made)
     found = SAID.search(said)
     if not found:
         return None, said.strip()[-300:]
@@ -70,7 +70,9 @@ def tried(name, level, folder):
 
 def programs():
     """The names of the examples."""
-    names = sorted(os.path.basename(path)[:-2] for path in glob.glob(os.path.join(top, "examples", "c", "*.c")))
+    # A program for `cc` has its cells from cells.h. The others are for the C library.
+    names = sorted(os.path.basename(path)[:-2] for path in glob.glob(os.path.join(top, "examples", "c", "*.c"))
+                   if '#include "cells.h"' in open(path, encoding="utf-8").read())
     with tempfile.TemporaryDirectory() as folder:
         if shutil.which(os.environ.get("RUSTC", "rustc")) and of_rust("crc32.rs", "-O2", folder):
             return names + ["crc32.rs"]

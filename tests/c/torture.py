@@ -11,9 +11,8 @@ import subprocess
 import sys
 import tempfile
 
-here = os.path.dirname(os.path.abspath(__file__))
-top = os.path.join(here, "..", "..")
-LEVELS = "-O0", "-O1", "-O2", "-O3", "-Os", "-Oz"
+from tries import CC, LEVELS, TALFT
+
 # What the tests take from a C library. Whoever ends early has stored a word that tells it.
 LIBRARY = """
 volatile unsigned long long ended __attribute__((aligned(8)));
@@ -36,16 +35,15 @@ def tried(path, level, folder):
     source, made = os.path.join(folder, "program.c"), os.path.join(folder, "object")
     with open(source, "w", encoding="utf-8") as out:
         out.write(f'{LIBRARY}#include "{os.path.abspath(path)}"\n')
-    run = subprocess.run([os.path.join(top, "tools", "cc"), source, level, "-w", "-fwrapv", "-std=gnu89",
+    run = subprocess.run([CC, source, level, "-w", "-fwrapv", "-std=gnu89",
                           "--stack", "1024", "-o", made],
                          stdout=subprocess.PIPE, stderr=subprocess.PIPE, text=True)
     said = run.stderr.strip().splitlines()[-1][-220:] if run.stderr.strip() else ""
     if run.returncode:
-        return ("clang refuses" if "clang refuses" in said else "wrong" if "report it" in said else "refused"), said
+        return ("clang refuses" if "clang cannot compile" in said else "wrong" if "report it" in said else "refused"), said
     if "; verified" not in run.stderr:
         return "not verified", said
-    talft = os.environ.get("TALFT", os.path.join(top, "talft"))
-    done = subprocess.run([talft, "run", made, "--steps", "1000000"], stdout=subprocess.PIPE, text=True)
+    done = subprocess.run([TALFT, "run", made, "--steps", "1000000"], stdout=subprocess.PIPE, text=True)
     told = [line for line in done.stdout.splitlines() if ended(line)]
     if done.returncode == 0 and not told or told and told[-1].endswith(" 1"):
         return "passed", None

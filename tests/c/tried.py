@@ -17,6 +17,8 @@ import traceback
 here = os.path.dirname(os.path.abspath(__file__))
 sys.path.insert(0, os.path.join(here, "..", "..", "tools"))
 sys.dont_write_bytecode = True
+import places           # noqa: E402
+places.watch()
 loader = importlib.machinery.SourceFileLoader("cc", os.path.join(here, "..", "..", "tools", "cc"))
 spec = importlib.util.spec_from_loader("cc", loader)
 cc = importlib.util.module_from_spec(spec)

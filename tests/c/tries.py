@@ -1,4 +1,5 @@
-"""What the tests of many programs share: a call of tools/cc, the lines of an object, and the count of how they went."""
+"""What the tests of many programs share: a call of tools/cc with the test of places.py, the lines of an object, and the
+count of how they went."""
 import os
 import subprocess
 import tempfile
@@ -6,6 +7,7 @@ import tempfile
 here = os.path.dirname(os.path.abspath(__file__))
 top = os.path.join(here, "..", "..")
 TALFT = os.environ.get("TALFT", os.path.join(top, "talft"))
+CC = os.path.join(here, "places.py")
 LEVELS = "-O0", "-O1", "-O2", "-O3", "-Os", "-Oz"
 
 
@@ -15,10 +17,10 @@ def ran(*words, **more):
 
 def compiled(source, level, made, *words):
     """What tools/cc says of a program, after a word on how it went, or None where its object is verified."""
-    done = ran(os.path.join(top, "tools", "cc"), source, level, *words, "--stack", "1024", "-o", made)
+    done = ran(CC, source, level, *words, "--stack", "1024", "-o", made)
     said = done.stderr.strip().splitlines()[-1] if done.stderr.strip() else ""
     if done.returncode:
-        return ("clang refuses" if "clang refuses" in said else "wrong" if "report it" in said else "refused"), said
+        return ("clang refuses" if "clang cannot compile" in said else "wrong" if "report it" in said else "refused"), said
     return None if "; verified: " in done.stderr else ("not verified", said)
 
 

@@ -1,5 +1,6 @@
-# Programs in C, from modules that clang 14 made of examples/c: nothing here needs clang. What the modules must write is
-# worked out by tests/c/answers.py; refusals are those of modules that tests/c/refusals.py writes.
+# Programs in C, from modules that clang 14 made of examples/c and of tests/c/results.c: nothing here needs clang. What
+# the modules must write is worked out by tests/c/answers.py; refusals are those of modules that tests/c/refusals.py
+# writes.
 #     clang --target=wasm32 -Oz -nostdlib -Wl,--no-entry -Wl,--export=run -Wl,--emit-relocs -Wl,-z,stack-size=512
 
 answers() { python3 "$top/tests/c/answers.py" "$1"; }
@@ -8,6 +9,8 @@ made() {
   report "what is said of $1.wasm" "$1.obj: accepted verified" \
     "$(sed -n 's/^cc: \(.*: accepted\): .*; \(verified\): .*/\1 \2/p' said)"
   expect "the check of $1.wasm" 0 'accepted\n' check "$1.obj"
+  TALFT=$top/talft python3 -B "$top/tests/c/places.py" "$top/tests/c/$1.wasm" --no-verify -o again.obj 2>said
+  report "where the values of $1.wasm are" 'the same object' "$(cmp "$1.obj" again.obj && echo the same object)"
   tool "the text of $1.wasm" 0 '' wasm2asm "$top/tests/c/$1.wasm" --quiet -o again.asm
   report "the same text of $1.wasm" '' "$(diff <(tail -n +2 "$1.asm") <(tail -n +2 again.asm))"
   "$top/tools/faults" "$1.obj" --flip all --sample 300 --seed 5 >list 2>said
@@ -18,8 +21,10 @@ made crc32
 report 'the lines of crc32.wasm' "$(answers crc32)" "$("$top/talft" run crc32.obj)"
 made strings
 report 'the lines of strings.wasm' "$(answers strings)" "$("$top/talft" run strings.obj)"
+made results
+report 'the lines of results.wasm' "$(answers results)" "$("$top/talft" run results.obj | grep -v '^spill')"
 # Another polynomial, in both colours: accepted, but not what the module does. 2212294583 is the CRC-32 of "1".
-report 'a wrong translation' "accepted; and the module's crc 2212294583: the translation is wrong; report it" \
+report 'a wrong translation' "accepted; and that of the module crc 2212294583: the translation is wrong; report it" \
   "$(TALFT=$top/talft python3 "$top/tests/c/differs.py" "$top/tests/c/crc32.wasm" 3988292384 3988292385 |
     sed 's/; store 0 .*, and/; and/')"
 made control
@@ -40,20 +45,21 @@ printf 'force 7\nforce 8\nagain 1\n' >lines
 tool 'the last word of lines' 0 '' set control.obj --from lines goal=1 -o eight.obj
 report 'the cells of lines' "$(sed 's/^goal 0$/goal 1/; s/^force 0$/force 8/' before)" \
   "$("$top/tools/set" eight.obj --list)"
-refuses 'a cell that is not there' 'set: control.obj: there is no cell gaol; cells there are: goal, measured, last' \
+refuses 'a cell that is not there' 'set: control.obj: unknown cell `gaol`; did you mean `goal`?; --list lists the cells' \
   set control.obj gaol=1
-refuses 'a word that is none' "set: goal: '1x' is no number; write it in decimal, or after 0x in hex" \
+refuses 'a word that is none' 'set: `goal`: invalid number `1x`: expected decimal digits, or hex after 0x' \
   set control.obj goal=1x
-refuses 'a word that is too large' 'set: goal: 18446744073709551616 is no word; give a number from -2^63 to 2^64 - 1' \
+refuses 'a word that is too large' 'set: `goal`: `18446744073709551616` does not fit in 64 bits: expected -2^63 to 2^64 - 1' \
   set control.obj goal=18446744073709551616
-refuses 'a cell that is set twice' 'set: goal is given twice; give it once' set control.obj goal=1 goal=2
+refuses 'a cell that is set twice' 'set: the cell `goal` is given twice' set control.obj goal=1 goal=2
 echo x >>lines
-refuses 'a line that is none' "set: lines:4: 'x' is no line NAME VALUE of a run" set control.obj --from lines
-refuses 'words of no object' 'set: control.asm: it is no object; make one with `talft asm`, `talft compile` or `cc`' \
+refuses 'a line that is none' 'set: lines:4: unexpected `x`: expected NAME VALUE, as `talft run` writes it' \
+  set control.obj --from lines
+refuses 'words of no object' 'set: control.asm: is an assembly text; `talft asm` makes an object of it' \
   set control.asm goal=1
 cp "$top/examples/mixed.obj" .
 refuses 'an object that is not accepted' \
-  'set: mixed.obj: with these words `talft check` says: status 8: check block 0 index 3 premise 2' \
+  'set: mixed.obj: not accepted with these words: check block 0 index 3 premise 2' \
   set mixed.obj out=1
 
 # How runs end.
@@ -61,9 +67,11 @@ five=$top/examples/five.obj
 tool 'a run that is done' 0 'done after 14 steps\n' ending "$five"
 tool 'a run that goes on' 1 'running after 11 steps\n' ending "$five" --steps 11
 tool 'a run that is struck' 1 'detected after 12 steps\n' ending "$five" --fault 4:r1:6
-refuses 'a fault of nothing' 'ending: nothing is there to strike: the run is over before, or no store is pending' \
+refuses 'a fault of nothing' 'ending: nothing was struck: the run had ended, or the queue has no such entry at that step' \
   ending "$five" --fault 4:qv0:6
-refuses 'a fault that is none' "ending: --fault: '4:r64:6' is not STEP:SITE:WORD with a step of the run" \
+refuses 'a fault that is none' \
+  'ending: --fault: invalid fault `4:r64:6`: expected STEP:SITE:WORD; the site `r64` is not one of '\
+'r0 to r63, d, pcg, pcb, qa0 to qa7 and qv0 to qv7' \
   ending "$five" --fault 4:r64:6
 cat >trap.asm <<'END'
 node 0 memory
@@ -97,17 +105,17 @@ cd refused || exit 2
 said_of() {
   refuses "the module $1" "$1.wasm: $2" wasm2asm "$1.wasm"
 }
-said_of empty 'offset 0x0: is no WebAssembly module of version 1; give the output of wasm-ld'
-said_of text 'offset 0x0: is no WebAssembly module of version 1; give the output of wasm-ld'
-said_of cut 'offset 0x38: a part is longer than what it is in; link it again: the file is damaged'
+said_of empty 'offset 0x0: is not a WebAssembly module of version 1; give the output of wasm-ld; `cc` takes C'
+said_of text 'offset 0x0: is not a WebAssembly module of version 1; give the output of wasm-ld; `cc` takes C'
+said_of cut 'offset 0x38: a part is longer than the section that it is in; link it again: the file is damaged'
 said_of section \
-  'offset 0x8: section 77 is unknown, twice there or not in its order; link it again: the file is damaged'
-said_of types 'function run: offset 0x3f: takes i32 where i64 is; the module is not valid: compile and link it again'
+  'offset 0x8: section 77 is unknown, repeated or out of order; link it again: the file is damaged'
+said_of types 'function run: offset 0x3f: expects i32, and finds i64; the module is not valid: compile and link it again'
 said_of stack \
-  'function run: offset 0x3b: takes a value that is not there; the module is not valid: compile and link it again'
+  'function run: offset 0x3b: takes a value from an empty stack; the module is not valid: compile and link it again'
 said_of float \
-  'function run: offset 0x45: a floating-point instruction (f32.add); link __addsf3 and the like, as '\
-'of compiler-rt, or use integers or fixed point'
+  'function run: offset 0x45: a floating-point instruction (f32.add); link __addsf3 and the other '\
+'functions of compiler-rt, or use integers'
 said_of floating 'function run: offset 0x3b: the entry'\''s result is a floating-point number; return an integer'
 said_of vector 'function run: offset 0x3b: a vector or atomic instruction; compile without -msimd128 and -matomics'
 said_of atomic 'function run: offset 0x3b: a vector or atomic instruction; compile without -msimd128 and -matomics'
@@ -118,15 +126,15 @@ said_of element \
 said_of import 'offset 0x11: imports the function env.reach; define it in C, and link without --allow-undefined'
 said_of parameter 'exports no function without parameters; link with -Wl,--export=NAME'
 said_of without 'exports no function without parameters; link with -Wl,--export=NAME'
-said_of two 'exports 2 functions without parameters (run, step); say --entry NAME'
-said_of endless 'does not tell where its data ends; link with -Wl,--export=__data_end, or say --memory LO:HI'
+said_of two 'exports 2 functions without parameters (run, step); use --entry NAME'
+said_of endless 'does not say where its data ends; link with -Wl,--export=__data_end, or use --memory LO:HI'
 said_of large \
   'the memory from 0x400 to 0x2408 takes 1025 cells, more than 1024; use less data, a smaller '\
-'-Wl,-z,stack-size=, or say --memory LO:HI'
+'-Wl,-z,stack-size=, or use --memory LO:HI'
 cd ..
 refuses 'a module without what is asked for' \
-  'cc: refused/two.wasm: no function walk is exported; say --entry with one of: run, step' \
+  'cc: refused/two.wasm: exports no function `walk`; use --entry with `run` or `step`' \
   cc refused/two.wasm --entry walk -o two.obj
-CLANG=nowhere refuses 'C without clang' 'cc: nowhere is not there; install clang and lld, or name clang in $CLANG' \
+CLANG=nowhere refuses 'C without clang' 'cc: nowhere: not found; install clang and lld, or set $CLANG to the path of clang' \
   cc "$top/examples/c/pid.c" -o none.obj
 report 'nothing is made' '' "$(ls two.obj none.obj 2>errors)"

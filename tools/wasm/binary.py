@@ -13,7 +13,7 @@ class Bytes:
 
     def byte(self):
         if self.at >= self.end:
-            self.refuse("the module ends within a record")
+            self.refuse("the module ends in the middle of a record")
         self.at += 1
         return self.data[self.at - 1]
 
@@ -29,7 +29,7 @@ class Bytes:
                     self.refuse(f"a number of more than {bits} bits", at)
                 return result
             if shift >= bits:
-                self.refuse("a number is spelled too long", at)
+                self.refuse("a number has too many bytes", at)
 
     def s(self, bits):
         shift, result, at = 0, 0, self.at
@@ -43,11 +43,11 @@ class Bytes:
                     self.refuse(f"a number of more than {bits} bits", at)
                 return result
             if shift >= bits:
-                self.refuse("a number is spelled too long", at)
+                self.refuse("a number has too many bytes", at)
 
     def take(self, n):
         if self.at + n > self.end:
-            self.refuse("the module ends within a record")
+            self.refuse("the module ends in the middle of a record")
         self.at += n
         return self.data[self.at - n:self.at]
 
@@ -61,6 +61,6 @@ class Bytes:
     def part(self, size):
         """The next bytes, as bytes to be read by themselves."""
         if self.at + size > self.end:
-            self.refuse("a part is longer than what it is in")
+            self.refuse("a part is longer than the section that it is in")
         self.at += size
         return Bytes(self.data, self.at - size, self.at, self.func)

@@ -94,7 +94,7 @@ def demanded(blocks, preds, length):
     owner = {p: (b, i) for b in blocks for i, p in enumerate(b.params)}
 
     def ask(x, bits):
-        if isinstance(x, Value):
+        if x.__class__ is Value:
             have = need.get(x, 0)
             if bits & ~have:
                 need[x] = have | bits
@@ -187,7 +187,6 @@ def optimise(g, length, rounds=12):
         if turn < 2:
             use_ranges(blocks, preds)
         blocks, preds = clean(g)
-        known_ones(blocks, preds)
         changed = drop_masks(blocks, preds, length) or share_sums(blocks, preds, length)
         for b in blocks:
             for p in b.params:      # without their masks words may have other bits

@@ -37,7 +37,7 @@ class Bulk:
         g.at = on
 
     def refuse_segment(self, ins):
-        self.refuse(ins.at, f"{ins.op}: data that waits for it", "compile without -pthread and -mbulk-memory")
+        self.refuse(ins.at, f"{ins.op}: a passive data segment", "compile without -pthread and -mbulk-memory")
 
     def each(self, count, note, turn):
         """Does something for each number below `count`."""

@@ -42,11 +42,11 @@ class Decoder:
         frame = self.frames[-1]
         if len(self.types) == frame.height:
             if not frame.dead:
-                self.wrong("takes a value that is not there")
+                self.wrong("takes a value from an empty stack")
             return wanted
         got = self.types.pop()
         if got != wanted and got is not ANY and wanted is not ANY:
-            self.wrong(f"takes {TYPE_NAMES.get(wanted, 'a type')} where {TYPE_NAMES.get(got, 'another')} is")
+            self.wrong(f"expects {TYPE_NAMES.get(wanted, 'a type')}, and finds {TYPE_NAMES.get(got, 'another')}")
         return wanted if got is ANY else got
 
     def take(self, kinds):

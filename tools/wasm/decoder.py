@@ -89,7 +89,7 @@ class Module:
 
     def __init__(self, data):
         if data[:8] != b"\0asm\1\0\0\0":
-            raise Invalid("no WebAssembly module of version 1")
+            raise Invalid("is not a WebAssembly module of version 1")
         self.types, self.functions, self.globals, self.elements, self.data = [], [], [], [], []
         self.tables, self.pages, self.exports, self.start, self.imported = [], 0, {}, None, 0
         file = Bytes(data, 8, len(data))
@@ -100,7 +100,7 @@ class Module:
             try:
                 getattr(self, "read_" + SECTIONS[number].replace(" ", "_"))(file.part(file.unsigned()))
             except (IndexError, TypeError):
-                raise Invalid(f"offset {at:#x}: the {SECTIONS[number]} section names what is not there") from None
+                raise Invalid(f"offset {at:#x}: the {SECTIONS[number]} section refers to something that is not defined") from None
 
     def read_custom(self, part):
         if part.text() != "name":
@@ -116,7 +116,7 @@ class Module:
     def read_type(self, part):
         def one():
             if part.byte() != 0x60:
-                raise Invalid(f"offset {part.at - 1:#x}: no function type")
+                raise Invalid(f"offset {part.at - 1:#x}: not a function type")
             return list(part.take(part.unsigned())), list(part.take(part.unsigned()))
         self.types = part.many(one)
 
@@ -165,7 +165,7 @@ class Module:
         elif op == 0xD0:
             part.byte()
         else:
-            raise Invalid(f"offset {part.at - 1:#x}: an initial value that is no integer")
+            raise Invalid(f"offset {part.at - 1:#x}: an initial value that is not an integer")
         if part.byte() != 0x0B:
             raise Invalid(f"offset {part.at - 1:#x}: an initial value does not end")
         return value
@@ -200,7 +200,7 @@ class Module:
     def read_code(self, part):
         mine = self.functions[self.imported:]
         if part.unsigned() != len(mine):
-            raise Invalid("there are not as many bodies as functions")
+            raise Invalid("the numbers of functions and of bodies differ")
         for function in mine:
             function.body = part.part(part.unsigned())
 

@@ -56,7 +56,7 @@ class Floats:
         func = builtin(self.module, name)
         if func is None:
             self.refuse(ins.at, f"a floating-point instruction ({name})",
-                        f"link {builtin_name(name)} and the like, as of compiler-rt, or use integers or fixed point")
+                        f"link {builtin_name(name)} and the other functions of compiler-rt, or use integers")
         if op.startswith("trunc_"):
             self.truncate(ins, kind, op, func)
             return

@@ -23,14 +23,14 @@ class Memory:
                 if byte or self.low <= at + i < self.high:
                     if not self.low <= at + i < self.high:
                         raise Refused(f"data at 0x{at + i:x} is outside the memory from 0x{low:x} to 0x{high:x}",
-                                      "say --memory LO:HI")
+                                      "use --memory LO:HI")
                     self.words[self.cell(at + i)] |= byte << 8 * ((at + i) & 7)
 
     def test_size(self):
         """Asked when the code is known to be one that can be translated: so what is wrong there is said first."""
         if self.need > MOST_CELLS:
             raise Refused(f"the memory from 0x{self.low:x} to 0x{self.high:x} takes {self.need} cells, more than "
-                          f"{MOST_CELLS}", "use less data, a smaller -Wl,-z,stack-size=, or say --memory LO:HI")
+                          f"{MOST_CELLS}", "use less data, a smaller -Wl,-z,stack-size=, or use --memory LO:HI")
 
     def cell(self, address):
         return (address >> 3) % self.length
@@ -96,7 +96,7 @@ class Access:
             if not memory.low <= address <= memory.high - size // 8:
                 if not self.checked:
                     self.refuse(at, f"an access to address 0x{address:x}, outside the memory from 0x{memory.low:x} to "
-                                f"0x{memory.high:x}", "say --memory LO:HI, or mend the program")
+                                f"0x{memory.high:x}", "use --memory LO:HI, or correct the program")
                 self.trap(at, OUTSIDE)
                 return memory.low
         elif self.checked:

@@ -39,14 +39,14 @@ class Module:
         self.func_names, self.global_names, self.linking, self.by_name = {}, {}, None, None
         self.has_memory, self.pages, self.bodies = False, 0, []
         if data[:8] != b"\0asm\1\0\0\0":
-            raise Refused("is no WebAssembly module of version 1", "give the output of wasm-ld", offset=0)
+            raise Refused("is not a WebAssembly module of version 1", "give the output of wasm-ld; `cc` takes C", offset=0)
         reader, last = Bytes(data, 8), -1
         while reader.at < reader.end:
             at, kind = reader.at, reader.byte()
             part = reader.part(reader.u())
             if kind:
                 if ORDER.get(kind, -1) <= last:
-                    reader.refuse(f"section {kind} is unknown, twice there or not in its order", at)
+                    reader.refuse(f"section {kind} is unknown, repeated or out of order", at)
                 last = ORDER[kind]
             self.section(kind, part)
         self.finish(reader)
@@ -71,7 +71,7 @@ class Module:
     # The sections
     def type_(self, part, _):
         if part.byte() != 0x60:
-            part.refuse("a type that is no function's", part.at - 1)
+            part.refuse("a type that is not a function type", part.at - 1)
         self.types.append(tuple(tuple(self.kind(part) for _ in range(part.u())) for _ in range(2)))
 
     @staticmethod
@@ -101,7 +101,7 @@ class Module:
         least = part.u()
         greatest = part.u() if flags else most
         if not least <= greatest <= most:
-            part.refuse("limits that are none", at)
+            part.refuse("invalid limits", at)
         return least
 
     def table(self, part, _):
@@ -123,7 +123,7 @@ class Module:
         at = part.at
         name, what, index = part.name(), part.byte(), part.u()
         if what > 3 or index >= (len(self.funcs), len(self.tables), int(self.has_memory), len(self.globals))[what]:
-            part.refuse("an export of what is not there", at)
+            part.refuse("an export of something that is not defined", at)
         if name in self.exports:
             part.refuse("two exports of one name", at)
         self.exports[name] = (what, index)
@@ -146,7 +146,7 @@ class Module:
         count = part.u()
         items = [self.constant(part, FUNCREF) if flags & 4 else part.u() for _ in range(count)]
         if any(i is not None and i >= len(self.funcs) for i in items):
-            part.refuse("an element that is no function", at)
+            part.refuse("an element that is not a function", at)
         if active:
             if offset + count > self.tables[table][1]:
                 part.refuse("elements outside of their table", at)
@@ -187,9 +187,9 @@ class Module:
         elif code == 0xD2:
             value, got = part.u(), FUNCREF
             if value >= len(self.funcs):
-                part.refuse("an initial value that is no function", here)
+                part.refuse("an initial value that is not a function", here)
         else:
-            part.refuse("an initial value that is no constant", here, INVALID)
+            part.refuse("an initial value that is not a constant", here, INVALID)
         if got != kind or part.byte() != 0x0B:
             part.refuse("an initial value of another type, or of several instructions", here, INVALID)
         return value
@@ -199,10 +199,10 @@ class Module:
         if len(self.bodies) != len(self.funcs):
             reader.refuse(f"{len(self.funcs)} functions and {len(self.bodies)} bodies")
         if self.data_count not in (None, len(self.segments)):
-            reader.refuse(f"{self.data_count} data segments are promised, and there are {len(self.segments)}")
+            reader.refuse(f"{self.data_count} data segments are announced, and there are {len(self.segments)}")
         if self.start is not None and (self.start >= len(self.funcs) or self.funcs[self.start].params
                                        or self.funcs[self.start].results):
-            reader.refuse("a start function that is not there, or that takes or gives values")
+            reader.refuse("a start function that is not defined, or that takes or returns values")
         for name, (what, index) in self.exports.items():
             if what == 0:
                 self.func_names.setdefault(index, name)

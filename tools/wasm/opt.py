@@ -51,7 +51,7 @@ def resolve(blocks):
         if b.term[0] == "bz":
             b.term = ("bz", find(b.term[1]), *b.term[2:])
         for e in b.edges():
-            e.args = [find(x) for x in e.args]
+            e.args = [x if x.__class__ is int or x.repl is None else find(x) for x in e.args]
 
 
 def fold_branches(blocks):
@@ -87,7 +87,9 @@ def simple_params(blocks, preds):
             for i, p in enumerate(b.params):
                 only, fits = None, True
                 for _, e in preds[b]:
-                    x = find(e.args[i])
+                    x = e.args[i]
+                    if x.__class__ is Value and x.repl is not None:
+                        x = find(x)
                     if x is p:
                         continue
                     if only is None:
@@ -238,7 +240,7 @@ def sweep(blocks, preds):
     live, todo = set(), []
 
     def use(x):
-        if isinstance(x, Value) and x not in live:
+        if x.__class__ is Value and x not in live:
             live.add(x)
             todo.append(x)
 

@@ -69,10 +69,10 @@ class Spiller:
         for v in old:
             if v in self.place and self.place[v] is None:
                 continue
-            v.a, v.b = self.fetch(v.a, b.insts, b), self.fetch(v.b, b.insts, b)
-            if waiting and v.op != "get":       # results are taken before anything else has a register
+            if waiting and v.op != "get":       # results are taken, and stored, before anything else has a register
                 self.keep(waiting, b.insts, b)
                 waiting = []
+            v.a, v.b = self.fetch(v.a, b.insts, b), self.fetch(v.b, b.insts, b)
             b.insts.append(v)
             if v in self.place and v.op == "get":
                 waiting.append(v)

@@ -36,13 +36,17 @@ class Translation:
         self.text, self.cells, self.result, self.traps, self.notes = text, cells, result, traps, notes
 
 
+def counted(found, what):
+    return f"{len(found)} {what}{'' if len(found) == 1 else 's'}"
+
+
 def choose_entry(module, name):
     exported = {n: module.funcs[i] for n, (what, i) in module.exports.items() if what == 0}
     if name is None:
         found = [n for n in exported if not exported[n].params and n not in ("__wasm_call_ctors", "memory")]
         if len(found) > 1:
             some = ", ".join(map(plain, found[:5])) + (", .." if len(found) > 5 else "")
-            raise Refused(f"exports {len(found)} functions without parameters ({some})", "say --entry NAME")
+            raise Refused(f"exports {len(found)} functions without parameters ({some})", "use --entry NAME")
         if not found:
             raise Refused("exports no function without parameters", "link with -Wl,--export=NAME")
         name = found[0]
@@ -50,10 +54,10 @@ def choose_entry(module, name):
         raise Refused(f"exports no function `{plain(name)}`", "link with -Wl,--export=" + plain(name))
     func = exported[name]
     if func.params:
-        raise Refused(f"the entry has {len(func.params)} parameters", "export a function without parameters",
+        raise Refused(f"the entry takes {counted(func.params, 'parameter')}", "name a function without parameters",
                       func.name, func.at)
     if len(func.results) > 1:
-        raise Refused(f"the entry has {len(func.results)} results", "export a function with one result or none",
+        raise Refused(f"the entry has {counted(func.results, 'result')}", "name a function with one result or none",
                       func.name, func.at)
     if func.results and func.results[0] in FLOATS:
         raise Refused("the entry's result is a floating-point number", "return an integer", func.name, func.at)
@@ -98,7 +102,7 @@ def extents(module, symbols, mapped, used, places):
             stack = (last, value) if ended else None
             last, ended = max(last, value), True
     if not ended:
-        raise Refused("does not tell where its data ends", "link with -Wl,--export=__data_end, or say --memory LO:HI")
+        raise Refused("does not say where its data ends", "link with -Wl,--export=__data_end, or use --memory LO:HI")
     return first, max(last, first + 8), stack
 
 
@@ -124,7 +128,7 @@ def memory_of(module, path, options, entry):
     except ValueError:
         low = high = 0
     if not 0 <= low < high <= 1 << 32:
-        raise Refused(f"--memory {plain(options.memory)} is no LO:HI", "say for example --memory 1024:2048")
+        raise Refused(f"--memory: invalid range `{plain(options.memory)}`: expected LO:HI, as in --memory 1024:2048")
     return Memory(low, high, symbols, module.segments, None, not options.exact)
 
 

@@ -26,7 +26,7 @@ def ending(object_file, most, strikes=()):
     answers = ask(object_file, [*script, "where", "step 4", "where"])
     outputs, made = answers.path(script)
     if not all(made):
-        raise Refused("nothing is there to strike: the run is over before, or no store is pending")
+        raise Refused("nothing was struck: the run had ended, or the queue has no such entry at that step")
     before = answers.where()
     answers.step()
     after = answers.where()
@@ -73,7 +73,7 @@ def verify(data, entry, translation, run):
         return f"not verified: the interpreter cannot run the module: {invalid}"
     for number, (mine, wanted) in enumerate(zip(stores, module.stores)):
         if mine != wanted:
-            raise Refused(f"store {number} of the object is {mine[0]} {mine[1]}, and the module's {wanted[0]} "
+            raise Refused(f"store {number} of the object is {mine[0]} {mine[1]}, and that of the module {wanted[0]} "
                           f"{wanted[1]}: {WRONG}")
     how = agreement(run, module, len(stores), traps_of(translation.text))
     if how is None:
@@ -88,7 +88,7 @@ def agreement(run, module, count, traps):
     more, fewer = len(module.stores) > count, len(module.stores) < count
     if run.how == "done":
         if module.how == "cut" and not more:
-            return "not verified whole: the module runs longer than the interpreter may"
+            return "not fully verified: the module runs longer than the interpreter's limit"
         return "verified" if module.how == "done" and not more and not fewer else None
     if fewer:
         return None
