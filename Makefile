@@ -1,14 +1,22 @@
-# Proves, builds, checks and installs the program. `make` uses all processors by itself.
+# Proves, builds, checks and installs the program and the C library. `make` uses all processors by itself.
 
 PREFIX = /usr/local
 bin = $(DESTDIR)$(PREFIX)/bin
 share = $(DESTDIR)$(PREFIX)/share
+lib = $(DESTDIR)$(PREFIX)/lib
+include = $(DESTDIR)$(PREFIX)/include
+library = crates/ft_c/out/library
 to_bash = $(share)/bash-completion/completions
 to_vim = $(share)/vim/vimfiles
 scripts = tools/faults tools/campaign tools/plot tools/report tools/cc tools/wasm2asm tools/set tools/ending \
   tools/debugger tools/dap tools/explain tools/lines tools/build
 
-.PHONY: all check wrong-bodies install uninstall clean
+# The program that is installed, where it is not the one that `make` builds here.
+PROGRAM =
+# The log of a gate run, for the counts in a release and for the evidence.
+GATE_LOG =
+
+.PHONY: all check wrong-bodies library install install-program install-library uninstall dist deb evidence same-bytes clean
 
 # Proves the crates that the program stands on, and builds it.
 all:
@@ -22,11 +30,20 @@ check:
 wrong-bodies:
 	@bash tests/wrong-bodies.sh
 
-install: all
+# The C library. With ARCH=aarch64 it is made for that processor; with HEAP=arena it takes its memory from the caller.
+ARCH = x86_64
+HEAP = heap
+library:
+	@HEAP=$(HEAP) PREFIX=$(PREFIX) bash build/library.sh $(ARCH)
+
+install: install-program install-library
+
+# The program alone, as a release has it.
+install-program: $(if $(PROGRAM),,all)
 	install -d $(bin) $(share)/man/man1 $(share)/man/man5 $(share)/man/man7 $(to_bash) $(to_vim)/syntax $(to_vim)/ftdetect \
 	  $(share)/talft/editors/vscode $(share)/talft/editors/debugging $(share)/talft/examples/c $(share)/talft/examples/rust \
 	  $(share)/talft/tools/wasm $(share)/talft/tools/debugging
-	install -m 755 crates/talft/out/talft $(bin)/talft
+	install -m 755 $(or $(PROGRAM),crates/talft/out/talft) $(bin)/talft
 	install -m 644 man/*.1 $(share)/man/man1
 	install -m 644 man/*.5 $(share)/man/man5
 	install -m 644 man/*.7 $(share)/man/man7
@@ -46,11 +63,39 @@ install: all
 	install -m 644 tools/wasm/*.* $(share)/talft/tools/wasm
 	install -m 644 tools/debugging/*.py $(share)/talft/tools/debugging
 
+install-library: library
+	install -d $(lib)/pkgconfig $(include) $(share)/man/man3 $(share)/talft/tools $(share)/talft/embed
+	install -m 644 $(library)/libtalft.a $(lib)
+	install -m 755 $(library)/libtalft.so $(lib)/libtalft.so.0
+	ln -sf libtalft.so.0 $(lib)/libtalft.so
+	install -m 644 $(library)/talft.pc $(lib)/pkgconfig
+	install -m 644 include/talft.h $(include)
+	install -m 644 man/*.3 $(share)/man/man3
+	install -m 644 embed/talft.py $(share)/talft/tools
+	install -m 644 embed/*.c embed/talft.map $(share)/talft/embed
+
 uninstall:
+	rm -f $(lib)/libtalft.a $(lib)/libtalft.so $(lib)/libtalft.so.0 $(lib)/pkgconfig/talft.pc $(include)/talft.h
+	rm -f $(patsubst man/%,$(share)/man/man3/%,$(wildcard man/*.3))
 	rm -f $(bin)/talft $(to_bash)/talft $(to_vim)/syntax/talft.vim $(to_vim)/syntax/talftasm.vim $(to_vim)/ftdetect/talft.vim
 	rm -f $(patsubst man/%,$(share)/man/man1/%,$(wildcard man/*.1)) $(patsubst man/%,$(share)/man/man5/%,$(wildcard man/*.5))
 	rm -f $(patsubst man/%,$(share)/man/man7/%,$(wildcard man/*.7))
 	rm -rf $(share)/talft
 
+# A tarball and a Debian package of what is built, in out/.
+dist: all
+	@bash build/dist.sh tar out "" $(GATE_LOG)
+
+deb: all
+	@bash build/dist.sh deb out "" $(GATE_LOG)
+
+# What was proved, tried and measured, in one folder in out/. It runs the gate where GATE_LOG names no log of it.
+evidence: all
+	@bash build/evidence.sh out $(GATE_LOG)
+
+# Builds twice, in other folders, at other times, with another locale and number of processors, and compares the bytes.
+same-bytes: all
+	@bash tests/same_bytes.sh
+
 clean:
-	rm -rf crates/*/out
+	rm -rf crates/*/out out

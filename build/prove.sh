@@ -35,7 +35,7 @@ proof=$!
 stopped() {
   kill "$proof" 2>/dev/null
   wait "$proof"
-  show 'talft: stopped; the next run goes on from what the kit has kept'
+  show 'talft: stopped; the next run keeps what is proved so far'
   exit "$1"
 }
 trap 'stopped 129' HUP
@@ -73,9 +73,10 @@ done
 wait "$proof"
 if [ $? -ne 0 ] || [ ! -x crates/talft/out/talft ]; then
   log=$(mktemp "${TMPDIR:-/tmp}/talft-log-XXXXXX") && cp "$copy/log" "$log"
-  show "talft: not proved; $log has what the prover said, which ends so:"
+  show "talft: error: the proof failed. The prover's whole output is in $log; it ends with:"
   tail -n 20 "$log"
   exit 1
 fi
-cp crates/talft/out/talft "$program.new" && touch -r "$copy/begun" "$program.new" && mv "$program.new" "$program" || exit 2
+rt version >"$program.kit" && cp crates/talft/out/talft "$program.new" && touch -r "$copy/begun" "$program.new" &&
+  mv "$program.new" "$program" || exit 2
 show "talft: proved and built $program in $((($(date +%s) - start + 59) / 60)) minutes"

@@ -1,21 +1,28 @@
-# What the program is made from. The caller sets `top`, the folder of the repository.
+# What the program and the C library are made from. The caller sets `top`, the folder of the repository.
 
 program=$top/crates/talft/out/talft
 
-# The crates that the program stands on, itself among them.
+# The crates that a crate stands on, itself among them: the program's, where none is named.
 needed() {
-  awk -F: '/^[a-z]/ { uses[$1] = $2 }
+  awk -v root="${1-talft}" -F: '/^[a-z]/ { sub(/ staticlib/, "", $1); uses[$1] = $2 }
     function visit(name, parts, count, i) {
       if (!(name in uses) || (name in seen)) return
       seen[name] = 1; print name
       count = split(uses[name], parts, " ")
       for (i = 1; i <= count; i++) visit(parts[i])
     }
-    END { visit("talft") }' "$top/crates.txt"
+    END { visit(root) }' "$top/crates.txt"
 }
 
-# Whether the program is there, and nothing that it is made from changed, came or went since.
+# Whether the program is there, and nothing that it is made from changed, came or went since. Where that cannot be told,
+# it is not built.
 is_built() {
-  [ -x "$program" ] && [ -z "$(cd "$top" && find crates.txt HANDLES \
-    $(needed | sed 's|.*|crates/&/src crates/&/specs crates/&/proofs|') -newer "$program" -print -quit 2>/dev/null)" ]
+  local crate crates part newer places=(crates.txt HANDLES)
+  [ -x "$program" ] && crates=$(cd "$top" && needed) && [ -n "$crates" ] || return 1
+  for crate in $crates; do
+    for part in src specs proofs; do
+      [ "$part" != src ] && [ ! -d "$top/crates/$crate/$part" ] || places+=("crates/$crate/$part")
+    done
+  done
+  newer=$(cd "$top" && find "${places[@]}" -newer "$program" -print -quit) && [ -z "$newer" ]
 }

@@ -1,0 +1,66 @@
+# Releases of the proved program: what they have, that they are the same bytes when made twice, and that they run the guide
+# when installed in a clean root, from which the package goes again.
+release=$work/release
+program=$top/crates/talft/out/talft
+mkdir "$release"
+report 'the bytes of a release made twice' \
+  "$(printf 'same: %s\n' "talft-$(cat "$top/VERSION")-linux-$(uname -m).tar.xz" "talft_$(cat "$top/VERSION")_amd64.deb" talft)" \
+  "$(bash "$top/tests/same_bytes.sh" --packages "$program" 2>&1)"
+
+# `runs_guide NAME FOLDER` runs the guide with the program, the tools and the examples that are installed below a folder.
+runs_guide() {
+  local place=$release/${1// /_} asked
+  mkdir "$place"
+  ln -s "$2/bin/talft" "$place/talft"
+  ln -s "$2/share/talft/tools" "$2/share/talft/examples" "$place"
+  got=$(env -u TALFT python3 "$top/tests/guide.py" "$top/docs/GUIDE.md" "$place" 2>&1)
+  asked=$(sed -n 's/^\([0-9]*\) of .*/\1/p' <<<"$got")
+  report "the guide, by $1" "$asked of $asked commands write what the guide says" "$(grep -v '^left out' <<<"$got")"
+}
+
+tarball=$(bash "$top/build/dist.sh" tar "$release" "$program")
+mkdir "$release/clean"
+tar -C "$release/clean" -xf "$tarball"
+unpacked=$(echo "$release"/clean/*)
+report 'the checksums of a release' '' "$(cd "$unpacked" && sha256sum -c --quiet CHECKSUMS 2>&1)"
+report 'files of a release without a checksum' './CHECKSUMS' \
+  "$(cd "$unpacked" && find . -type f | sort | grep -vxFf <(sed 's/^[0-9a-f]*  /.\//' CHECKSUMS))"
+report 'the crates in the list of parts' '' "$(python3 - "$unpacked/SBOM.spdx.json" "$top" <<'END'
+import json, sys
+sys.dont_write_bytecode = True
+sys.path.insert(0, f"{sys.argv[2]}/docs")
+from contracts import crates, needed
+with open(sys.argv[1], encoding="utf-8") as file:
+    written = json.load(file)
+known = {package["SPDXID"]: package for package in written["packages"]}
+names = {package["name"] for package in known.values()}
+for crate in needed():
+    for name in [crate, *crates()[crate]]:
+        if name not in names:
+            print(f"{name} is missing")
+for link in written["relationships"]:
+    for end in (link["spdxElementId"], link["relatedSpdxElement"]):
+        if end not in known and end != "SPDXRef-DOCUMENT":
+            print(f"{end} is no part")
+END
+)"
+report 'version, commit and kit of a release' "talft $(cat "$top/VERSION") (commit" "$(cut -d' ' -f1-3 "$unpacked/BUILD")"
+runs_guide 'the tarball' "$unpacked"
+
+if has dpkg-deb 'the Debian package'; then
+  package=$(bash "$top/build/dist.sh" deb "$release" "$program")
+  root=$release/root
+  mkdir -p "$root/var/lib/dpkg/info" "$root/var/lib/dpkg/updates"
+  : >"$root/var/lib/dpkg/status"
+  as=
+  [ "$(id -u)" = 0 ] || as=fakeroot
+  # The root is empty, so the C library that the package depends on is that of the host.
+  debian() { $as dpkg --root="$root" --force-depends --force-not-root --log=/dev/null "$@" >"$release/said" 2>&1; }
+  debian --install "$package"
+  report 'the package is installed' 'install ok installed' "$(dpkg-query --admindir="$root/var/lib/dpkg" -W -f='${Status}' talft 2>&1)"
+  report 'the installed files' '' "$(cd "$root" && md5sum -c --quiet var/lib/dpkg/info/talft.md5sums 2>&1)"
+  report 'the installed program' "$("$program" demo 3)" "$("$root/usr/bin/talft" demo 3)"
+  runs_guide 'the package' "$root/usr"
+  debian --purge talft
+  report 'what is left of the package' '' "$(find "$root" -path "$root/var" -prune -o -type f -print)"
+fi

@@ -1,0 +1,97 @@
+"""What a campaign over a list says of all faults that the list was drawn from: counts by class of site, and bounds."""
+import json
+import math
+
+from common import SITES, VERDICTS, Refused
+
+# The probability with which the true share lies above its bound is at most this.
+DOUBT = 0.05
+CLASSES = ("registers", "d", "counters", "queue")
+
+
+def class_of(site):
+    """The class of a site: a register, d, a program counter, or a half of a pending store."""
+    return {"r": "registers", "d": "d", "p": "counters", "q": "queue"}[site[0]]
+
+
+def tail(count, drawn, share):
+    """The probability that at most `count` of `drawn` have what this share of all have: a binomial tail."""
+    if share >= 1:
+        return float(count >= drawn)
+    if share <= 0:
+        return 1.0
+    mode = min(count, int((drawn + 1) * share))
+    log = (math.lgamma(drawn + 1) - math.lgamma(mode + 1) - math.lgamma(drawn - mode + 1)
+           + mode * math.log(share) + (drawn - mode) * math.log1p(-share))
+    # From the largest term in both directions, until terms no longer count.
+    odds, total = share / (1 - share), 1.0
+    term, at = 1.0, mode
+    while at > 0 and term > 1e-18:
+        term *= at / (drawn - at + 1) / odds
+        at, total = at - 1, total + term
+    term, at = 1.0, mode
+    while at < count and term > 1e-18:
+        term *= (drawn - at) / (at + 1) * odds
+        at, total = at + 1, total + term
+    return min(1.0, math.exp(log + math.log(total)))
+
+
+def upper(count, drawn, doubt=DOUBT):
+    """The upper bound on a share by Clopper and Pearson (1934): the share at which so few or fewer come with
+    probability `doubt`. A sample without repetition, as tools/faults draws it, is told at least as well as this says."""
+    if drawn == 0 or count >= drawn:
+        return 1.0
+    low, high = count / drawn, 1.0
+    for _ in range(60):
+        middle = (low + high) / 2
+        if tail(count, drawn, middle) > doubt:
+            low = middle
+        else:
+            high = middle
+    return high
+
+
+def about(places_of, each, drawn, words):
+    """What tools/faults says of a list: how many faults of each class it is drawn from, how many there are, and its words."""
+    of = {name: places * each for name, places in places_of.items()}
+    return json.dumps({"of": of, "drawn": drawn, "words": words}) + "\n"
+
+
+def read_about(path):
+    """What is said of a list, of which the counts are whole numbers."""
+    try:
+        with open(path, encoding="utf-8") as file:
+            told = json.load(file)
+        of = {name: int(told["of"][name]) for name in CLASSES}
+        return of, int(told["drawn"]), str(told["words"])
+    except (ValueError, KeyError, TypeError) as error:
+        raise Refused(f"{path}: it is not what `faults --about` writes") from error
+
+
+def share(value):
+    """A share in percent, with three digits that count."""
+    return f"{float(f'{100 * value:.3g}'):g} %"
+
+
+def summary(counts, told):
+    """Lines with the counts by class, and what they say of all faults. `told` is what `read_about` gives."""
+    of, drawn, words = told
+    by_class = {name: dict.fromkeys(VERDICTS, 0) for name in CLASSES}
+    for (site, verdict), count in counts.items():
+        by_class[class_of(site)][verdict] += count
+    numbers = {name: sum(here.values()) for name, here in by_class.items()}
+    if sum(numbers.values()) != drawn or any(numbers[name] > of[name] for name in CLASSES):
+        raise Refused(f"{sum(numbers.values())} faults were tried, and --about speaks of {drawn} of {sum(of.values())}")
+    is_all = drawn == sum(of.values())
+    yield (f"exhaustive: all {drawn} faults of `{words}` were tried" if is_all else
+           f"sampled: {drawn} of the {sum(of.values())} faults of `{words}`; after each count the upper bound on its share of "
+           "them, at 95 % (Clopper and Pearson)")
+    rows = [(name, by_class[name], numbers[name], of[name]) for name in CLASSES if of[name]]
+    whole = {verdict: sum(here[verdict] for here in by_class.values()) for verdict in VERDICTS}
+    for name, here, number, population in rows + [("all", whole, drawn, sum(of.values()))]:
+        cells = (f"{verdict} {count}" + ("" if number == population else f" ({share(upper(count, number))})")
+                 for verdict, count in here.items())
+        yield f"  {name:9} {number} of {population}: {', '.join(cells)}"
+
+
+assert {class_of(site) for site in SITES} == set(CLASSES)
