@@ -7,6 +7,7 @@ printf '%s\n' '# Crates' '' \
   'Each crate, lowest first: what it is for, what its contract promises, and which crates of this repository it stands' \
   'on. `docs/crates.sh` makes this list from `crates.txt` and the head comments of the crates.'
 while IFS=: read -r crate libraries; do
+  crate=${crate% staticlib}
   case $crate in '' | '#'*) continue ;; esac
   root=crates/$crate/src/lib.rt
   [ -f "$root" ] || root=crates/$crate/src/main.rt

@@ -167,7 +167,7 @@ def main():
     print("These are the definitions that it reaches, in reading order: lowest crate first, and each file in the order of its crate's")
     print("`specs/Lib.antt`. Whoever believes this clause believes that they say what they should, and that the traits `Shelf`, `Source` and")
     print("`Sink` of `ft_edge` say what a call does to files, script and output. The other clauses of `tool` and the laws that")
-    print("`PROMISES.md` names beside it reach a few more. Lines are counted with their comments. What the kit's library defines")
+    print("`PROMISES.md` names beside it reach about a sixth more. Lines are counted with their comments. What the kit's library defines")
     print("(numbers, big-endian too, lists, options, orders, finite maps, bytes of text and bytes that are known) is believed too, and")
     print("not listed. `docs/reading.py` makes this list.\n")
     print(f"In all {count} definitions, {total} lines.\n")

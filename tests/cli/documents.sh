@@ -12,8 +12,13 @@ named() {
       *.rt) file=$folder/$word; [ -f "$top/$file" ] || echo "$file is missing" ;;
       '(') inside=1 ;;
       ')') inside= ;;
-      *) [ -z "${inside-}" ] || grep -qE "\b(fn|struct|enum|trait) $word\b" "$top/$file" || echo "$file does not have $word" ;;
+      *) [ -z "${inside-}" ] || grep -qE "\b(fn|struct|enum|trait|impl(<[^>]*>)?( .* for)?) $word\b" "$top/$file" || echo "$file does not have $word" ;;
     esac
   done
 }
 report 'the files that the promises name' '' "$(named)"
+report 'the table of limits' '' "$(python3 "$top/docs/limits.py" | diff - "$top/docs/LIMITS.md")"
+
+# What the promises quote of the headline is its clause.
+clause() { sed -n '/ensures headline {/,/}$/p' "$1" | tr -s ' \n' ' ' | sed 's/^ //'; }
+report 'the clause that the promises quote' "$(clause "$top/crates/ft_tool/src/top.rt")" "$(clause "$top/docs/PROMISES.md")"

@@ -22,3 +22,16 @@ if [ -z "$left" ]; then
   report "the calls that the guide makes, some $told" yes \
     "$([ $((calls - told)) -le 10 ] && [ $((told - calls)) -le 10 ] && echo yes || echo "$calls")"
 fi
+
+# The commands of README, with all that they write.
+if has clang 'the commands of README'; then
+  sed -n '/^\$ tools\/cc /,/^```/p' "$top/README.md" | sed '$d' >readme.wanted
+  (
+    cd guide || exit
+    grep '^\$ ' ../readme.wanted | while read -r line; do
+      echo "$line"
+      TALFT=$top/talft bash -c "${line#??}" 2>&1 </dev/null
+    done
+  ) >readme.got
+  report 'the commands of README' '' "$(diff readme.wanted readme.got)"
+fi

@@ -48,6 +48,34 @@ set +o pipefail
 report 'the first line before it was closed' 'out 1' "$(cat first)"
 report 'no message where it was closed' '' "$(cat errors)"
 
+# A reader that is gone before the first line, which is written at the end.
+{ sleep 0.3; "$top/talft" trial "$top/examples/five.obj" 2>errors; echo $? >closed.status; } | true
+report 'a pipe that is closed before the first line' 4 "$(cat closed.status)"
+report 'no message where it was closed at once' '' "$(cat errors)"
+
+# Writes that a signal interrupts go on, those that take little too, and a full disk fails: within the output and at its end.
+if has cc 'writes that are interrupted'; then
+  cc -O1 -fPIC -shared -o halting_write.so "$top/tests/halting_write.c"
+  "$top/talft" trial endless.obj --steps 1000000 >endless.text 2>errors
+  halting() {
+    local name=$1 status=$2 text=$3 got
+    shift 3
+    env LD_PRELOAD="$work/halting_write.so" "$@" >halted 2>errors
+    got=$?
+    cmp -s halted "$text" || got="$got and another text"
+    report "$name" "$status" "$got"
+  }
+  halting_program=$top/crates/talft/out/talft
+  printf 'out 5\n' >five.text
+  printf 'out' >front.text
+  head -c 70000 endless.text >long.front
+  halting 'a write that is interrupted' 0 five.text "$halting_program" trial "$top/examples/five.obj"
+  halting 'writes of one byte each' 0 five.text TAKES=1 "$halting_program" trial "$top/examples/five.obj"
+  halting 'a disk that is full at the end' 4 front.text ROOM=3 "$halting_program" trial "$top/examples/five.obj"
+  halting 'many writes that are interrupted' 9 endless.text TAKES=1000 "$halting_program" trial endless.obj --steps 1000000
+  halting 'a disk that is full within' 4 long.front ROOM=70000 "$halting_program" trial endless.obj --steps 1000000
+fi
+
 # A terminal ends its lines by a carriage return and a line feed.
 if command -v script >script.path; then
   got=$(script -qec "$top/talft trial $top/examples/five.obj" typescript </dev/null | tr -d '\r'; printf '/%d' "${PIPESTATUS[0]}")
