@@ -153,6 +153,7 @@ tool 'a survey with a corrupt fault' 10 '4:r1:6 corrupt\nfaults 1 masked 0 detec
 : >empty.list
 tool 'an empty list' 0 'faults 0 masked 0 detected 0 idle 0 corrupt 0\n' \
   campaign fibonacci.obj --faults empty.list --dir empty.kept
+report 'what is said of an empty list' 'campaign: note: empty.list: is empty, so nothing was tried' "$(tail -n 1 said)"
 echo 2:r0:7 >wild.list
 tool 'a wild load that is answered' 0 '2:r0:7 masked\nfaults 1 masked 1 detected 0 idle 0 corrupt 0\n' \
   campaign "$top/examples/reload.obj" --faults wild.list --steps 14 --wild 5
