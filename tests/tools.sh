@@ -248,7 +248,8 @@ in_c() {
   python3 "$top/tests/c/kernels.py" | tee said >&3
   report 'the examples in C, at each level' '0 wrong' "$(tail -n 1 said)"
   python3 -B "$portions" programs 0 1000 "$jobs" | tee said >&3
-  report 'random programs in C' '1000 programs: same 1000' "$(tail -n 1 said)"
+  # One runs longer than 1,000,000 steps, so `cc` says that it is not fully verified.
+  report 'random programs in C' '1000 programs: not verified 1, same 999' "$(tail -n 1 said)"
   has csmith 'programs of csmith' || return
   python3 -B "$portions" csmith 1 200 "$jobs" | tee said >&3
   report 'programs of csmith' '' "$(grep 'failed [1-9]\|wrong [1-9]' said)"

@@ -71,11 +71,14 @@ def tried(seed, level, folder):
     wanted = native(source, folder)
     if wanted is None:
         return "left out", None
-    failed = compiled(source, level, made, "-w", "-fwrapv", "-fno-strict-aliasing", "-I/usr/include/csmith")
-    if failed:
-        return failed[0], re.sub(r".*(function \S+: offset \S+: |\.c: )", "", failed[1])[-160:]
-    same = lines_of(made, ("csmith_sink_",)) == wanted.splitlines()
-    return ("same", None) if same else ("wrong", "its lines are not those of gcc")
+    # A stack that is too small overwrites data, in the module as in the object: such a program gets a larger one.
+    for stack in 1024, 2048:
+        failed = compiled(source, level, made, "-w", "-fwrapv", "-fno-strict-aliasing", "-I/usr/include/csmith", stack=stack)
+        if failed:
+            return failed[0], re.sub(r".*(function \S+: offset \S+: |\.c: )", "", failed[1])[-160:]
+        if lines_of(made, ("csmith_sink_",)) == wanted.splitlines():
+            return ("same" if stack == 1024 else "same with a larger stack"), None
+    return "wrong", "its lines are not those of gcc"
 
 
 def main(first, count):

@@ -15,9 +15,9 @@ def ran(*words, **more):
     return subprocess.run(words, stdout=subprocess.PIPE, stderr=subprocess.PIPE, text=True, **more)
 
 
-def compiled(source, level, made, *words):
+def compiled(source, level, made, *words, stack=1024):
     """What tools/cc says of a program, after a word on how it went, or None where its object is verified."""
-    done = ran(CC, source, level, *words, "--stack", "1024", "-o", made)
+    done = ran(CC, source, level, *words, "--stack", str(stack), "-o", made)
     said = done.stderr.strip().splitlines()[-1] if done.stderr.strip() else ""
     if done.returncode:
         return ("clang refuses" if "clang cannot compile" in said else "wrong" if "report it" in said else "refused"), said
