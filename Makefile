@@ -72,7 +72,7 @@ install-library: library
 	install -m 644 include/talft.h $(include)
 	install -m 644 man/*.3 $(share)/man/man3
 	install -m 644 embed/talft.py $(share)/talft/tools
-	install -m 644 embed/*.c embed/talft.map $(share)/talft/embed
+	install -m 644 embed/*.[ch] embed/talft.map $(share)/talft/embed
 
 uninstall:
 	rm -f $(lib)/libtalft.a $(lib)/libtalft.so $(lib)/libtalft.so.0 $(lib)/pkgconfig/talft.pc $(include)/talft.h

@@ -12,7 +12,7 @@ all: $(OUT)/libtalft.a $(OUT)/libtalft.so $(OUT)/talft.pc $(OUT)/talft.py
 
 # It is always made anew, since HEAP may be another one than before.
 .PHONY: all $(OUT)/heap.o
-$(OUT)/heap.o: embed/$(HEAP).c include/talft.h
+$(OUT)/heap.o: embed/$(HEAP).c embed/rattle.h include/talft.h
 	$(CC) $(warnings) $(CFLAGS) -fPIC -Iinclude -c embed/$(HEAP).c -o $@
 
 $(OUT)/libtalft.a: $(ARCHIVE) $(OUT)/heap.o

@@ -3,19 +3,10 @@
  * HEAP=arena`. The first free block that is large enough is taken, and free neighbours are joined. One thread at a time
  * may call the library.
  */
+#include "rattle.h"
 #include "talft.h"
 
-#include <stdbool.h>
 #include <string.h>
-
-struct tried {
-    bool ok;
-    void *p;
-};
-
-struct tried rattle_alloc(size_t n, size_t align);
-struct tried rattle_realloc(void *p, size_t kept, size_t n, size_t align);
-void rattle_dealloc(void *p);
 
 /* Each block has a head of one unit, and is a whole number of units with it. */
 enum { UNIT = 16 };

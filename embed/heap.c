@@ -1,16 +1,7 @@
 /* What the library asks of the C library: memory. arena.c may take its place. */
-#include <stdbool.h>
-#include <stddef.h>
+#include "rattle.h"
+
 #include <stdlib.h>
-
-struct tried {
-    bool ok;
-    void *p;
-};
-
-struct tried rattle_alloc(size_t n, size_t align);
-struct tried rattle_realloc(void *p, size_t kept, size_t n, size_t align);
-void rattle_dealloc(void *p);
 
 /* An address for where malloc gave none. Nothing reads or writes it. */
 static char nothing[16];

@@ -7,6 +7,7 @@
  * for each bit turned and for COUNT damages; that each allocation that fails ends a call with status 5 or its usual answer;
  * and that no block is left. The last line has the number of calls and a sum of all answers, which tells processors apart.
  */
+#include "../../embed/rattle.h"
 #include "talft.h"
 
 #include <inttypes.h>
@@ -14,15 +15,6 @@
 #include <stdio.h>
 #include <stdlib.h>
 #include <string.h>
-
-struct tried {
-    bool ok;
-    void *p;
-};
-
-struct tried rattle_alloc(size_t n, size_t align);
-struct tried rattle_realloc(void *p, size_t kept, size_t n, size_t align);
-void rattle_dealloc(void *p);
 
 static uint64_t asked, fail_at, live;
 static char nothing[16];

@@ -1,0 +1,22 @@
+/* What a proved archive asks of its system: memory. heap.c and arena.c are two that give it. */
+#ifndef RATTLE_H
+#define RATTLE_H
+
+#include <stdbool.h>
+#include <stddef.h>
+
+/* Whether there is a block, and where. Without one, the address is of something that nothing reads or writes. */
+struct tried {
+    bool ok;
+    void *p;
+};
+
+/* n bytes at a multiple of align. */
+struct tried rattle_alloc(size_t n, size_t align);
+
+/* The block p, now of n bytes, with its first kept bytes as they were. Where there is none, p stays. */
+struct tried rattle_realloc(void *p, size_t kept, size_t n, size_t align);
+
+void rattle_dealloc(void *p);
+
+#endif
