@@ -16,7 +16,7 @@ PROGRAM =
 # The log of a gate run, for the counts in a release and for the evidence.
 GATE_LOG =
 
-.PHONY: all check wrong-bodies library install install-program install-library uninstall dist deb evidence same-bytes clean
+.PHONY: all check wrong-bodies library install install-program install-library uninstall dist deb evidence same-bytes site clean
 
 # Proves the crates that the program stands on, and builds it.
 all:
@@ -92,6 +92,11 @@ deb: all
 # What was proved, tried and measured, in one folder in out/. It runs the gate where GATE_LOG names no log of it.
 evidence: all
 	@bash build/evidence.sh out $(GATE_LOG)
+
+# The documents, the manual pages and the trace as a site in out/site, with a search.
+site:
+	rm -rf out/site
+	@python3 build/site.py out/site
 
 # Builds twice, in other folders, at other times, with another locale and number of processors, and compares the bytes.
 same-bytes: all

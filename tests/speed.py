@@ -84,7 +84,8 @@ def put_table(document, table):
     with open(document, encoding="utf-8") as text:
         lines = text.read().split("\n")
     first = next(k for k, line in enumerate(lines) if line.startswith(f"|{head}|"))
-    lines[first:lines.index("", first)] = table
+    past = next(k for k in range(first, len(lines)) if not lines[k].startswith("|"))
+    lines[first:past] = table
     put(document, "\n".join(lines))
 
 

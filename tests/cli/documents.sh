@@ -17,6 +17,7 @@ named() {
   done
 }
 report 'the files that the promises name' '' "$(named)"
+report 'the lists of what a change touches' '' "$(python3 "$top/docs/changing.py" | diff - "$top/docs/CHANGING.md")"
 report 'the table of limits' '' "$(python3 "$top/docs/limits.py" | diff - "$top/docs/LIMITS.md")"
 
 # What the promises quote of the headline is its clause.
