@@ -1,8 +1,8 @@
 #!/usr/bin/env bash
 # Proves the crates that the C library stands on, and makes it: libtalft.a, libtalft.so, talft.pc and talft.py, in
-# crates/ft_c/out/library, or for another processor in crates/ft_c/out/library-ARCH. It takes what the kit has kept,
-# where it keeps proofs, as build/prove.sh does. A static library is compiled from its crate's proof, so the exports are proved
-# once more.
+# crates/ft_c/out/library, or for another processor in crates/ft_c/out/library-ARCH. It takes the libraries that a run of the gate
+# left, or what the kit has kept, as build/prove.sh does. A static library is compiled from its crate's proof, so the exports are
+# proved once more.
 #
 #     build/library.sh [ARCH]        x86_64, or aarch64; CC and AR name the C compiler and the archiver
 set -u
@@ -35,29 +35,51 @@ tree=$(mktemp -d "${TMPDIR:-/tmp}/talft-library-XXXXXX") || exit 2
 trap 'rm -rf "$tree"' EXIT
 mkdir -p "$tree/.git" "$tree/crates" "$out" || exit 2
 touch "$tree/begun"
-cp "$top/HANDLES" "$tree" &&
-  awk -F'[: ]' 'NR == FNR { needed[$1]; next } $1 in needed' <(printf '%s\n' $crates) "$top/crates.txt" >"$tree/crates.txt" &&
-  tar -C "$top/crates" --exclude=out --exclude=must-fail -cf - $crates | tar -C "$tree/crates" -xf - || exit 2
 log=$tree/log
 failed() {
   tail -n 20 "$log"
   echo "talft: the library is not $1"
   exit 1
 }
-(cd "$tree" && rt ci) </dev/null >"$log" 2>&1 || failed proved
-
-# What rattle is told of the crate and the libraries below it.
-words=(--crate-name ft_c src/lib.rt --crate-type staticlib --target "$arch-unknown-linux-gnu" -L "dependency=$kit/rlibs"
-  --antt-project "$kit/rattle/logic/antt-project.json" --logic-built "$kit/logic_built" --toolchain "$kit/toolchain")
-for name in std $(sed -n 's/^ft_c staticlib: //p' "$top/crates.txt"); do
-  if [ -d "$tree/crates/$name" ]; then
-    words+=(--extern "$name=$tree/crates/$name/out/rlib/$name.rlib")
-  else
-    words+=(--extern "$name=$kit/rlibs/$name.rlib")
-  fi
-done
-for crate in $crates; do
-  words+=(-L "dependency=$tree/crates/$crate/out/rlib" --links "$crate=")
-done
-(cd "$tree/crates/ft_c" && "$kit/bin/rattle" build "${words[@]}" --backend llvm -o libft_c.a) </dev/null >"$log" 2>&1 || failed compiled
+# The archive is as old as the copy of its sources.
+copy() {
+  cp "$top/HANDLES" "$tree" &&
+    awk -F'[: ]' 'NR == FNR { needed[$1]; next } $1 in needed' <(printf '%s\n' $crates) "$top/crates.txt" >"$tree/crates.txt" &&
+    tar -C "$top/crates" --exclude=out --exclude=must-fail -cf - $crates | tar -C "$tree/crates" -xf -
+}
+# Whether the gate, or a check, has proved each library below the exports, and no source changed since.
+are_proved() {
+  local crate made oldest='' places=(crates.txt HANDLES)
+  for crate in $crates; do
+    [ "$crate" != ft_c ] || continue
+    made=$top/crates/$crate/out/rlib/$crate.rlib
+    [ -e "$made" ] || return
+    [ -n "$oldest" ] && [ "$oldest" -ot "$made" ] || oldest=$made
+    places+=($(cd "$top" && ls -d "crates/$crate/src" "crates/$crate/specs" "crates/$crate/proofs" 2>/dev/null))
+  done
+  [ -z "$(cd "$top" && find "${places[@]}" -newer "$oldest" -print -quit)" ]
+}
+# Compiles the exports over the libraries in the folders of crates below this one.
+compile() {
+  local crate name words=(--crate-name ft_c src/lib.rt --crate-type staticlib --target "$arch-unknown-linux-gnu"
+    -L "dependency=$kit/rlibs" --antt-project "$kit/rattle/logic/antt-project.json" --logic-built "$kit/logic_built"
+    --toolchain "$kit/toolchain")
+  for name in std $(sed -n 's/^ft_c staticlib: //p' "$top/crates.txt"); do
+    if [ -d "$tree/crates/$name" ]; then
+      words+=(--extern "$name=$1/$name/out/rlib/$name.rlib")
+    else
+      words+=(--extern "$name=$kit/rlibs/$name.rlib")
+    fi
+  done
+  for crate in $crates; do
+    words+=(-L "dependency=$1/$crate/out/rlib" --links "$crate=")
+  done
+  (cd "$tree/crates/ft_c" && "$kit/bin/rattle" build "${words[@]}" --backend llvm -o libft_c.a) </dev/null >"$log" 2>&1
+}
+copy || exit 2
+# Libraries of different runs may not fit one another: then they are proved anew.
+if ! are_proved || ! compile "$top/crates"; then
+  (cd "$tree" && rt ci) </dev/null >"$log" 2>&1 || failed proved
+  compile "$tree/crates" || failed compiled
+fi
 cp "$tree/crates/ft_c/libft_c.a" "$out/libft_c.a" && touch -r "$tree/begun" "$out/libft_c.a" && link
