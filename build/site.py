@@ -21,14 +21,16 @@ READERS = {
 }
 BESIDE = {"README.md": "index.html", "SECURITY.md": "security.html", "CHANGELOG.md": "changelog.html", "examples/README.md": "examples.html"}
 
+INLINE = r"</?(?:code|em|strong|a|span)\b[^>]*>"
+
 STYLE = """:root{color-scheme:light dark;--line:#8885;--soft:#8881;--link:light-dark(#0b57a4,#8ab8ff)}
 body{font:16px/1.55 system-ui,sans-serif;margin:0;display:grid;grid-template-columns:15rem minmax(0,52rem);gap:2rem;padding:1rem 1.5rem}
 nav{position:sticky;top:1rem;align-self:start;max-height:95vh;overflow:auto;font-size:.92rem}nav h2{font-size:.95rem;margin:1rem 0 .2rem}
 nav ul{list-style:none;margin:0;padding:0}nav [aria-current]{font-weight:bold}a{color:var(--link)}
 main{overflow-wrap:break-word}pre{background:var(--soft);padding:.7rem;overflow:auto}code{font-size:.92em}
-table{border-collapse:collapse;display:block;overflow-x:auto}td,th{border:1px solid var(--line);padding:.25rem .5rem;vertical-align:top;text-align:left}
+table{border-collapse:collapse;display:block;overflow-x:auto;margin:1rem 0}td,th{border:1px solid var(--line);padding:.25rem .5rem;vertical-align:top;text-align:left}
 blockquote{border-left:4px solid var(--line);margin-left:0;padding-left:1rem}img{max-width:100%;background:#fff}
-input{font:inherit;width:100%;box-sizing:border-box}#found{font-size:.9rem;padding-left:1.1rem}
+input{font:inherit;width:100%;box-sizing:border-box}#found{font-size:.9rem;padding-left:1.7rem}
 @media(max-width:50rem){body{display:block}nav{position:static;max-height:none}}
 """
 SCRIPT = """const box=document.getElementById("search"),found=document.getElementById("found");
@@ -124,7 +126,7 @@ class Site:
     def note(self, to, title, body):
         """Adds each chapter of a page to what is searched."""
         parts = re.split(r'<h([1-4])(?: id="([^"]*)")?[^>]*>(.*?)</h\1>', body, flags=re.S)
-        plain = lambda text: re.sub(r"\s+", " ", html.unescape(re.sub(r"<[^>]*>", " ", text))).strip()
+        plain = lambda text: re.sub(r"\s+", " ", html.unescape(re.sub(r"<[^>]*>", " ", re.sub(INLINE, "", text)))).strip()
         for at in range(1, len(parts), 4):
             heading, place = plain(parts[at + 2]), f"#{parts[at + 1]}" if parts[at + 1] else ""
             name = heading if heading == title else f"{title}: {heading}"
