@@ -1,17 +1,24 @@
 -- What the run without a fault keeps.
-use Rattle.std.proofs.Common.{◌≡◌, ℕ, ◌+◌, ◌*◌, ◌/◌, ◌<◌, ◌≤◌, List, [], ◌∷◌, ◌++◌, length, Some, None, slice_get, refl, ap, sym, subst, ◌∙◌, ⊎_elim, arith}
+use Rattle.std.proofs.Common.{◌≡◌, ◌⊎◌, ℕ, zero, suc, ◌+◌, ◌*◌, ◌/◌, ◌<◌, ◌≤◌, List, [], ◌∷◌, ◌++◌, length, take, Option, Some, None, Bool, true, false, slice_get, refl, ap, sym, subst, ◌∙◌, ⊎_elim, inl, inr, append_assoc, add-zero, arith}
+use Rattle.std.specs.Prelude.{if◌then◌else◌, ◌==◌}
 use Rattle.std.proofs.lemmas.List.{length-append}
 use Rattle.ft_isa.specs.declared.plan.Wild.{Wild}
 use Rattle.ft_isa.proofs.Lists.{there_pushed}
 use Rattle.ft_types.specs.declared.object.Object.{Object}
+use Rattle.ft_isa.specs.declared.instr.Instr.{Instr}
+use Rattle.ft_types.specs.Objects.{instr_at}
+use Rattle.ft_semantics.specs.declared.status.Status.{Status}
+use Rattle.ft_semantics.specs.declared.status.Status.TheVariants as status
 use Rattle.ft_semantics.specs.declared.status.Status.TheVariants.{Running}
-use Rattle.ft_semantics.specs.State.{State}
-use Rattle.ft_semantics.specs.Step.{step}
+use Rattle.ft_semantics.specs.State.{State, start}
+use Rattle.ft_semantics.specs.Step.{step, step_at, advance, fetch, detected}
 use Rattle.ft_semantics.specs.Run.{Ran, extended, run, run-add_one, state_after, wild_after, outputs_after, status_after}
 use Rattle.ft_machine.proofs.Runs.{HasStopped}
 use Rattle.ft_campaign.specs.declared.clean.KeptRun.{KeptRun}
 use Rattle.ft_campaign.specs.declared.clean.Snapshot.{Snapshot}
 use Rattle.ft_campaign.specs.Snapshots.{IsSnapshot, IsClean, Kept, AreSnapshots, AreLengths}
+use Rattle.ft_machine.specs.Spans.{span}
+use Rattle.ft_machine.proofs.Spanned.{joined, run_start, span_join, span_one}
 use Rattle.ft_machine.proofs.Driven.{run_later}
 use Rattle.ft_campaign.proofs.Following.{not_running}
 
@@ -72,3 +79,66 @@ run_more o w k s v es ev =
     run-add_one o None w k
     ∙ ap (λ x. extended (outputs_after o None w k) (step o x (wild_after o None w k))) (sym es)
     ∙ ap (λ x. extended (outputs_after o None w k) (step o s x)) (sym ev)
+
+-- the run after the steps that a machine in its state takes
+pub run_span : (o : Object) (w : List Wild) (k m : ℕ) (s : State) (v : List Wild) → s ≡ state_after o None w k → v ≡ wild_after o None w k
+    → run o None w (k + m) ≡ joined (outputs_after o None w k) (span o m s v)
+run_span o w k m s v es ev =
+    let whole = run_start o None w in
+    let first = whole k (λ j below s. refl) in
+    whole (k + m) (λ j below s. refl)
+    ∙ span_join o k m (start o) w
+    ∙ sym (ap (λ (r : Ran). joined r.outputs (span o m r.state r.wild)) first)
+    ∙ ap (λ x. joined (outputs_after o None w k) (span o m x (wild_after o None w k))) (sym es)
+    ∙ ap (λ x. joined (outputs_after o None w k) (span o m s x)) (sym ev)
+
+fetched_queue : (o : Object) (i : Option Instr) (s : State) (w : List Wild) → (fetch i s w).state.queue ≡ s.queue
+fetched_queue o (Some i) s w = refl
+fetched_queue o None s w = refl
+
+fetching_queue : (o : Object) (b : Bool) (s : State) (w : List Wild) → (if b then fetch (instr_at o s.pc_green) s w else detected s w).state.queue ≡ s.queue
+fetching_queue o true s w = fetched_queue o (instr_at o s.pc_green) s w
+fetching_queue o false s w = refl
+
+at_status : (o : Object) (v : Status) (s : State) (w : List Wild) → s.fetched ≡ None → (step_at o v s w).state.queue ≡ s.queue
+at_status o status.Running s w nothing = ap (λ i. (advance o i s w).state.queue) nothing ∙ fetching_queue o (s.pc_green == s.pc_blue) s w
+at_status o status.Done s w nothing = refl
+at_status o status.Detected s w nothing = refl
+
+-- a fetch leaves the queue as it is
+pub fetch_keeps_queue : (o : Object) (s : State) (w : List Wild) → s.fetched ≡ None → (span o 1 s w).state.queue ≡ s.queue
+fetch_keeps_queue o s w nothing = ap (λ (r : Ran). r.state.queue) (span_one o s w) ∙ at_status o s.status s w nothing
+
+one_or_two : (m : ℕ) → 0 < m → m ≤ 2 → (m ≡ 1) ⊎ (m ≡ 2)
+one_or_two zero some most = absurd (omega (arith, some))
+one_or_two (suc zero) some most = inl refl
+one_or_two (suc (suc zero)) some most = inr refl
+one_or_two (suc (suc (suc m))) some most = absurd (omega (arith, most))
+
+-- the lengths before one or two steps, of which a second one follows a fetch
+pub lengths_on : (o : Object) (w : List Wild) (k m : ℕ) (s : State) (v : List Wild) (xs : List ℕ) (b : ℕ) → s ≡ state_after o None w k → v ≡ wild_after o None w k
+    → AreLengths o w k xs → b ≡ length s.queue → 0 < m → m ≤ 2 → (1 < m → s.fetched ≡ None) → ((j : ℕ) → j < m → (span o j s v).state.status ≡ Running)
+    → AreLengths o w (k + m) (xs ++ take m (b ∷ b ∷ []))
+lengths_on o w k m s v xs b es ev h is some most both running =
+    ⊎_elim (λ (one : m ≡ 1). subst (λ j. AreLengths o w (k + j) (xs ++ take j (b ∷ b ∷ []))) (sym one) first)
+    (λ (two : m ≡ 2). subst (λ j. AreLengths o w (k + j) (xs ++ take j (b ∷ b ∷ []))) (sym two) (second two))
+    (one_or_two m some most)
+  where
+    at : (j : ℕ) → run o None w (k + j) ≡ joined (outputs_after o None w k) (span o j s v)
+    at j = run_span o w k j s v es ev
+
+    runs : (j : ℕ) → j < m → status_after o None w (k + j) ≡ Running
+    runs j below = ap (λ (r : Ran). r.state.status) (at j) ∙ running j below
+
+    first : AreLengths o w (k + 1) (xs ++ b ∷ [])
+    first = lengths_more o w k xs b h (ap (status_after o None w) (sym (add-zero k)) ∙ runs 0 some) (is ∙ ap (λ (q : State). length q.queue) es)
+
+    second : m ≡ 2 → AreLengths o w (k + 2) (xs ++ b ∷ b ∷ [])
+    second two = let below : 1 < m = omega (arith, two) in
+        let same = is ∙ sym (ap length (ap (λ (r : Ran). r.state.queue) (at 1) ∙ fetch_keeps_queue o s v (both below))) in
+        let more = lengths_more o w (k + 1) (xs ++ b ∷ []) b first (runs 1 below) same in
+        subst (λ j. AreLengths o w j (xs ++ b ∷ b ∷ [])) (omega arith) (subst (λ ys. AreLengths o w (k + 1 + 1) ys) (append_assoc xs (b ∷ []) (b ∷ [])) more)
+
+-- the snapshots of more steps, as long as none is due
+pub snapshots_on : (o : Object) (w : List Wild) (k m : ℕ) (xs : List Snapshot) → AreSnapshots o w k xs → m ≤ 1024 * length xs → AreSnapshots o w m xs
+snapshots_on o w k m xs h row = record { row = row; snapshots_are = h.snapshots_are }

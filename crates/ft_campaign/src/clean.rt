@@ -14,6 +14,9 @@ use ft_isa::{Output, Site, Strike};
 use ft_machine::{Machine, WildLeft};
 use ft_semantics::Status;
 
+/// How many steps lie between one snapshot and the next.
+pub(crate) const SPACING: u64 = 1024;
+
 /// The run without a fault after some steps.
 #[derive(Drop)]
 pub(crate) struct Snapshot<'w> {

@@ -1,13 +1,13 @@
 //! The run without a fault, with its snapshots.
-ghost use Rattle.std.specs.Prelude.{◌≡◌, ◌≤◌, ◌+◌, ◌*◌, ◌++◌, ◌∷◌, [], IfOk, OnOk, length, None};
+ghost use Rattle.std.specs.Prelude.{◌≡◌, ◌≤◌, ◌<◌, ◌+◌, ◌*◌, ◌++◌, ◌∷◌, [], IfOk, OnOk, length, take, None};
 ghost use Rattle.std.specs.Option.{option_to_list};
 ghost use Rattle.ft_types.specs.Spellable.{IsSpellable};
 ghost use Rattle.ft_semantics.specs.State.{HasCells};
-ghost use Rattle.ft_semantics.specs.Step.{step};
+ghost use Rattle.ft_machine.specs.Advances.{output_told};
 ghost use Rattle.ft_semantics.specs.Run.{state_after, wild_after, outputs_after};
 ghost use Rattle.ft_campaign.specs.Snapshots.{IsClean, IsSnapshot, AreSnapshots};
 
-use crate::clean::{KeptRun, Snapshot};
+use crate::clean::{KeptRun, SPACING, Snapshot};
 use ft_isa::{NoMemory, Output, Wild};
 use ft_machine::{Machine, Stepped, WildLeft};
 use ft_semantics::Status;
@@ -62,7 +62,7 @@ fn keep_snapshot<'w, P: Program>(
     ensures { OnOk result (AreSnapshots (P.object program.now) wild.now (k + 1) snapshots.new.items) }
 {
     let kept = snapshots.len() as u64;
-    if k / 1024 < kept {
+    if k / SPACING < kept {
         return Ok(());
     }
     let snapshot = snapshot_of(alloc, program, machine, left, wild, count)?;
@@ -70,31 +70,46 @@ fn keep_snapshot<'w, P: Program>(
     Ok(())
 }
 
-/// Keeps the length of the queue.
-fn keep_length(machine: &Machine, lengths: &mut Vec<u8>) -> Result<(), NoMemory>
-    ensures { OnOk result (lengths.new.items ≡ lengths.old.items ++ length machine.now.queue ∷ []) }
+/// How many steps are taken at once before the step with number `n`: both of an instruction where nothing is fetched and no
+/// snapshot is due in between, and else one. `kept` is the number of snapshots.
+fn steps_at_once(machine: &Machine, k: u64, n: u64, kept: usize) -> u64
+    requires before { k < n }
+    requires kept { k < 1024 * kept }
+    requires few { n ≤ 1000000 }
+    ensures some { 0 < result }
+    ensures most { result ≤ 2 }
+    ensures within { k + result ≤ n }
+    ensures kept { k + result ≤ 1024 * kept }
+    ensures both { 1 < result → machine.now.fetched ≡ None }
 {
-    let entries = machine.queue().len();
-    lengths.push(entries as u8).map_err(|_| NoMemory)
+    let next = k + 1;
+    if next == n {
+        return 1;
+    }
+    if next / SPACING >= kept as u64 {
+        return 1;
+    }
+    if machine.fetched().is_some() {
+        return 1;
+    }
+    2
 }
 
-/// Takes one step and keeps its output, if it has one.
-fn turn<P: Program, L: Ledger>(
-    machine: &mut Machine,
-    program: &P,
-    wild: &mut WildLeft,
-    outputs: &mut Vec<Output>,
-    steps: &mut Steps<L>,
-) -> Result<(), NoMemory>
-    requires { IsSpellable (P.object program.now) }
-    ensures state { machine.new ≡ (step (P.object program.now) machine.old wild.old).state }
-    ensures wild { wild.new ≡ (step (P.object program.now) machine.old wild.old).wild }
-    ensures outputs { OnOk result (outputs.new.items ≡ outputs.old.items
-        ++ option_to_list (step (P.object program.now) machine.old wild.old).output) }
-    ensures steps { steps.new ≡ steps.old + 1 }
+/// Keeps the length of the queue before each of one or two steps.
+fn keep_lengths(entries: u8, taken: u64, lengths: &mut Vec<u8>) -> Result<(), NoMemory>
+    requires { taken ≤ 2 }
+    ensures { OnOk result (lengths.new.items ≡ lengths.old.items ++ take taken (entries ∷ entries ∷ [])) }
 {
-    steps.tick();
-    match machine.step(program, wild) {
+    lengths
+        .extend_from_slice(&[entries, entries][..taken as usize])
+        .map_err(|_| NoMemory)
+}
+
+/// Keeps the output of a step, if it has one.
+fn keep_output(last: Stepped, outputs: &mut Vec<Output>) -> Result<(), NoMemory>
+    ensures { OnOk result (outputs.new.items ≡ outputs.old.items ++ option_to_list (output_told last)) }
+{
+    match last {
         Stepped::Commit(output) => outputs.push(output).map_err(|_| NoMemory),
         Stepped::Quiet => Ok(()),
         Stepped::Done => Ok(()),
@@ -120,7 +135,8 @@ pub(crate) fn run_clean<'w, P: Program, L: Ledger>(
     let mut outputs = Vec::new(alloc);
     let mut lengths = Vec::new(alloc);
     let mut snapshots = Vec::new(alloc);
-    for k in 0..n {
+    let mut k = 0;
+    while k < n {
         keep_snapshot(
             alloc,
             program,
@@ -131,8 +147,13 @@ pub(crate) fn run_clean<'w, P: Program, L: Ledger>(
             k,
             &mut snapshots,
         )?;
-        keep_length(&machine, &mut lengths)?;
-        turn(&mut machine, program, &mut left, &mut outputs, steps)?;
+        let most = steps_at_once(&machine, k, n, snapshots.len());
+        let entries = machine.queue().len() as u8;
+        let advance = machine.advance(program, &mut left, most);
+        steps.count(advance.taken);
+        keep_lengths(entries, advance.taken, &mut lengths)?;
+        keep_output(advance.last, &mut outputs)?;
+        k += advance.taken;
         let status = machine.status();
         if status != Status::Running {
             return Ok(KeptRun {
@@ -140,7 +161,7 @@ pub(crate) fn run_clean<'w, P: Program, L: Ledger>(
                 lengths,
                 snapshots,
                 status,
-                last: k,
+                last: k - 1,
             });
         }
     }

@@ -6,7 +6,7 @@ ghost use Rattle.ft_semantics.specs.State.{HasCells};
 ghost use Rattle.ft_campaign.specs.Snapshots.{IsClean, IsCost};
 ghost use Rattle.ft_campaign.specs.Verdicts.{IsVerdict, AreVerdicts};
 
-use crate::clean::KeptRun;
+use crate::clean::{KeptRun, SPACING};
 use crate::clean_run::run_clean;
 use crate::follow::count_outputs;
 use crate::race::race;
@@ -43,10 +43,10 @@ fn judge_fault<'w, P: Program, L: Ledger>(
     // The length of a vector has a bound, by which the sum of the counts fits.
     let _limit = clean.outputs.len();
     let snapshots = clean.snapshots.as_slice();
-    let snapshot = &snapshots[(fault.step / 1024) as usize];
+    let snapshot = &snapshots[(fault.step / SPACING) as usize];
     machine.copy_from(&snapshot.machine);
     left.copy_from(&snapshot.wild);
-    let count = count_outputs(machine, program, left, fault.step % 1024, steps);
+    let count = count_outputs(machine, program, left, fault.step % SPACING, steps);
     let _ = machine.strike(fault.site, fault.value);
     race(
         program,

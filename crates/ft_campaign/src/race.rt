@@ -9,7 +9,7 @@ ghost use Rattle.ft_semantics.specs.Run.{state_after, wild_after, status_after, 
 ghost use Rattle.ft_campaign.specs.Verdicts.{IsVerdict};
 ghost use Rattle.ft_campaign.specs.Snapshots.{IsClean, IsRacing, IsMeeting, IsEnd, Meets};
 
-use crate::clean::{KeptRun, Snapshot};
+use crate::clean::{KeptRun, SPACING, Snapshot};
 use crate::follow::{Expected, How, follow};
 use crate::verdict::Verdict;
 use ft_isa::{Strike, Wild};
@@ -27,7 +27,7 @@ fn next_place(s: u64, n: u64) -> u64
     ensures within { result ≤ n }
     ensures first { (j : ℕ) → s < 1024 * j → 1024 * j ≤ n → result ≤ 1024 * j }
 {
-    let next = 1024 * (s / 1024 + 1);
+    let next = SPACING * (s / SPACING + 1);
     if next < n {
         return next;
     }
@@ -65,10 +65,10 @@ fn meeting(clean: &KeptRun, s: u64, machine: &Machine, left: &WildLeft) -> Optio
     ensures none { (o : Object) (x : Fault) (w : List Answer) (n : ℕ) → IsClean o w n clean.now → machine.now ≡ state_after o (Some x) w s
         → left.now ≡ wild_after o (Some x) w s → status_after o (Some x) w s ≡ Status.Running → s < n → IfNone result (¬ (Meets o x w s)) }
 {
-    if s % 1024 != 0 {
+    if s % SPACING != 0 {
         return None;
     }
-    let Some(snapshot) = clean.snapshots.get((s / 1024) as usize) else {
+    let Some(snapshot) = clean.snapshots.get((s / SPACING) as usize) else {
         return None;
     };
     if !is_here(snapshot, machine, left) {

@@ -1,19 +1,22 @@
-use Rattle.std.proofs.Common.{◌≡◌, ◌+◌, None}
+use Rattle.std.proofs.Common.{◌≡◌, ◌+◌, ◌-◌, ◌≤◌, None}
 use Rattle.ft_semantics.specs.declared.status.Status.TheVariants.{Running}
-use Rattle.ft_semantics.specs.Run.{run}
+use Rattle.ft_semantics.specs.Run.{state_after, wild_after, outputs_after, status_after}
 use Rattle.ft_campaign.specs.Snapshots.{AreSnapshots, AreLengths}
 use Rattle.ft_campaign.proofs.clean_run.run_clean.Given as goal
 
 abbrev pub invariant-loop-k : goal.invariant-loop-k
 invariant-loop-k g l =
     let o = g.P.Program.object l.fn.program in
-    let r = run o None l.fn.wild l.k in
     record {
-      state : l.machine ≡ r.state;
-      wild : l.left ≡ r.wild;
-      running : r.state.status ≡ Running;
-      outputs : l.outputs.items ≡ r.outputs;
+      state : l.machine ≡ state_after o None l.fn.wild l.k;
+      wild : l.left ≡ wild_after o None l.fn.wild l.k;
+      running : status_after o None l.fn.wild l.k ≡ Running;
+      outputs : l.outputs.items ≡ outputs_after o None l.fn.wild l.k;
       lengths : AreLengths o l.fn.wild l.k l.lengths.items;
       snapshots : AreSnapshots o l.fn.wild l.k l.snapshots.items;
+      within : l.k ≤ l.fn.n;
       steps : l.steps ≡ l.fn.steps + l.k;
     }
+
+abbrev pub decreases-loop-k : goal.decreases-loop-k
+decreases-loop-k g l = l.fn.n - l.k
