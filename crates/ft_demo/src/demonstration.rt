@@ -14,7 +14,7 @@ use crate::tally::{STEPS, Tally, tally_run};
 use ft_campaign::{CampaignEnd, Totals, campaign};
 use ft_checker::{CheckError, Checked, check};
 use ft_edge::{NullSink, Sink};
-use ft_inject::Clean;
+use ft_runs::Clean;
 use ft_isa::{NoMemory, Strike};
 use ft_steps::Steps;
 use ft_types::{Object, Program};

@@ -5,7 +5,7 @@ ghost use Rattle.ft_typing.specs.Accepted.{IsAccepted};
 use ft_checker::Checked;
 use ft_compile::compile;
 use ft_edge::MemSink;
-use ft_inject::{Clean, run};
+use ft_runs::{Clean, run};
 use ft_isa::{NoMemory, Plan};
 use ft_machine::RunEnd;
 use ft_sched::schedule;

@@ -3,7 +3,7 @@ ghost use Rattle.std.specs.Prelude.{◌≡◌, ◌<◌, Some};
 ghost use Rattle.ft_types.specs.Spellable.{IsSpellable};
 
 use ft_checker::{CheckError, Checked};
-use ft_inject::{Clean, Hit, Struck};
+use ft_runs::{Clean, Hit, Struck};
 use ft_isa::{Colour, Site};
 use ft_machine::Stepped;
 use ft_object::decode;

@@ -16,7 +16,7 @@ use ft_checker::Checked;
 use ft_command::Execution;
 use ft_compile::compile;
 use ft_edge::Sink;
-use ft_inject::Clean;
+use ft_runs::Clean;
 use ft_isa::Plan;
 use ft_syntax::SourceError;
 use ft_types::Object;
@@ -37,7 +37,7 @@ fn run_accepted<K: Sink>(alloc: Global, object: &Object, steps: u64, out: &mut K
         strike: None,
         wild: &[],
     };
-    ending_of_run(ft_inject::run(clean, plan, steps, out))
+    ending_of_run(ft_runs::run(clean, plan, steps, out))
 }
 
 /// Compiles a source and runs its object.

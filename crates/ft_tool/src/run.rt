@@ -11,7 +11,7 @@ use crate::ending::{Ending, ending_of_run, refuse_check};
 use crate::over_object::ObjectCommand;
 use ft_command::Run;
 use ft_edge::Sink;
-use ft_inject::Clean;
+use ft_runs::Clean;
 use ft_isa::Plan;
 use ft_types::Program;
 use std::alloc::Global;
@@ -33,7 +33,7 @@ fn run_object<P: Program, K: Sink>(alloc: Global, program: &P, run: &Run, out: &
         strike: run.strike,
         wild: run.wild.as_slice(),
     };
-    ending_of_run(ft_inject::run(clean, plan, run.steps, out))
+    ending_of_run(ft_runs::run(clean, plan, run.steps, out))
 }
 
 /// The run of the object of a file, if it is accepted.

@@ -1,5 +1,5 @@
 use Rattle.std.proofs.Common.{sym, ap, ◌∙◌, subst}
-use Rattle.ft_inject.specs.Runs.{CleanRun}
+use Rattle.ft_runs.specs.Runs.{CleanRun}
 use Rattle.ft_command.specs.Asked.{run_view}
 use Rattle.ft_tool.specs.Answers.{RunsObject}
 use Rattle.ft_tool.specs.Endings.{Ends}

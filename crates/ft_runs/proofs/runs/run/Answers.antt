@@ -8,10 +8,10 @@ use Rattle.ft_isa.specs.declared.plan.Strike.{Strike}
 use Rattle.ft_machine.specs.Drives.{EndsAs, Puts, output_lines}
 use Rattle.ft_machine.specs.declared.run.RunEnd.{RunEnd}
 use Rattle.ft_machine.specs.declared.run.RunEnd.TheVariants.{Done, Detected, OutOfSteps, WriteFault}
-use Rattle.ft_inject.specs.Runs.{CleanRun}
+use Rattle.ft_runs.specs.Runs.{CleanRun}
 use Rattle.ft_tolerance.proofs.Whole.{never_detected}
 use Rattle.ft_tolerance.proofs.Masking.{tolerant}
-use Rattle.ft_inject.proofs.runs.run.Goals as goal
+use Rattle.ft_runs.proofs.runs.run.Goals as goal
 
 pub drive-requires-clause-start : goal.drive-requires-clause-start
 drive-requires-clause-start g c =
