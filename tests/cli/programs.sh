@@ -3,7 +3,7 @@
 mkdir house
 tar -C "$top" --exclude=out -cf - crates crates.txt HANDLES | tar -C house -xf -
 mkdir -p house/crates/one_fault/src house/crates/kept_name/src
-echo 'one_fault: ft_isa ft_types ft_machine ft_inject' >>house/crates.txt
+echo 'one_fault: ft_isa ft_types ft_machine ft_runs' >>house/crates.txt
 echo 'kept_name: ft_view' >>house/crates.txt
 
 compiles() {
@@ -15,7 +15,7 @@ compiles() {
 strikes() {
   cat >house/crates/one_fault/src/main.rt <<END
 //! Strikes a run.
-use ft_inject::{Clean, Hit};
+use ft_runs::{Clean, Hit};
 use ft_isa::Site;
 use ft_machine::Stepped;
 use ft_types::Program;

@@ -2,7 +2,7 @@
 use Rattle.std.proofs.Common.{◌≡◌, ℕ, Bool, false, ◌&&◌, List, length, take, drop, Decides, refl, ap, sym, ◌∙◌, eqb}
 use Rattle.std.specs.Prelude.{not}
 use Rattle.std.proofs.lemmas.Bool.Decides.{Decides-eqb, Decides-and, Decides-like}
-use Rattle.std.proofs.lemmas.Slice.Eq.{slice_eq-Decides, starts_is}
+use Rattle.std.proofs.lemmas.Slice.Eq.{starts_is}
 use denote.Enum.Bare.{sameb}
 use lib.Pointwise.{pointwise}
 use Rattle.ft_isa.specs.declared.output.Output.{Output}

@@ -1,9 +1,10 @@
 -- Verdicts: there is one, and on accepted objects it is never corrupt.
-use Rattle.std.proofs.Common.{◌≡◌, ℕ, ◌+◌, ◌<◌, ◌≤◌, true, false, List, [], ◌∷◌, ◌++◌, length, take, get_or, Option, Some, refl, ap, sym, ◌∙◌, subst, ⊎_elim, arith}
+use Rattle.std.proofs.Common.{◌≡◌, ℕ, ◌+◌, ◌<◌, ◌≤◌, true, false, List, [], ◌∷◌, ◌++◌, length, take, get_or, Some, refl, ap, sym, ◌∙◌, subst, ⊎_elim, arith}
 use Rattle.std.specs.Prelude.{count_by}
 use Rattle.std.proofs.lemmas.Bool.{cases_lt}
 use Rattle.std.proofs.lemmas.List.{take_more}
 use Rattle.std.proofs.lemmas.Slice.Zip.{all_zipped_more}
+use Rattle.ft_edge.specs.Logs.{SinkLog}
 use Rattle.ft_isa.specs.declared.output.Output.{Output}
 use Rattle.ft_isa.specs.declared.plan.Strike.{Strike}
 use Rattle.ft_isa.specs.declared.plan.Wild.{Wild}
@@ -81,11 +82,11 @@ none_corrupt o (x ∷ xs) w n (verdicts.Detected at ∷ vs) spelled acc h = let 
 none_corrupt o (x ∷ xs) w n (verdicts.Corrupt ∷ vs) spelled acc h = absurd (never_corrupt o x w n spelled acc h.0)
 
 -- a campaign on an accepted object ends without a corrupt verdict
-pub uncorrupted : (e : CampaignEnd) (o : Object) (xs : List Strike) (w : List Wild) (n : ℕ) (old new : Option (List ℕ)) (before now : Option (List (List ℕ))) → IsSpellable o → IsAccepted o → EndsAs e o xs w n old new before now → IsUncorrupted e
-uncorrupted (Finished totals) o xs w n old new before now spelled acc h = ap (λ (t : Totals). t.corrupt) h.totals_are ∙ none_corrupt o xs w n h.found spelled acc h.verdicts
-uncorrupted (TooMuch product) o xs w n old new before now spelled acc h = tt
-uncorrupted WriteFault o xs w n old new before now spelled acc h = tt
-uncorrupted NoMemory o xs w n old new before now spelled acc h = tt
+pub uncorrupted : (e : CampaignEnd) (o : Object) (xs : List Strike) (w : List Wild) (n : ℕ) (old new : SinkLog) → IsSpellable o → IsAccepted o → EndsAs e o xs w n old new → IsUncorrupted e
+uncorrupted (Finished totals) o xs w n old new spelled acc h = ap (λ (t : Totals). t.corrupt) h.totals_are ∙ none_corrupt o xs w n h.found spelled acc h.verdicts
+uncorrupted (TooMuch product) o xs w n old new spelled acc h = tt
+uncorrupted WriteFault o xs w n old new spelled acc h = tt
+uncorrupted NoMemory o xs w n old new spelled acc h = tt
 
 -- one more verdict was found
 pub more_verdicts : (o : Object) (xs : List Strike) (w : List Wild) (n : ℕ) (vs : List Verdict) (i : ℕ) (x : Strike) (v : Verdict) → i < length xs → x ≡ get_or xs i x → IsVerdict o x w n v → AreVerdicts o (take i xs) w n vs → AreVerdicts o (take (i + 1) xs) w n (vs ++ v ∷ [])

@@ -6,5 +6,5 @@ pub mod Judged
 pub mod Judgements
 pub mod Keeping
 pub mod Meetings
-pub mod Puts
 pub mod Racing
+pub mod VerdictLines

@@ -1,7 +1,7 @@
 -- What a campaign answers and writes.
-use Rattle.std.specs.Prelude.{◌≡◌, ℕ, ◌*◌, ◌<◌, List, length, Option}
-use Rattle.ft_edge.specs.Causes.{Rose}
-use Rattle.ft_edge.specs.Puts.{PutsLines, BreaksOff, PutsNothing}
+use Rattle.std.specs.Prelude.{◌≡◌, ℕ, ◌*◌, ◌<◌, List, length}
+use Rattle.ft_edge.specs.Logs.{SinkLog}
+use Rattle.ft_edge.specs.Lines.{with_lines, BreaksOff}
 use Rattle.ft_isa.specs.declared.plan.Strike.{Strike}
 use Rattle.ft_isa.specs.declared.plan.Wild.{Wild}
 use Rattle.ft_types.specs.declared.object.Object.{Object}
@@ -12,38 +12,31 @@ use Rattle.ft_campaign.specs.declared.verdict.Verdict.{Verdict}
 use Rattle.ft_campaign.specs.Verdicts.{AreVerdicts}
 use Rattle.ft_campaign.specs.Texts.{totals_of, campaign_lines}
 
--- a campaign came to its end: each fault has its verdict, the totals count them, and all lines were added
-pub record Finishes (totals : Totals) (o : Object) (faults : List Strike) (w : List Wild) (n : ℕ) (old new : Option (List ℕ)) (before now : Option (List (List ℕ))) : Type 0 where
+-- a campaign came to its end: each fault has its verdict, the totals count them, and all lines were put
+pub record Finishes (totals : Totals) (o : Object) (faults : List Strike) (w : List Wild) (n : ℕ) (old new : SinkLog) : Type 0 where
   pub found : List Verdict
   pub verdicts : AreVerdicts o faults w n found
   pub totals_are : totals ≡ totals_of found
-  pub lines : PutsLines (campaign_lines faults found) old new before now
+  pub lines : new ≡ with_lines (campaign_lines faults found) old
 
 -- a put of a campaign's lines failed
-pub record Stops (o : Object) (faults : List Strike) (w : List Wild) (n : ℕ) (old new : Option (List ℕ)) (before now : Option (List (List ℕ))) : Type 0 where
+pub record Stops (o : Object) (faults : List Strike) (w : List Wild) (n : ℕ) (old new : SinkLog) : Type 0 where
   pub found : List Verdict
   pub verdicts : AreVerdicts o faults w n found
-  pub lines : BreaksOff (campaign_lines faults found) old new before now
+  pub lines : BreaksOff (campaign_lines faults found) old new
 
 -- a campaign is refused: the number of faults times n is above 1,000,000,000
-pub record IsTooMuch (product : ℕ) (faults : List Strike) (n : ℕ) (old new : Option (List ℕ)) (before now : Option (List (List ℕ))) : Type 0 where
+pub record IsTooMuch (product : ℕ) (faults : List Strike) (n : ℕ) (old new : SinkLog) : Type 0 where
   pub product_is : product ≡ length faults * n
   pub above : 1000000000 < product
-  pub nothing : PutsNothing old new before now
+  pub nothing : new ≡ old
 
 -- how a campaign ended
-abbrev pub EndsAs : CampaignEnd → Object → List Strike → List Wild → ℕ → Option (List ℕ) → Option (List ℕ) → Option (List (List ℕ)) → Option (List (List ℕ)) → Type 0
-EndsAs (Finished totals) o faults w n old new before now = Finishes totals o faults w n old new before now
-EndsAs (TooMuch product) o faults w n old new before now = IsTooMuch product faults n old new before now
-EndsAs WriteFault o faults w n old new before now = Stops o faults w n old new before now
-EndsAs NoMemory o faults w n old new before now = PutsNothing old new before now
-
--- only a count that rose excuses a failed put, and where no put failed the count stays
-abbrev pub IsExcused : CampaignEnd → ℕ → ℕ → Type 0
-IsExcused (Finished totals) before now = now ≡ before
-IsExcused (TooMuch product) before now = now ≡ before
-IsExcused WriteFault before now = Rose before now
-IsExcused NoMemory before now = now ≡ before
+abbrev pub EndsAs : CampaignEnd → Object → List Strike → List Wild → ℕ → SinkLog → SinkLog → Type 0
+EndsAs (Finished totals) o faults w n old new = Finishes totals o faults w n old new
+EndsAs (TooMuch product) o faults w n old new = IsTooMuch product faults n old new
+EndsAs WriteFault o faults w n old new = Stops o faults w n old new
+EndsAs NoMemory o faults w n old new = new ≡ old
 
 -- no verdict was corrupt
 abbrev pub IsUncorrupted : CampaignEnd → Type 0

@@ -3,7 +3,7 @@ ghost use Rattle.std.specs.Prelude.{◌≡◌, ◌<◌, ◌≤◌, ◌+◌, ◌*
 ghost use Rattle.ft_isa.specs.declared.plan.Strike.{Strike as Fault};
 ghost use Rattle.ft_campaign.specs.Snapshots.{IsCost};
 ghost use Rattle.ft_types.specs.Spellable.{IsSpellable};
-ghost use Rattle.ft_campaign.specs.Campaigns.{EndsAs, IsExcused, IsUncorrupted};
+ghost use Rattle.ft_campaign.specs.Campaigns.{EndsAs, IsUncorrupted};
 ghost use Rattle.ft_tolerance.specs.Soundness.{IsNeverDetected};
 
 use crate::campaign_end::CampaignEnd;
@@ -38,10 +38,8 @@ pub fn survey<P: Program, K: Sink, L: Ledger>(
     requires spellable { IsSpellable (P.object program.now) }
     requires faults { length faults.now ≤ 65536 }
     requires n { n ≤ 1000000 }
-    ensures ends { EndsAs result (P.object program.now) faults.now wild.now n (K.written out.old) (K.written out.new) (K.pieces out.old) (K.pieces out.new) }
+    ensures ends { EndsAs result (P.object program.now) faults.now wild.now n (K.log out.old) (K.log out.new) }
     ensures too_much { 1000000000 < length faults.now * n → result ≡ CampaignEnd.TooMuch (length faults.now * n) }
-    ensures count { K.failures out.old ≤ K.failures out.new }
-    ensures cause { IsExcused result (K.failures out.old) (K.failures out.new) }
     ensures steps { steps.new ≤ steps.old + (length faults.now + 1) * n }
     ensures cost { (cost : Fault → ℕ) → ((x : Fault) → IsCost (P.object program.now) wild.now n x (cost x)) → steps.new ≤ steps.old + (n + sum_by cost faults.now) }
 {
@@ -73,12 +71,10 @@ pub fn campaign<'a, P: Program, K: Sink, L: Ledger>(
 ) -> CampaignEnd
     requires faults { length faults.now ≤ 65536 }
     requires n { n ≤ 1000000 }
-    ensures ends { EndsAs result (P.object checked.now) faults.now wild.now n (K.written out.old) (K.written out.new) (K.pieces out.old) (K.pieces out.new) }
+    ensures ends { EndsAs result (P.object checked.now) faults.now wild.now n (K.log out.old) (K.log out.new) }
     ensures uncorrupted { IsUncorrupted result }
     ensures sound { IsNeverDetected (P.object checked.now) wild.now }
     ensures too_much { 1000000000 < length faults.now * n → result ≡ CampaignEnd.TooMuch (length faults.now * n) }
-    ensures count { K.failures out.old ≤ K.failures out.new }
-    ensures cause { IsExcused result (K.failures out.old) (K.failures out.new) }
     ensures steps { steps.new ≤ steps.old + (length faults.now + 1) * n }
     ensures cost { (cost : Fault → ℕ) → ((x : Fault) → IsCost (P.object checked.now) wild.now n x (cost x)) → steps.new ≤ steps.old + (n + sum_by cost faults.now) }
 {

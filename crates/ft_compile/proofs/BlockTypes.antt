@@ -17,9 +17,9 @@ use Rattle.ft_types.specs.declared.object.Object.{Object}
 use Rattle.ft_types.specs.declared.object.RegType.{RegType}
 use Rattle.ft_types.specs.Objects.{reg_rows, queue_rows, ints_of, memory_of, scope_of, scope_of_node}
 use Rattle.ft_typing.specs.Context.{Context, typed, rows_of, replacement, integer_form_of, memory_form_of, integer_form_after, memory_form_after, FormPair}
-use Rattle.ft_isa.specs.BasicTypes.{code, int}
+use Rattle.ft_isa.specs.BasicTypes.{int}
 use Rattle.ft_typing.specs.TypedWord.{is_seen_as, same_basic}
-use Rattle.ft_typing.specs.TypingRow.{Outcome, same_colour, need, is_like, are_like, is_queue_like, is_annotated, leads, row}
+use Rattle.ft_typing.specs.TypingRow.{Outcome, same_colour, need, is_like, are_like, is_queue_like, is_annotated, leads}
 use Rattle.ft_lower.specs.Well.{Known, KeepsVariables}
 use Rattle.ft_dup.specs.Images.{green, blue}
 use Rattle.ft_compile.specs.Emitted.{node, variable_node, at_first, green_row, blue_row}

@@ -32,7 +32,7 @@ use Rattle.ft_lower.specs.Size.{pairs_of}
 use Rattle.ft_lower.specs.Well.{Known, forget, known_after, known_first, is_last, IsBlock, KeepsVariables, IsTarget, StepFits, ReadsKnown, RowIsWell}
 use Rattle.ft_dup.specs.Images.{green, blue}
 use Rattle.ft_dup.proofs.Pairs.{blue_number}
-use Rattle.ft_compile.specs.Emitted.{Noted, node, with_jump, jump_subst, step_noted, row_noted, first_pairs, scope_of_block, green_row, blue_row}
+use Rattle.ft_compile.specs.Emitted.{Noted, with_jump, jump_subst, step_noted, row_noted, first_pairs, scope_of_block, green_row, blue_row}
 use Rattle.ft_compile.proofs.Lists.{Starts, starts_trans}
 use Rattle.ft_compile.proofs.Named.{IsNamed, IsLawful, step_lawful}
 use Rattle.ft_compile.proofs.Walked.{row_grows, first_pair}

@@ -17,7 +17,6 @@ use Rattle.ft_typing.specs.TypedWord.{has_type, is_seen_as, same_basic, run_type
 use Rattle.ft_typing.specs.TypingRow.{Goes, same_colour, need, for_typed, for_ref_over, for_oldest, for_run, pending_memory, run_form, row}
 use Rattle.ft_types.proofs.Maps.{get-insert}
 use Rattle.ft_typing.proofs.TypedWords.{same_colours}
-use Rattle.ft_dup.specs.Images.{green, blue}
 
 -- what is known of a register
 abbrev pub ty : Colour → Basic → Polynomial → Typed

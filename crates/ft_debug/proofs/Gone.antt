@@ -1,9 +1,9 @@
 -- Walks that stop at break places.
-use Rattle.std.proofs.Common.{◌≡◌, ℕ, zero, suc, ◌-◌, Bool, true, false, List, Option, Result, Ok, Err, refl, ap, sym, ◌∙◌, subst, arith}
+use Rattle.std.proofs.Common.{◌≡◌, ℕ, zero, suc, ◌-◌, Bool, true, false, List, Result, Ok, Err, refl, ap, sym, ◌∙◌, subst, arith}
 use Rattle.std.specs.Prelude.{if◌then◌else◌, IsErr}
 use Rattle.ft_edge.specs.declared.failed.Failed.{Failed}
 use Rattle.ft_isa.specs.declared.plan.Wild.{Wild}
-use Rattle.ft_edge.specs.Lines.{Puts, end_of_puts}
+use Rattle.ft_edge.specs.Lines.{end_of_puts}
 use Rattle.ft_edge.specs.Logs.{SinkLog}
 use Rattle.ft_edge.proofs.Lines.{lines_none, puts_then, made_by}
 use Rattle.ft_types.specs.declared.object.Object.{Object}

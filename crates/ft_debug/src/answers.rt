@@ -1,7 +1,6 @@
 //! What each command does and puts.
 ghost use Rattle.std.specs.Prelude.{◌≡◌, ◌≤◌, ◌<◌, ◌+◌, ◌^◌, ◌∷◌, [], length, IfSome};
 ghost use Rattle.ft_edge.specs.Lines.{Puts, end_of_puts};
-ghost use Rattle.ft_edge.specs.Logs.{sink_log};
 ghost use Rattle.ft_types.specs.Spellable.{IsSpellable};
 ghost use Rattle.ft_types.specs.declared.object.Object.{Object};
 ghost use Rattle.ft_script.specs.Commands as commands;
@@ -36,7 +35,7 @@ fn named_cell<P: Program>(program: &P, name: &[u8]) -> Option<u32>
 
 /// Puts a line for each pending store, oldest first.
 fn put_queue<K: Sink>(queue: &StoreQueue, out: &mut K) -> Result<(), Failed>
-    ensures { Puts (end_of_puts result) (queue_lines queue.now) (sink_log K.Sink out.old) (sink_log K.Sink out.new) }
+    ensures { Puts (end_of_puts result) (queue_lines queue.now) (K.log out.old) (K.log out.new) }
 {
     if queue.is_empty() {
         return put_line(b"empty\n", out);
@@ -76,7 +75,7 @@ impl<'w> Debugger<'w> {
     /// Puts the position.
     fn put_at<K: Sink>(&self, out: &mut K) -> Result<(), Failed>
         ensures { Puts (end_of_puts result) (at_line self.now.present.position self.now.present.machine ∷ [])
-            (sink_log K.Sink out.old) (sink_log K.Sink out.new) }
+            (K.log out.old) (K.log out.new) }
     {
         put_line(at_line(&self.present).as_bytes(), out)
     }
@@ -93,7 +92,7 @@ impl<'w> Debugger<'w> {
         requires room { self.old.present.position + count < 2 ^ 63 }
         ensures ready { Ready (P.object program.now) self.new }
         ensures does { Does (λ w. reply (P.object program.now) w (commands.Step count))
-            (P.object program.now) self.old self.new result (sink_log K.Sink out.old) (sink_log K.Sink out.new) }
+            (P.object program.now) self.old self.new result (K.log out.old) (K.log out.new) }
     {
         self.walk(program, false, count, out)?;
         self.put_at(out)
@@ -111,7 +110,7 @@ impl<'w> Debugger<'w> {
         requires room { self.old.present.position + count < 2 ^ 63 }
         ensures ready { Ready (P.object program.now) self.new }
         ensures does { Does (λ w. reply (P.object program.now) w (commands.Go count))
-            (P.object program.now) self.old self.new result (sink_log K.Sink out.old) (sink_log K.Sink out.new) }
+            (P.object program.now) self.old self.new result (K.log out.old) (K.log out.new) }
     {
         self.go(program, count, out)?;
         self.put_at(out)
@@ -122,7 +121,7 @@ impl<'w> Debugger<'w> {
         requires { IsFull self.old.history }
         ensures ready { (o : Object) → Ready o self.old → Ready o self.new }
         ensures does { (o : Object) → Does (λ w. reply o w (commands.Back count)) o self.old self.new result
-            (sink_log K.Sink out.old) (sink_log K.Sink out.new) }
+            (K.log out.old) (K.log out.new) }
     {
         if count > self.history.len() as u64 {
             return put_line(b"no history\n", out);
@@ -136,7 +135,7 @@ impl<'w> Debugger<'w> {
         requires { IsFull self.old.history }
         ensures ready { (o : Object) → Ready o self.old → Ready o self.new }
         ensures does { (o : Object) → Does (λ w. reply o w (commands.Zap site value)) o self.old self.new result
-            (sink_log K.Sink out.old) (sink_log K.Sink out.new) }
+            (K.log out.old) (K.log out.new) }
     {
         if self.zap(site, value) {
             put_line(b"zapped\n", out)
@@ -148,7 +147,7 @@ impl<'w> Debugger<'w> {
     /// Shows a register.
     fn answer_reg<K: Sink>(&self, register: Register, out: &mut K) -> Result<(), Failed>
         ensures { (o : Object) → Does (λ w. reply o w (commands.Reg register)) o self.now self.now result
-            (sink_log K.Sink out.old) (sink_log K.Sink out.new) }
+            (K.log out.old) (K.log out.new) }
     {
         let line = register_line(register, self.coloured(register));
         put_line(line.as_bytes(), out)
@@ -157,7 +156,7 @@ impl<'w> Debugger<'w> {
     /// Shows the pending stores.
     fn answer_queue<K: Sink>(&self, out: &mut K) -> Result<(), Failed>
         ensures { (o : Object) → Does (λ w. reply o w commands.Queue) o self.now self.now result
-            (sink_log K.Sink out.old) (sink_log K.Sink out.new) }
+            (K.log out.old) (K.log out.new) }
     {
         put_queue(self.present.machine.queue(), out)
     }
@@ -172,7 +171,7 @@ impl<'w> Debugger<'w> {
         requires spellable { IsSpellable (P.object program.now) }
         requires ready { Ready (P.object program.now) self.now }
         ensures { Does (λ w. reply (P.object program.now) w (commands.Cell name.now))
-            (P.object program.now) self.now self.now result (sink_log K.Sink out.old) (sink_log K.Sink out.new) }
+            (P.object program.now) self.now self.now result (K.log out.old) (K.log out.new) }
     {
         match named_cell(program, name) {
             Some(k) => {
@@ -187,7 +186,7 @@ impl<'w> Debugger<'w> {
     fn answer_where<P: Program, K: Sink>(&self, program: &P, out: &mut K) -> Result<(), Failed>
         requires { IsSpellable (P.object program.now) }
         ensures { Does (λ w. reply (P.object program.now) w commands.Where)
-            (P.object program.now) self.now self.now result (sink_log K.Sink out.old) (sink_log K.Sink out.new) }
+            (P.object program.now) self.now self.now result (K.log out.old) (K.log out.new) }
     {
         put_line(where_line(program, &self.present).as_bytes(), out)
     }
@@ -204,7 +203,7 @@ impl<'w> Debugger<'w> {
         requires ready { Ready (P.object program.now) self.old }
         ensures ready { Ready (P.object program.now) self.new }
         ensures does { Does (λ w. reply (P.object program.now) w (commands.Break block index))
-            (P.object program.now) self.old self.new result (sink_log K.Sink out.old) (sink_log K.Sink out.new) }
+            (P.object program.now) self.old self.new result (K.log out.old) (K.log out.new) }
     {
         let Some(address) = break_address(program, block, index) else {
             return put_line(b"no place\n", out);
@@ -232,7 +231,7 @@ impl<'w> Debugger<'w> {
         requires small { IsSmall (command_of command) }
         ensures ready { Ready (P.object program.now) self.new }
         ensures does { Does (λ w. reply (P.object program.now) w (command_of command.entry))
-            (P.object program.now) self.old self.new result (sink_log K.Sink out.old) (sink_log K.Sink out.new) }
+            (P.object program.now) self.old self.new result (K.log out.old) (K.log out.new) }
     {
         match command {
             Command::Step(count) => self.answer_step(program, count, out),

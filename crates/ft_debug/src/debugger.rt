@@ -1,7 +1,6 @@
 //! The debugger: what a session is at, and what it keeps.
 ghost use Rattle.std.specs.Prelude.{◌≡◌, ◌≤◌, ◌<◌, ◌+◌, ◌^◌, ℕ, List, ◌∷◌, [], length, IfOk, IfSome};
 ghost use Rattle.ft_edge.specs.Lines.{Puts, end_of_puts};
-ghost use Rattle.ft_edge.specs.Logs.{sink_log};
 ghost use Rattle.ft_isa.specs.declared.plan.Wild.{Wild as Answer};
 ghost use Rattle.ft_types.specs.Spellable.{IsSpellable};
 ghost use Rattle.ft_debug.specs.Sessions.{Session, first_session, is_at_break, walks, goes, goes_back, earlier, zaps, sets_break, break_address};
@@ -85,7 +84,7 @@ impl<'w> Debugger<'w> {
         requires running { self.old.present.machine.status ≡ Status.Running }
         requires room { self.old.present.position < 2 ^ 63 }
         ensures ready { Ready (P.object program.now) self.new }
-        ensures does { Does (advances (P.object program.now)) (P.object program.now) self.old self.new result (sink_log K.Sink out.old) (sink_log K.Sink out.new) }
+        ensures does { Does (advances (P.object program.now)) (P.object program.now) self.old self.new result (K.log out.old) (K.log out.new) }
         ensures breaks { self.new.breaks ≡ self.old.breaks }
         ensures position { self.new.present.position ≡ self.old.present.position + 1 }
     {
@@ -107,7 +106,7 @@ impl<'w> Debugger<'w> {
         requires room { self.old.present.position + count < 2 ^ 63 }
         ensures ready { Ready (P.object program.now) self.new }
         ensures does { Does (λ w. walks (P.object program.now) w (halting halts self.old.breaks) count)
-            (P.object program.now) self.old self.new result (sink_log K.Sink out.old) (sink_log K.Sink out.new) }
+            (P.object program.now) self.old self.new result (K.log out.old) (K.log out.new) }
     {
         for _ in 0..count {
             if !self.goes_on(halts) {
@@ -129,7 +128,7 @@ impl<'w> Debugger<'w> {
         requires ready { Ready (P.object program.now) self.old }
         requires room { self.old.present.position + count < 2 ^ 63 }
         ensures ready { Ready (P.object program.now) self.new }
-        ensures does { Does (λ w. goes (P.object program.now) w count) (P.object program.now) self.old self.new result (sink_log K.Sink out.old) (sink_log K.Sink out.new) }
+        ensures does { Does (λ w. goes (P.object program.now) w count) (P.object program.now) self.old self.new result (K.log out.old) (K.log out.new) }
     {
         if count == 0 {
             return Ok(());
@@ -170,7 +169,7 @@ fn put_output<P: Program, K: Sink>(program: &P, stepped: Stepped, out: &mut K) -
     requires low { (output : outputs.Output) → stepped ≡ Stepped.Commit output → 1048576 ≤ output.addr }
     requires high { (output : outputs.Output) → stepped ≡ Stepped.Commit output → output.addr < 1048576 + length (P.object program.now).cells }
     ensures { Puts (end_of_puts result) (committed_lines (P.object program.now) stepped)
-        (sink_log K.Sink out.old) (sink_log K.Sink out.new) }
+        (K.log out.old) (K.log out.new) }
 {
     match stepped {
         Stepped::Commit(output) => put_line(output_line(program, output).as_bytes(), out),

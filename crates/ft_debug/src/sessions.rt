@@ -2,7 +2,6 @@
 ghost use Rattle.std.specs.Prelude.{◌≡◌, ◌≤◌, ◌<◌, length, map};
 ghost use Rattle.std.specs.List.{AllByRecursion};
 ghost use Rattle.ft_edge.specs.Lines.{Puts, end_of_puts};
-ghost use Rattle.ft_edge.specs.Logs.{sink_log};
 ghost use Rattle.ft_types.specs.Spellable.{IsSpellable};
 ghost use Rattle.ft_script.specs.Reads.{command_of};
 ghost use Rattle.ft_debug.specs.Ends.{EndsAs};
@@ -31,7 +30,7 @@ fn answer_all<P: Program, K: Sink>(
     requires small { AllByRecursion IsSmall (map command_of commands.now) }
     requires few { length commands.now ≤ 1048576 }
     ensures { Puts (end_of_puts result) (session_lines (P.object program.now) wild.now (map command_of commands.now))
-        (sink_log K.Sink out.old) (sink_log K.Sink out.new) }
+        (K.log out.old) (K.log out.new) }
 {
     for command in commands {
         debugger.answer(program, *command, out)?;
@@ -57,7 +56,7 @@ pub fn session<P: Program, K: Sink>(
     requires spellable { IsSpellable (P.object program.now) }
     requires short { length script.now ≤ 1048576 }
     ensures ends { EndsAs result (P.object program.now) wild.now script.now
-        (sink_log K.Sink out.old) (sink_log K.Sink out.new) }
+        (K.log out.old) (K.log out.new) }
 {
     let Ok(commands) = read_script(alloc, script) else {
         return DebugEnd::NoMemory;

@@ -1,8 +1,8 @@
 -- What a demonstration writes: the outputs of the run of the object of n turns, and how many of 64 faults have each verdict.
 use Rattle.std.specs.Prelude.{◌≡◌, ℕ, zero, suc, ◌*◌, List, [], ◌∷◌, ◌++◌, length, codes, decimal, count_by, Option, None}
 use Rattle.std.specs.Option.{option_map, option_to_list}
-use Rattle.ft_edge.specs.Causes.{Rose}
-use Rattle.ft_edge.specs.Puts.{PutsLines, BreaksOff, PutsNothing}
+use Rattle.ft_edge.specs.Logs.{SinkLog}
+use Rattle.ft_edge.specs.Lines.{with_lines, BreaksOff}
 use Rattle.ft_isa.specs.Registers.{reg_of}
 use Rattle.ft_isa.specs.declared.output.Output.{Output}
 use Rattle.ft_isa.specs.declared.plan.Site.TheVariants.{R}
@@ -47,28 +47,22 @@ AreDemoVerdicts o verdicts = AreVerdicts o (first_faults 64) [] 131072 verdicts
 abbrev pub demo_lines : Object → List Verdict → List (List ℕ)
 demo_lines o verdicts = run_line o ∷ end_line 64 (totals_of verdicts) ∷ []
 
--- a demonstration came to its end: no verdict is corrupt, and both lines were added
-pub record Finishes (n : ℕ) (old new : Option (List ℕ)) (before now : Option (List (List ℕ))) : Type 0 where
+-- a demonstration came to its end: no verdict is corrupt, and both lines were put
+pub record Finishes (n : ℕ) (old new : SinkLog) : Type 0 where
   pub found : List Verdict
   pub verdicts : AreDemoVerdicts (sample_object n) found
   pub uncorrupted : count_by is_corrupt found ≡ 0
-  pub lines : PutsLines (demo_lines (sample_object n) found) old new before now
+  pub lines : new ≡ with_lines (demo_lines (sample_object n) found) old
 
 -- a put of a demonstration's lines failed
-pub record Stops (n : ℕ) (old new : Option (List ℕ)) (before now : Option (List (List ℕ))) : Type 0 where
+pub record Stops (n : ℕ) (old new : SinkLog) : Type 0 where
   pub found : List Verdict
   pub verdicts : AreDemoVerdicts (sample_object n) found
   pub uncorrupted : count_by is_corrupt found ≡ 0
-  pub lines : BreaksOff (demo_lines (sample_object n) found) old new before now
+  pub lines : BreaksOff (demo_lines (sample_object n) found) old new
 
 -- how a demonstration of n turns ended
-abbrev pub EndsAs : DemoEnd → ℕ → Option (List ℕ) → Option (List ℕ) → Option (List (List ℕ)) → Option (List (List ℕ)) → Type 0
-EndsAs Finished n old new before now = Finishes n old new before now
-EndsAs WriteFault n old new before now = Stops n old new before now
-EndsAs NoMemory n old new before now = PutsNothing old new before now
-
--- only a count that rose excuses a failed put, and where no put failed the count stays
-abbrev pub IsExcused : DemoEnd → ℕ → ℕ → Type 0
-IsExcused Finished before now = now ≡ before
-IsExcused WriteFault before now = Rose before now
-IsExcused NoMemory before now = now ≡ before
+abbrev pub EndsAs : DemoEnd → ℕ → SinkLog → SinkLog → Type 0
+EndsAs Finished n old new = Finishes n old new
+EndsAs WriteFault n old new = Stops n old new
+EndsAs NoMemory n old new = new ≡ old

@@ -3,7 +3,7 @@ ghost use Rattle.std.specs.Prelude.{◌≡◌, ◌≤◌, ◌<◌, [], length, N
 ghost use Rattle.ft_demo.specs.Sample.{sample_object};
 ghost use Rattle.ft_typing.specs.Accepted.{IsAccepted, refusal};
 ghost use Rattle.ft_types.specs.Spellable.{IsSpellable};
-ghost use Rattle.ft_demo.specs.Demonstrations.{EndsAs, IsExcused};
+ghost use Rattle.ft_demo.specs.Demonstrations.{EndsAs};
 ghost use Rattle.ft_demo.specs.Shown.{IsShown, AreTotals};
 
 use crate::demo_end::DemoEnd;
@@ -14,8 +14,8 @@ use crate::tally::{STEPS, Tally, tally_run};
 use ft_campaign::{CampaignEnd, Totals, campaign};
 use ft_checker::{CheckError, Checked, check};
 use ft_edge::{NullSink, Sink};
-use ft_inject::Clean;
 use ft_isa::{NoMemory, Strike};
+use ft_runs::Clean;
 use ft_steps::Steps;
 use ft_types::{Object, Program};
 use std::alloc::Global;
@@ -103,9 +103,7 @@ fn show_sample(alloc: Global, turns: u32) -> Result<Shown, NoMemory>
 pub fn demo<K: Sink>(alloc: Global, turns: u32, out: &mut K) -> DemoEnd
     requires some { 1 ≤ turns }
     requires few { turns ≤ 10921 }
-    ensures ends { EndsAs result turns (K.written out.old) (K.written out.new) (K.pieces out.old) (K.pieces out.new) }
-    ensures count { K.failures out.old ≤ K.failures out.new }
-    ensures cause { IsExcused result (K.failures out.old) (K.failures out.new) }
+    ensures ends { EndsAs result turns (K.log out.old) (K.log out.new) }
 {
     let Ok(shown) = show_sample(alloc, turns) else {
         return DemoEnd::NoMemory;

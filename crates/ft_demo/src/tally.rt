@@ -3,9 +3,9 @@ ghost use Rattle.std.specs.Prelude.{◌≡◌, [], None, true};
 ghost use Rattle.ft_semantics.specs.Run.{outputs_after};
 ghost use Rattle.ft_demo.specs.Shown.{Tallies, TalliesMore};
 
-use ft_inject::{Clean, run_clean};
 use ft_isa::Output;
 use ft_machine::Outlet;
+use ft_runs::{Clean, run_clean};
 use ft_types::Program;
 
 /// How many steps a run takes at the most.

@@ -9,7 +9,7 @@ use Rattle.ft_edge.specs.declared.failed.Failed.{Failed}
 use Rattle.ft_edge.specs.Told.{append_told}
 use Rattle.ft_edge.specs.Logs.{SinkLog}
 use Rattle.ft_edge.specs.Lines.{with_lines, FailsPut, BreaksOff, PutEnd, AllPut, PutFailed, NothingPut, Puts, end_of_puts}
-use Rattle.ft_edge.proofs.PutLines.{known_more, known_none, told_more, told_none}
+use Rattle.ft_edge.proofs.Appended.{known_more, known_none, told_more, told_none}
 
 -- two logs that tell the same
 pub same_log : {w w' : Option (List ℕ)} {p p' : Option (List (List ℕ))} {n n' : ℕ} → w ≡ w' → p ≡ p' → n ≡ n'
@@ -70,6 +70,11 @@ breaks_before xs more old new h = record {
   whole = ap (λ l. l ++ more) h.whole ∙ append_assoc h.done (h.line ∷ h.rest) more;
   fails = h.fails;
 }
+
+-- some lines were put, and then the put of the next one failed
+pub breaks_at : (all done : List (List ℕ)) (line : List ℕ) (rest : List (List ℕ)) (old mid new : SinkLog) → all ≡ done ++ line ∷ rest → mid ≡ with_lines done old → BreaksOff (line ∷ []) mid new → BreaksOff all old new
+breaks_at all done line rest old mid new e h i =
+    subst (λ lines. BreaksOff lines old new) (sym e) (breaks_then done (line ∷ rest) old mid new h (breaks_before (line ∷ []) rest mid new i))
 
 -- some lines were put, and then others were or a put of them failed
 pub puts_then : (e : PutEnd) (xs ys : List (List ℕ)) (old mid new : SinkLog) → e ≢ NothingPut → mid ≡ with_lines xs old → Puts e ys mid new → Puts e (xs ++ ys) old new

@@ -2,7 +2,6 @@ pub mod Causes
 pub mod Told
 pub mod Logs
 pub mod Lines
-pub mod Puts
 pub mod Loads
 pub mod Streams
 pub mod Gathered

@@ -6,8 +6,6 @@ use Rattle.std.specs.FinMap.{FinMap, get}
 use Rattle.ft_edge.specs.declared.shelf.Load.{Load}
 use Rattle.ft_edge.specs.declared.shelf.Load.TheVariants.{Whole, TooLong}
 use Rattle.ft_edge.specs.declared.shelf.LoadFault.{LoadFault}
-use Rattle.ft_edge.specs.declared.shelf.LoadFault.TheVariants.{Failed, NoMemory}
-use Rattle.ft_edge.specs.Causes.{Rose}
 
 -- files by the bytes of their names
 abbrev pub Files : Type 0
@@ -30,9 +28,3 @@ abbrev pub LoadsStream : Option (List ℕ) → ℕ → List ℕ → Result Load 
 LoadsStream known limit into (Ok Whole) = (length into ≤ limit) × IfSome known (λ bytes. into ≡ bytes)
 LoadsStream known limit into (Ok TooLong) = (into ≡ []) × IfSome known (λ bytes. limit < length bytes)
 LoadsStream known limit into (Err e) = into ≡ []
-
--- a failure shows in the count and leaves its name, and any other answer leaves count and name as they were
-abbrev pub LoadCause : ℕ → ℕ → Option (List ℕ) → Option (List ℕ) → List ℕ → Result Load LoadFault → Type 0
-LoadCause before now failed failed' name (Err Failed) = Rose before now × (failed' ≡ Some name)
-LoadCause before now failed failed' name (Err NoMemory) = (now ≡ before) × (failed' ≡ failed)
-LoadCause before now failed failed' name (Ok load) = (now ≡ before) × (failed' ≡ failed)

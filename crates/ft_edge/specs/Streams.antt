@@ -2,6 +2,7 @@
 use Rattle.std.specs.Prelude.{◌≡◌, ℕ, ◌-◌, ◌<◌, ◌≤◌, List, length, take, sum, All, Option, Result, Ok, Err}
 use Rattle.std.specs.Io.KnownBytes.{Consumes, Appends}
 use Rattle.ft_edge.specs.Told.{append_told}
+use Rattle.ft_edge.specs.Logs.{SourceLog}
 
 -- at most this many bytes were read
 abbrev pub ConsumesAtMost : Option (List ℕ) → Option (List ℕ) → ℕ → Type 0
@@ -21,11 +22,11 @@ abbrev pub IsFrugal : List ℕ → Type 0
 IsFrugal sizes = All (λ count. 0 < count) (take (length sizes - 1) sizes)
 
 -- at most so many bytes were taken, by takes of these sizes, and none after one that gave nothing
-pub record TakesAtMost (most : ℕ) (takes takes' left left' : Option (List ℕ)) : Type 0 where
+pub record TakesAtMost (most : ℕ) (old new : SourceLog) : Type 0 where
   pub bytes : List ℕ
   pub sizes : List ℕ
-  pub taken : Consumes left left' bytes
+  pub taken : Consumes old.left new.left bytes
   pub few : length bytes ≤ most
-  pub made : takes' ≡ append_told takes sizes
+  pub made : new.takes ≡ append_told old.takes sizes
   pub together : sum sizes ≡ length bytes
   pub frugal : IsFrugal sizes

@@ -167,13 +167,7 @@ impl<R: Files> FolderShelf<R> {
 }
 
 impl<R: Files> Shelf for FolderShelf<R> {
-    ghost files = { λ _. None };
-
-    ghost failures = { λ failures. failures.count };
-
-    ghost failed_name = { λ failures. failures.failed_name };
-
-    ghost asked = { λ _. None };
+    ghost log = { λ failures. record { files = None; asked = None; failures = failures.count; failed_name = failures.failed_name } };
 
     /// Loads the file at a path. It reads at most `limit` + 1 bytes.
     fn load(&mut self, name: &str, limit: usize, into: &mut Vec<u8>) -> Result<Load, LoadFault> {

@@ -139,11 +139,7 @@ fn remove_front(bytes: &mut Vec<u8>, count: usize)
 impl<W: Write + Drop> Sink for GatheringSink<W> {
     ghost use Rattle.ft_edge.specs.Gathered.{written_to, sink_writer};
 
-    ghost written = { λ _. None };
-
-    ghost failures = { λ sink. sink.failures };
-
-    ghost pieces = { λ _. None };
+    ghost log = { λ sink. record { written = None; pieces = None; failures = sink.failures } };
 
     #[inline(always)]
     fn put(&mut self, bytes: &[u8]) -> Result<(), Failed>

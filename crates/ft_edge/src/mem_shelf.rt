@@ -110,13 +110,7 @@ impl Shelf for MemShelf {
     ghost use Rattle.ft_edge.specs.Loads.{Loads};
     ghost use Rattle.ft_edge.specs.MemoryShelf.{load_answer, after_load};
 
-    ghost files = { λ shelf. Some shelf.files };
-
-    ghost failures = { λ shelf. shelf.calls.failures };
-
-    ghost failed_name = { λ shelf. shelf.failed_name };
-
-    ghost asked = { λ _. None };
+    ghost log = { λ shelf. record { files = Some shelf.files; asked = None; failures = shelf.calls.failures; failed_name = shelf.failed_name } };
 
     /// Loads the file of a name. A name that the shelf does not hold is a failure. A load that finds no
     /// memory is a call like any other, and counts no failure.

@@ -62,11 +62,7 @@ impl MemSink {
 impl Sink for MemSink {
     ghost use Rattle.ft_edge.specs.MemorySink.{put_fails, after_put};
 
-    ghost written = { λ sink. Some sink.written };
-
-    ghost failures = { λ sink. sink.calls.failures };
-
-    ghost pieces = { λ _. None };
+    ghost log = { λ sink. record { written = Some sink.written; pieces = None; failures = sink.calls.failures } };
 
     /// Adds the piece, where there is room for all of it.
     fn put(&mut self, bytes: &[u8]) -> Result<(), Failed>

@@ -56,11 +56,7 @@ impl Source for MemSource {
     ghost use Rattle.ft_edge.specs.Calls.{is_to_fail};
     ghost use Rattle.ft_edge.specs.MemorySource.{after_take};
 
-    ghost left = { λ source. Some source.left };
-
-    ghost failures = { λ source. source.calls.failures };
-
-    ghost takes = { λ _. None };
+    ghost log = { λ source. record { left = Some source.left; takes = None; failures = source.calls.failures } };
 
     /// Takes as many bytes as there are left, or as many as the buffer holds.
     fn take(&mut self, buf: &mut [u8]) -> Result<usize, Failed>

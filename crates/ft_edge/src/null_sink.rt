@@ -15,11 +15,7 @@ impl NullSink {
 }
 
 impl Sink for NullSink {
-    ghost written = { λ _. None };
-
-    ghost failures = { λ _. 0 };
-
-    ghost pieces = { λ _. None };
+    ghost log = { λ _. record { written = None; pieces = None; failures = 0 } };
 
     fn put(&mut self, _bytes: &[u8]) -> Result<(), Failed>
         ensures { result ≡ Ok tt }

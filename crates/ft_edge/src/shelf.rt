@@ -1,6 +1,7 @@
 //! Files by name.
-ghost use Rattle.std.specs.Prelude.{◌≡◌, ◌≤◌, ℕ, List, [], ◌∷◌, Option};
-ghost use Rattle.ft_edge.specs.Loads.{Files, Loads, LoadCause};
+ghost use Rattle.std.specs.Prelude.{◌≡◌, ◌≤◌, [], ◌∷◌};
+ghost use Rattle.ft_edge.specs.Loads.{Loads};
+ghost use Rattle.ft_edge.specs.Logs.{ShelfLog, LoadCause};
 ghost use Rattle.ft_edge.specs.Told.{append_told};
 
 use thiserror::Error;
@@ -27,26 +28,17 @@ pub enum LoadFault {
 
 /// Files by name.
 pub trait Shelf {
-    // The files, where the shelf tells them.
-    ghost files: { Self → Option Files };
-
-    // How many loads failed; a shelf may stop counting at 2^64 - 1.
-    ghost failures: { Self → ℕ };
-
-    // The name of the last load that failed, if there was one.
-    ghost failed_name: { Self → Option (List ℕ) };
-
-    // The name and the limit of each load that was made, in order, where the shelf tells them.
-    ghost asked: { Self → Option (List (List ℕ × ℕ)) };
+    // What the shelf tells: the files, the loads that were made, how many of them failed, and the name of the
+    // last one that did.
+    ghost log: { Self → ShelfLog };
 
     /// Loads the file of a name into an empty vector, if the file has at most `limit` bytes. After any
     /// answer but `Whole` the vector is empty.
     fn load(&mut self, name: &str, limit: usize, into: &mut Vec<u8>) -> Result<Load, LoadFault>
         requires { into.old.items ≡ [] }
-        ensures files { files self.new ≡ files self.old }
-        ensures asked { asked self.new ≡ append_told (asked self.old) ((name.now, limit) ∷ []) }
-        ensures loads { Loads (files self.old) name.now limit into.new.items result }
-        ensures count { failures self.old ≤ failures self.new }
-        ensures cause { LoadCause (failures self.old) (failures self.new) (failed_name self.old)
-            (failed_name self.new) name.now result };
+        ensures files { (log self.new).files ≡ (log self.old).files }
+        ensures asked { (log self.new).asked ≡ append_told (log self.old).asked ((name.now, limit) ∷ []) }
+        ensures loads { Loads (log self.old).files name.now limit into.new.items result }
+        ensures count { (log self.old).failures ≤ (log self.new).failures }
+        ensures cause { LoadCause (log self.old) (log self.new) name.now result };
 }

@@ -61,11 +61,7 @@ impl<R: Input> StdinSource<R> {
 }
 
 impl<R: Input> Source for StdinSource<R> {
-    ghost left = { λ _. None };
-
-    ghost failures = { λ failures. failures };
-
-    ghost takes = { λ _. None };
+    ghost log = { λ failures. record { left = None; takes = None; failures = failures } };
 
     fn take(&mut self, buf: &mut [u8]) -> Result<usize, Failed> {
         take_from(&mut self.rt.reader(), buf, &mut self.failures)

@@ -31,11 +31,7 @@ impl<R: Print> StdoutSink<R> {
 }
 
 impl<R: Print> Sink for StdoutSink<R> {
-    ghost written = { λ _. None };
-
-    ghost failures = { λ failures. failures };
-
-    ghost pieces = { λ _. None };
+    ghost log = { λ failures. record { written = None; pieces = None; failures = failures } };
 
     fn put(&mut self, bytes: &[u8]) -> Result<(), Failed> {
         put_to(&mut io::writer(&self.rt), bytes, &mut self.failures)

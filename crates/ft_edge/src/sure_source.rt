@@ -30,11 +30,7 @@ impl<'a> SureSource<'a> {
 }
 
 impl<'a> Source for SureSource<'a> {
-    ghost left = { λ bytes. Some bytes };
-
-    ghost failures = { λ _. 0 };
-
-    ghost takes = { λ _. None };
+    ghost log = { λ bytes. record { left = Some bytes; takes = None; failures = 0 } };
 
     /// Takes as many bytes as there are left, or as many as the buffer holds. It never fails.
     fn take(&mut self, buf: &mut [u8]) -> Result<usize, Failed>

@@ -36,11 +36,7 @@ impl<K: Sink + Drop> LastLine<K> {
 }
 
 impl<K: Sink> Sink for LastLine<K> {
-    ghost written = { λ s. K.written s.sink };
-
-    ghost failures = { λ s. K.failures s.sink };
-
-    ghost pieces = { λ s. K.pieces s.sink };
+    ghost log = { λ s. K.log s.sink };
 
     fn put(&mut self, bytes: &[u8]) -> Result<(), Failed> {
         self.line = line_of(bytes);

@@ -1,11 +1,9 @@
 -- Runs under a plan, of which the outputs are put as lines.
 use Rattle.std.proofs.Common.{◌≡◌, ℕ, ◌+◌, ◌-◌, ◌<◌, ◌≤◌, List, ◌++◌, Option, true, refl, ap, sym, subst, ◌∙◌, arith}
 use Rattle.ft_edge.specs.Told.{append_told}
-use Rattle.ft_edge.specs.Lines.{BreaksOff}
-use Rattle.ft_edge.specs.Puts.{PutsLines}
+use Rattle.ft_edge.specs.Lines.{BreaksOff, Puts, with_lines}
 use Rattle.ft_edge.specs.Logs.{SinkLog}
 use Rattle.ft_edge.proofs.Lines.{breaks_before}
-use Rattle.ft_isa.specs.declared.output.Output.{Output}
 use Rattle.ft_isa.specs.declared.plan.Strike.{Strike}
 use Rattle.ft_isa.specs.declared.plan.Wild.{Wild}
 use Rattle.ft_types.specs.declared.object.Object.{Object}
@@ -15,11 +13,11 @@ use Rattle.ft_semantics.specs.Strike.{struck_before}
 use Rattle.ft_machine.specs.declared.outlet.Outlet.{Ghosts}
 use Rattle.ft_machine.specs.declared.stepped.Pause.{Pause}
 use Rattle.ft_machine.specs.declared.stepped.Pause.TheVariants.{Running, Done, Detected, Refused}
-use Rattle.ft_machine.specs.Drives.{EndsAs, HasTaken, IsExcused, Puts, PutsOutputs, Stops, output_lines, run_end}
+use Rattle.ft_machine.specs.Drives.{EndsAs, HasTaken, PutsOutputs, Stops, output_lines, put_end, run_end}
 use Rattle.ft_machine.specs.Goes.{Goes, HasRun, goes_on}
 use Rattle.ft_machine.specs.Spans.{span, Spares}
 use Rattle.ft_machine.proofs.Going.{last_as, last_after}
-use Rattle.ft_machine.proofs.Putting.{lines-append, plain_lines, plain_break}
+use Rattle.ft_machine.proofs.Putting.{lines-append}
 use Rattle.ft_machine.proofs.Runs.{HasStopped, run_stopped, run_grows}
 use Rattle.ft_machine.proofs.Spanned.{run_first, run_second, outputs_second, rest_of}
 
@@ -99,49 +97,29 @@ module _ (o : Object) (strike : Option Strike) (w : List Wild) (s : State) (most
 
   module _ (old new : SinkLog) where
     lines_whole : (pause : Pause) → goes_on pause ≡ true → HasRun o strike w s most n pause → PutsOutputs o (outputs_after o strike w n) true old new
-        → PutsLines (output_lines o (outputs_after o strike w most)) old.written new.written old.pieces new.pieces
+        → new ≡ with_lines (output_lines o (outputs_after o strike w most)) old
     lines_whole pause is r h =
-        subst (λ (x : Ran). PutsLines (output_lines o x.outputs) old.written new.written old.pieces new.pieces) (sym (whole_is pause is r))
-        (plain_lines (output_lines o (outputs_after o strike w n)) old new h.lines)
+        subst (λ (x : Ran). new ≡ with_lines (output_lines o x.outputs) old) (sym (whole_is pause is r)) h.lines
 
     pub drive_lines : (pause : Pause) → HasRun o strike w s most n pause → PutsOutputs o (outputs_after o strike w n) (goes_on pause) old new
-        → Puts (run_end pause) (output_lines o (outputs_after o strike w most)) old.written new.written old.pieces new.pieces
+        → Puts (put_end (run_end pause)) (output_lines o (outputs_after o strike w most)) old new
     drive_lines Running r h = lines_whole Running refl r h
     drive_lines Done r h = lines_whole Done refl r h
     drive_lines Detected r h = lines_whole Detected refl r h
     drive_lines Refused r h =
         let grown = run_grows o strike w n (most - n) in
         let whole : outputs_after o strike w most ≡ outputs_after o strike w n ++ grown.0 = ap (outputs_after o strike w) (sym (rest_of n most r.few)) ∙ grown.1 in
-        plain_break (output_lines o (outputs_after o strike w most)) old new
-        (subst (λ ls. BreaksOff ls old new) (sym (ap (output_lines o) whole ∙ lines-append o (outputs_after o strike w n) grown.0))
-        (breaks_before (output_lines o (outputs_after o strike w n)) (output_lines o grown.0) old new h.lines))
+        subst (λ ls. BreaksOff ls old new) (sym (ap (output_lines o) whole ∙ lines-append o (outputs_after o strike w n) grown.0))
+        (breaks_before (output_lines o (outputs_after o strike w n)) (output_lines o grown.0) old new h.lines)
 
-    taken_whole : (pause : Pause) → goes_on pause ≡ true → HasRun o strike w s most n pause → PutsOutputs o (outputs_after o strike w n) true old new → HasTaken o strike w most s old.pieces new.pieces
+    taken_whole : (pause : Pause) → goes_on pause ≡ true → HasRun o strike w s most n pause → PutsOutputs o (outputs_after o strike w n) true old new → HasTaken o strike w most s old new
     taken_whole pause is r h =
         let same = sym (whole_is pause is r) in
         record { state_is = r.state_is ∙ ap (λ (x : Ran). x.state) same; pieces = h.pieces ∙ ap (λ (x : Ran). append_told old.pieces (output_lines o x.outputs)) same }
 
     pub drive_stops : (pause : Pause) → HasRun o strike w s most n pause → PutsOutputs o (outputs_after o strike w n) (goes_on pause) old new
-        → Stops (run_end pause) (λ k. HasTaken o strike w k s old.pieces new.pieces) (outputs_after o strike w) most
+        → Stops (run_end pause) (λ k. HasTaken o strike w k s old new) (outputs_after o strike w) most
     drive_stops Running r h = taken_whole Running refl r h
     drive_stops Done r h = taken_whole Done refl r h
     drive_stops Detected r h = taken_whole Detected refl r h
     drive_stops Refused r h = (n, (r.few, (record { state_is = r.state_is; pieces = h.pieces }, r.last)))
-
-    same_count : (outputs : List Output) → PutsOutputs o outputs true old new → new.failures ≡ old.failures
-    same_count outputs h = ap (λ (log : SinkLog). log.failures) h.lines
-
-    same_few : (a b : ℕ) → b ≡ a → a ≤ b
-    same_few a b h = omega (arith, h)
-
-    pub drive_counts : (pause : Pause) (outputs : List Output) → PutsOutputs o outputs (goes_on pause) old new → old.failures ≤ new.failures
-    drive_counts Running outputs h = same_few old.failures new.failures (same_count outputs h)
-    drive_counts Done outputs h = same_few old.failures new.failures (same_count outputs h)
-    drive_counts Detected outputs h = same_few old.failures new.failures (same_count outputs h)
-    drive_counts Refused outputs h = h.lines.fails.count
-
-    pub drive_excused : (pause : Pause) (outputs : List Output) → PutsOutputs o outputs (goes_on pause) old new → IsExcused (run_end pause) old.failures new.failures
-    drive_excused Running outputs h = same_count outputs h
-    drive_excused Done outputs h = same_count outputs h
-    drive_excused Detected outputs h = same_count outputs h
-    drive_excused Refused outputs h = h.lines.fails.rose

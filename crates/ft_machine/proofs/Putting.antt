@@ -2,16 +2,15 @@
 use Rattle.std.proofs.Common.{◌≡◌, ℕ, List, [], ◌∷◌, ◌++◌, Result, Ok, Err, is_ok, true, refl, ap, sym, subst, ◌∙◌}
 use Rattle.std.proofs.lemmas.List.{map-append}
 use Rattle.ft_edge.specs.declared.failed.Failed.{Failed}
-use Rattle.ft_edge.specs.Puts as plain
 use Rattle.ft_edge.specs.Told.{append_told}
 use Rattle.ft_edge.specs.Logs.{SinkLog}
-use Rattle.ft_edge.specs.Lines.{with_lines, BreaksOff, Puts, end_of_puts}
-use Rattle.ft_edge.proofs.PutLines.{told_more}
-use Rattle.ft_edge.proofs.Lines.{puts_then, made_by, broken_text}
+use Rattle.ft_edge.specs.Lines.{Puts, end_of_puts}
+use Rattle.ft_edge.proofs.Appended.{told_more}
+use Rattle.ft_edge.proofs.Lines.{puts_then, made_by}
 use Rattle.ft_isa.specs.declared.output.Output.{Output}
 use Rattle.ft_types.specs.declared.object.Object.{Object}
 use Rattle.ft_types.specs.Texts.{line_at}
-use Rattle.ft_machine.specs.Drives.{PutsOutputs, output_lines, put_end}
+use Rattle.ft_machine.specs.Drives.{PutsOutputs, output_lines, end_of_going}
 
 -- the lines of outputs, some after others
 pub lines-append : (o : Object) (xs ys : List Output) → output_lines o (xs ++ ys) ≡ output_lines o xs ++ output_lines o ys
@@ -28,7 +27,7 @@ line_pieces (Ok done) line old new h = ap (λ (log : SinkLog). log.pieces) h
 line_pieces (Err failed) line old new h =
     h.fails.pieces ∙ told_more old.pieces h.done (h.line ∷ []) ∙ ap (append_told old.pieces) (one_line h.done h.line line h.rest h.whole)
 
-same_end : (r : Result (Unit {0}) Failed) → end_of_puts r ≡ put_end (is_ok r)
+same_end : (r : Result (Unit {0}) Failed) → end_of_puts r ≡ end_of_going (is_ok r)
 same_end (Ok done) = refl
 same_end (Err failed) = refl
 
@@ -43,18 +42,3 @@ outputs_next o before x r first old new h put =
           (subst (λ ls. Puts (end_of_puts r) ls first new) further (puts_then (end_of_puts r) (output_lines o before) line first old new (made_by r) h.lines put));
       pieces = line_pieces r (line_at o x) old new put ∙ ap (λ p. append_told p line) h.pieces ∙ told_more first.pieces (output_lines o before) line ∙ ap (append_told first.pieces) further;
     }
-
--- lines that were put, and a put that failed, by their written bytes and pieces
-pub plain_lines : (lines : List (List ℕ)) (old new : SinkLog) → new ≡ with_lines lines old → plain.PutsLines lines old.written new.written old.pieces new.pieces
-plain_lines lines old new h = record { written = ap (λ (log : SinkLog). log.written) h; pieces = ap (λ (log : SinkLog). log.pieces) h }
-
-pub plain_break : (lines : List (List ℕ)) (old new : SinkLog) → BreaksOff lines old new → plain.BreaksOff lines old.written new.written old.pieces new.pieces
-plain_break lines old new h = record {
-  done = h.done;
-  line = h.line;
-  rest = h.rest;
-  whole = h.whole;
-  written = h.fails.written;
-  text = broken_text lines old new h;
-  pieces = h.fails.pieces ∙ told_more old.pieces h.done (h.line ∷ []);
-}

@@ -1,12 +1,10 @@
 -- What driving a machine answers and puts.
 use Rattle.std.specs.Prelude.{◌≡◌, ℕ, ◌+◌, ◌≤◌, ◌<◌, Bool, true, false, List, [], length, map, Option}
-use Rattle.ft_edge.specs.Causes.{Rose}
 use Rattle.ft_edge.specs.Told.{append_told}
-use Rattle.ft_edge.specs.Puts.{PutsLines, BreaksOff}
-use Rattle.ft_edge.specs.Lines as lines
+use Rattle.ft_edge.specs.Lines.{PutEnd, AllPut, PutFailed, Puts}
 use Rattle.ft_edge.specs.Logs.{SinkLog}
 use Rattle.ft_edge.proofs.Lines.{lines_none}
-use Rattle.ft_edge.proofs.PutLines.{told_none}
+use Rattle.ft_edge.proofs.Appended.{told_none}
 use Rattle.ft_isa.specs.declared.output.Output.{Output}
 use Rattle.ft_isa.specs.declared.plan.Strike.{Strike}
 use Rattle.ft_isa.specs.declared.plan.Wild.{Wild}
@@ -33,24 +31,17 @@ EndsAs WriteFault s = Unit {0}
 abbrev pub output_lines : Object → List Output → List (List ℕ)
 output_lines o outputs = map (line_at o) outputs
 
--- all lines were put, each as one piece, or a put failed, which was the last
-abbrev pub Puts : RunEnd → List (List ℕ) → Option (List ℕ) → Option (List ℕ) → Option (List (List ℕ)) → Option (List (List ℕ)) → Type 0
-Puts Done lines old new before now = PutsLines lines old new before now
-Puts Detected lines old new before now = PutsLines lines old new before now
-Puts OutOfSteps lines old new before now = PutsLines lines old new before now
-Puts WriteFault lines old new before now = BreaksOff lines old new before now
-
--- only a count that rose excuses a failed put, and where no put failed the count stays
-abbrev pub IsExcused : RunEnd → ℕ → ℕ → Type 0
-IsExcused Done before now = now ≡ before
-IsExcused Detected before now = now ≡ before
-IsExcused OutOfSteps before now = now ≡ before
-IsExcused WriteFault before now = Rose before now
+-- how the puts of a run ended that ended so
+abbrev pub put_end : RunEnd → PutEnd
+put_end Done = AllPut
+put_end Detected = AllPut
+put_end OutOfSteps = AllPut
+put_end WriteFault = PutFailed
 
 -- the machine is in the run's state after k steps, and the lines of the outputs up to there were put, each as one piece
-pub record HasTaken (o : Object) (strike : Option Strike) (wild : List Wild) (k : ℕ) (state : State) (before now : Option (List (List ℕ))) : Type 0 where
+pub record HasTaken (o : Object) (strike : Option Strike) (wild : List Wild) (k : ℕ) (state : State) (old new : SinkLog) : Type 0 where
   pub state_is : state ≡ state_after o strike wild k
-  pub pieces : now ≡ append_told before (output_lines o (outputs_after o strike wild k))
+  pub pieces : new.pieces ≡ append_told old.pieces (output_lines o (outputs_after o strike wild k))
 
 -- where a run stops: after n steps, or after the step that gave the output whose put failed
 abbrev pub Stops : RunEnd → (ℕ → Type 0) → (ℕ → List Output) → ℕ → Type 0
@@ -70,14 +61,14 @@ run_end pause.Refused = WriteFault
 abbrev pub IsOfCell : Object → Output → Type 0
 IsOfCell o output = (1048576 ≤ output.addr) × (output.addr < 1048576 + length o.cells)
 
--- whether all lines were put, or the put of one failed
-abbrev pub put_end : Bool → lines.PutEnd
-put_end true = lines.AllPut
-put_end false = lines.PutFailed
+-- how the puts ended of what goes on, or does not since a put failed
+abbrev pub end_of_going : Bool → PutEnd
+end_of_going true = AllPut
+end_of_going false = PutFailed
 
 -- the lines of outputs were put, each as one piece; where a put failed, it was that of the last one
 pub record PutsOutputs (o : Object) (outputs : List Output) (goes : Bool) (old new : SinkLog) : Type 0 where
-  pub lines : lines.Puts (put_end goes) (output_lines o outputs) old new
+  pub lines : Puts (end_of_going goes) (output_lines o outputs) old new
   pub pieces : new.pieces ≡ append_told old.pieces (output_lines o outputs)
 
 -- no output

@@ -1,7 +1,6 @@
 //! An outlet that puts a line for each output.
 ghost use Rattle.std.specs.Prelude.{◌≡◌, ◌≤◌, ◌<◌, ◌+◌, ◌∷◌, [], length};
 ghost use Rattle.ft_edge.specs.Lines.{Puts, end_of_puts};
-ghost use Rattle.ft_edge.specs.Logs.{sink_log};
 ghost use Rattle.ft_types.specs.Spellable.{IsSpellable};
 ghost use Rattle.ft_types.specs.Texts.{line_at};
 ghost use Rattle.ft_machine.specs.Drives.{PutsOutputs, IsOfCell};
@@ -21,7 +20,7 @@ pub fn put_output<P: Program, K: Sink>(
     requires spellable { IsSpellable (P.object program.now) }
     requires low { FIRST_CELL ≤ output.addr }
     requires high { output.addr < FIRST_CELL + length (P.object program.now).cells }
-    ensures { Puts (end_of_puts result) (line_at (P.object program.now) output ∷ []) (sink_log K.Sink out.old) (sink_log K.Sink out.new) }
+    ensures { Puts (end_of_puts result) (line_at (P.object program.now) output ∷ []) (K.log out.old) (K.log out.new) }
 {
     let name = program.name((output.addr - FIRST_CELL) as u32);
     let mut line = [0u8; LINE_ROOM];
@@ -43,11 +42,11 @@ impl<'a, P: Program, K: Sink> Outlet for Lines<'a, P, K> {
     ghost use Rattle.ft_machine.specs.Drives.{outputs_none};
 
     ghost heard = { λ first outputs goes now. (now.out.ghost_name ≡ first.out.ghost_name) × (P.object now.program.now ≡ P.object first.program.now)
-        × PutsOutputs (P.object first.program.now) outputs goes (sink_log K.Sink first.out.now) (sink_log K.Sink now.out.now) };
+        × PutsOutputs (P.object first.program.now) outputs goes (K.log first.out.now) (K.log now.out.now) };
 
     ghost may = { λ lines output. IsSpellable (P.object lines.program.now) × IsOfCell (P.object lines.program.now) output };
 
-    ghost heard_none = { λ lines. (refl, refl, outputs_none (P.object lines.program.now) (sink_log K.Sink lines.out.now)) };
+    ghost heard_none = { λ lines. (refl, refl, outputs_none (P.object lines.program.now) (K.log lines.out.now)) };
 
     fn take(&mut self, output: Output) -> bool {
         put_output(self.program, output, self.out).is_ok()

@@ -1,6 +1,6 @@
 //! Whole runs under a plan.
 ghost use Rattle.std.specs.Prelude.{◌≡◌, ℕ, ◌<◌, ◌≤◌, ◌+◌, length, true};
-ghost use Rattle.ft_edge.specs.Logs.{sink_log};
+ghost use Rattle.ft_edge.specs.Lines.{Puts};
 ghost use Rattle.ft_isa.specs.declared.output.Output.{Output as Committed};
 ghost use Rattle.ft_types.specs.Spellable.{IsSpellable};
 ghost use Rattle.ft_semantics.specs.State.{start, is_cell};
@@ -8,7 +8,7 @@ ghost use Rattle.ft_semantics.specs.Strike.{struck_before};
 ghost use Rattle.ft_semantics.specs.Run.{outputs_after, status_after};
 ghost use Rattle.ft_machine.specs.Spans.{Spares};
 ghost use Rattle.ft_machine.specs.Goes.{HasRun, goes_on};
-ghost use Rattle.ft_machine.specs.Drives.{EndsAs, Puts, output_lines, IsExcused, HasTaken, Stops, PutsOutputs, run_end};
+ghost use Rattle.ft_machine.specs.Drives.{EndsAs, output_lines, put_end, HasTaken, Stops, PutsOutputs, run_end};
 
 use crate::lines::Lines;
 use crate::machine::Machine;
@@ -114,12 +114,10 @@ pub fn drive<P: Program, K: Sink>(
     requires spellable { IsSpellable (P.object program.now) }
     requires start { machine.old ≡ start (P.object program.now) }
     ensures ends { EndsAs result (status_after (P.object program.now) plan.entry.strike plan.entry.wild.now steps) }
-    ensures lines { Puts result (output_lines (P.object program.now) (outputs_after (P.object program.now) plan.entry.strike plan.entry.wild.now steps))
-        (K.written out.old) (K.written out.new) (K.pieces out.old) (K.pieces out.new) }
+    ensures lines { Puts (put_end result) (output_lines (P.object program.now) (outputs_after (P.object program.now) plan.entry.strike plan.entry.wild.now steps))
+        (K.log out.old) (K.log out.new) }
     ensures stops { Stops result (λ k. HasTaken (P.object program.now) plan.entry.strike plan.entry.wild.now k
-        machine.new (K.pieces out.old) (K.pieces out.new)) (outputs_after (P.object program.now) plan.entry.strike plan.entry.wild.now) steps }
-    ensures count { K.failures out.old ≤ K.failures out.new }
-    ensures cause { IsExcused result (K.failures out.old) (K.failures out.new) }
+        machine.new (K.log out.old) (K.log out.new)) (outputs_after (P.object program.now) plan.entry.strike plan.entry.wild.now) steps }
 {
     let mut lines = Lines { program, out };
     let gone = run_under(machine, program, plan, steps, &mut lines);

@@ -19,11 +19,7 @@ struct KeepingSink<R: Abort + Drop, K: Sink + Drop> {
 }
 
 impl<R: Abort + Drop, K: Sink + Drop> Sink for KeepingSink<R, K> {
-    ghost written = { λ sink. K.written sink.inner };
-
-    ghost failures = { λ sink. K.failures sink.inner };
-
-    ghost pieces = { λ sink. Some (map (λ piece. piece.items) sink.pieces.items) };
+    ghost log = { λ sink. record (K.log sink.inner) { pieces = Some (map (λ piece. piece.items) sink.pieces.items) } };
 
     fn put(&mut self, bytes: &[u8]) -> Result<(), Failed> {
         let piece = Vec::from_slice(self.alloc, bytes).expect(&self.rt, "memory for a piece");
@@ -51,13 +47,7 @@ struct KeepingShelf<R: Abort + Drop, F: Shelf + Drop> {
 }
 
 impl<R: Abort + Drop, F: Shelf + Drop> Shelf for KeepingShelf<R, F> {
-    ghost files = { λ shelf. F.files shelf.inner };
-
-    ghost failures = { λ shelf. F.failures shelf.inner };
-
-    ghost failed_name = { λ shelf. F.failed_name shelf.inner };
-
-    ghost asked = { λ shelf. Some (map (λ load. (load.name.items, load.limit)) shelf.asked.items) };
+    ghost log = { λ shelf. record (F.log shelf.inner) { asked = Some (map (λ load. (load.name.items, load.limit)) shelf.asked.items) } };
 
     fn load(&mut self, name: &str, limit: usize, into: &mut Vec<u8>) -> Result<Load, LoadFault> {
         let copy = Vec::from_slice(self.alloc, name.as_bytes()).expect(
@@ -80,11 +70,7 @@ struct KeepingSource<R: Abort + Drop, I: Source + Drop> {
 }
 
 impl<R: Abort + Drop, I: Source + Drop> Source for KeepingSource<R, I> {
-    ghost left = { λ source. I.left source.inner };
-
-    ghost failures = { λ source. I.failures source.inner };
-
-    ghost takes = { λ source. Some source.sizes.items };
+    ghost log = { λ source. record (I.log source.inner) { takes = Some source.sizes.items } };
 
     fn take(&mut self, buf: &mut [u8]) -> Result<usize, Failed> {
         let answer = self.inner.take(buf);

@@ -2,7 +2,6 @@
 ghost use Rattle.std.specs.Prelude.{◌≡◌, ◌≤◌, ◌+◌, ℕ, [], ◌∷◌, map, length, take, All};
 ghost use Rattle.ft_isa.specs.Words.{line};
 ghost use Rattle.ft_edge.specs.Lines.{Puts, end_of_puts};
-ghost use Rattle.ft_edge.specs.Logs.{sink_log};
 ghost use Rattle.ft_meaning.specs.Room.{HasRoom};
 
 use ft_edge::{Failed, Sink, put_line};
@@ -28,7 +27,7 @@ pub fn put_output<K: Sink>(
 ) -> Result<(), Failed>
     requires { length name.now + VALUE_ROOM ≤ length buf.old }
     ensures same { length buf.new ≡ length buf.old }
-    ensures puts { Puts (end_of_puts result) (line name.now value ∷ []) (sink_log K.Sink out.old) (sink_log K.Sink out.new) }
+    ensures puts { Puts (end_of_puts result) (line name.now value ∷ []) (K.log out.old) (K.log out.new) }
 {
     let start = write_line(buf, name, value);
     put_line(&buf[start..], out)

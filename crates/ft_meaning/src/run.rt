@@ -1,6 +1,5 @@
 //! A run of a program, which puts its outputs as they come.
 ghost use Rattle.std.specs.Prelude.{◌≡◌, ◌<◌, ◌≤◌, length, map, slice_index};
-ghost use Rattle.ft_edge.specs.Logs.{sink_log};
 ghost use Rattle.ft_isa.specs.Words.{apply};
 ghost use Rattle.ft_syntax.specs.Plain.{none, plain_expression, plain_statement, plain_list};
 ghost use Rattle.ft_scope.specs.Size.{same_slot, SlotFits, RunFits, ExpressionFits, StatementsFit};
@@ -115,7 +114,7 @@ impl Run {
     ) -> Result<(), Stop>
         requires fits { k < length self.old.cells.items }
         requires ready { Ready (map (λ n. n.items) names.now) self.old }
-        ensures runs { RunsTo (λ s. Ended (assigned (Cell k) word s)) (map (λ n. n.items) names.now) self.old self.new (sink_log K.Sink out.old) (sink_log K.Sink out.new) result }
+        ensures runs { RunsTo (λ s. Ended (assigned (Cell k) word s)) (map (λ n. n.items) names.now) self.old self.new (K.log out.old) (K.log out.new) result }
         ensures keeps { Keeps self.old self.new }
     {
         match put_output(&names[k], word, &mut self.line, out) {
@@ -136,7 +135,7 @@ impl Run {
     ) -> Result<(), Stop>
         requires fits { SlotFits (length self.old.cells.items) (length self.old.vars.items) to }
         requires ready { Ready (map (λ n. n.items) names.now) self.old }
-        ensures runs { RunsTo (λ s. Ended (assigned to word s)) (map (λ n. n.items) names.now) self.old self.new (sink_log K.Sink out.old) (sink_log K.Sink out.new) result }
+        ensures runs { RunsTo (λ s. Ended (assigned to word s)) (map (λ n. n.items) names.now) self.old self.new (K.log out.old) (K.log out.new) result }
         ensures keeps { Keeps self.old self.new }
     {
         match to {
@@ -159,7 +158,7 @@ impl Run {
     ) -> Result<(), Stop>
         requires fits { StatementsFit (length self.old.cells.items) (length self.old.vars.items) (plain_list same_slot all.now) }
         requires ready { Ready (map (λ n. n.items) names.now) self.old }
-        ensures runs { RunsTo (run (plain_list same_slot all.now)) (map (λ n. n.items) names.now) self.old self.new (sink_log K.Sink out.old) (sink_log K.Sink out.new) result }
+        ensures runs { RunsTo (run (plain_list same_slot all.now)) (map (λ n. n.items) names.now) self.old self.new (K.log out.old) (K.log out.new) result }
         ensures keeps { Keeps self.old self.new }
     {
         for s in all {
@@ -180,7 +179,7 @@ impl Run {
     ) -> Result<(), Stop>
         requires fits { StatementsFit (length self.old.cells.items) (length self.old.vars.items) (plain_statement same_slot s.now none) }
         requires ready { Ready (map (λ n. n.items) names.now) self.old }
-        ensures runs { RunsTo (run (plain_statement same_slot s.now none)) (map (λ n. n.items) names.now) self.old self.new (sink_log K.Sink out.old) (sink_log K.Sink out.new) result }
+        ensures runs { RunsTo (run (plain_statement same_slot s.now none)) (map (λ n. n.items) names.now) self.old self.new (K.log out.old) (K.log out.new) result }
         ensures keeps { Keeps self.old self.new }
     {
         match s {
@@ -216,7 +215,7 @@ impl Run {
         requires test { ExpressionFits (length self.old.cells.items) (length self.old.vars.items) (plain_expression same_slot test.now) }
         requires body { StatementsFit (length self.old.cells.items) (length self.old.vars.items) (plain_list same_slot body.now) }
         requires ready { Ready (map (λ n. n.items) names.now) self.old }
-        ensures runs { RunsTo (loops self.old.left (plain_expression same_slot test.now) (run (plain_list same_slot body.now))) (map (λ n. n.items) names.now) self.old self.new (sink_log K.Sink out.old) (sink_log K.Sink out.new) result }
+        ensures runs { RunsTo (loops self.old.left (plain_expression same_slot test.now) (run (plain_list same_slot body.now))) (map (λ n. n.items) names.now) self.old self.new (K.log out.old) (K.log out.new) result }
         ensures keeps { Keeps self.old self.new }
     {
         while self.word(test) != 0 {

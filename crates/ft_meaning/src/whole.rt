@@ -1,7 +1,6 @@
 //! A program's meaning.
 ghost use Rattle.std.specs.Prelude.{◌≡◌, length, map, replicate, IfOk};
 ghost use Rattle.ft_edge.specs.Lines.{Puts};
-ghost use Rattle.ft_edge.specs.Logs.{sink_log};
 ghost use Rattle.ft_scope.specs.ProgramOf.{program_of};
 ghost use Rattle.ft_meaning.specs.Meaning.{meaning, outputs};
 ghost use Rattle.ft_meaning.specs.Lines.{output_lines};
@@ -56,7 +55,7 @@ fn end_of_run(run: Result<(), Stop>) -> MeanEnd
 pub fn mean<K: Sink>(alloc: Global, prog: &Prog<'_>, turns: u64, out: &mut K) -> MeanEnd
     ensures ends { EndsAs result (meaning (program_of prog.now) turns) }
     ensures lines { Puts (put_end result) (output_lines (program_of prog.now).names (outputs (meaning (program_of prog.now) turns)))
-        (sink_log K.Sink out.old) (sink_log K.Sink out.new) }
+        (K.log out.old) (K.log out.new) }
 {
     let Ok(names) = prog.cell_names(alloc) else {
         return MeanEnd::NoMemory;

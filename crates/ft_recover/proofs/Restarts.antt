@@ -3,9 +3,7 @@ use Rattle.std.proofs.Common.{◌≡◌, ◌≢◌, ℕ, ◌+◌, ◌-◌, ◌^�
 use Rattle.std.specs.Prelude.{drop}
 use Rattle.std.proofs.Math.Seq.{drop-append_seam}
 use Rattle.std.proofs.lemmas.List.{append-nil}
-use Rattle.ft_edge.specs.Puts.{PutsLines}
-use Rattle.ft_edge.specs.Lines as lines
-use Rattle.ft_edge.specs.Lines.{BreaksOff, end_of_puts, with_lines}
+use Rattle.ft_edge.specs.Lines.{BreaksOff, Puts, end_of_puts, with_lines}
 use Rattle.ft_edge.specs.Logs.{SinkLog}
 use Rattle.ft_edge.proofs.Lines.{breaks_before, made_by, puts_then}
 use Rattle.ft_isa.specs.declared.plan.Wild.{Wild}
@@ -31,7 +29,7 @@ use Rattle.ft_machine.proofs.Spanned.{rest_of}
 use Rattle.ft_tolerance.proofs.Masking.{tolerant}
 use Rattle.ft_recover.specs.declared.recover_end.RecoverEnd.{RecoverEnd}
 use Rattle.ft_recover.specs.declared.recover_end.RecoverEnd.TheVariants as ending
-use Rattle.ft_recover.specs.Recovery.{whole_output, EndsAs, Restarts, Puts, IsExcused}
+use Rattle.ft_recover.specs.Recovery.{whole_output, EndsAs, Restarts, put_end}
 use Rattle.ft_recover.specs.Passing.{Passes, RunsTo, Finishes}
 use Rattle.ft_recover.proofs.Stretches.{drop_append}
 
@@ -106,13 +104,13 @@ module _ (o : Object) (strike : Option Strike) (w : List Wild) (n : ℕ) (spella
 
   -- the second run puts what is left
   pub puts_again : {A E : Type 0} (r : Result A E) (committed : ℕ) (new : SinkLog) → committed ≡ length (outputs_after o strike w n) → mid ≡ with_lines (output_lines o (outputs_after o strike w n)) old
-      → lines.Puts (end_of_puts r) (output_lines o (drop committed (outputs_after o None w n))) mid new → lines.Puts (end_of_puts r) (whole_output o w n) old new
+      → Puts (end_of_puts r) (output_lines o (drop committed (outputs_after o None w n))) mid new → Puts (end_of_puts r) (whole_output o w n) old new
   puts_again r committed new is a h =
       let left_over : drop committed (outputs_after o None w n) ≡ front.0
       = ap (λ c. drop c (outputs_after o None w n)) is ∙ ap (drop (length (outputs_after o strike w n))) (sym front.1) ∙ drop-append_seam (outputs_after o strike w n) front.0 in
-      subst (λ ls. lines.Puts (end_of_puts r) ls old new) both_lines
+      subst (λ ls. Puts (end_of_puts r) ls old new) both_lines
       (puts_then (end_of_puts r) (output_lines o (outputs_after o strike w n)) (output_lines o front.0) old mid new (made_by r) a
-      (subst (λ xs. lines.Puts (end_of_puts r) (output_lines o xs) mid new) left_over h))
+      (subst (λ xs. Puts (end_of_puts r) (output_lines o xs) mid new) left_over h))
 
 -- HOW A RECOVERY ENDS
 
@@ -135,14 +133,8 @@ module _ (s : Status) (restart : Option ℕ) where
   finishes_restart ending.WriteFault h = tt
   finishes_restart ending.NoMemory h = tt
 
-  pub finishes_puts : (e : RecoverEnd) (lines : List (List ℕ)) (old new : Option (List ℕ)) (before now : Option (List (List ℕ))) → Finishes e s restart → PutsLines lines old new before now → Puts e lines old new before now
-  finishes_puts (ending.Done again) lines old new before now h put = put
-  finishes_puts (ending.OutOfSteps again) lines old new before now h put = put
-  finishes_puts ending.WriteFault lines old new before now h put = absurd h
-  finishes_puts ending.NoMemory lines old new before now h put = absurd h
-
-  pub finishes_excused : (e : RecoverEnd) (before now : ℕ) → Finishes e s restart → now ≡ before → IsExcused e before now
-  finishes_excused (ending.Done again) before now h same = same
-  finishes_excused (ending.OutOfSteps again) before now h same = same
-  finishes_excused ending.WriteFault before now h same = absurd h
-  finishes_excused ending.NoMemory before now h same = absurd h
+  pub finishes_puts : (e : RecoverEnd) (lines : List (List ℕ)) (old new : SinkLog) → Finishes e s restart → new ≡ with_lines lines old → Puts (put_end e) lines old new
+  finishes_puts (ending.Done again) lines old new h put = put
+  finishes_puts (ending.OutOfSteps again) lines old new h put = put
+  finishes_puts ending.WriteFault lines old new h put = absurd h
+  finishes_puts ending.NoMemory lines old new h put = absurd h

@@ -9,7 +9,7 @@ use Rattle.ft_edge.specs.Logs.{SinkLog}
 use Rattle.ft_isa.specs.declared.output.Output.{Output}
 use Rattle.ft_types.specs.declared.object.Object.{Object}
 use Rattle.ft_types.specs.Texts.{line_at}
-use Rattle.ft_machine.specs.Drives.{output_lines, put_end}
+use Rattle.ft_machine.specs.Drives.{output_lines, end_of_going}
 use Rattle.ft_machine.proofs.Counting.{count_next}
 use Rattle.ft_machine.proofs.Putting.{outputs_next}
 use Rattle.ft_recover.specs.Passing.{Passes}
@@ -65,6 +65,6 @@ module _ (o : Object) (passed count : ℕ) (before : List Output) (x : Output) (
       record {
         left_is = none_left passed (length before) (length (before ++ x ∷ [])) left long h.left_is none;
         count_is = count_next count now now' before x h.count_is more;
-        lines = subst (λ xs. Puts (put_end (is_ok r)) (output_lines o xs) first new) (sym same)
+        lines = subst (λ xs. Puts (end_of_going (is_ok r)) (output_lines o xs) first new) (sym same)
             (outputs_next o (drop passed before) x r first old new (record { lines = h.lines; pieces = ap (λ (log : SinkLog). log.pieces) h.lines }) put).lines;
       }

@@ -13,7 +13,7 @@ use Rattle.ft_semantics.specs.declared.status.Status.{Status}
 use Rattle.ft_semantics.specs.declared.status.Status.TheVariants as status
 use Rattle.ft_semantics.specs.State.{State}
 use Rattle.ft_semantics.specs.Run.{outputs_after, state_after}
-use Rattle.ft_machine.specs.Drives.{output_lines, put_end}
+use Rattle.ft_machine.specs.Drives.{output_lines, end_of_going}
 use Rattle.ft_recover.specs.declared.recover_end.RecoverEnd.{RecoverEnd}
 use Rattle.ft_recover.specs.declared.recover_end.RecoverEnd.TheVariants as ending
 
@@ -21,7 +21,7 @@ use Rattle.ft_recover.specs.declared.recover_end.RecoverEnd.TheVariants as endin
 pub record Passes (o : Object) (passed count : ℕ) (outputs : List Output) (goes : Bool) (left now : ℕ) (old new : SinkLog) : Type 0 where
   pub left_is : left ≡ passed - length outputs
   pub count_is : count + length outputs < 2 ^ 64 → now ≡ count + length outputs
-  pub lines : Puts (put_end goes) (output_lines o (drop passed outputs)) old new
+  pub lines : Puts (end_of_going goes) (output_lines o (drop passed outputs)) old new
 
 no_lines : (o : Object) (passed : ℕ) (log : SinkLog) → log ≡ with_lines (output_lines o (drop passed [])) log
 no_lines o zero log = lines_none log

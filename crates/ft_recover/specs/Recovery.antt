@@ -1,7 +1,6 @@
 -- What a recovery answers and puts.
 use Rattle.std.specs.Prelude.{◌≡◌, ℕ, List, length, Option, Some, None}
-use Rattle.ft_edge.specs.Causes.{Rose}
-use Rattle.ft_edge.specs.Puts.{PutsLines, BreaksOff, PutsNothing}
+use Rattle.ft_edge.specs.Lines.{PutEnd, AllPut, PutFailed, NothingPut}
 use Rattle.ft_isa.specs.declared.output.Output.{Output}
 use Rattle.ft_isa.specs.declared.plan.Strike.{Strike}
 use Rattle.ft_isa.specs.declared.plan.Wild.{Wild}
@@ -41,16 +40,9 @@ Restarts (OutOfSteps again) restart = again ≡ restart
 Restarts WriteFault restart = Unit {0}
 Restarts NoMemory restart = Unit {0}
 
--- all lines were put, each as one piece; or a put failed, which was the last; or nothing was put
-abbrev pub Puts : RecoverEnd → List (List ℕ) → Option (List ℕ) → Option (List ℕ) → Option (List (List ℕ)) → Option (List (List ℕ)) → Type 0
-Puts (Done again) lines old new before now = PutsLines lines old new before now
-Puts (OutOfSteps again) lines old new before now = PutsLines lines old new before now
-Puts WriteFault lines old new before now = BreaksOff lines old new before now
-Puts NoMemory lines old new before now = PutsNothing old new before now
-
--- only a count that rose excuses a failed put, and where no put failed the count stays
-abbrev pub IsExcused : RecoverEnd → ℕ → ℕ → Type 0
-IsExcused (Done again) before now = now ≡ before
-IsExcused (OutOfSteps again) before now = now ≡ before
-IsExcused WriteFault before now = Rose before now
-IsExcused NoMemory before now = now ≡ before
+-- how the puts of a recovery ended that ended so
+abbrev pub put_end : RecoverEnd → PutEnd
+put_end (Done again) = AllPut
+put_end (OutOfSteps again) = AllPut
+put_end WriteFault = PutFailed
+put_end NoMemory = NothingPut

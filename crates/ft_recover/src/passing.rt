@@ -1,6 +1,5 @@
 //! An outlet that puts a line for each output but the first ones.
 ghost use Rattle.std.specs.Prelude.{◌≡◌};
-ghost use Rattle.ft_edge.specs.Logs.{sink_log};
 ghost use Rattle.ft_types.specs.Spellable.{IsSpellable};
 ghost use Rattle.ft_machine.specs.Drives.{IsOfCell};
 ghost use Rattle.ft_recover.specs.Passing.{Passes};
@@ -28,11 +27,11 @@ impl<'a, P: Program, K: Sink> Outlet for Passing<'a, P, K> {
     ghost use Rattle.ft_recover.specs.Passing.{passes_none};
 
     ghost heard = { λ first outputs goes now. (now.out.ghost_name ≡ first.out.ghost_name) × (P.object now.program.now ≡ P.object first.program.now)
-        × Passes (P.object first.program.now) first.passed first.count outputs goes now.passed now.count (sink_log K.Sink first.out.now) (sink_log K.Sink now.out.now) };
+        × Passes (P.object first.program.now) first.passed first.count outputs goes now.passed now.count (K.log first.out.now) (K.log now.out.now) };
 
     ghost may = { λ passing output. IsSpellable (P.object passing.program.now) × IsOfCell (P.object passing.program.now) output };
 
-    ghost heard_none = { λ passing. (refl, refl, passes_none (P.object passing.program.now) passing.passed passing.count (sink_log K.Sink passing.out.now)) };
+    ghost heard_none = { λ passing. (refl, refl, passes_none (P.object passing.program.now) passing.passed passing.count (K.log passing.out.now)) };
 
     fn take(&mut self, output: Output) -> bool {
         self.count = self.count.wrapping_add(1);

@@ -1,7 +1,8 @@
 //! Recovery from a detected fault.
-ghost use Rattle.std.specs.Prelude.{◌≡◌, ◌≤◌, None};
+ghost use Rattle.std.specs.Prelude.{◌≡◌, None};
+ghost use Rattle.ft_edge.specs.Lines.{Puts};
 ghost use Rattle.ft_semantics.specs.Run.{status_after};
-ghost use Rattle.ft_recover.specs.Recovery.{EndsAs, IsExcused, Puts, Restarts, restart_output, whole_output};
+ghost use Rattle.ft_recover.specs.Recovery.{EndsAs, Restarts, put_end, restart_output, whole_output};
 
 use crate::recover_end::RecoverEnd;
 use crate::runs::recover_on;
@@ -27,10 +28,8 @@ pub fn recover<'a, P: Program, K: Sink>(
     // The end is that of the run without a fault, which is never detected.
     ensures ends { EndsAs result (status_after (P.object checked.now) None plan.entry.wild.now steps) }
     ensures again { Restarts result (restart_output (P.object checked.now) plan.entry.strike plan.entry.wild.now steps) }
-    ensures lines { Puts result (whole_output (P.object checked.now) plan.entry.wild.now steps)
-        (K.written out.old) (K.written out.new) (K.pieces out.old) (K.pieces out.new) }
-    ensures count { K.failures out.old ≤ K.failures out.new }
-    ensures cause { IsExcused result (K.failures out.old) (K.failures out.new) }
+    ensures lines { Puts (put_end result) (whole_output (P.object checked.now) plan.entry.wild.now steps)
+        (K.log out.old) (K.log out.new) }
 {
     let program = checked.program();
     let Ok(mut first) = Machine::new(alloc, program) else {

@@ -1,15 +1,13 @@
 //! The two runs of a recovery: under the plan, and again without the strike.
-ghost use Rattle.std.specs.Prelude.{◌≡◌, ◌≢◌, ◌≤◌, drop, Decides, None, Some, IfOk};
-ghost use Rattle.ft_edge.specs.Lines.{end_of_puts};
-ghost use Rattle.ft_edge.specs.Lines.{Puts as PutsUpTo};
-ghost use Rattle.ft_edge.specs.Logs.{sink_log};
+ghost use Rattle.std.specs.Prelude.{◌≡◌, ◌≢◌, drop, Decides, None, Some, IfOk};
+ghost use Rattle.ft_edge.specs.Lines.{Puts, end_of_puts};
 ghost use Rattle.ft_types.specs.Spellable.{IsSpellable};
 ghost use Rattle.ft_typing.specs.Accepted.{IsAccepted};
 ghost use Rattle.ft_semantics.specs.State.{start};
 ghost use Rattle.ft_semantics.specs.Run.{outputs_after, status_after};
 ghost use Rattle.ft_machine.specs.Drives.{output_lines};
 ghost use Rattle.ft_recover.specs.Passing.{RunsTo, Finishes};
-ghost use Rattle.ft_recover.specs.Recovery.{EndsAs, IsExcused, Puts, Restarts, restart_output, whole_output};
+ghost use Rattle.ft_recover.specs.Recovery.{EndsAs, Restarts, put_end, restart_output, whole_output};
 
 use crate::passing::Passing;
 use crate::recover_end::RecoverEnd;
@@ -44,8 +42,8 @@ fn run_past<P: Program, K: Sink>(
     requires spellable { IsSpellable (P.object program.now) }
     requires start { machine.old ≡ start (P.object program.now) }
     ensures runs { IfOk result (RunsTo (P.object program.now) plan.entry.strike plan.entry.wild.now steps machine.new) }
-    ensures puts { PutsUpTo (end_of_puts result) (output_lines (P.object program.now) (drop passed (outputs_after (P.object program.now) plan.entry.strike plan.entry.wild.now steps)))
-        (sink_log K.Sink out.old) (sink_log K.Sink out.new) }
+    ensures puts { Puts (end_of_puts result) (output_lines (P.object program.now) (drop passed (outputs_after (P.object program.now) plan.entry.strike plan.entry.wild.now steps)))
+        (K.log out.old) (K.log out.new) }
 {
     let mut passing = Passing {
         program,
@@ -74,8 +72,8 @@ fn run_again<P: Program, K: Sink>(
     requires accepted { IsAccepted (P.object program.now) }
     requires start { machine.old ≡ start (P.object program.now) }
     ensures ends { IfOk result (λ end. Finishes end (status_after (P.object program.now) None wild.now steps) (Some committed)) }
-    ensures puts { PutsUpTo (end_of_puts result) (output_lines (P.object program.now) (drop committed (outputs_after (P.object program.now) None wild.now steps)))
-        (sink_log K.Sink out.old) (sink_log K.Sink out.new) }
+    ensures puts { Puts (end_of_puts result) (output_lines (P.object program.now) (drop committed (outputs_after (P.object program.now) None wild.now steps)))
+        (K.log out.old) (K.log out.new) }
 {
     let plan = Plan { strike: None, wild };
     run_past(machine, program, plan, steps, committed, out)?;
@@ -103,8 +101,8 @@ fn run_both<P: Program, K: Sink>(
     requires second { second.old ≡ start (P.object program.now) }
     ensures ends { IfOk result (λ end. Finishes end (status_after (P.object program.now) None plan.entry.wild.now steps)
         (restart_output (P.object program.now) plan.entry.strike plan.entry.wild.now steps)) }
-    ensures puts { PutsUpTo (end_of_puts result) (whole_output (P.object program.now) plan.entry.wild.now steps)
-        (sink_log K.Sink out.old) (sink_log K.Sink out.new) }
+    ensures puts { Puts (end_of_puts result) (whole_output (P.object program.now) plan.entry.wild.now steps)
+        (K.log out.old) (K.log out.new) }
 {
     let committed = run_past(first, program, plan, steps, 0, out)?;
     match first.status() {
@@ -129,10 +127,8 @@ pub(crate) fn recover_on<P: Program, K: Sink>(
     requires second { second.old ≡ start (P.object program.now) }
     ensures ends { EndsAs result (status_after (P.object program.now) None plan.entry.wild.now steps) }
     ensures again { Restarts result (restart_output (P.object program.now) plan.entry.strike plan.entry.wild.now steps) }
-    ensures lines { Puts result (whole_output (P.object program.now) plan.entry.wild.now steps)
-        (K.written out.old) (K.written out.new) (K.pieces out.old) (K.pieces out.new) }
-    ensures count { K.failures out.old ≤ K.failures out.new }
-    ensures cause { IsExcused result (K.failures out.old) (K.failures out.new) }
+    ensures lines { Puts (put_end result) (whole_output (P.object program.now) plan.entry.wild.now steps)
+        (K.log out.old) (K.log out.new) }
 {
     match run_both(first, second, program, plan, steps, out) {
         Ok(end) => end,

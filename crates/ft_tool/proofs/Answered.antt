@@ -1,9 +1,9 @@
 -- What the parts of a command conclude.
-use Rattle.std.proofs.Common.{◌≡◌, ◌≢◌, false, nat_le, ℕ, ◌<◌, ◌≤◌, List, [], ◌∷◌, length, Option, Some, None, Err, inl, inr, ⊎_elim, refl, sym, ap, ◌∙◌, subst}
+use Rattle.std.proofs.Common.{◌≡◌, ◌≢◌, false, nat_le, ℕ, ◌<◌, List, [], ◌∷◌, length, Option, Some, None, Err, inl, inr, ⊎_elim, refl, sym, ap, ◌∙◌, subst}
 use Rattle.std.specs.Prelude.{◌⊎◌, IsTrue}
 use Rattle.std.proofs.lemmas.Bool.{lt-leb}
 use Rattle.std.proofs.lemmas.Option.{same_Some, none-some}
-use Rattle.ft_edge.specs.Lines.{with_lines, BreaksOff as LinesBreakOff}
+use Rattle.ft_edge.specs.Lines.{with_lines, Puts, BreaksOff as LinesBreakOff}
 use Rattle.ft_edge.specs.Logs.{SinkLog, ShelfLog, LoadFails}
 use Rattle.ft_edge.specs.Loads.{Files}
 use Rattle.ft_isa.specs.declared.plan.Wild.{Wild}
@@ -19,7 +19,7 @@ use Rattle.ft_tolerance.proofs.Masking.{tolerant}
 use Rattle.ft_isa.specs.declared.plan.Strike.{Strike}
 use Rattle.ft_machine.specs.declared.run.RunEnd.{RunEnd}
 use Rattle.ft_machine.specs.declared.run.RunEnd.TheVariants as runs
-use Rattle.ft_machine.specs.Drives.{EndsAs, Puts, IsExcused, output_lines}
+use Rattle.ft_machine.specs.Drives.{EndsAs, output_lines, put_end}
 use Rattle.ft_format.specs.Broken.{broken}
 use Rattle.ft_format.proofs.Write.{spells_unbroken}
 use Rattle.ft_format.specs.declared.object_error.ObjectError.TheVariants.{Length}
@@ -37,7 +37,6 @@ use Rattle.ft_tool.specs.Answers.{tried, Withstands, RunsUnless, RunsObject, Tri
 use Rattle.ft_tool.specs.Told.{OfFiles}
 use Rattle.ft_tool.specs.Files.{LoadsObject, FaultCause, IsRefusedBy, IsNotAccepted}
 use Rattle.ft_tool.specs.Endings.{PartEnd, Concluded, Unloaded, Unwritten, Unfinished, part_end, is_early_end, ends_early, EndsSo, Ends, ending_of_run}
-use Rattle.ft_tool.proofs.Bridged.{all_put, broken_off}
 use Rattle.ft_tool.proofs.Mapped.{some_files, files_with}
 
 -- an ending says the same of an answer that is known less well
@@ -118,17 +117,12 @@ breaks_off r o w old new is broken = record {
 -- a run that ended so, whose lines were put up to there
 pub trial_ends : (e : RunEnd) (r : Run) (o : objects.Object) (w : List Wild) (old new : SinkLog) → w ≡ r.wild
     → EndsAs e (status_after o r.strike w r.steps)
-    → Puts e (output_lines o (outputs_after o r.strike w r.steps)) old.written new.written old.pieces new.pieces
-    → old.failures ≤ new.failures → IsExcused e old.failures new.failures
+    → Puts (put_end e) (output_lines o (outputs_after o r.strike w r.steps)) old new
     → Ends (ending_of_run e) (TrialsObject r o) old new ⊥
-trial_ends runs.Done r o w old new is status put count excused =
-    concludes r o w machine.Done old new is status (all_put _ old new put excused)
-trial_ends runs.Detected r o w old new is status put count excused =
-    concludes r o w machine.Detected old new is status (all_put _ old new put excused)
-trial_ends runs.OutOfSteps r o w old new is status put count excused =
-    concludes r o w machine.Running old new is status (all_put _ old new put excused)
-trial_ends runs.WriteFault r o w old new is status put count excused =
-    breaks_off r o w old new is (broken_off _ old new put count excused)
+trial_ends runs.Done r o w old new is status put = concludes r o w machine.Done old new is status put
+trial_ends runs.Detected r o w old new is status put = concludes r o w machine.Detected old new is status put
+trial_ends runs.OutOfSteps r o w old new is status put = concludes r o w machine.Running old new is status put
+trial_ends runs.WriteFault r o w old new is status put = breaks_off r o w old new is put
 
 -- an answer of one piece, which was put, or whose put failed
 pub piece_concludes : (Is : Answer → Type 0) (line piece : List ℕ) (status : ℕ) (old new : SinkLog)
@@ -165,14 +159,13 @@ run_accepted r o spellable h a is = subst (λ x. RunsUnless x r o a) (sym h) (is
 -- a run of an accepted object
 pub run_ends : (e : RunEnd) (r : Run) (o x : objects.Object) (w : List Wild) (old new : SinkLog) → IsSpellable o
     → refusal o ≡ None → x ≡ o → w ≡ r.wild → EndsAs e (status_after x r.strike w r.steps)
-    → Puts e (output_lines x (outputs_after x r.strike w r.steps)) old.written new.written old.pieces new.pieces
-    → old.failures ≤ new.failures → IsExcused e old.failures new.failures
+    → Puts (put_end e) (output_lines x (outputs_after x r.strike w r.steps)) old new
     → Ends (ending_of_run e) (RunsObject r o) old new ⊥
-run_ends e r o x w old new spelled unrefused same is status put count excused =
+run_ends e r o x w old new spelled unrefused same is status put =
     Ends-map (ending_of_run e) (TrialsObject r o) (RunsObject r o) old new ⊥ ⊥ (run_accepted r o spelled unrefused)
     (λ n. n)
     (subst (λ y. Ends (ending_of_run e) (TrialsObject r y) old new ⊥) same
-    (trial_ends e r x w old new is status put count excused))
+    (trial_ends e r x w old new is status put))
 
 -- bytes beyond the limit are refused by their length
 pub too_long : (bytes : List ℕ) → 67108864 < length bytes → broken bytes ≡ Some (Length 67108864)

@@ -6,8 +6,9 @@ use Rattle.std.proofs.lemmas.List.Elements.{All-push}
 use Rattle.std.proofs.lemmas.List.Sums.{sum_by-append}
 use Rattle.std.specs.Io.KnownBytes.{Consumes, Keeps}
 use Rattle.ft_edge.specs.Streams.{IsFrugal, TakesAtMost}
+use Rattle.ft_edge.specs.Logs.{SourceLog}
 use Rattle.ft_edge.specs.Told.{append_told}
-use Rattle.ft_edge.proofs.PutLines.{told_more}
+use Rattle.ft_edge.proofs.Appended.{told_more}
 
 -- all but the last of a list and one more is the list
 but_last : (sizes : List ℕ) (n : ℕ) → take (length (sizes ++ n ∷ []) - 1) (sizes ++ n ∷ []) ≡ sizes
@@ -40,14 +41,14 @@ gave_more takes takes' takes'' total total' n h is some more = record {
 }
 
 -- one more take, the last, gave bytes or none
-pub takes_last : (most : ℕ) (takes takes' takes'' left left' left'' : Option (List ℕ)) (bytes more : List ℕ) (n : ℕ) → GaveSome takes takes' (length bytes) → Consumes left left' bytes
-    → takes'' ≡ append_told takes' (n ∷ []) → Consumes left' left'' more → length more ≡ n → length bytes + n ≤ most → TakesAtMost most takes takes'' left left''
-takes_last most takes takes' takes'' left left' left'' bytes more n h taken is gave same few = record {
+pub takes_last : (most : ℕ) (old mid new : SourceLog) (bytes more : List ℕ) (n : ℕ) → GaveSome old.takes mid.takes (length bytes) → Consumes old.left mid.left bytes
+    → new.takes ≡ append_told mid.takes (n ∷ []) → Consumes mid.left new.left more → length more ≡ n → length bytes + n ≤ most → TakesAtMost most old new
+takes_last most old mid new bytes more n h taken is gave same few = record {
   bytes = bytes ++ more;
   sizes = h.sizes ++ n ∷ [];
-  taken = Consumes-trans left left' left'' bytes more taken gave;
+  taken = Consumes-trans old.left mid.left new.left bytes more taken gave;
   few = omega (arith, length-append bytes more, same, few);
-  made = is ∙ ap (λ told. append_told told (n ∷ [])) h.made ∙ told_more takes h.sizes (n ∷ []);
+  made = is ∙ ap (λ told. append_told told (n ∷ [])) h.made ∙ told_more old.takes h.sizes (n ∷ []);
   together = let e = sum_more h.sizes n in omega (arith, e, h.together, length-append bytes more, same);
   frugal = frugal_more h.sizes n h.some;
 }
@@ -59,7 +60,7 @@ kept_none (Some xs) None h = absurd h
 kept_none (Some xs) (Some ys) h = sym h
 
 -- one more take, the last, failed
-pub takes_failed : (most : ℕ) (takes takes' takes'' left left' left'' : Option (List ℕ)) (bytes : List ℕ) → GaveSome takes takes' (length bytes) → Consumes left left' bytes
-    → takes'' ≡ append_told takes' (0 ∷ []) → Keeps left' left'' → length bytes ≤ most → TakesAtMost most takes takes'' left left''
-takes_failed most takes takes' takes'' left left' left'' bytes h taken is kept few =
-    takes_last most takes takes' takes'' left left' left'' bytes [] 0 h taken is (kept_none left' left'' kept) refl (omega (arith, few))
+pub takes_failed : (most : ℕ) (old mid new : SourceLog) (bytes : List ℕ) → GaveSome old.takes mid.takes (length bytes) → Consumes old.left mid.left bytes
+    → new.takes ≡ append_told mid.takes (0 ∷ []) → Keeps mid.left new.left → length bytes ≤ most → TakesAtMost most old new
+takes_failed most old mid new bytes h taken is kept few =
+    takes_last most old mid new bytes [] 0 h taken is (kept_none mid.left new.left kept) refl (omega (arith, few))

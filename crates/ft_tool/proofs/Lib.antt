@@ -1,5 +1,4 @@
 mod Mapped
-mod Bridged
 mod Answered
 mod OverFiles
 mod Recovered

@@ -107,7 +107,7 @@ does_session d e {old} {new} shelf shelf' script script' same ends load_failures
 pub takes_session : (d : Debugging) {r : Request} (told : Option Files) (script script' : SourceLog) {Same : Type 0}
     → r ≡ Debugs d
     → (OfFiles told (λ files. SpellsFile files d.object)
-    × TakesAtMost 1048577 script.takes script'.takes script.left script'.left) ⊎ Same
+    × TakesAtMost 1048577 script script') ⊎ Same
     → TakesFor r told script script' ⊎ Same
 takes_session d told script script' is (inl h) = inl (record { debugging = d; is = is; comes = h.0; taken = h.1 })
 takes_session d told script script' is (inr h) = inr h

@@ -1,9 +1,8 @@
 -- What is done over one file.
-use Rattle.std.proofs.Common.{◌≡◌, ◌≢◌, ℕ, ◌<◌, Bool, List, [], ◌∷◌, length, Option, Some, Ok, inl, refl, ap, ◌∙◌, subst}
+use Rattle.std.proofs.Common.{◌≡◌, ℕ, ◌<◌, Bool, List, [], ◌∷◌, length, Option, Some, Ok, inl, refl, ap, ◌∙◌, subst}
 use Rattle.std.specs.Prelude.{◌⊎◌, IsTrue}
 use Rattle.ft_edge.specs.declared.shelf.Load.TheVariants.{Whole, TooLong}
 use Rattle.ft_edge.specs.Logs.{SinkLog, ShelfLog, LoadFails, NoLoadFails}
-use Rattle.ft_edge.specs.Loads.{Files}
 use Rattle.ft_command.specs.Options.{Word}
 use Rattle.ft_command.specs.Commands.{Request}
 use Rattle.ft_tool.specs.declared.ending.Ending.{Ending}

@@ -1,6 +1,6 @@
 -- What a recovery concludes.
-use Rattle.std.proofs.Common.{◌≡◌, ℕ, ◌≤◌, List, [], ◌∷◌, ◌++◌, Option, None, refl, sym, ap, ◌∙◌, subst}
-use Rattle.ft_edge.specs.Lines.{with_lines, BreaksOff as LinesBreakOff}
+use Rattle.std.proofs.Common.{◌≡◌, ℕ, List, [], ◌∷◌, ◌++◌, Option, None, refl, sym, ap, ◌∙◌, subst}
+use Rattle.ft_edge.specs.Lines.{with_lines, Puts, BreaksOff as LinesBreakOff}
 use Rattle.ft_edge.specs.Logs.{SinkLog}
 use Rattle.ft_edge.proofs.Lines.{lines_none, lines_then, breaks_then, breaks_before}
 use Rattle.ft_isa.specs.declared.plan.Wild.{Wild}
@@ -12,12 +12,11 @@ use Rattle.ft_semantics.specs.Run.{status_after}
 use Rattle.ft_typing.specs.Accepted.{refusal}
 use Rattle.ft_recover.specs.declared.recover_end.RecoverEnd.{RecoverEnd}
 use Rattle.ft_recover.specs.declared.recover_end.RecoverEnd.TheVariants as recoveries
-use Rattle.ft_recover.specs.Recovery.{EndsAs, Restarts, Puts, IsExcused, restart_output, whole_output}
+use Rattle.ft_recover.specs.Recovery.{EndsAs, Restarts, put_end, restart_output, whole_output}
 use Rattle.ft_command.specs.Commands.{Run}
 use Rattle.ft_tool.specs.Replies.{status_of_run}
 use Rattle.ft_tool.specs.Answers.{RecoversUnless, RecoversObject, recovered, again_lines, Concludes, BreaksOff}
 use Rattle.ft_tool.specs.Endings.{Ends, again_of, ending_of_recovery}
-use Rattle.ft_tool.proofs.Bridged.{all_put, nothing_put, broken_off}
 use Rattle.ft_tool.proofs.Answered.{undetected}
 
 -- no put of no line fails
@@ -70,31 +69,24 @@ module _ (r : Run) (o : Object) (w : List Wild) (old mid new : SinkLog) (spelled
           mid new put_there (subst (λ n. LinesBreakOff (again_lines n) mid new) restart_there h);
     }
 
-  module _ (count : old.failures ≤ mid.failures) where
-    -- a recovery that ended so, after whose lines that of the restart was put
-    pub recovery_ends : (e : RecoverEnd) → EndsAs e (status_after o None w r.steps)
-        → Restarts e (restart_output o r.strike w r.steps)
-        → Puts e (whole_output o w r.steps) old.written mid.written old.pieces mid.pieces
-        → IsExcused e old.failures mid.failures → new ≡ with_lines (again_lines (again_of e)) mid
-        → Ends (ending_of_recovery e) (RecoversObject r o) old new ⊥
-    recovery_ends (recoveries.Done again) status restart put excused more =
-        recovery_concludes again restart (all_put _ old mid put excused) machine.Done status more
-    recovery_ends (recoveries.OutOfSteps again) status restart put excused more =
-        recovery_concludes again restart (all_put _ old mid put excused) machine.Running status more
-    recovery_ends recoveries.WriteFault status restart put excused more =
-        subst (λ x. BreaksOff (RecoversObject r o) old x) (lines_none mid ∙ sym more)
-        (recovery_breaks (broken_off _ old mid put count excused))
-    recovery_ends recoveries.NoMemory status restart put excused more =
-        more ∙ sym (lines_none mid) ∙ nothing_put old mid put excused
+  -- a recovery that ended so, after whose lines that of the restart was put
+  pub recovery_ends : (e : RecoverEnd) → EndsAs e (status_after o None w r.steps)
+      → Restarts e (restart_output o r.strike w r.steps)
+      → Puts (put_end e) (whole_output o w r.steps) old mid → new ≡ with_lines (again_lines (again_of e)) mid
+      → Ends (ending_of_recovery e) (RecoversObject r o) old new ⊥
+  recovery_ends (recoveries.Done again) status restart put more =
+      recovery_concludes again restart put machine.Done status more
+  recovery_ends (recoveries.OutOfSteps again) status restart put more =
+      recovery_concludes again restart put machine.Running status more
+  recovery_ends recoveries.WriteFault status restart put more =
+      subst (λ x. BreaksOff (RecoversObject r o) old x) (lines_none mid ∙ sym more) (recovery_breaks put)
+  recovery_ends recoveries.NoMemory status restart put more = more ∙ sym (lines_none mid) ∙ put
 
-    -- and where the put of that line failed
-    pub recovery_breaks_late : (e : RecoverEnd) → Restarts e (restart_output o r.strike w r.steps)
-        → Puts e (whole_output o w r.steps) old.written mid.written old.pieces mid.pieces
-        → IsExcused e old.failures mid.failures → LinesBreakOff (again_lines (again_of e)) mid new
-        → BreaksOff (RecoversObject r o) old new
-    recovery_breaks_late (recoveries.Done again) restart put excused more =
-        restart_breaks again restart (all_put _ old mid put excused) more
-    recovery_breaks_late (recoveries.OutOfSteps again) restart put excused more =
-        restart_breaks again restart (all_put _ old mid put excused) more
-    recovery_breaks_late recoveries.WriteFault restart put excused more = absurd (nothing_breaks mid new more)
-    recovery_breaks_late recoveries.NoMemory restart put excused more = absurd (nothing_breaks mid new more)
+  -- and where the put of that line failed
+  pub recovery_breaks_late : (e : RecoverEnd) → Restarts e (restart_output o r.strike w r.steps)
+      → Puts (put_end e) (whole_output o w r.steps) old mid → LinesBreakOff (again_lines (again_of e)) mid new
+      → BreaksOff (RecoversObject r o) old new
+  recovery_breaks_late (recoveries.Done again) restart put more = restart_breaks again restart put more
+  recovery_breaks_late (recoveries.OutOfSteps again) restart put more = restart_breaks again restart put more
+  recovery_breaks_late recoveries.WriteFault restart put more = absurd (nothing_breaks mid new more)
+  recovery_breaks_late recoveries.NoMemory restart put more = absurd (nothing_breaks mid new more)

@@ -34,7 +34,6 @@ use Rattle.ft_tool.specs.Calls.{LoadList, asked_after, HasMade, object_load, lis
 use Rattle.ft_tool.specs.Lists.{status_of, AnyVerdicts, NoneCorrupt, OverFaults, tried, refused_list, listed}
 use Rattle.ft_tool.specs.Told.{OfFiles, IsListOf, OverListOf, CampaignsListOf, LoadsOther}
 use Rattle.ft_tool.specs.Files.{LoadsObject, GetsList, ListCause, IsRefusedBy, IsListRefusedBy}
-use Rattle.ft_tool.proofs.Bridged.{all_put, broken_off}
 use Rattle.ft_tool.proofs.Mapped.{files_with, files_with_both}
 
 -- a number that is not above another is at most it
@@ -44,29 +43,27 @@ at_most n m h = omega (arith, lt_of_not-le {n = suc n} {m = m} h)
 -- a campaign that came to its end
 pub tried_concludes : (Promised : List Verdict → Type 0) (c : Campaign) (o : Object) (faults : List Strike)
     (totals : Totals) (status : ℕ) (old new : SinkLog)
-    → Finishes totals o faults c.wild c.steps old.written new.written old.pieces new.pieces
-    → new.failures ≡ old.failures → length faults * c.steps ≤ 1000000000
+    → Finishes totals o faults c.wild c.steps old new → length faults * c.steps ≤ 1000000000
     → ((vs : List Verdict) → AreVerdicts o faults c.wild c.steps vs → Promised vs)
     → ((vs : List Verdict) → totals ≡ totals_of vs → status ≡ status_of vs)
     → Concludes (OverFaults Promised c o faults) status old new
-tried_concludes Promised c o faults totals status old new h same few keeps is = record {
+tried_concludes Promised c o faults totals status old new h few keeps is = record {
   answer = record { pieces = campaign_lines faults h.found; status = status_of h.found };
   is = tried few h.found h.verdicts (keeps h.found h.verdicts) refl;
-  put = all_put _ old new h.lines same;
+  put = h.lines;
   status_is = is h.found h.totals_are;
 }
 
 -- a campaign of whose lines a front was written
 pub tried_breaks_off : (Promised : List Verdict → Type 0) (c : Campaign) (o : Object) (faults : List Strike)
     (old new : SinkLog)
-    → Stops o faults c.wild c.steps old.written new.written old.pieces new.pieces → old.failures ≤ new.failures
-    → Rose old.failures new.failures → length faults * c.steps ≤ 1000000000
+    → Stops o faults c.wild c.steps old new → length faults * c.steps ≤ 1000000000
     → ((vs : List Verdict) → AreVerdicts o faults c.wild c.steps vs → Promised vs)
     → BreaksOff (OverFaults Promised c o faults) old new
-tried_breaks_off Promised c o faults old new h count rose few keeps = record {
+tried_breaks_off Promised c o faults old new h few keeps = record {
   answer = record { pieces = campaign_lines faults h.found; status = status_of h.found };
   is = tried few h.found h.verdicts (keeps h.found h.verdicts) refl;
-  broken = broken_off _ old new h.lines count rose;
+  broken = h.lines;
 }
 
 -- the run of the object of a demonstration is never detected without a fault

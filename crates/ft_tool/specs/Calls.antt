@@ -134,4 +134,4 @@ pub record TakesFrom (words : List Word) (told : Option Files) (old new : Source
   pub files : Files
   pub are_files : AreFiles told files
   pub comes : SpellsFile files debugging.object
-  pub taken : TakesAtMost 1048577 old.takes new.takes old.left new.left
+  pub taken : TakesAtMost 1048577 old new

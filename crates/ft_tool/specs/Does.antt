@@ -32,7 +32,7 @@ pub record TakesFor (r : Request) (told : Option Files) (old new : SourceLog) : 
   pub debugging : Debugging
   pub is : r ≡ Debugs debugging
   pub comes : OfFiles told (λ files. SpellsFile files debugging.object)
-  pub taken : TakesAtMost 1048577 old.takes new.takes old.left new.left
+  pub taken : TakesAtMost 1048577 old new
 
 -- what is done for a request, over a shelf and a script: the answer that was put, up to a failed put, or the load or the
 -- take that failed; that no load failed, where the end is another; and the loads that were made

@@ -1,6 +1,5 @@
 //! The command `asm`.
 ghost use Rattle.std.specs.Prelude.{◌≡◌, ◌≢◌};
-ghost use Rattle.ft_edge.specs.Logs.{sink_log};
 ghost use Rattle.ft_tool.specs.Answers.{OverAssembly};
 ghost use Rattle.ft_tool.specs.Endings.{Ends};
 
@@ -14,7 +13,7 @@ use std::alloc::Global;
 /// Reads an assembly text and puts its object.
 fn assemble_text<K: Sink>(alloc: Global, text: &[u8], out: &mut K) -> Ending
     ensures { Ends result (OverAssembly text.now)
-        (sink_log K.Sink out.old) (sink_log K.Sink out.new) ⊥ }
+        (K.log out.old) (K.log out.new) ⊥ }
 {
     match assemble_bytes(alloc, text) {
         Ok(bytes) => put_spelling(bytes.as_slice(), out),

@@ -3,8 +3,8 @@ ghost use Rattle.std.specs.Prelude.{◌≡◌, ◌≢◌, ◌≤◌, ◌<◌, �
 ghost use Rattle.ft_command.specs.Asked.{campaign_view};
 ghost use Rattle.ft_typing.specs.Accepted.{refusal};
 ghost use Rattle.ft_types.specs.Spellable.{IsSpellable};
-ghost use Rattle.ft_campaign.specs.Campaigns.{EndsAs as CampaignEnds, IsExcused, IsUncorrupted};
-ghost use Rattle.ft_edge.specs.Logs.{sink_log, shelf_log, LoadFails, NoLoadFails};
+ghost use Rattle.ft_campaign.specs.Campaigns.{EndsAs as CampaignEnds, IsUncorrupted};
+ghost use Rattle.ft_edge.specs.Logs.{LoadFails, NoLoadFails};
 ghost use Rattle.ft_tool.specs.Answers.{CampaignsUnless, CampaignsObject, OverFile, FailsIn};
 ghost use Rattle.ft_tool.specs.Calls.{HasMade, LoadsFor};
 ghost use Rattle.ft_tool.specs.Replies.{IsToldFile};
@@ -42,10 +42,8 @@ fn campaign_counted<P: Program, K: Sink, L: Ledger>(
     requires some { 0 < L.parts }
     requires faults { length faults.now ≤ 65536 }
     requires steps { asked.now.steps ≤ 1000000 }
-    ensures ends { CampaignEnds result (P.object checked.now) faults.now asked.now.wild.items asked.now.steps (K.written out.old) (K.written out.new) (K.pieces out.old) (K.pieces out.new) }
+    ensures ends { CampaignEnds result (P.object checked.now) faults.now asked.now.wild.items asked.now.steps (K.log out.old) (K.log out.new) }
     ensures too_much { 1000000000 < length faults.now * asked.now.steps → result ≡ CampaignEnd.TooMuch (length faults.now * asked.now.steps) }
-    ensures count { K.failures out.old ≤ K.failures out.new }
-    ensures cause { IsExcused result (K.failures out.old) (K.failures out.new) }
     ensures uncorrupted { IsUncorrupted result }
 {
     let mut steps = Steps::<L>::new(blank);
@@ -73,7 +71,7 @@ fn campaign_faults<P: Program, K: Sink>(
     requires faults { length faults.now ≤ 65536 }
     requires steps { asked.now.steps ≤ 1000000 }
     ensures { Ends result (OverFaults NoneCorrupt (campaign_view asked.now) (P.object checked.now) faults.now)
-        (sink_log K.Sink out.old) (sink_log K.Sink out.new) ⊥ }
+        (K.log out.old) (K.log out.new) ⊥ }
 {
     match campaign_counted::<P, K, Brand>(alloc, checked, faults, asked, out, Blank::new(1)) {
         CampaignEnd::Finished(_) => Ending::Done,
@@ -124,13 +122,13 @@ fn campaign_checked<P: Program, F: Shelf, K: Sink>(
     requires spellable { IsSpellable (P.object checked.now) }
     requires accepted { refusal (P.object checked.now) ≡ None }
     requires steps { asked.now.steps ≤ 1000000 }
-    requires own { IsToldFile (F.files shelf.old) asked.now.object.now bytes.now }
-    ensures ends { Ends result (CampaignsListOf (campaign_view asked.now) (F.files shelf.old) bytes.now (P.object checked.now))
-        (sink_log K.Sink out.old) (sink_log K.Sink out.new)
-        (LoadFails asked.now.faults.now (shelf_log F.Shelf shelf.old) (shelf_log F.Shelf shelf.new)) }
+    requires own { IsToldFile (F.log shelf.old).files asked.now.object.now bytes.now }
+    ensures ends { Ends result (CampaignsListOf (campaign_view asked.now) (F.log shelf.old).files bytes.now (P.object checked.now))
+        (K.log out.old) (K.log out.new)
+        (LoadFails asked.now.faults.now (F.log shelf.old) (F.log shelf.new)) }
     ensures load_failures { result ≢ Ending.LoadFailed → NoLoadFails
-        (shelf_log F.Shelf shelf.old) (shelf_log F.Shelf shelf.new) }
-    ensures made { LoadsOther (campaign_view asked.now) (F.asked shelf.old) (F.asked shelf.new) }
+        (F.log shelf.old) (F.log shelf.new) }
+    ensures made { LoadsOther (campaign_view asked.now) (F.log shelf.old).asked (F.log shelf.new).asked }
 {
     over_list(alloc, &CheckedTarget { checked }, bytes, asked, shelf, out)
 }
@@ -146,15 +144,15 @@ fn campaign_object<P: Program, F: Shelf, K: Sink>(
 ) -> Ending
     requires spellable { IsSpellable (P.object program.now) }
     requires steps { asked.now.steps ≤ 1000000 }
-    requires own { IsToldFile (F.files shelf.old) asked.now.object.now bytes.now }
-    ensures ends { Ends result (CampaignsUnless (refusal (P.object program.now)) (CampaignsListOf (campaign_view asked.now) (F.files shelf.old) bytes.now (P.object program.now)))
-        (sink_log K.Sink out.old) (sink_log K.Sink out.new)
-        (LoadFails asked.now.faults.now (shelf_log F.Shelf shelf.old) (shelf_log F.Shelf shelf.new)
+    requires own { IsToldFile (F.log shelf.old).files asked.now.object.now bytes.now }
+    ensures ends { Ends result (CampaignsUnless (refusal (P.object program.now)) (CampaignsListOf (campaign_view asked.now) (F.log shelf.old).files bytes.now (P.object program.now)))
+        (K.log out.old) (K.log out.new)
+        (LoadFails asked.now.faults.now (F.log shelf.old) (F.log shelf.new)
         × (refusal (P.object program.now) ≡ None)) }
     ensures load_failures { result ≢ Ending.LoadFailed → NoLoadFails
-        (shelf_log F.Shelf shelf.old) (shelf_log F.Shelf shelf.new) }
-    ensures made { (((refusal (P.object program.now) ≢ None) ⊎ IsTrue (ends_early result)) × HasMade [] (F.asked shelf.old) (F.asked shelf.new))
-        ⊎ ((refusal (P.object program.now) ≡ None) × LoadsOther (campaign_view asked.now) (F.asked shelf.old) (F.asked shelf.new)) }
+        (F.log shelf.old) (F.log shelf.new) }
+    ensures made { (((refusal (P.object program.now) ≢ None) ⊎ IsTrue (ends_early result)) × HasMade [] (F.log shelf.old).asked (F.log shelf.new).asked)
+        ⊎ ((refusal (P.object program.now) ≡ None) × LoadsOther (campaign_view asked.now) (F.log shelf.old).asked (F.log shelf.new).asked) }
 {
     match check(alloc, program) {
         Ok(checked) => campaign_checked(alloc, &checked, bytes, asked, shelf, out),
@@ -170,13 +168,13 @@ pub(crate) fn campaign_file<F: Shelf, K: Sink>(
     out: &mut K,
 ) -> Ending
     requires { asked.now.steps ≤ 1000000 }
-    ensures ends { Ends result (λ a. OfFiles (F.files shelf.old) (λ files. OverFile (CampaignsObject (campaign_view asked.now) files) asked.now.object.now files a))
-        (sink_log K.Sink out.old) (sink_log K.Sink out.new)
-        (OfFiles (F.files shelf.old) (λ files. FailsIn (Campaigns (campaign_view asked.now)) files
-        (shelf_log F.Shelf shelf.old) (shelf_log F.Shelf shelf.new))) }
+    ensures ends { Ends result (λ a. OfFiles (F.log shelf.old).files (λ files. OverFile (CampaignsObject (campaign_view asked.now) files) asked.now.object.now files a))
+        (K.log out.old) (K.log out.new)
+        (OfFiles (F.log shelf.old).files (λ files. FailsIn (Campaigns (campaign_view asked.now)) files
+        (F.log shelf.old) (F.log shelf.new))) }
     ensures load_failures { result ≢ Ending.LoadFailed → NoLoadFails
-        (shelf_log F.Shelf shelf.old) (shelf_log F.Shelf shelf.new) }
-    ensures made { OfFiles (F.files shelf.old) (λ files. LoadsFor (Campaigns (campaign_view asked.now)) (F.files shelf.old) files (IsTrue (ends_early result)) (F.asked shelf.old) (F.asked shelf.new)) }
+        (F.log shelf.old) (F.log shelf.new) }
+    ensures made { OfFiles (F.log shelf.old).files (λ files. LoadsFor (Campaigns (campaign_view asked.now)) (F.log shelf.old).files files (IsTrue (ends_early result)) (F.log shelf.old).asked (F.log shelf.new).asked) }
 {
     let mut bytes = Vec::new(alloc);
     match load_object(asked.object, shelf, &mut bytes) {

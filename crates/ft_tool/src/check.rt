@@ -3,7 +3,6 @@ ghost use Rattle.std.specs.Prelude.{◌≡◌, ◌<◌, IfOk, ◌≢◌};
 ghost use Rattle.ft_typing.specs.Accepted.{refusal};
 ghost use Rattle.ft_types.specs.Spellable.{IsSpellable};
 ghost use Rattle.ft_checker.specs.Judges.{Judges};
-ghost use Rattle.ft_edge.specs.Logs.{sink_log};
 ghost use Rattle.ft_tool.specs.Answers.{ChecksObject};
 ghost use Rattle.ft_tool.specs.Endings.{Ends};
 
@@ -50,7 +49,7 @@ pub(crate) fn check<'a, P: Program>(
 fn check_object<P: Program, K: Sink>(alloc: Global, program: &P, out: &mut K) -> Ending
     requires { IsSpellable (P.object program.now) }
     ensures { Ends result (ChecksObject (P.object program.now))
-        (sink_log K.Sink out.old) (sink_log K.Sink out.new) ⊥ }
+        (K.log out.old) (K.log out.new) ⊥ }
 {
     match check(alloc, program) {
         Ok(_) => match put_line(b"accepted\n", out) {

@@ -1,6 +1,5 @@
 //! The command `compile`.
 ghost use Rattle.std.specs.Prelude.{◌≡◌, ◌≢◌};
-ghost use Rattle.ft_edge.specs.Logs.{sink_log};
 ghost use Rattle.ft_tool.specs.Endings.{Ends};
 ghost use Rattle.ft_tool.specs.Sources.{OverText, CompilesProgram};
 
@@ -15,7 +14,7 @@ use std::alloc::Global;
 /// Compiles a source and puts its object.
 fn compile_text<K: Sink>(alloc: Global, text: &[u8], out: &mut K) -> Ending
     ensures { Ends result (OverText CompilesProgram text.now)
-        (sink_log K.Sink out.old) (sink_log K.Sink out.new) ⊥ }
+        (K.log out.old) (K.log out.new) ⊥ }
 {
     match compile(alloc, text) {
         Ok(object) => put_object(alloc, &object, out),

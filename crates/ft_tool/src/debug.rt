@@ -6,7 +6,7 @@ ghost use Rattle.ft_types.specs.Spellable.{IsSpellable};
 ghost use Rattle.ft_format.specs.Format.{AreBytes};
 ghost use Rattle.ft_command.specs.Commands.{Debugs};
 ghost use Rattle.ft_command.specs.Asked.{debugging_view};
-ghost use Rattle.ft_edge.specs.Logs.{sink_log, shelf_log, NoLoadFails, source_log};
+ghost use Rattle.ft_edge.specs.Logs.{NoLoadFails};
 ghost use Rattle.ft_tool.specs.Scripts.{DebugsObject};
 ghost use Rattle.ft_tool.specs.Answers.{OverFile, SpellsFile, FailsIn, FailsAtScript};
 ghost use Rattle.ft_tool.specs.Calls.{HasMade, object_load};
@@ -34,7 +34,7 @@ fn debug_text<P: Program, K: Sink>(
     requires short { length text.now ≤ 1048576 }
     ensures bytes { AreBytes text.now }
     ensures ends { Ends result (DebugsObject (debugging_view asked.now) text.now (P.object program.now))
-        (sink_log K.Sink out.old) (sink_log K.Sink out.new) ⊥ }
+        (K.log out.old) (K.log out.new) ⊥ }
 {
     match session(alloc, program, asked.wild.as_slice(), text, out) {
         DebugEnd::Ended => Ending::Done,
@@ -52,11 +52,11 @@ fn debug_object<P: Program, I: Source, K: Sink>(
     out: &mut K,
 ) -> Ending
     requires spellable { IsSpellable (P.object program.now) }
-    ensures ends { Ends result (λ a. OfScript (I.left script.old) (λ text. DebugsObject (debugging_view asked.now) text (P.object program.now) a))
-        (sink_log K.Sink out.old) (sink_log K.Sink out.new)
-        (Rose (I.failures script.old) (I.failures script.new)) }
-    ensures script_failures { result ≢ Ending.LoadFailed → I.failures script.new ≡ I.failures script.old }
-    ensures taken { TakesAtMost 1048577 (I.takes script.old) (I.takes script.new) (I.left script.old) (I.left script.new) }
+    ensures ends { Ends result (λ a. OfScript (I.log script.old).left (λ text. DebugsObject (debugging_view asked.now) text (P.object program.now) a))
+        (K.log out.old) (K.log out.new)
+        (Rose (I.log script.old).failures (I.log script.new).failures) }
+    ensures script_failures { result ≢ Ending.LoadFailed → (I.log script.new).failures ≡ (I.log script.old).failures }
+    ensures taken { TakesAtMost 1048577 (I.log script.old) (I.log script.new) }
 {
     match take_script(alloc, script) {
         Ok(text) => debug_text(alloc, program, asked, text.as_slice(), out),
@@ -72,18 +72,18 @@ pub(crate) fn debug_file<F: Shelf, I: Source, K: Sink>(
     script: &mut I,
     out: &mut K,
 ) -> Ending
-    ensures ends { Ends result (λ a. OfFiles (F.files shelf.old) (λ files. OfScript (I.left script.old) (λ text. OverFile (DebugsObject (debugging_view asked.now) text) asked.now.object.now files a)))
-        (sink_log K.Sink out.old) (sink_log K.Sink out.new)
-        (OfFiles (F.files shelf.old) (λ files. FailsIn (Debugs (debugging_view asked.now)) files
-        (shelf_log F.Shelf shelf.old) (shelf_log F.Shelf shelf.new)
+    ensures ends { Ends result (λ a. OfFiles (F.log shelf.old).files (λ files. OfScript (I.log script.old).left (λ text. OverFile (DebugsObject (debugging_view asked.now) text) asked.now.object.now files a)))
+        (K.log out.old) (K.log out.new)
+        (OfFiles (F.log shelf.old).files (λ files. FailsIn (Debugs (debugging_view asked.now)) files
+        (F.log shelf.old) (F.log shelf.new)
         ⊎ FailsAtScript (debugging_view asked.now) files
-        (source_log I.Source script.old) (source_log I.Source script.new))) }
+        (I.log script.old) (I.log script.new))) }
     ensures load_failures { result ≢ Ending.LoadFailed → NoLoadFails
-        (shelf_log F.Shelf shelf.old) (shelf_log F.Shelf shelf.new) }
-    ensures script_failures { result ≢ Ending.LoadFailed → I.failures script.new ≡ I.failures script.old }
-    ensures made { HasMade (object_load asked.now.object.now ∷ []) (F.asked shelf.old) (F.asked shelf.new) }
-    ensures script { (OfFiles (F.files shelf.old) (λ files. SpellsFile files asked.now.object.now)
-        × TakesAtMost 1048577 (I.takes script.old) (I.takes script.new) (I.left script.old) (I.left script.new))
+        (F.log shelf.old) (F.log shelf.new) }
+    ensures script_failures { result ≢ Ending.LoadFailed → (I.log script.new).failures ≡ (I.log script.old).failures }
+    ensures made { HasMade (object_load asked.now.object.now ∷ []) (F.log shelf.old).asked (F.log shelf.new).asked }
+    ensures script { (OfFiles (F.log shelf.old).files (λ files. SpellsFile files asked.now.object.now)
+        × TakesAtMost 1048577 (I.log script.old) (I.log script.new))
         ⊎ (script.new ≡ script.old) }
 {
     let mut bytes = Vec::new(alloc);

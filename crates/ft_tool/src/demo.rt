@@ -1,6 +1,5 @@
 //! The command `demo`.
 ghost use Rattle.std.specs.Prelude.{◌≡◌, ◌≢◌, ◌≤◌};
-ghost use Rattle.ft_edge.specs.Logs.{sink_log};
 ghost use Rattle.ft_tool.specs.Demonstrations.{ShowsSample};
 ghost use Rattle.ft_tool.specs.Endings.{Ends};
 
@@ -14,7 +13,7 @@ pub(crate) fn demonstrate<K: Sink>(alloc: Global, turns: u32, out: &mut K) -> En
     requires some { 1 ≤ turns }
     requires few { turns ≤ 10921 }
     ensures { Ends result (ShowsSample turns)
-        (sink_log K.Sink out.old) (sink_log K.Sink out.new) ⊥ }
+        (K.log out.old) (K.log out.new) ⊥ }
 {
     match demo(alloc, turns, out) {
         DemoEnd::Finished => Ending::Done,

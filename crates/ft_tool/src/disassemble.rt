@@ -1,7 +1,6 @@
 //! The command `dis`.
 ghost use Rattle.std.specs.Prelude.{◌≡◌, ◌≢◌};
 ghost use Rattle.ft_types.specs.Spellable.{IsSpellable};
-ghost use Rattle.ft_edge.specs.Logs.{sink_log};
 ghost use Rattle.ft_tool.specs.Answers.{DisassemblesObject};
 ghost use Rattle.ft_tool.specs.Endings.{Ends};
 
@@ -16,7 +15,7 @@ use std::alloc::Global;
 fn put_text<P: Program, K: Sink>(alloc: Global, program: &P, out: &mut K) -> Ending
     requires { IsSpellable (P.object program.now) }
     ensures { Ends result (DisassemblesObject (P.object program.now))
-        (sink_log K.Sink out.old) (sink_log K.Sink out.new) ⊥ }
+        (K.log out.old) (K.log out.new) ⊥ }
 {
     let Ok(text) = disassemble(alloc, program) else {
         return Ending::NoMemory;

@@ -4,7 +4,6 @@ ghost use Rattle.ft_types.specs.declared.object.Object.{Object as Spelled};
 ghost use Rattle.ft_types.specs.Spellable.{IsSpellable};
 ghost use Rattle.ft_format.specs.declared.version.Version.TheVariants.{Second};
 ghost use Rattle.ft_format.specs.Format.{Spells};
-ghost use Rattle.ft_edge.specs.Logs.{sink_log};
 ghost use Rattle.ft_tool.specs.Objects.{UpgradesObject, refused};
 ghost use Rattle.ft_tool.specs.Answers.{usage};
 ghost use Rattle.ft_tool.specs.Replies.{one_piece};
@@ -76,7 +75,7 @@ pub(crate) fn ending_of_run(end: RunEnd) -> Ending
 /// Puts bytes that spell an object, in version 2 of the format and one put.
 pub(crate) fn put_spelling<K: Sink>(bytes: &[u8], out: &mut K) -> Ending
     ensures { (o : Spelled) → Spells bytes.now Second o → Ends result (UpgradesObject o)
-        (sink_log K.Sink out.old) (sink_log K.Sink out.new) ⊥ }
+        (K.log out.old) (K.log out.new) ⊥ }
 {
     match put_line(bytes, out) {
         Ok(()) => Ending::Done,
@@ -88,7 +87,7 @@ pub(crate) fn put_spelling<K: Sink>(bytes: &[u8], out: &mut K) -> Ending
 pub(crate) fn put_object<K: Sink>(alloc: Global, object: &Object, out: &mut K) -> Ending
     requires { IsSpellable object.now }
     ensures { Ends result (UpgradesObject object.now)
-        (sink_log K.Sink out.old) (sink_log K.Sink out.new) ⊥ }
+        (K.log out.old) (K.log out.new) ⊥ }
 {
     let Ok(bytes) = encode(alloc, object) else {
         return Ending::NoMemory;
@@ -98,7 +97,7 @@ pub(crate) fn put_object<K: Sink>(alloc: Global, object: &Object, out: &mut K) -
 
 /// Puts the line of words that are no command.
 pub(crate) fn put_usage<K: Sink>(out: &mut K) -> Ending
-    ensures { Ends result (λ a. a ≡ usage) (sink_log K.Sink out.old) (sink_log K.Sink out.new) ⊥ }
+    ensures { Ends result (λ a. a ≡ usage) (K.log out.old) (K.log out.new) ⊥ }
 {
     match put_line(b"usage\n", out) {
         Ok(()) => Ending::Usage,
@@ -108,7 +107,7 @@ pub(crate) fn put_usage<K: Sink>(out: &mut K) -> Ending
 
 /// Ends a command whose object's bytes are refused, with the line of the refusal.
 pub(crate) fn refuse_bytes<K: Sink>(error: ObjectError, out: &mut K) -> Ending
-    ensures { Ends result (λ a. a ≡ refused error) (sink_log K.Sink out.old) (sink_log K.Sink out.new) ⊥ }
+    ensures { Ends result (λ a. a ≡ refused error) (K.log out.old) (K.log out.new) ⊥ }
 {
     match put_line(object_line(error).as_bytes(), out) {
         Ok(()) => Ending::ObjectRefused,
@@ -119,7 +118,7 @@ pub(crate) fn refuse_bytes<K: Sink>(error: ObjectError, out: &mut K) -> Ending
 /// Ends a command that has no object, with the line of the refusal where its bytes are refused.
 pub(crate) fn refuse_object<K: Sink>(fault: ObjectFault, out: &mut K) -> Ending
     ensures ends { Ends result (IsRefusedBy fault)
-        (sink_log K.Sink out.old) (sink_log K.Sink out.new) (fault ≡ ObjectFault.Failed) }
+        (K.log out.old) (K.log out.new) (fault ≡ ObjectFault.Failed) }
     ensures failed { result ≢ Ending.LoadFailed → fault ≢ ObjectFault.Failed }
 {
     match fault {
@@ -131,7 +130,7 @@ pub(crate) fn refuse_object<K: Sink>(fault: ObjectFault, out: &mut K) -> Ending
 
 /// Ends a command whose object is not accepted, with the line of the refusal.
 pub(crate) fn refuse_check<K: Sink>(error: CheckError, out: &mut K) -> Ending
-    ensures { Ends result (IsNotAccepted error) (sink_log K.Sink out.old) (sink_log K.Sink out.new) ⊥ }
+    ensures { Ends result (IsNotAccepted error) (K.log out.old) (K.log out.new) ⊥ }
 {
     let line = match error {
         CheckError::EntryType => entry_line(),
@@ -148,7 +147,7 @@ pub(crate) fn refuse_check<K: Sink>(error: CheckError, out: &mut K) -> Ending
 /// Puts the line of a list or of a campaign that is refused.
 pub(crate) fn put_list_line<K: Sink>(number: u64, told: u64, out: &mut K) -> Ending
     ensures { Ends result (λ a. a ≡ one_piece (list_line number told) 11)
-        (sink_log K.Sink out.old) (sink_log K.Sink out.new) ⊥ }
+        (K.log out.old) (K.log out.new) ⊥ }
 {
     match put_line(list_line(number, told).as_bytes(), out) {
         Ok(()) => Ending::ListRefused,
@@ -159,7 +158,7 @@ pub(crate) fn put_list_line<K: Sink>(number: u64, told: u64, out: &mut K) -> End
 /// Ends a command that has no fault list, with the line of the refusal where its text is refused.
 pub(crate) fn refuse_list<K: Sink>(fault: ListFault, out: &mut K) -> Ending
     ensures ends { Ends result (IsListRefusedBy fault)
-        (sink_log K.Sink out.old) (sink_log K.Sink out.new) (fault ≡ ListFault.Failed) }
+        (K.log out.old) (K.log out.new) (fault ≡ ListFault.Failed) }
     ensures failed { result ≢ Ending.LoadFailed → fault ≢ ListFault.Failed }
 {
     match fault {
@@ -173,7 +172,7 @@ pub(crate) fn refuse_list<K: Sink>(fault: ListFault, out: &mut K) -> Ending
 /// Ends a command that has no script, with the line of the refusal where it is too long.
 pub(crate) fn refuse_script<K: Sink>(fault: ScriptFault, out: &mut K) -> Ending
     ensures ends { Ends result (IsScriptRefusedBy fault)
-        (sink_log K.Sink out.old) (sink_log K.Sink out.new) (fault ≡ ScriptFault.Failed) }
+        (K.log out.old) (K.log out.new) (fault ≡ ScriptFault.Failed) }
     ensures failed { result ≢ Ending.LoadFailed → fault ≢ ScriptFault.Failed }
 {
     match fault {
@@ -185,7 +184,7 @@ pub(crate) fn refuse_script<K: Sink>(fault: ScriptFault, out: &mut K) -> Ending
 
 /// Ends a command whose source is refused, with the line of the refusal.
 pub(crate) fn refuse_source<K: Sink>(error: SourceError, out: &mut K) -> Ending
-    ensures { Ends result (IsSourceRefused error) (sink_log K.Sink out.old) (sink_log K.Sink out.new) ⊥ }
+    ensures { Ends result (IsSourceRefused error) (K.log out.old) (K.log out.new) ⊥ }
 {
     if let SourceError::NoMemory = error {
         return Ending::NoMemory;
@@ -199,7 +198,7 @@ pub(crate) fn refuse_source<K: Sink>(error: SourceError, out: &mut K) -> Ending
 /// Puts the line of an assembly text that is refused.
 fn put_text_line<K: Sink>(number: u64, told: u64, out: &mut K) -> Ending
     ensures { Ends result (λ a. a ≡ one_piece (asm_line number told) 12)
-        (sink_log K.Sink out.old) (sink_log K.Sink out.new) ⊥ }
+        (K.log out.old) (K.log out.new) ⊥ }
 {
     match put_line(asm_line(number, told).as_bytes(), out) {
         Ok(()) => Ending::TextRefused,
@@ -209,7 +208,7 @@ fn put_text_line<K: Sink>(number: u64, told: u64, out: &mut K) -> Ending
 
 /// Ends a command whose assembly text is refused, with the line of the refusal.
 pub(crate) fn refuse_text<K: Sink>(error: AsmError, out: &mut K) -> Ending
-    ensures { Ends result (IsTextRefused error) (sink_log K.Sink out.old) (sink_log K.Sink out.new) ⊥ }
+    ensures { Ends result (IsTextRefused error) (K.log out.old) (K.log out.new) ⊥ }
 {
     match error {
         AsmError::Text { line } => put_text_line(1, line as u64, out),

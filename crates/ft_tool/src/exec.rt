@@ -4,7 +4,6 @@ ghost use Rattle.ft_semantics.specs.Run.{run};
 ghost use Rattle.ft_typing.specs.Accepted.{IsAccepted};
 ghost use Rattle.ft_types.specs.Spellable.{IsSpellable};
 ghost use Rattle.ft_command.specs.Asked.{execution_view};
-ghost use Rattle.ft_edge.specs.Logs.{sink_log};
 ghost use Rattle.ft_tool.specs.Endings.{Ends};
 ghost use Rattle.ft_tool.specs.Replies.{ran};
 ghost use Rattle.ft_tool.specs.Sources.{OverText, ExecutesProgram};
@@ -16,8 +15,8 @@ use ft_checker::Checked;
 use ft_command::Execution;
 use ft_compile::compile;
 use ft_edge::Sink;
-use ft_inject::Clean;
 use ft_isa::Plan;
+use ft_runs::Clean;
 use ft_syntax::SourceError;
 use ft_types::Object;
 use std::alloc::Global;
@@ -27,7 +26,7 @@ fn run_accepted<K: Sink>(alloc: Global, object: &Object, steps: u64, out: &mut K
     requires spellable { IsSpellable object.now }
     requires accepted { IsAccepted object.now }
     ensures { Ends result (λ a. a ≡ ran object.now (run object.now None [] steps))
-        (sink_log K.Sink out.old) (sink_log K.Sink out.new) ⊥ }
+        (K.log out.old) (K.log out.new) ⊥ }
 {
     let checked = Checked::of_accepted(object);
     let Ok(clean) = Clean::start(alloc, &checked) else {
@@ -37,13 +36,13 @@ fn run_accepted<K: Sink>(alloc: Global, object: &Object, steps: u64, out: &mut K
         strike: None,
         wild: &[],
     };
-    ending_of_run(ft_inject::run(clean, plan, steps, out))
+    ending_of_run(ft_runs::run(clean, plan, steps, out))
 }
 
 /// Compiles a source and runs its object.
 fn exec_text<K: Sink>(alloc: Global, text: &[u8], steps: u64, out: &mut K) -> Ending
     ensures { Ends result (OverText (ExecutesProgram steps) text.now)
-        (sink_log K.Sink out.old) (sink_log K.Sink out.new) ⊥ }
+        (K.log out.old) (K.log out.new) ⊥ }
 {
     match compile(alloc, text) {
         Ok(object) => run_accepted(alloc, &object, steps, out),

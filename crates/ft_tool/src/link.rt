@@ -3,7 +3,7 @@ ghost use Rattle.std.specs.Prelude.{◌≡◌, ◌≢◌, ◌≤◌, [], ◌∷�
 ghost use Rattle.ft_command.specs.Commands.{Links};
 ghost use Rattle.ft_types.specs.Spellable.{IsSpellable};
 ghost use Rattle.ft_link_map.specs.Sound.{IsSound};
-ghost use Rattle.ft_edge.specs.Logs.{sink_log, shelf_log, LoadFails, NoLoadFails};
+ghost use Rattle.ft_edge.specs.Logs.{LoadFails, NoLoadFails};
 ghost use Rattle.ft_tool.specs.Answers.{FailsIn};
 ghost use Rattle.ft_tool.specs.Calls.{HasMade, LoadsLink, object_load};
 ghost use Rattle.ft_tool.specs.Endings.{Ends, ends_early};
@@ -43,7 +43,7 @@ fn add_object<P: Program, K: Sink>(
     ensures ok { OnOk result (AddsObject linker.old (P.object program.now) linker.new) }
     ensures untouched { OnOk result (out.new ≡ out.old) }
     ensures ends { IfErr result (λ e. Ends e (EndsAtObject linker.old (P.object program.now))
-        (sink_log K.Sink out.old) (sink_log K.Sink out.new) ⊥) }
+        (K.log out.old) (K.log out.new) ⊥) }
 {
     match check(alloc, program) {
         Ok(checked) => match linker.add(&checked) {
@@ -62,15 +62,15 @@ fn add_file<F: Shelf, K: Sink>(
     shelf: &mut F,
     out: &mut K,
 ) -> Result<(), Ending>
-    ensures ok { OnOk result (AddsFile (F.files shelf.old) name.now linker.old linker.new) }
+    ensures ok { OnOk result (AddsFile (F.log shelf.old).files name.now linker.old linker.new) }
     ensures untouched { OnOk result (out.new ≡ out.old) }
-    ensures ends { IfErr result (λ e. Ends e (EndsWithFile (F.files shelf.old) linker.old name.now)
-        (sink_log K.Sink out.old) (sink_log K.Sink out.new)
-        (LoadFails name.now (shelf_log F.Shelf shelf.old) (shelf_log F.Shelf shelf.new))) }
-    ensures files { F.files shelf.new ≡ F.files shelf.old }
+    ensures ends { IfErr result (λ e. Ends e (EndsWithFile (F.log shelf.old).files linker.old name.now)
+        (K.log out.old) (K.log out.new)
+        (LoadFails name.now (F.log shelf.old) (F.log shelf.new))) }
+    ensures files { (F.log shelf.new).files ≡ (F.log shelf.old).files }
     ensures load_failures { result ≢ Err Ending.LoadFailed → NoLoadFails
-        (shelf_log F.Shelf shelf.old) (shelf_log F.Shelf shelf.new) }
-    ensures made { HasMade (object_load name.now ∷ []) (F.asked shelf.old) (F.asked shelf.new) }
+        (F.log shelf.old) (F.log shelf.new) }
+    ensures made { HasMade (object_load name.now ∷ []) (F.log shelf.old).asked (F.log shelf.new).asked }
 {
     let mut bytes = Vec::new(alloc);
     match load_object(name, shelf, &mut bytes) {
@@ -89,14 +89,14 @@ fn add_files<F: Shelf, K: Sink>(
 ) -> Result<(), Ending>
     requires none { linker.old ≡ [] }
     requires names { All IsAscii linkage.now.files }
-    ensures ok { OnOk result (HasAdded (F.files shelf.old) linkage.now linker.new [] (F.asked shelf.old) (F.asked shelf.new)) }
+    ensures ok { OnOk result (HasAdded (F.log shelf.old).files linkage.now linker.new [] (F.log shelf.old).asked (F.log shelf.new).asked) }
     ensures untouched { OnOk result (out.new ≡ out.old) }
-    ensures ends { IfErr result (λ e. Ends e (LinksFiles (F.files shelf.old) linkage.now [] linkage.now.files)
-        (sink_log K.Sink out.old) (sink_log K.Sink out.new)
-        (FailsInTurn linkage.now (shelf_log F.Shelf shelf.old) (shelf_log F.Shelf shelf.new))) }
+    ensures ends { IfErr result (λ e. Ends e (LinksFiles (F.log shelf.old).files linkage.now [] linkage.now.files)
+        (K.log out.old) (K.log out.new)
+        (FailsInTurn linkage.now (F.log shelf.old) (F.log shelf.new))) }
     ensures load_failures { result ≢ Err Ending.LoadFailed → NoLoadFails
-        (shelf_log F.Shelf shelf.old) (shelf_log F.Shelf shelf.new) }
-    ensures made { IfErr result (λ e. MakesInTurn (F.files shelf.old) linkage.now (ends_early e) (F.asked shelf.old) (F.asked shelf.new)) }
+        (F.log shelf.old) (F.log shelf.new) }
+    ensures made { IfErr result (λ e. MakesInTurn (F.log shelf.old).files linkage.now (ends_early e) (F.log shelf.old).asked (F.log shelf.new).asked) }
 {
     let files = linkage.files.as_slice();
     for file in files {
@@ -113,7 +113,7 @@ fn put_linked<K: Sink>(alloc: Global, linker: Linker, linkage: &LinkMap, out: &m
     requires sound { IsSound linkage.now }
     requires modules { length linker ≡ length linkage.now.files }
     ensures { Ends result (LinksAdded linkage.now linker)
-        (sink_log K.Sink out.old) (sink_log K.Sink out.new) ⊥ }
+        (K.log out.old) (K.log out.new) ⊥ }
 {
     match linker.finish(linkage) {
         Ok(object) => put_object(alloc, &object, out),
@@ -130,12 +130,12 @@ fn link_files<F: Shelf, K: Sink>(
 ) -> Ending
     requires sound { IsSound linkage.now }
     requires names { All IsAscii linkage.now.files }
-    ensures ends { Ends result (LinksFiles (F.files shelf.old) linkage.now [] linkage.now.files)
-        (sink_log K.Sink out.old) (sink_log K.Sink out.new)
-        (FailsInTurn linkage.now (shelf_log F.Shelf shelf.old) (shelf_log F.Shelf shelf.new)) }
+    ensures ends { Ends result (LinksFiles (F.log shelf.old).files linkage.now [] linkage.now.files)
+        (K.log out.old) (K.log out.new)
+        (FailsInTurn linkage.now (F.log shelf.old) (F.log shelf.new)) }
     ensures load_failures { result ≢ Ending.LoadFailed → NoLoadFails
-        (shelf_log F.Shelf shelf.old) (shelf_log F.Shelf shelf.new) }
-    ensures made { MakesInTurn (F.files shelf.old) linkage.now (ends_early result) (F.asked shelf.old) (F.asked shelf.new) }
+        (F.log shelf.old) (F.log shelf.new) }
+    ensures made { MakesInTurn (F.log shelf.old).files linkage.now (ends_early result) (F.log shelf.old).asked (F.log shelf.new).asked }
 {
     let Ok(mut linker) = Linker::new(alloc) else {
         return Ending::NoMemory;
@@ -149,13 +149,13 @@ fn link_files<F: Shelf, K: Sink>(
 /// Reads a link map, links its modules and puts the object.
 fn link_text<F: Shelf, K: Sink>(alloc: Global, text: &[u8], shelf: &mut F, out: &mut K) -> Ending
     requires { length text.now ≤ 65536 }
-    ensures ends { Ends result (LinksText (F.files shelf.old) text.now)
-        (sink_log K.Sink out.old) (sink_log K.Sink out.new)
+    ensures ends { Ends result (LinksText (F.log shelf.old).files text.now)
+        (K.log out.old) (K.log out.new)
         ((linkage : LinkMap) × (IsMap text.now linkage × FailsInTurn linkage
-        (shelf_log F.Shelf shelf.old) (shelf_log F.Shelf shelf.new))) }
+        (F.log shelf.old) (F.log shelf.new))) }
     ensures load_failures { result ≢ Ending.LoadFailed → NoLoadFails
-        (shelf_log F.Shelf shelf.old) (shelf_log F.Shelf shelf.new) }
-    ensures made { MakesOfText (F.files shelf.old) text.now (ends_early result) (F.asked shelf.old) (F.asked shelf.new) }
+        (F.log shelf.old) (F.log shelf.new) }
+    ensures made { MakesOfText (F.log shelf.old).files text.now (ends_early result) (F.log shelf.old).asked (F.log shelf.new).asked }
 {
     match read_map(alloc, text) {
         Ok(linkage) => link_files(alloc, &linkage, shelf, out),
@@ -170,13 +170,13 @@ pub(crate) fn link_file<F: Shelf, K: Sink>(
     shelf: &mut F,
     out: &mut K,
 ) -> Ending
-    ensures ends { Ends result (LinksFile (F.files shelf.old) name.now)
-        (sink_log K.Sink out.old) (sink_log K.Sink out.new)
-        (OfFiles (F.files shelf.old) (λ files. FailsIn (Links name.now) files
-        (shelf_log F.Shelf shelf.old) (shelf_log F.Shelf shelf.new))) }
+    ensures ends { Ends result (LinksFile (F.log shelf.old).files name.now)
+        (K.log out.old) (K.log out.new)
+        (OfFiles (F.log shelf.old).files (λ files. FailsIn (Links name.now) files
+        (F.log shelf.old) (F.log shelf.new))) }
     ensures load_failures { result ≢ Ending.LoadFailed → NoLoadFails
-        (shelf_log F.Shelf shelf.old) (shelf_log F.Shelf shelf.new) }
-    ensures made { LoadsLink (F.files shelf.old) name.now (IsTrue (ends_early result)) (F.asked shelf.old) (F.asked shelf.new) }
+        (F.log shelf.old) (F.log shelf.new) }
+    ensures made { LoadsLink (F.log shelf.old).files name.now (IsTrue (ends_early result)) (F.log shelf.old).asked (F.log shelf.new).asked }
 {
     let mut text = Vec::new(alloc);
     match load_bytes(name, MAP_LIMIT, shelf, &mut text) {

@@ -1,11 +1,10 @@
 //! What a command's files hold.
 ghost use Rattle.std.specs.Prelude.{◌≡◌, [], ◌∷◌};
-ghost use Rattle.ft_edge.specs.Logs.{shelf_log};
-ghost use Rattle.ft_edge.specs.Loads.{LoadCause as EdgeCause};
 ghost use Rattle.ft_command.specs.Asked.{campaign_view};
 ghost use Rattle.ft_tool.specs.Calls.{HasMade, object_load, list_load};
 ghost use Rattle.ft_tool.specs.Replies.{IsToldFile};
 ghost use Rattle.ft_tool.specs.Told.{IsListOf, LoadsOther};
+ghost use Rattle.ft_edge.specs.Logs.{LoadCause as EdgeCause};
 ghost use Rattle.ft_tool.specs.Files.{Gives, fault_of, LoadsBytes, LoadsObject, LoadCause, ReadsList, GetsList, ListCause};
 
 use ft_campaign::{ListError, read_faults};
@@ -40,10 +39,10 @@ pub(crate) fn load_bytes<F: Shelf>(
     bytes: &mut Vec<u8>,
 ) -> Result<Load, LoadFault>
     requires { bytes.old.items ≡ [] }
-    ensures gives { Gives (F.files shelf.old) name.now limit bytes.new.items result }
-    ensures files { F.files shelf.new ≡ F.files shelf.old }
-    ensures cause { EdgeCause (F.failures shelf.old) (F.failures shelf.new) (F.failed_name shelf.old) (F.failed_name shelf.new) name.now result }
-    ensures made { HasMade ((name.now, limit) ∷ []) (F.asked shelf.old) (F.asked shelf.new) }
+    ensures gives { Gives (F.log shelf.old).files name.now limit bytes.new.items result }
+    ensures files { (F.log shelf.new).files ≡ (F.log shelf.old).files }
+    ensures cause { EdgeCause (F.log shelf.old) (F.log shelf.new) name.now result }
+    ensures made { HasMade ((name.now, limit) ∷ []) (F.log shelf.old).asked (F.log shelf.new).asked }
 {
     shelf.load(name, limit, bytes)
 }
@@ -79,10 +78,10 @@ pub(crate) fn load_object_bytes<F: Shelf>(
     bytes: &mut Vec<u8>,
 ) -> Result<(), ObjectFault>
     requires { bytes.old.items ≡ [] }
-    ensures loads { LoadsBytes (F.files shelf.old) name.now bytes.new.items result }
-    ensures files { F.files shelf.new ≡ F.files shelf.old }
-    ensures cause { LoadCause name.now result (shelf_log F.Shelf shelf.old) (shelf_log F.Shelf shelf.new) }
-    ensures made { HasMade (object_load name.now ∷ []) (F.asked shelf.old) (F.asked shelf.new) }
+    ensures loads { LoadsBytes (F.log shelf.old).files name.now bytes.new.items result }
+    ensures files { (F.log shelf.new).files ≡ (F.log shelf.old).files }
+    ensures cause { LoadCause name.now result (F.log shelf.old) (F.log shelf.new) }
+    ensures made { HasMade (object_load name.now ∷ []) (F.log shelf.old).asked (F.log shelf.new).asked }
 {
     match load_bytes(name, OBJECT_LIMIT, shelf, bytes) {
         Ok(Load::Whole) => Ok(()),
@@ -99,10 +98,10 @@ pub(crate) fn load_object<'a, F: Shelf>(
     bytes: &'a mut Vec<u8>,
 ) -> Result<View<'a>, ObjectFault>
     requires empty { bytes.old.items ≡ [] }
-    ensures loads { LoadsObject (F.files shelf.old) name.now result }
-    ensures files { F.files shelf.new ≡ F.files shelf.old }
-    ensures cause { LoadCause name.now result (shelf_log F.Shelf shelf.old) (shelf_log F.Shelf shelf.new) }
-    ensures made { HasMade (object_load name.now ∷ []) (F.asked shelf.old) (F.asked shelf.new) }
+    ensures loads { LoadsObject (F.log shelf.old).files name.now result }
+    ensures files { (F.log shelf.new).files ≡ (F.log shelf.old).files }
+    ensures cause { LoadCause name.now result (F.log shelf.old) (F.log shelf.new) }
+    ensures made { HasMade (object_load name.now ∷ []) (F.log shelf.old).asked (F.log shelf.new).asked }
 {
     match load_object_bytes(name, shelf, bytes) {
         Ok(()) => match View::over(bytes.as_slice()) {
@@ -144,10 +143,10 @@ fn read_list(alloc: Global, bytes: &[u8]) -> Result<Vec<Strike>, ListFault>
 
 /// Loads the file of a name and reads it as a fault list.
 fn load_list<F: Shelf>(alloc: Global, name: &str, shelf: &mut F) -> Result<Vec<Strike>, ListFault>
-    ensures gets { GetsList (λ v. v.items) (IsToldFile (F.files shelf.old) name.now) result }
-    ensures cause { ListCause name.now result (shelf_log F.Shelf shelf.old) (shelf_log F.Shelf shelf.new) }
-    ensures files { F.files shelf.new ≡ F.files shelf.old }
-    ensures made { HasMade (list_load name.now ∷ []) (F.asked shelf.old) (F.asked shelf.new) }
+    ensures gets { GetsList (λ v. v.items) (IsToldFile (F.log shelf.old).files name.now) result }
+    ensures cause { ListCause name.now result (F.log shelf.old) (F.log shelf.new) }
+    ensures files { (F.log shelf.new).files ≡ (F.log shelf.old).files }
+    ensures made { HasMade (list_load name.now ∷ []) (F.log shelf.old).asked (F.log shelf.new).asked }
 {
     let mut bytes = Vec::new(alloc);
     match load_bytes(name, LIST_LIMIT, shelf, &mut bytes) {
@@ -166,11 +165,11 @@ pub(crate) fn list_of<F: Shelf>(
     bytes: &[u8],
     shelf: &mut F,
 ) -> Result<Vec<Strike>, ListFault>
-    requires { IsToldFile (F.files shelf.old) asked.now.object.now bytes.now }
-    ensures gets { GetsList (λ v. v.items) (IsListOf (campaign_view asked.now) (F.files shelf.old) bytes.now) result }
-    ensures cause { ListCause asked.now.faults.now result (shelf_log F.Shelf shelf.old) (shelf_log F.Shelf shelf.new) }
-    ensures files { F.files shelf.new ≡ F.files shelf.old }
-    ensures made { LoadsOther (campaign_view asked.now) (F.asked shelf.old) (F.asked shelf.new) }
+    requires { IsToldFile (F.log shelf.old).files asked.now.object.now bytes.now }
+    ensures gets { GetsList (λ v. v.items) (IsListOf (campaign_view asked.now) (F.log shelf.old).files bytes.now) result }
+    ensures cause { ListCause asked.now.faults.now result (F.log shelf.old) (F.log shelf.new) }
+    ensures files { (F.log shelf.new).files ≡ (F.log shelf.old).files }
+    ensures made { LoadsOther (campaign_view asked.now) (F.log shelf.old).asked (F.log shelf.new).asked }
 {
     if asked.faults == asked.object {
         return read_list(alloc, bytes);

@@ -1,6 +1,5 @@
 //! The command `mean`.
 ghost use Rattle.std.specs.Prelude.{◌≡◌, ◌≢◌};
-ghost use Rattle.ft_edge.specs.Logs.{sink_log};
 ghost use Rattle.ft_tool.specs.Endings.{Ends};
 ghost use Rattle.ft_tool.specs.Sources.{OverText, MeansProgram};
 
@@ -17,7 +16,7 @@ use std::alloc::Global;
 /// Gives the meaning of a source.
 fn mean_text<K: Sink>(alloc: Global, text: &[u8], turns: u64, out: &mut K) -> Ending
     ensures { Ends result (OverText (MeansProgram turns) text.now)
-        (sink_log K.Sink out.old) (sink_log K.Sink out.new) ⊥ }
+        (K.log out.old) (K.log out.new) ⊥ }
 {
     let tree = match parse(alloc, text) {
         Ok(tree) => tree,

@@ -1,6 +1,5 @@
 //! Commands over one file.
 ghost use Rattle.std.specs.Prelude.{◌≡◌, ◌≢◌, ◌<◌, List, ℕ, Option, length};
-ghost use Rattle.ft_edge.specs.Logs.{sink_log, shelf_log};
 ghost use Rattle.ft_tool.specs.Does.{Does};
 
 use crate::ending::Ending;
@@ -14,7 +13,6 @@ pub(crate) trait FileCommand {
     ghost use Rattle.ft_command.specs.Options.{Word};
     ghost use Rattle.ft_command.specs.Commands.{Request};
     ghost use Rattle.ft_tool.specs.Replies.{Answer};
-    ghost use Rattle.ft_edge.specs.Logs.{sink_log};
     ghost use Rattle.ft_tool.specs.Endings.{Ends};
     ghost use Rattle.ft_tool.specs.Does.{IsOverFile};
 
@@ -41,12 +39,12 @@ pub(crate) trait FileCommand {
     /// Answers over the file's bytes.
     fn over_bytes<K: Sink>(&self, alloc: Global, bytes: &[u8], out: &mut K) -> Ending
         ensures { Ends result (answer self.now bytes.now)
-            (sink_log K.Sink out.old) (sink_log K.Sink out.new) ⊥ };
+            (K.log out.old) (K.log out.new) ⊥ };
 
     /// Answers over a file that has more bytes than the limit.
     fn refuse_long<K: Sink>(&self, out: &mut K) -> Ending
         ensures { Ends result (λ a. (bytes : List ℕ) → limit self.now < length bytes → answer self.now bytes a)
-            (sink_log K.Sink out.old) (sink_log K.Sink out.new) ⊥ };
+            (K.log out.old) (K.log out.new) ⊥ };
 
     // The answer over the bytes of this file is one to the request, which comes to load no other.
     ghost is_over_file: { (c : Self) → IsOverFile (request c) (file c) (limit c) (answer c) };
@@ -60,8 +58,8 @@ pub(crate) fn over_file<C: FileCommand, F: Shelf, K: Sink>(
     out: &mut K,
 ) -> Ending
     ensures { (left : Option (List ℕ)) → Does (C.request command.now) result left
-        (sink_log K.Sink out.old) (sink_log K.Sink out.new)
-        (shelf_log F.Shelf shelf.old) (shelf_log F.Shelf shelf.new) ⊥ }
+        (K.log out.old) (K.log out.new)
+        (F.log shelf.old) (F.log shelf.new) ⊥ }
 {
     let mut bytes = Vec::new(alloc);
     match load_bytes(command.file(), command.limit(), shelf, &mut bytes) {

@@ -1,7 +1,7 @@
 //! Fault lists that are tried on an object.
 ghost use Rattle.std.specs.Prelude.{◌≡◌, ◌≢◌, ◌≤◌, Some};
 ghost use Rattle.ft_command.specs.Asked.{campaign_view};
-ghost use Rattle.ft_edge.specs.Logs.{sink_log, shelf_log, LoadFails, NoLoadFails};
+ghost use Rattle.ft_edge.specs.Logs.{LoadFails, NoLoadFails};
 ghost use Rattle.ft_tool.specs.Replies.{IsToldFile};
 ghost use Rattle.ft_tool.specs.Told.{OverListOf, LoadsOther};
 ghost use Rattle.ft_tool.specs.Endings.{Ends};
@@ -20,7 +20,6 @@ pub(crate) trait Target {
     ghost use Rattle.ft_types.specs.declared.object.Object.{Object};
     ghost use Rattle.ft_campaign.specs.declared.verdict.Verdict.{Verdict};
     ghost use Rattle.ft_tool.specs.Lists.{OverFaults};
-    ghost use Rattle.ft_edge.specs.Logs.{sink_log};
     ghost use Rattle.ft_tool.specs.Endings.{Ends};
 
     // The object.
@@ -44,7 +43,7 @@ pub(crate) trait Target {
         requires faults { length faults.now ≤ 65536 }
         requires steps { asked.now.steps ≤ 1000000 }
         ensures { Ends result (OverFaults (promised self.now) (campaign_view asked.now) (object self.now) faults.now)
-            (sink_log K.Sink out.old) (sink_log K.Sink out.new) ⊥ };
+            (K.log out.old) (K.log out.new) ⊥ };
 }
 
 /// Loads the fault list of a campaign, whose object's file has these bytes, and tries it.
@@ -58,13 +57,13 @@ pub(crate) fn over_list<T: Target, F: Shelf, K: Sink>(
 ) -> Ending
     requires known { T.known target.now }
     requires steps { asked.now.steps ≤ 1000000 }
-    requires own { IsToldFile (F.files shelf.old) asked.now.object.now bytes.now }
-    ensures ends { Ends result (OverListOf (T.promised target.now) (campaign_view asked.now) (F.files shelf.old) bytes.now (T.object target.now))
-        (sink_log K.Sink out.old) (sink_log K.Sink out.new)
-        (LoadFails asked.now.faults.now (shelf_log F.Shelf shelf.old) (shelf_log F.Shelf shelf.new)) }
+    requires own { IsToldFile (F.log shelf.old).files asked.now.object.now bytes.now }
+    ensures ends { Ends result (OverListOf (T.promised target.now) (campaign_view asked.now) (F.log shelf.old).files bytes.now (T.object target.now))
+        (K.log out.old) (K.log out.new)
+        (LoadFails asked.now.faults.now (F.log shelf.old) (F.log shelf.new)) }
     ensures load_failures { result ≢ Ending.LoadFailed → NoLoadFails
-        (shelf_log F.Shelf shelf.old) (shelf_log F.Shelf shelf.new) }
-    ensures made { LoadsOther (campaign_view asked.now) (F.asked shelf.old) (F.asked shelf.new) }
+        (F.log shelf.old) (F.log shelf.new) }
+    ensures made { LoadsOther (campaign_view asked.now) (F.log shelf.old).asked (F.log shelf.new).asked }
 {
     match list_of(alloc, asked, bytes, shelf) {
         Ok(faults) => target.over_faults(alloc, faults.as_slice(), asked, out),

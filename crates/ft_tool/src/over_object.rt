@@ -1,6 +1,5 @@
 //! Commands over the object of one file, in place.
 ghost use Rattle.std.specs.Prelude.{List, ℕ, Option};
-ghost use Rattle.ft_edge.specs.Logs.{sink_log, shelf_log};
 ghost use Rattle.ft_tool.specs.Does.{Does};
 
 use crate::ending::{Ending, refuse_bytes};
@@ -21,7 +20,6 @@ pub(crate) trait ObjectCommand {
     ghost use Rattle.ft_command.specs.Commands.{Request};
     ghost use Rattle.ft_tool.specs.Replies.{Answer};
     ghost use Rattle.ft_tool.specs.Objects.{OverBytes};
-    ghost use Rattle.ft_edge.specs.Logs.{sink_log};
     ghost use Rattle.ft_tool.specs.Endings.{Ends};
     ghost use Rattle.ft_tool.specs.Does.{IsOverFile};
 
@@ -42,7 +40,7 @@ pub(crate) trait ObjectCommand {
     fn over_object<P: Program, K: Sink>(&self, alloc: Global, program: &P, out: &mut K) -> Ending
         requires { IsSpellable (P.object program.now) }
         ensures { Ends result (answer self.now (P.object program.now))
-            (sink_log K.Sink out.old) (sink_log K.Sink out.new) ⊥ };
+            (K.log out.old) (K.log out.new) ⊥ };
 
     // The answer over the bytes of this file is one to the request, which comes to load no other.
     ghost is_over_file: { (c : Self) → IsOverFile (request c) (file c) 67108864 (OverBytes (answer c)) };
@@ -95,8 +93,8 @@ pub(crate) fn over_object<C: ObjectCommand + Drop, F: Shelf, K: Sink>(
     out: &mut K,
 ) -> Ending
     ensures { (left : Option (List ℕ)) → Does (C.request command) result left
-        (sink_log K.Sink out.old) (sink_log K.Sink out.new)
-        (shelf_log F.Shelf shelf.old) (shelf_log F.Shelf shelf.new) ⊥ }
+        (K.log out.old) (K.log out.new)
+        (F.log shelf.old) (F.log shelf.new) ⊥ }
 {
     over_file(alloc, &OverObject { command }, shelf, out)
 }

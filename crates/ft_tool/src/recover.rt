@@ -4,7 +4,6 @@ ghost use Rattle.ft_command.specs.Asked.{run_view};
 ghost use Rattle.ft_edge.specs.Lines.{Puts, end_of_puts};
 ghost use Rattle.ft_types.specs.Spellable.{IsSpellable};
 ghost use Rattle.ft_typing.specs.Accepted.{refusal};
-ghost use Rattle.ft_edge.specs.Logs.{sink_log};
 ghost use Rattle.ft_tool.specs.Answers.{RecoversObject, again_lines};
 ghost use Rattle.ft_tool.specs.Endings.{Ends, again_of, ending_of_recovery};
 ghost use Rattle.ft_tool.specs.Texts.{again_line};
@@ -34,7 +33,7 @@ fn again_line(count: u64) -> Line
 
 /// Puts the line of a restart, where there was one.
 fn put_again<K: Sink>(again: Option<u64>, out: &mut K) -> Result<(), Failed>
-    ensures { Puts (end_of_puts result) (again_lines again) (sink_log K.Sink out.old) (sink_log K.Sink out.new) }
+    ensures { Puts (end_of_puts result) (again_lines again) (K.log out.old) (K.log out.new) }
 {
     match again {
         Some(count) => put_line(again_line(count).as_bytes(), out),
@@ -76,7 +75,7 @@ fn recover_checked<P: Program, K: Sink>(
     requires spellable { IsSpellable (P.object checked.now) }
     requires accepted { refusal (P.object checked.now) ≡ None }
     ensures { Ends result (RecoversObject (run_view run.now) (P.object checked.now))
-        (sink_log K.Sink out.old) (sink_log K.Sink out.new) ⊥ }
+        (K.log out.old) (K.log out.new) ⊥ }
 {
     let plan = Plan {
         strike: run.strike,
@@ -93,7 +92,7 @@ fn recover_checked<P: Program, K: Sink>(
 fn recover_object<P: Program, K: Sink>(alloc: Global, program: &P, run: &Run, out: &mut K) -> Ending
     requires { IsSpellable (P.object program.now) }
     ensures { Ends result (RecoversObject (run_view run.now) (P.object program.now))
-        (sink_log K.Sink out.old) (sink_log K.Sink out.new) ⊥ }
+        (K.log out.old) (K.log out.new) ⊥ }
 {
     let checked = match check(alloc, program) {
         Ok(checked) => checked,

@@ -2,7 +2,6 @@
 ghost use Rattle.std.specs.Prelude.{◌≡◌, ◌≢◌};
 ghost use Rattle.ft_command.specs.Asked.{run_view};
 ghost use Rattle.ft_types.specs.Spellable.{IsSpellable};
-ghost use Rattle.ft_edge.specs.Logs.{sink_log};
 ghost use Rattle.ft_tool.specs.Answers.{RunsObject};
 ghost use Rattle.ft_tool.specs.Endings.{Ends};
 
@@ -11,8 +10,8 @@ use crate::ending::{Ending, ending_of_run, refuse_check};
 use crate::over_object::ObjectCommand;
 use ft_command::Run;
 use ft_edge::Sink;
-use ft_inject::Clean;
 use ft_isa::Plan;
+use ft_runs::Clean;
 use ft_types::Program;
 use std::alloc::Global;
 
@@ -20,7 +19,7 @@ use std::alloc::Global;
 fn run_object<P: Program, K: Sink>(alloc: Global, program: &P, run: &Run, out: &mut K) -> Ending
     requires { IsSpellable (P.object program.now) }
     ensures { Ends result (RunsObject (run_view run.now) (P.object program.now))
-        (sink_log K.Sink out.old) (sink_log K.Sink out.new) ⊥ }
+        (K.log out.old) (K.log out.new) ⊥ }
 {
     let checked = match check(alloc, program) {
         Ok(checked) => checked,
@@ -33,7 +32,7 @@ fn run_object<P: Program, K: Sink>(alloc: Global, program: &P, run: &Run, out: &
         strike: run.strike,
         wild: run.wild.as_slice(),
     };
-    ending_of_run(ft_inject::run(clean, plan, run.steps, out))
+    ending_of_run(ft_runs::run(clean, plan, run.steps, out))
 }
 
 /// The run of the object of a file, if it is accepted.

@@ -1,7 +1,6 @@
 //! The command `schedule`.
 ghost use Rattle.std.specs.Prelude.{◌≡◌, ◌≢◌};
 ghost use Rattle.ft_types.specs.Spellable.{IsSpellable};
-ghost use Rattle.ft_edge.specs.Logs.{sink_log};
 ghost use Rattle.ft_tool.specs.Answers.{SchedulesAccepted, SchedulesObject};
 ghost use Rattle.ft_tool.specs.Endings.{Ends};
 
@@ -22,7 +21,7 @@ fn put_schedule<'a, P: Program, K: Sink>(
 ) -> Ending
     requires { IsSpellable (P.object checked.now) }
     ensures { Ends result (SchedulesAccepted (P.object checked.now))
-        (sink_log K.Sink out.old) (sink_log K.Sink out.new) ⊥ }
+        (K.log out.old) (K.log out.new) ⊥ }
 {
     match schedule(alloc, checked) {
         Ok(object) => put_object(alloc, &object, out),
@@ -34,7 +33,7 @@ fn put_schedule<'a, P: Program, K: Sink>(
 fn schedule_object<P: Program, K: Sink>(alloc: Global, program: &P, out: &mut K) -> Ending
     requires { IsSpellable (P.object program.now) }
     ensures { Ends result (SchedulesObject (P.object program.now))
-        (sink_log K.Sink out.old) (sink_log K.Sink out.new) ⊥ }
+        (K.log out.old) (K.log out.new) ⊥ }
 {
     match check(alloc, program) {
         Ok(checked) => put_schedule(alloc, &checked, out),

@@ -30,9 +30,9 @@ pub(crate) enum ScriptFault {
 /// Takes the script to its end, or to one byte past the limit. Nothing is taken after the end, nor
 /// after a take that failed.
 pub(crate) fn take_script<I: Source>(alloc: Global, script: &mut I) -> Result<Vec<u8>, ScriptFault>
-    ensures takes { TakesScript (λ v. v.items) (I.left script.old) result }
-    ensures cause { TakeCause (I.failures script.old) (I.failures script.new) result }
-    ensures taken { TakesAtMost 1048577 (I.takes script.old) (I.takes script.new) (I.left script.old) (I.left script.new) }
+    ensures takes { TakesScript (λ v. v.items) (I.log script.old).left result }
+    ensures cause { TakeCause (I.log script.old).failures (I.log script.new).failures result }
+    ensures taken { TakesAtMost 1048577 (I.log script.old) (I.log script.new) }
 {
     let mut text = Vec::new(alloc);
     let mut piece = [0u8; PIECE];

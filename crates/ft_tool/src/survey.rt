@@ -2,8 +2,8 @@
 ghost use Rattle.std.specs.Prelude.{◌≡◌, ◌≢◌, ◌≤◌, ◌<◌, ◌*◌, length, Some, IsTrue};
 ghost use Rattle.ft_command.specs.Asked.{campaign_view};
 ghost use Rattle.ft_types.specs.Spellable.{IsSpellable};
-ghost use Rattle.ft_campaign.specs.Campaigns.{EndsAs as CampaignEnds, IsExcused};
-ghost use Rattle.ft_edge.specs.Logs.{sink_log, shelf_log, NoLoadFails};
+ghost use Rattle.ft_campaign.specs.Campaigns.{EndsAs as CampaignEnds};
+ghost use Rattle.ft_edge.specs.Logs.{NoLoadFails};
 ghost use Rattle.ft_tool.specs.Answers.{SurveysObject, OverFile, FailsIn};
 ghost use Rattle.ft_tool.specs.Calls.{LoadsFor};
 ghost use Rattle.ft_tool.specs.Replies.{IsToldFile};
@@ -40,10 +40,8 @@ fn survey_counted<P: Program, K: Sink, L: Ledger>(
     requires spellable { IsSpellable (P.object program.now) }
     requires faults { length faults.now ≤ 65536 }
     requires steps { asked.now.steps ≤ 1000000 }
-    ensures ends { CampaignEnds result (P.object program.now) faults.now asked.now.wild.items asked.now.steps (K.written out.old) (K.written out.new) (K.pieces out.old) (K.pieces out.new) }
+    ensures ends { CampaignEnds result (P.object program.now) faults.now asked.now.wild.items asked.now.steps (K.log out.old) (K.log out.new) }
     ensures too_much { 1000000000 < length faults.now * asked.now.steps → result ≡ CampaignEnd.TooMuch (length faults.now * asked.now.steps) }
-    ensures count { K.failures out.old ≤ K.failures out.new }
-    ensures cause { IsExcused result (K.failures out.old) (K.failures out.new) }
 {
     let mut steps = Steps::<L>::new(blank);
     survey(
@@ -69,7 +67,7 @@ fn survey_faults<P: Program, K: Sink>(
     requires faults { length faults.now ≤ 65536 }
     requires steps { asked.now.steps ≤ 1000000 }
     ensures { Ends result (OverFaults AnyVerdicts (campaign_view asked.now) (P.object program.now) faults.now)
-        (sink_log K.Sink out.old) (sink_log K.Sink out.new) ⊥ }
+        (K.log out.old) (K.log out.new) ⊥ }
 {
     match survey_counted::<P, K, Brand>(alloc, program, faults, asked, out, Blank::new(1)) {
         CampaignEnd::Finished(totals) => {
@@ -120,13 +118,13 @@ pub(crate) fn survey_file<F: Shelf, K: Sink>(
     out: &mut K,
 ) -> Ending
     requires { asked.now.steps ≤ 1000000 }
-    ensures ends { Ends result (λ a. OfFiles (F.files shelf.old) (λ files. OverFile (SurveysObject (campaign_view asked.now) files) asked.now.object.now files a))
-        (sink_log K.Sink out.old) (sink_log K.Sink out.new)
-        (OfFiles (F.files shelf.old) (λ files. FailsIn (Surveys (campaign_view asked.now)) files
-        (shelf_log F.Shelf shelf.old) (shelf_log F.Shelf shelf.new))) }
+    ensures ends { Ends result (λ a. OfFiles (F.log shelf.old).files (λ files. OverFile (SurveysObject (campaign_view asked.now) files) asked.now.object.now files a))
+        (K.log out.old) (K.log out.new)
+        (OfFiles (F.log shelf.old).files (λ files. FailsIn (Surveys (campaign_view asked.now)) files
+        (F.log shelf.old) (F.log shelf.new))) }
     ensures load_failures { result ≢ Ending.LoadFailed → NoLoadFails
-        (shelf_log F.Shelf shelf.old) (shelf_log F.Shelf shelf.new) }
-    ensures made { OfFiles (F.files shelf.old) (λ files. LoadsFor (Surveys (campaign_view asked.now)) (F.files shelf.old) files (IsTrue (ends_early result)) (F.asked shelf.old) (F.asked shelf.new)) }
+        (F.log shelf.old) (F.log shelf.new) }
+    ensures made { OfFiles (F.log shelf.old).files (λ files. LoadsFor (Surveys (campaign_view asked.now)) (F.log shelf.old).files files (IsTrue (ends_early result)) (F.log shelf.old).asked (F.log shelf.new).asked) }
 {
     let mut bytes = Vec::new(alloc);
     match load_object(asked.object, shelf, &mut bytes) {

@@ -1,6 +1,6 @@
 //! The top call.
 ghost use Rattle.std.specs.Prelude.{◌≡◌, ◌≢◌, ◌⊎◌, [], map, string_bytes, IsTrue};
-ghost use Rattle.ft_edge.specs.Logs.{sink_log, shelf_log, NoLoadFails, source_log};
+ghost use Rattle.ft_edge.specs.Logs.{NoLoadFails};
 ghost use Rattle.ft_tool.specs.Calls.{HasMade, is_early, Loads, TakesFrom};
 ghost use Rattle.ft_tool.specs.Does.{Does, FailsTaking, TakesFor};
 ghost use Rattle.ft_command.specs.Asked.{asked};
@@ -41,13 +41,13 @@ fn obey<F: Shelf, I: Source, K: Sink>(
 ) -> Ending
     requires few_steps { HasFewSteps (asked command) }
     requires turns { HasTurns (asked command) }
-    ensures does { Does (asked command.entry) result (I.left script.old)
-        (sink_log K.Sink out.old) (sink_log K.Sink out.new) (shelf_log F.Shelf shelf.old) (shelf_log F.Shelf shelf.new)
-        (FailsTaking (asked command.entry) (F.files shelf.old)
-        (source_log I.Source script.old) (source_log I.Source script.new)) }
-    ensures script { TakesFor (asked command.entry) (F.files shelf.old)
-        (source_log I.Source script.old) (source_log I.Source script.new) ⊎ (script.new ≡ script.old) }
-    ensures script_failures { result ≢ Ending.LoadFailed → I.failures script.new ≡ I.failures script.old }
+    ensures does { Does (asked command.entry) result (I.log script.old).left
+        (K.log out.old) (K.log out.new) (F.log shelf.old) (F.log shelf.new)
+        (FailsTaking (asked command.entry) (F.log shelf.old).files
+        (I.log script.old) (I.log script.new)) }
+    ensures script { TakesFor (asked command.entry) (F.log shelf.old).files
+        (I.log script.old) (I.log script.new) ⊎ (script.new ≡ script.old) }
+    ensures script_failures { result ≢ Ending.LoadFailed → (I.log script.new).failures ≡ (I.log script.old).failures }
 {
     match command {
         Command::Usage => put_usage(out),
@@ -80,21 +80,21 @@ fn carry_out<F: Shelf, I: Source, K: Sink>(
     script: &mut I,
     out: &mut K,
 ) -> Ending
-    ensures ends { Ends result (IsAnswer (map string_bytes words.now) (F.files shelf.old) (I.left script.old))
-        (sink_log K.Sink out.old) (sink_log K.Sink out.new)
-        (FailedToLoad (map string_bytes words.now) (shelf_log F.Shelf shelf.old) (shelf_log F.Shelf shelf.new)
-        ⊎ FailedToTake (map string_bytes words.now) (F.files shelf.old)
-        (source_log I.Source script.old) (source_log I.Source script.new)) }
+    ensures ends { Ends result (IsAnswer (map string_bytes words.now) (F.log shelf.old).files (I.log script.old).left)
+        (K.log out.old) (K.log out.new)
+        (FailedToLoad (map string_bytes words.now) (F.log shelf.old) (F.log shelf.new)
+        ⊎ FailedToTake (map string_bytes words.now) (F.log shelf.old).files
+        (I.log script.old) (I.log script.new)) }
     ensures usage { result ≡ Ending.Usage → Asks (map string_bytes words.now) Usage }
-    ensures failures { part_end result ≢ Unwritten → K.failures out.new ≡ K.failures out.old }
+    ensures failures { part_end result ≢ Unwritten → (K.log out.new).failures ≡ (K.log out.old).failures }
     ensures load_failures { result ≢ Ending.LoadFailed → NoLoadFails
-        (shelf_log F.Shelf shelf.old) (shelf_log F.Shelf shelf.new) }
-    ensures script { TakesFrom (map string_bytes words.now) (F.files shelf.old)
-        (source_log I.Source script.old) (source_log I.Source script.new) ⊎ (script.new ≡ script.old) }
+        (F.log shelf.old) (F.log shelf.new) }
+    ensures script { TakesFrom (map string_bytes words.now) (F.log shelf.old).files
+        (I.log script.old) (I.log script.new) ⊎ (script.new ≡ script.old) }
     ensures loads { Loads (map string_bytes words.now) (IsTrue (ends_early result))
-        (shelf_log F.Shelf shelf.old) (shelf_log F.Shelf shelf.new)
-        ⊎ ((result ≡ Ending.NoMemory) × HasMade [] (F.asked shelf.old) (F.asked shelf.new)) }
-    ensures script_failures { result ≢ Ending.LoadFailed → I.failures script.new ≡ I.failures script.old }
+        (F.log shelf.old) (F.log shelf.new)
+        ⊎ ((result ≡ Ending.NoMemory) × HasMade [] (F.log shelf.old).asked (F.log shelf.new).asked) }
+    ensures script_failures { result ≢ Ending.LoadFailed → (I.log script.new).failures ≡ (I.log script.old).failures }
 {
     match command_of(alloc, words) {
         Ok(command) => obey(alloc, command, shelf, script, out),
@@ -119,40 +119,40 @@ pub fn tool<F: Shelf, I: Source, K: Sink>(
     // steps exactly what the run without the strike has, or it is detected and has a prefix of that. A recovery puts the
     // whole output of the run without the strike. And what is linked of accepted modules is accepted and runs as they do.
     ensures headline { result ≢ 3 → result ≢ 4 → result ≢ 5 →
-        Concludes (IsAnswer (map string_bytes words.now) (F.files shelf.old) (I.left script.old)) result
-        (sink_log K.Sink out.old) (sink_log K.Sink out.new) }
+        Concludes (IsAnswer (map string_bytes words.now) (F.log shelf.old).files (I.log script.old).left) result
+        (K.log out.old) (K.log out.new) }
     ensures usage { result ≡ 2 → Asks (map string_bytes words.now) Usage }
 
     // A load of the command's own file failed, or a take of its script, and nothing was put.
     ensures load_failure { result ≡ 3 →
-        FailedToLoad (map string_bytes words.now) (shelf_log F.Shelf shelf.old) (shelf_log F.Shelf shelf.new)
-        ⊎ FailedToTake (map string_bytes words.now) (F.files shelf.old)
-        (source_log I.Source script.old) (source_log I.Source script.new) }
-    ensures load_failure_puts_nothing { result ≡ 3 → sink_log K.Sink out.new ≡ sink_log K.Sink out.old }
+        FailedToLoad (map string_bytes words.now) (F.log shelf.old) (F.log shelf.new)
+        ⊎ FailedToTake (map string_bytes words.now) (F.log shelf.old).files
+        (I.log script.old) (I.log script.new) }
+    ensures load_failure_puts_nothing { result ≡ 3 → K.log out.new ≡ K.log out.old }
 
     // A put failed, and it was the last: the pieces before it were put, and a prefix of its own. The count of failed puts
     // rose.
     ensures write_failure { result ≡ 4 →
-        BreaksOff (IsAnswer (map string_bytes words.now) (F.files shelf.old) (I.left script.old))
-        (sink_log K.Sink out.old) (sink_log K.Sink out.new) }
+        BreaksOff (IsAnswer (map string_bytes words.now) (F.log shelf.old).files (I.log script.old).left)
+        (K.log out.old) (K.log out.new) }
 
     // Nothing was put. This status is meant for memory that ran out.
-    ensures no_memory_puts_nothing { result ≡ 5 → sink_log K.Sink out.new ≡ sink_log K.Sink out.old }
+    ensures no_memory_puts_nothing { result ≡ 5 → K.log out.new ≡ K.log out.old }
 
     // The count of failed puts stays where the answer is another.
-    ensures write_failures { result ≢ 4 → K.failures out.new ≡ K.failures out.old }
+    ensures write_failures { result ≢ 4 → (K.log out.new).failures ≡ (K.log out.old).failures }
 
     // The counts of failed loads and takes stay where the answer is another. The script is taken only in a session over
     // an object, at most 1,048,577 bytes of it, and never again after its end or a failure. Each file is loaded once, in the
     // order of the request and up to its limit, and a fault list or a module exactly when the command comes to it; with
     // statuses 3 and 5 it may be that it is not, and with status 5 that nothing is.
-    ensures load_failures { result ≢ 3 → NoLoadFails (shelf_log F.Shelf shelf.old) (shelf_log F.Shelf shelf.new) }
-    ensures script { TakesFrom (map string_bytes words.now) (F.files shelf.old)
-        (source_log I.Source script.old) (source_log I.Source script.new) ⊎ (script.new ≡ script.old) }
+    ensures load_failures { result ≢ 3 → NoLoadFails (F.log shelf.old) (F.log shelf.new) }
+    ensures script { TakesFrom (map string_bytes words.now) (F.log shelf.old).files
+        (I.log script.old) (I.log script.new) ⊎ (script.new ≡ script.old) }
     ensures loads { Loads (map string_bytes words.now) (IsTrue (is_early result))
-        (shelf_log F.Shelf shelf.old) (shelf_log F.Shelf shelf.new)
-        ⊎ ((result ≡ 5) × HasMade [] (F.asked shelf.old) (F.asked shelf.new)) }
-    ensures script_failures { result ≢ 3 → I.failures script.new ≡ I.failures script.old }
+        (F.log shelf.old) (F.log shelf.new)
+        ⊎ ((result ≡ 5) × HasMade [] (F.log shelf.old).asked (F.log shelf.new).asked) }
+    ensures script_failures { result ≢ 3 → (I.log script.new).failures ≡ (I.log script.old).failures }
 {
     match carry_out(alloc, words, shelf, script, out) {
         Ending::Done => 0,

@@ -2,7 +2,6 @@
 ghost use Rattle.std.specs.Prelude.{◌≡◌, ◌≢◌};
 ghost use Rattle.ft_command.specs.Asked.{run_view};
 ghost use Rattle.ft_types.specs.Spellable.{IsSpellable};
-ghost use Rattle.ft_edge.specs.Logs.{sink_log};
 ghost use Rattle.ft_tool.specs.Answers.{TrialsObject};
 ghost use Rattle.ft_tool.specs.Endings.{Ends};
 
@@ -24,7 +23,7 @@ pub(crate) fn trial_object<P: Program, K: Sink>(
 ) -> Ending
     requires { IsSpellable (P.object program.now) }
     ensures { Ends result (TrialsObject (run_view run.now) (P.object program.now))
-        (sink_log K.Sink out.old) (sink_log K.Sink out.new) ⊥ }
+        (K.log out.old) (K.log out.new) ⊥ }
 {
     let mut machine = match Machine::new(alloc, program) {
         Ok(machine) => machine,

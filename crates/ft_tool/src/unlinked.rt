@@ -1,6 +1,5 @@
 //! How links end that are refused.
 ghost use Rattle.std.specs.Prelude.{◌≡◌, ◌≢◌};
-ghost use Rattle.ft_edge.specs.Logs.{sink_log};
 ghost use Rattle.ft_tool.specs.Endings.{Ends};
 ghost use Rattle.ft_tool.specs.Files.{IsMapRefused, IsUnlinkedBy};
 ghost use Rattle.ft_tool.specs.Replies.{one_piece};
@@ -15,7 +14,7 @@ use ft_linker::LinkError;
 /// Puts the line of a link that is refused.
 pub(crate) fn put_link_line<K: Sink>(number: u64, told: u64, out: &mut K) -> Ending
     ensures { Ends result (λ a. a ≡ one_piece (link_line number told) 13)
-        (sink_log K.Sink out.old) (sink_log K.Sink out.new) ⊥ }
+        (K.log out.old) (K.log out.new) ⊥ }
 {
     match put_line(link_line(number, told).as_bytes(), out) {
         Ok(()) => Ending::LinkRefused,
@@ -26,7 +25,7 @@ pub(crate) fn put_link_line<K: Sink>(number: u64, told: u64, out: &mut K) -> End
 /// Puts the line of a code address that is not only jumped to, by the number of its module.
 fn put_code_line<K: Sink>(number: u32, block: u32, index: u32, out: &mut K) -> Ending
     ensures { Ends result (λ a. a ≡ one_piece (link_code_line number block index) 13)
-        (sink_log K.Sink out.old) (sink_log K.Sink out.new) ⊥ }
+        (K.log out.old) (K.log out.new) ⊥ }
 {
     match put_line(link_code_line(number, block, index).as_bytes(), out) {
         Ok(()) => Ending::LinkRefused,
@@ -36,7 +35,7 @@ fn put_code_line<K: Sink>(number: u32, block: u32, index: u32, out: &mut K) -> E
 
 /// Ends a link whose modules are refused, with the line of the refusal.
 pub(crate) fn refuse_modules<K: Sink>(error: LinkError, out: &mut K) -> Ending
-    ensures { Ends result (IsUnlinkedBy error) (sink_log K.Sink out.old) (sink_log K.Sink out.new) ⊥ }
+    ensures { Ends result (IsUnlinkedBy error) (K.log out.old) (K.log out.new) ⊥ }
 {
     match error {
         LinkError::Cells { module } => put_link_line(3, module as u64, out),
@@ -57,7 +56,7 @@ pub(crate) fn refuse_modules<K: Sink>(error: LinkError, out: &mut K) -> Ending
 
 /// Ends a link whose map is refused, with the line of the refusal.
 pub(crate) fn refuse_map<K: Sink>(error: MapError, out: &mut K) -> Ending
-    ensures { Ends result (IsMapRefused error) (sink_log K.Sink out.old) (sink_log K.Sink out.new) ⊥ }
+    ensures { Ends result (IsMapRefused error) (K.log out.old) (K.log out.new) ⊥ }
 {
     match error {
         MapError::Line { line } => put_link_line(1, line as u64, out),

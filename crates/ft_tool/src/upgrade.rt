@@ -1,6 +1,5 @@
 //! The command `upgrade`.
 ghost use Rattle.std.specs.Prelude.{◌≡◌, ◌≢◌};
-ghost use Rattle.ft_edge.specs.Logs.{sink_log};
 ghost use Rattle.ft_tool.specs.Objects.{UpgradesObject, OverBytes};
 ghost use Rattle.ft_tool.specs.Endings.{Ends};
 
@@ -14,7 +13,7 @@ use std::alloc::Global;
 /// Decodes an object and puts it in version 2 of the format.
 fn upgrade_bytes<K: Sink>(alloc: Global, bytes: &[u8], out: &mut K) -> Ending
     ensures { Ends result (OverBytes UpgradesObject bytes.now)
-        (sink_log K.Sink out.old) (sink_log K.Sink out.new) ⊥ }
+        (K.log out.old) (K.log out.new) ⊥ }
 {
     match decode(alloc, bytes) {
         Ok(object) => put_object(alloc, &object, out),

@@ -1,6 +1,5 @@
 use Rattle.std.proofs.Common.{◌≡◌, ◌⊎◌, ⊎_elim, [], refl, sym, ap, ◌∙◌}
 use Rattle.ft_edge.specs.Lines.{with_lines}
-use Rattle.ft_edge.specs.Logs.{sink_log}
 use Rattle.ft_edge.proofs.Lines.{lines_none}
 use Rattle.ft_types.specs.declared.object.Object.{Object}
 use Rattle.ft_machine.specs.declared.stepped.Stepped.{Stepped}
@@ -17,6 +16,6 @@ no_line o Detected h = refl
 
 pub returns-in-Quiet : goal.returns-in-Quiet
 returns-in-Quiet g c =
-    let log = sink_log g.K.Sink c.args.out.now in
+    let log = g.K.Sink.log c.args.out.now in
     let none = no_line (g.P.Program.object c.args.program.now) c.args.stepped c.in-Quiet.is in
     lines_none log ∙ ap (λ ls. with_lines ls log) (sym none)

@@ -1,5 +1,4 @@
-use Rattle.std.proofs.Common.{◌≡◌, refl, ap, sym, ◌∙◌, subst, arith}
-use Rattle.ft_edge.specs.Logs.{sink_log}
+use Rattle.std.proofs.Common.{◌≡◌, ap, sym, subst, arith}
 use Rattle.ft_edge.proofs.Lines.{puts_failed}
 use Rattle.ft_script.specs.declared.command.Command.{Command}
 use Rattle.ft_script.specs.Reads.{command_of}
@@ -12,7 +11,7 @@ pub loop-command-init : goal.loop-command-init
 loop-command-init g c = record {
   ready = c.requires.ready;
   replied = replied_none (g.P.Program.object c.args.program.now) c.args.wild.now c.args.commands.now c.args.debugger.now
-      (sink_log g.K.Sink c.args.out.now) c.requires.holds;
+      (g.K.Sink.log c.args.out.now) c.requires.holds;
 }
 
 pub answer-requires-clause-room : goal.answer-requires-clause-room

@@ -1,4 +1,3 @@
-use Rattle.ft_edge.specs.Logs.{sink_log}
 use Rattle.ft_debug.specs.Inside.{Ready}
 use Rattle.ft_debug.proofs.Replied.{Replied}
 use Rattle.ft_debug.proofs.sessions.answer_all.Given as goal
@@ -9,5 +8,5 @@ invariant-loop-command g l =
     record {
       ready : Ready o l.debugger;
       replied : Replied o l.wild l.commands l.command-index l.debugger
-          (sink_log g.K.Sink l.fn.out) (sink_log g.K.Sink l.out);
+          (g.K.Sink.log l.fn.out) (g.K.Sink.log l.out);
     }

@@ -1,6 +1,5 @@
 use Rattle.std.proofs.Common.{length, map, sym, ap, ◌∙◌, subst}
 use Rattle.ft_edge.specs.Lines.{Puts}
-use Rattle.ft_edge.specs.Logs.{sink_log}
 use Rattle.ft_scope.specs.ProgramOf.{program_of}
 use Rattle.ft_meaning.specs.Meaning.{meaning, outputs}
 use Rattle.ft_meaning.specs.Lines.{output_lines}
@@ -22,8 +21,8 @@ pub returns-clause-lines : goal.returns-clause-lines
 returns-clause-lines g c =
     let start = c.in-Ok-start.ensures in
     let p = program_of c.args.prog.now in
-    let old = sink_log g.K.Sink c.args.out.now in
-    let new = sink_log g.K.Sink c.statements.new.out in
+    let old = g.K.Sink.log c.args.out.now in
+    let new = g.K.Sink.log c.statements.new.out in
     subst (λ e. Puts (put_end e) (output_lines p.names (outputs (meaning p c.args.turns))) old new)
     (sym c.end_of_run.ensures)
     (meant c.args.prog.now c.args.turns c.in-Ok-start.state c.statements.new.self

@@ -1,7 +1,6 @@
 use Rattle.std.proofs.Common.{◌≡◌, length, ap, sym, ◌∙◌, rules}
 use Rattle.std.specs.Prelude.{drop}
 use Rattle.ft_edge.specs.Lines.{BreaksOff, with_lines}
-use Rattle.ft_edge.specs.Logs.{sink_log}
 use Rattle.ft_types.specs.Objects.{init_of}
 use Rattle.ft_semantics.specs.State.{State, is_cell}
 use Rattle.ft_semantics.specs.Run.{outputs_after}
@@ -22,8 +21,8 @@ pub returns-then-broke_off-clause-puts : goal.returns-then-broke_off-clause-puts
 returns-then-broke_off-clause-puts g c =
     let o = g.P.Program.object c.args.program.now in
     let gone = c.run_under-gone in
-    let old = sink_log g.K.Sink c.args.out.now in
-    let new = sink_log g.K.Sink gone.new.outlet.out.now in
+    let old = g.K.Sink.log c.args.out.now in
+    let new = g.K.Sink.log gone.new.outlet.out.now in
     let refused : gone.result.pause ≡ Refused = search rules in
     let h : BreaksOff (output_lines o (drop c.args.passed (outputs_after o c.args.plan.strike c.args.plan.wild.now c.args.steps))) old new
     = breaks_past o c.args.plan.strike c.args.plan.wild.now gone.new.machine c.args.steps gone.result.taken c.args.passed gone.new.outlet.passed gone.new.outlet.count old new c.ranges.steps.fits
@@ -36,14 +35,14 @@ returns-clause-runs g c =
     let gone = c.run_under-gone in
     let went : ¬ (gone.result.pause ≡ Refused) = search rules in
     ran_past o c.args.plan.strike c.args.plan.wild.now gone.new.machine c.args.steps gone.result.taken c.args.passed gone.new.outlet.passed gone.new.outlet.count
-    (sink_log g.K.Sink c.args.out.now) (sink_log g.K.Sink gone.new.outlet.out.now) c.ranges.steps.fits gone.result.pause went gone.ensures.ran gone.ensures.heard.2
+    (g.K.Sink.log c.args.out.now) (g.K.Sink.log gone.new.outlet.out.now) c.ranges.steps.fits gone.result.pause went gone.ensures.ran gone.ensures.heard.2
 
 pub returns-clause-puts : goal.returns-clause-puts
 returns-clause-puts g c =
     let o = g.P.Program.object c.args.program.now in
     let gone = c.run_under-gone in
-    let old = sink_log g.K.Sink c.args.out.now in
-    let new = sink_log g.K.Sink gone.new.outlet.out.now in
+    let old = g.K.Sink.log c.args.out.now in
+    let new = g.K.Sink.log gone.new.outlet.out.now in
     let went : ¬ (gone.result.pause ≡ Refused) = search rules in
     let h : new ≡ with_lines (output_lines o (drop c.args.passed (outputs_after o c.args.plan.strike c.args.plan.wild.now c.args.steps))) old
     = puts_past o c.args.plan.strike c.args.plan.wild.now gone.new.machine c.args.steps gone.result.taken c.args.passed gone.new.outlet.passed gone.new.outlet.count old new c.ranges.steps.fits

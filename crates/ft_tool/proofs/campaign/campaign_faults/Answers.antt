@@ -1,10 +1,8 @@
 use Rattle.std.proofs.Common.{length, ◌*◌}
-use Rattle.ft_edge.specs.Logs.{sink_log}
 use Rattle.ft_command.specs.Asked.{campaign_view}
 use Rattle.ft_typing.proofs.Acceptance.{accepted_is_unrefused}
 use Rattle.ft_campaign.proofs.Judged.{none_corrupt as never_corrupt}
 use Rattle.ft_tool.specs.Lists.{NoneCorrupt}
-use Rattle.ft_tool.proofs.Bridged.{nothing_put}
 use Rattle.ft_tool.proofs.Tried.{at_most, tried_concludes, tried_breaks_off, none_corrupt}
 use Rattle.ft_tool.proofs.campaign.campaign_faults.Goals as goal
 
@@ -16,7 +14,7 @@ returns-in-Finished g c =
     let h = c.in-Finished.ensures in
     let few = at_most 1000000000 (length faults * asked.steps) (λ above. let e = h.too_much above in cc) in
     tried_concludes NoneCorrupt (campaign_view asked) o faults c.in-Finished.field-0 0
-    (sink_log g.K.Sink c.args.out.now) (sink_log g.K.Sink c.campaign_counted.new.out) h.ends h.cause few
+    (g.K.Sink.log c.args.out.now) (g.K.Sink.log c.campaign_counted.new.out) h.ends few
     (λ vs are. never_corrupt o faults asked.wild.items asked.steps vs c.requires.spellable
     ((accepted_is_unrefused o).1 c.requires.accepted) are) (λ vs is. none_corrupt c.in-Finished.field-0 vs h.uncorrupted
     is)
@@ -28,12 +26,7 @@ returns-in-WriteFault g c =
     let asked = c.args.asked.now in
     let h = c.in-WriteFault.ensures in
     let few = at_most 1000000000 (length faults * asked.steps) (λ above. let e = h.too_much above in cc) in
-    tried_breaks_off NoneCorrupt (campaign_view asked) o faults (sink_log g.K.Sink c.args.out.now)
-    (sink_log g.K.Sink c.campaign_counted.new.out) h.ends c.campaign_counted.ensures.count h.cause few
+    tried_breaks_off NoneCorrupt (campaign_view asked) o faults (g.K.Sink.log c.args.out.now)
+    (g.K.Sink.log c.campaign_counted.new.out) h.ends few
     (λ vs are. never_corrupt o faults asked.wild.items asked.steps vs c.requires.spellable
     ((accepted_is_unrefused o).1 c.requires.accepted) are)
-
-pub returns-in-NoMemory : goal.returns-in-NoMemory
-returns-in-NoMemory g c =
-    nothing_put (sink_log g.K.Sink c.args.out.now) (sink_log g.K.Sink c.campaign_counted.new.out)
-    c.in-NoMemory.ensures.ends c.in-NoMemory.ensures.cause

@@ -1,6 +1,6 @@
 use Rattle.std.proofs.Common.{◌≡◌, None, inl, refl}
 use Rattle.std.specs.Prelude.{IsTrue}
-use Rattle.ft_edge.specs.Logs.{shelf_log, LoadFails}
+use Rattle.ft_edge.specs.Logs.{LoadFails}
 use Rattle.ft_format.specs.Broken.{object_of}
 use Rattle.ft_command.specs.Commands.{Campaigns}
 use Rattle.ft_command.specs.Asked.{campaign_view}
@@ -16,14 +16,14 @@ use Rattle.ft_tool.proofs.campaign.campaign_file.Goals as goal
 
 pub campaign_object-requires-clause-own : goal.campaign_object-requires-clause-own
 campaign_object-requires-clause-own g c =
-    own_bytes (g.F.Shelf.files c.args.shelf.now) (g.F.Shelf.files c.load_object.new.shelf) c.args.asked.now.object.now c.in-Ok.view c.bytes.result.now c.load_object.ensures.files c.bytes.ensures c.in-Ok.ensures.loads
+    own_bytes (g.F.Shelf.log c.args.shelf.now).files (g.F.Shelf.log c.load_object.new.shelf).files c.args.asked.now.object.now c.in-Ok.view c.bytes.result.now c.load_object.ensures.files c.bytes.ensures c.in-Ok.ensures.loads
 
 pub returns-in-Ok-clause-ends : goal.returns-in-Ok-clause-ends
 returns-in-Ok-clause-ends g c =
     let asked = campaign_view c.args.asked.now in
-    let shelf = shelf_log g.F.Shelf c.args.shelf.now in
-    let between = shelf_log g.F.Shelf c.load_object.new.shelf in
-    let new = shelf_log g.F.Shelf c.campaign_object.new.shelf in
+    let shelf = g.F.Shelf.log c.args.shelf.now in
+    let between = g.F.Shelf.log c.load_object.new.shelf in
+    let new = g.F.Shelf.log c.campaign_object.new.shelf in
     let o = object_of c.in-Ok.view in
     Ends-map c.campaign_object.result (CampaignsUnless (refusal o)
     (CampaignsListOf asked between.files c.bytes.result.now o)) (λ a. OfFiles shelf.files
@@ -38,8 +38,8 @@ returns-in-Ok-clause-ends g c =
 pub returns-clause-ends : goal.returns-clause-ends
 returns-clause-ends g c =
     let asked = campaign_view c.args.asked.now in
-    let shelf = shelf_log g.F.Shelf c.args.shelf.now in
-    let new = shelf_log g.F.Shelf c.load_object.new.shelf in
+    let shelf = g.F.Shelf.log c.args.shelf.now in
+    let new = g.F.Shelf.log c.load_object.new.shelf in
     Ends-map c.refuse_object.result (IsRefusedBy c.in-Err.fault)
     (λ a. OfFiles shelf.files (λ files. OverFile (CampaignsObject asked files) asked.object files a)) _ _
     (c.in-Err.fault ≡ Failed)
@@ -50,11 +50,11 @@ returns-clause-ends g c =
 
 pub returns-in-Ok-clause-made : goal.returns-in-Ok-clause-made
 returns-in-Ok-clause-made g c =
-    campaigns_loaded (campaign_view c.args.asked.now) (g.F.Shelf.files c.args.shelf.now) c.in-Ok.view (IsTrue (ends_early c.campaign_object.result)) (g.F.Shelf.asked c.args.shelf.now) (g.F.Shelf.asked c.load_object.new.shelf) (g.F.Shelf.asked c.campaign_object.new.shelf)
+    campaigns_loaded (campaign_view c.args.asked.now) (g.F.Shelf.log c.args.shelf.now).files c.in-Ok.view (IsTrue (ends_early c.campaign_object.result)) (g.F.Shelf.log c.args.shelf.now).asked (g.F.Shelf.log c.load_object.new.shelf).asked (g.F.Shelf.log c.campaign_object.new.shelf).asked
     c.in-Ok.ensures.loads c.load_object.ensures.made c.campaign_object.ensures.made
 
 pub returns-clause-made : goal.returns-clause-made
 returns-clause-made g c =
-    let told = g.F.Shelf.files c.args.shelf.now in
-    campaign_unloaded (campaign_view c.args.asked.now) told (IsTrue (ends_early c.refuse_object.result)) (g.F.Shelf.asked c.args.shelf.now) (g.F.Shelf.asked c.load_object.new.shelf)
+    let told = (g.F.Shelf.log c.args.shelf.now).files in
+    campaign_unloaded (campaign_view c.args.asked.now) told (IsTrue (ends_early c.refuse_object.result)) (g.F.Shelf.log c.args.shelf.now).asked (g.F.Shelf.log c.load_object.new.shelf).asked
     (unspelled told c.args.asked.now.object.now c.in-Err.fault c.refuse_object.result _ _ (c.in-Err.fault ≡ Failed) c.in-Err.ensures.loads c.refuse_object.ensures.ends) c.load_object.ensures.made

@@ -1,7 +1,6 @@
 use Rattle.std.proofs.Common.{◌≡◌, inl}
 use Rattle.std.specs.Prelude.{◌⊎◌}
 use Rattle.ft_edge.specs.Causes.{Rose}
-use Rattle.ft_edge.specs.Logs.{shelf_log, source_log}
 use Rattle.ft_format.specs.Broken.{object_of}
 use Rattle.ft_command.specs.Commands.{Debugs}
 use Rattle.ft_command.specs.Asked.{debugging_view}
@@ -18,10 +17,10 @@ use Rattle.ft_tool.proofs.debug.debug_file.Goals as goal
 pub returns-in-Ok-clause-ends : goal.returns-in-Ok-clause-ends
 returns-in-Ok-clause-ends g c =
     let d = debugging_view c.args.asked.now in
-    let shelf = shelf_log g.F.Shelf c.args.shelf.now in
-    let new = shelf_log g.F.Shelf c.load_object.new.shelf in
-    let script = source_log g.I.Source c.args.script.now in
-    let taken = source_log g.I.Source c.debug_object.new.script in
+    let shelf = g.F.Shelf.log c.args.shelf.now in
+    let new = g.F.Shelf.log c.load_object.new.shelf in
+    let script = g.I.Source.log c.args.script.now in
+    let taken = g.I.Source.log c.debug_object.new.script in
     Ends-map c.debug_object.result (λ a. OfScript script.left (λ text. DebugsObject d text (object_of c.in-Ok.view) a))
     (λ a. OfFiles shelf.files (λ files. OfScript script.left (λ text. OverFile (DebugsObject d text) d.object files a)))
     _ _
@@ -33,9 +32,9 @@ returns-in-Ok-clause-ends g c =
 pub returns-clause-ends : goal.returns-clause-ends
 returns-clause-ends g c =
     let d = debugging_view c.args.asked.now in
-    let shelf = shelf_log g.F.Shelf c.args.shelf.now in
-    let new = shelf_log g.F.Shelf c.load_object.new.shelf in
-    let script = source_log g.I.Source c.args.script.now in
+    let shelf = g.F.Shelf.log c.args.shelf.now in
+    let new = g.F.Shelf.log c.load_object.new.shelf in
+    let script = g.I.Source.log c.args.script.now in
     Ends-map c.refuse_object.result (IsRefusedBy c.in-Err.fault)
     (λ a. OfFiles shelf.files (λ files. OfScript script.left (λ text. OverFile (DebugsObject d text) d.object files a)))
     _ _ (c.in-Err.fault ≡ Failed)
@@ -46,4 +45,4 @@ returns-clause-ends g c =
 
 pub returns-in-Ok-clause-script : goal.returns-in-Ok-clause-script
 returns-in-Ok-clause-script g c =
-    inl (spells_file (g.F.Shelf.files c.args.shelf.now) c.args.asked.now.object.now c.in-Ok.view c.in-Ok.ensures.loads, c.debug_object.ensures.taken)
+    inl (spells_file (g.F.Shelf.log c.args.shelf.now).files c.args.asked.now.object.now c.in-Ok.view c.in-Ok.ensures.loads, c.debug_object.ensures.taken)

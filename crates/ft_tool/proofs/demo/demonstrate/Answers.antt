@@ -1,8 +1,6 @@
 use Rattle.std.proofs.Common.{refl}
-use Rattle.ft_edge.specs.Logs.{sink_log}
 use Rattle.ft_demo.specs.Sample.{sample_object}
 use Rattle.ft_demo.specs.Demonstrations.{demo_lines}
-use Rattle.ft_tool.proofs.Bridged.{all_put, nothing_put, broken_off}
 use Rattle.ft_tool.proofs.Tried.{sample_undetected}
 use Rattle.ft_tool.proofs.demo.demonstrate.Goals as goal
 
@@ -12,8 +10,7 @@ returns-in-Finished g c =
     record {
       answer = record { pieces = demo_lines (sample_object c.args.turns) h.found; status = 0 };
       is = record { found = h.found; verdicts = h.verdicts; none_corrupt = h.uncorrupted; undetected = sample_undetected c.args.turns c.requires.some c.requires.few; answer = refl };
-      put = all_put _ (sink_log g.K.Sink c.args.out.now) (sink_log g.K.Sink c.demo.new.out) h.lines
-          c.in-Finished.ensures.cause;
+      put = h.lines;
       status_is = refl;
     }
 
@@ -30,11 +27,5 @@ returns-in-WriteFault g c =
             c.args.turns c.requires.some c.requires.few;
         answer = refl;
       };
-      broken = broken_off _ (sink_log g.K.Sink c.args.out.now) (sink_log g.K.Sink c.demo.new.out) h.lines
-          c.demo.ensures.count c.in-WriteFault.ensures.cause;
+      broken = h.lines;
     }
-
-pub returns-in-NoMemory : goal.returns-in-NoMemory
-returns-in-NoMemory g c =
-    nothing_put (sink_log g.K.Sink c.args.out.now) (sink_log g.K.Sink c.demo.new.out) c.in-NoMemory.ensures.ends
-    c.in-NoMemory.ensures.cause

@@ -5,7 +5,7 @@ use Rattle.ft_tool.specs.declared.load.ObjectFault.TheVariants.{Failed}
 use Rattle.ft_tool.specs.Files.{IsRefusedBy}
 use Rattle.ft_tool.specs.Links.{EndsAtObject}
 use Rattle.ft_tool.specs.LinkTurns.{EndsWithFile}
-use Rattle.ft_edge.specs.Logs.{sink_log, shelf_log, LoadFails}
+use Rattle.ft_edge.specs.Logs.{LoadFails}
 use Rattle.ft_tool.proofs.Answered.{Ends-map, object_failed}
 use Rattle.ft_tool.proofs.Linking.{err_ends, adds_file, ends_with_object, ends_with_fault}
 use Rattle.ft_tool.proofs.link.add_file.Goals as goal
@@ -13,21 +13,21 @@ use Rattle.ft_tool.proofs.link.add_file.Goals as goal
 pub returns-in-Ok-clause-ok : goal.returns-in-Ok-clause-ok
 returns-in-Ok-clause-ok g c =
     on_ok_weaker c.add_object.result
-    (λ h. adds_file (g.F.Shelf.files c.args.shelf.now) c.args.linker.now c.add_object.new.linker c.args.name.now c.in-Ok.view c.in-Ok.ensures.loads h) c.add_object.ensures.ok
+    (λ h. adds_file (g.F.Shelf.log c.args.shelf.now).files c.args.linker.now c.add_object.new.linker c.args.name.now c.in-Ok.view c.in-Ok.ensures.loads h) c.add_object.ensures.ok
 
 pub returns-in-Ok-clause-ends : goal.returns-in-Ok-clause-ends
 returns-in-Ok-clause-ends g c =
-    let told = g.F.Shelf.files c.args.shelf.now in
+    let told = (g.F.Shelf.log c.args.shelf.now).files in
     err_ends c.add_object.result (EndsAtObject c.args.linker.now (object_of c.in-Ok.view)) (EndsWithFile told c.args.linker.now c.args.name.now)
-    (sink_log g.K.Sink c.args.out.now) (sink_log g.K.Sink c.add_object.new.out) ⊥
-    (LoadFails c.args.name.now (shelf_log g.F.Shelf c.args.shelf.now) (shelf_log g.F.Shelf c.load_object.new.shelf))
+    (g.K.Sink.log c.args.out.now) (g.K.Sink.log c.add_object.new.out) ⊥
+    (LoadFails c.args.name.now (g.F.Shelf.log c.args.shelf.now) (g.F.Shelf.log c.load_object.new.shelf))
     (λ a is. ends_with_object told c.args.linker.now c.args.name.now c.in-Ok.view c.in-Ok.ensures.loads a is) (λ x. absurd x) c.add_object.ensures.ends
 
 pub returns-clause-ends : goal.returns-clause-ends
 returns-clause-ends g c =
-    let told = g.F.Shelf.files c.args.shelf.now in
+    let told = (g.F.Shelf.log c.args.shelf.now).files in
     Ends-map c.refuse_object.result (IsRefusedBy c.in-Err.fault) (EndsWithFile told c.args.linker.now c.args.name.now) _ _ (c.in-Err.fault ≡ Failed)
-    (LoadFails c.args.name.now (shelf_log g.F.Shelf c.args.shelf.now) (shelf_log g.F.Shelf c.load_object.new.shelf))
+    (LoadFails c.args.name.now (g.F.Shelf.log c.args.shelf.now) (g.F.Shelf.log c.load_object.new.shelf))
     (λ a is. ends_with_fault told c.args.linker.now c.args.name.now c.in-Err.fault c.in-Err.ensures.loads a is)
-    (λ e. object_failed c.args.name.now c.in-Err.fault (shelf_log g.F.Shelf c.args.shelf.now)
-    (shelf_log g.F.Shelf c.load_object.new.shelf) c.in-Err.ensures.cause e) c.refuse_object.ensures.ends
+    (λ e. object_failed c.args.name.now c.in-Err.fault (g.F.Shelf.log c.args.shelf.now)
+    (g.F.Shelf.log c.load_object.new.shelf) c.in-Err.ensures.cause e) c.refuse_object.ensures.ends

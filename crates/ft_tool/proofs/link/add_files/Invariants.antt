@@ -5,9 +5,9 @@ use Rattle.ft_tool.proofs.link.add_files.Given as goal
 abbrev pub invariant-loop-file : goal.invariant-loop-file
 invariant-loop-file g l = record {
   files : l.files ≡ l.fn.linkage.files;
-  told : g.F.Shelf.files l.shelf ≡ g.F.Shelf.files l.fn.shelf;
-  failures : g.F.Shelf.failures l.shelf ≡ g.F.Shelf.failures l.fn.shelf;
-  name : g.F.Shelf.failed_name l.shelf ≡ g.F.Shelf.failed_name l.fn.shelf;
+  told : (g.F.Shelf.log l.shelf).files ≡ (g.F.Shelf.log l.fn.shelf).files;
+  failures : (g.F.Shelf.log l.shelf).failures ≡ (g.F.Shelf.log l.fn.shelf).failures;
+  name : (g.F.Shelf.log l.shelf).failed_name ≡ (g.F.Shelf.log l.fn.shelf).failed_name;
   out : l.out ≡ l.fn.out;
-  added : HasAdded (g.F.Shelf.files l.fn.shelf) l.fn.linkage l.linker (drop l.file-index l.files) (g.F.Shelf.asked l.fn.shelf) (g.F.Shelf.asked l.shelf);
+  added : HasAdded (g.F.Shelf.log l.fn.shelf).files l.fn.linkage l.linker (drop l.file-index l.files) (g.F.Shelf.log l.fn.shelf).asked (g.F.Shelf.log l.shelf).asked;
 }

@@ -1,6 +1,5 @@
 use Rattle.std.proofs.Common.{◌≡◌, ◌≤◌, length, Ok, Err, inl, refl, sym, subst}
-use Rattle.ft_edge.specs.Loads.{LoadCause}
-use Rattle.ft_edge.specs.Logs.{shelf_log}
+use Rattle.ft_edge.specs.Logs.{LoadCause}
 use Rattle.ft_link_map.specs.declared.link_map.LinkMap.{LinkMap}
 use Rattle.ft_command.specs.Commands.{Links}
 use Rattle.ft_tool.specs.Texts.{link_line}
@@ -16,14 +15,14 @@ use Rattle.ft_tool.proofs.link.link_file.Goals as goal
 
 pub link_text-requires : goal.link_text-requires
 link_text-requires g c =
-    let h = subst (λ l. Gives (g.F.Shelf.files c.args.shelf.now) c.args.name.now 65536 c.load_bytes.new.bytes.items (Ok l)) c.in-Ok-Whole.field-0-is c.in-Ok-Whole.ensures.gives in
+    let h = subst (λ l. Gives (g.F.Shelf.log c.args.shelf.now).files c.args.name.now 65536 c.load_bytes.new.bytes.items (Ok l)) c.in-Ok-Whole.field-0-is c.in-Ok-Whole.ensures.gives in
     subst (λ text. length text ≤ 65536) (sym c.as_slice.ensures.value) h.0
 
 pub returns-in-Ok-Whole-clause-ends : goal.returns-in-Ok-Whole-clause-ends
 returns-in-Ok-Whole-clause-ends g c =
-    let shelf = shelf_log g.F.Shelf c.args.shelf.now in
-    let between = shelf_log g.F.Shelf c.load_bytes.new.shelf in
-    let new = shelf_log g.F.Shelf c.link_text.new.shelf in
+    let shelf = g.F.Shelf.log c.args.shelf.now in
+    let between = g.F.Shelf.log c.load_bytes.new.shelf in
+    let new = g.F.Shelf.log c.link_text.new.shelf in
     let text = c.load_bytes.new.bytes.items in
     let lent = c.as_slice.result.now in
     let h = subst (λ l. Gives shelf.files c.args.name.now 65536 text (Ok l)) c.in-Ok-Whole.field-0-is
@@ -39,20 +38,20 @@ returns-in-Ok-Whole-clause-ends g c =
 
 pub returns-in-Ok-TooLong-clause-ends : goal.returns-in-Ok-TooLong-clause-ends
 returns-in-Ok-TooLong-clause-ends g c =
-    let shelf = shelf_log g.F.Shelf c.args.shelf.now in
+    let shelf = g.F.Shelf.log c.args.shelf.now in
     let h = subst (λ l. Gives shelf.files c.args.name.now 65536 c.load_bytes.new.bytes.items (Ok l))
     c.in-Ok-TooLong.field-0-is c.in-Ok-TooLong.ensures.gives in
     Ends-map c.put_link_line.result (λ a. a ≡ one_piece (link_line 11 65536) 13) (LinksFile shelf.files c.args.name.now)
     _ _ ⊥
     (OfFiles shelf.files (λ files. FailsIn (Links c.args.name.now) files shelf
-    (shelf_log g.F.Shelf c.load_bytes.new.shelf)))
+    (g.F.Shelf.log c.load_bytes.new.shelf)))
     (λ a is. (h.0, (h.1.0, inl (long_map h.1.1 is)))) (λ x. absurd x) c.put_link_line.ensures
 
 pub returns-in-Err-Failed-clause-ends : goal.returns-in-Err-Failed-clause-ends
 returns-in-Err-Failed-clause-ends g c =
-    let shelf = shelf_log g.F.Shelf c.args.shelf.now in
-    let new = shelf_log g.F.Shelf c.load_bytes.new.shelf in
+    let shelf = g.F.Shelf.log c.args.shelf.now in
+    let new = g.F.Shelf.log c.load_bytes.new.shelf in
     let name = c.args.name.now in
-    let cause = subst (λ f. LoadCause shelf.failures new.failures shelf.failed_name new.failed_name name (Err f))
+    let cause = subst (λ f. LoadCause shelf new name (Err f))
     c.in-Err-Failed.field-0-is c.in-Err-Failed.ensures.cause in
     (refl, failed_in (Links name) shelf new name (λ files. inl refl) cause)

@@ -6,7 +6,6 @@ use Rattle.ft_tool.specs.Endings.{ends_early}
 use Rattle.ft_tool.specs.Files.{IsMapRefused}
 use Rattle.ft_tool.specs.Links.{IsMap, EndsAtMap, LinksText}
 use Rattle.ft_tool.specs.LinkTurns.{FailsInTurn}
-use Rattle.ft_edge.specs.Logs.{sink_log, shelf_log}
 use Rattle.ft_tool.proofs.Answered.{Ends-map, answered_or_early}
 use Rattle.ft_tool.proofs.MapNames.{ascii_names}
 use Rattle.ft_tool.proofs.Linking.{known_less, is_map, map_refused, makes_no_module}
@@ -18,10 +17,10 @@ link_files-requires-clause-names g c =
 
 pub returns-in-Err-clause-ends : goal.returns-in-Err-clause-ends
 returns-in-Err-clause-ends g c =
-    let told = g.F.Shelf.files c.args.shelf.now in
+    let told = (g.F.Shelf.log c.args.shelf.now).files in
     let text = c.args.text.now in
     let said = c.in-Err.ensures.said in
-    let shelf = shelf_log g.F.Shelf c.args.shelf.now in
+    let shelf = g.F.Shelf.log c.args.shelf.now in
     Ends-map c.refuse_map.result (IsMapRefused c.in-Err.error) (LinksText told text) _ _ ⊥
     ((linkage : LinkMap) × (IsMap text linkage × FailsInTurn linkage shelf shelf))
     (λ a is. inl (map_refused text c.requires said.0 said.1 c.in-Err.error said.2 a is)) (λ x. absurd x)
@@ -31,8 +30,8 @@ pub returns-in-Err-clause-made : goal.returns-in-Err-clause-made
 returns-in-Err-clause-made g c =
     let text = c.args.text.now in
     let said = c.in-Err.ensures.said in
-    makes_no_module (g.F.Shelf.files c.args.shelf.now) text (ends_early c.refuse_map.result) (g.F.Shelf.asked c.args.shelf.now)
+    makes_no_module (g.F.Shelf.log c.args.shelf.now).files text (ends_early c.refuse_map.result) (g.F.Shelf.log c.args.shelf.now).asked
     (known_less ((a : Answer) × IsMapRefused c.in-Err.error a) ((a : Answer) × EndsAtMap text a) (IsTrue (ends_early c.refuse_map.result)) (λ x. (x.0, map_refused text c.requires said.0 said.1 c.in-Err.error said.2 x.0 x.1))
     (answered_or_early c.refuse_map.result (IsMapRefused c.in-Err.error)
-    (sink_log g.K.Sink c.args.out.now) (sink_log g.K.Sink c.refuse_map.new.out) ⊥
+    (g.K.Sink.log c.args.out.now) (g.K.Sink.log c.refuse_map.new.out) ⊥
     c.refuse_map.ensures))

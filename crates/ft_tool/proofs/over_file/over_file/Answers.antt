@@ -1,6 +1,5 @@
 use Rattle.std.proofs.Common.{Ok, Err, refl, subst}
-use Rattle.ft_edge.specs.Loads.{LoadCause}
-use Rattle.ft_edge.specs.Logs.{shelf_log}
+use Rattle.ft_edge.specs.Logs.{LoadCause}
 use Rattle.ft_tool.specs.Files.{Gives}
 use Rattle.ft_tool.proofs.OverFiles.{does_over, does_long, does_fail, does_nothing}
 use Rattle.ft_tool.proofs.over_file.over_file.Goals as goal
@@ -8,8 +7,8 @@ use Rattle.ft_tool.proofs.over_file.over_file.Goals as goal
 pub returns-in-Ok-Whole : goal.returns-in-Ok-Whole
 returns-in-Ok-Whole g c = λ left.
     let command = c.args.command.now in
-    let shelf = shelf_log g.F.Shelf c.args.shelf.now in
-    let new = shelf_log g.F.Shelf c.load_bytes.new.shelf in
+    let shelf = g.F.Shelf.log c.args.shelf.now in
+    let new = g.F.Shelf.log c.load_bytes.new.shelf in
     does_over (g.C.FileCommand.request command) (g.C.FileCommand.file command) (g.C.FileCommand.limit command)
     (g.C.FileCommand.answer command) (g.met.C.FileCommand.is_over_file command)
     c.file.result.now c.limit.result c.file.ensures c.limit.ensures left _ _ shelf new c.over_bytes.result
@@ -21,8 +20,8 @@ returns-in-Ok-Whole g c = λ left.
 pub returns-in-Ok-TooLong : goal.returns-in-Ok-TooLong
 returns-in-Ok-TooLong g c = λ left.
     let command = c.args.command.now in
-    let shelf = shelf_log g.F.Shelf c.args.shelf.now in
-    let new = shelf_log g.F.Shelf c.load_bytes.new.shelf in
+    let shelf = g.F.Shelf.log c.args.shelf.now in
+    let new = g.F.Shelf.log c.load_bytes.new.shelf in
     does_long (g.C.FileCommand.request command) (g.C.FileCommand.file command) (g.C.FileCommand.limit command)
     (g.C.FileCommand.answer command) (g.met.C.FileCommand.is_over_file command)
     c.file.result.now c.limit.result c.file.ensures c.limit.ensures left _ _ shelf new c.refuse_long.result
@@ -34,23 +33,23 @@ returns-in-Ok-TooLong g c = λ left.
 pub returns-in-Err-Failed : goal.returns-in-Err-Failed
 returns-in-Err-Failed g c = λ left.
     let command = c.args.command.now in
-    let shelf = shelf_log g.F.Shelf c.args.shelf.now in
-    let new = shelf_log g.F.Shelf c.load_bytes.new.shelf in
+    let shelf = g.F.Shelf.log c.args.shelf.now in
+    let new = g.F.Shelf.log c.load_bytes.new.shelf in
     does_fail (g.C.FileCommand.request command) (g.C.FileCommand.file command) (g.C.FileCommand.limit command)
     (g.C.FileCommand.answer command) (g.met.C.FileCommand.is_over_file command)
     c.file.result.now c.limit.result c.file.ensures c.limit.ensures left _ _ shelf new
-    (subst (λ f. LoadCause shelf.failures new.failures shelf.failed_name new.failed_name c.file.result.now (Err f))
+    (subst (λ f. LoadCause shelf new c.file.result.now (Err f))
     c.in-Err-Failed.field-0-is c.in-Err-Failed.ensures.cause)
     c.load_bytes.ensures.made refl
 
 pub returns : goal.returns
 returns g c = λ left.
     let command = c.args.command.now in
-    let shelf = shelf_log g.F.Shelf c.args.shelf.now in
-    let new = shelf_log g.F.Shelf c.load_bytes.new.shelf in
+    let shelf = g.F.Shelf.log c.args.shelf.now in
+    let new = g.F.Shelf.log c.load_bytes.new.shelf in
     does_nothing (g.C.FileCommand.request command) (g.C.FileCommand.file command) (g.C.FileCommand.limit command)
     (g.C.FileCommand.answer command) (g.met.C.FileCommand.is_over_file command)
     c.file.result.now c.limit.result c.file.ensures c.limit.ensures left _ _ shelf new
-    (subst (λ f. LoadCause shelf.failures new.failures shelf.failed_name new.failed_name c.file.result.now (Err f))
+    (subst (λ f. LoadCause shelf new c.file.result.now (Err f))
     c.in-Err-NoMemory.field-0-is c.in-Err-NoMemory.ensures.cause)
     c.load_bytes.ensures.made refl

@@ -8,18 +8,18 @@ use Rattle.ft_tool.proofs.script.take_script.Goals as goal
 
 pub returns-in-Err-clause-taken : goal.returns-in-Err-clause-taken
 returns-in-Err-clause-taken g c =
-    takes_failed 1048577 (g.I.Source.takes c.args.script.now) (g.I.Source.takes c.loop-piece.script) (g.I.Source.takes c.take.new.self) (g.I.Source.left c.args.script.now) (g.I.Source.left c.loop-piece.script) (g.I.Source.left c.take.new.self)
+    takes_failed 1048577 (g.I.Source.log c.args.script.now) (g.I.Source.log c.loop-piece.script) (g.I.Source.log c.take.new.self)
     c.loop-piece.text.items c.loop-piece.invariant.gave c.loop-piece.invariant.taken c.in-Err.ensures.takes c.in-Err.ensures.bytes (omega (arith, c.loop-piece-test.true))
 
 pub returns-then-is_err-clause-taken : goal.returns-then-is_err-clause-taken
 returns-then-is_err-clause-taken g c =
-    takes_last 1048577 (g.I.Source.takes c.args.script.now) (g.I.Source.takes c.loop-piece.script) (g.I.Source.takes c.take.new.self) (g.I.Source.left c.args.script.now) (g.I.Source.left c.loop-piece.script) (g.I.Source.left c.take.new.self)
+    takes_last 1048577 (g.I.Source.log c.args.script.now) (g.I.Source.log c.loop-piece.script) (g.I.Source.log c.take.new.self)
     c.loop-piece.text.items (take c.in-Ok.count c.take.new.buf) c.in-Ok.count c.loop-piece.invariant.gave c.loop-piece.invariant.taken c.in-Ok.ensures.takes c.in-Ok.ensures.bytes.0
     (omega (arith, length-take {A = ℕ}, c.in-Ok.ensures.bound.0, c.in-Ok.ensures.bound.1)) (omega (arith, length-take {A = ℕ}, c.in-Ok.ensures.bound.0, c.in-Ok.ensures.bound.1))
 
 pub returns-then-count-eq0-clause-taken : goal.returns-then-count-eq0-clause-taken
 returns-then-count-eq0-clause-taken g c =
-    takes_last 1048577 (g.I.Source.takes c.args.script.now) (g.I.Source.takes c.loop-piece.script) (g.I.Source.takes c.take.new.self) (g.I.Source.left c.args.script.now) (g.I.Source.left c.loop-piece.script) (g.I.Source.left c.take.new.self)
+    takes_last 1048577 (g.I.Source.log c.args.script.now) (g.I.Source.log c.loop-piece.script) (g.I.Source.log c.take.new.self)
     c.loop-piece.text.items (take c.in-Ok.count c.take.new.buf) c.in-Ok.count c.loop-piece.invariant.gave c.loop-piece.invariant.taken c.in-Ok.ensures.takes c.in-Ok.ensures.bytes.0
     (omega (arith, length-take {A = ℕ}, c.in-Ok.ensures.bound.0, c.in-Ok.ensures.bound.1)) (omega (arith, length-take {A = ℕ}, c.in-Ok.ensures.bound.0, c.in-Ok.ensures.bound.1))
 
@@ -35,7 +35,7 @@ loop-piece-preserved g c =
     record {
       taken = subst (Consumes _ _) (sym added) (Consumes-trans _ _ _ _ _ c.loop-piece.invariant.taken c.in-Ok.ensures.bytes.0);
       within = omega (arith, longer, length-take {A = ℕ}, c.in-Ok.ensures.bound.0, c.in-Ok.ensures.bound.1);
-      gave = gave_more (g.I.Source.takes c.args.script.now) (g.I.Source.takes c.loop-piece.script) (g.I.Source.takes c.take.new.self) (length c.loop-piece.text.items) (length c.extend_from_slice.new.self.items) c.in-Ok.count
+      gave = gave_more (g.I.Source.log c.args.script.now).takes (g.I.Source.log c.loop-piece.script).takes (g.I.Source.log c.take.new.self).takes (length c.loop-piece.text.items) (length c.extend_from_slice.new.self.items) c.in-Ok.count
           c.loop-piece.invariant.gave c.in-Ok.ensures.takes (omega (arith, c.if-count-eq0.false)) longer;
       count = c.in-Ok.ensures.same_count ∙ c.loop-piece.invariant.count;
     }
@@ -43,9 +43,9 @@ loop-piece-preserved g c =
 pub returns-then-count-eq0-clause-takes : goal.returns-then-count-eq0-clause-takes
 returns-then-count-eq0-clause-takes g c = (
   omega (arith, c.loop-piece-test.true),
-  whole_script (g.I.Source.left c.args.script.now) (g.I.Source.left c.loop-piece.script) (g.I.Source.left c.take.new.self) c.loop-piece.text.items c.in-Ok.count c.take.new.buf
+  whole_script (g.I.Source.log c.args.script.now).left (g.I.Source.log c.loop-piece.script).left (g.I.Source.log c.take.new.self).left c.loop-piece.text.items c.in-Ok.count c.take.new.buf
       c.loop-piece.invariant.taken c.if-count-eq0.true c.in-Ok.ensures.bytes.0 (c.in-Ok.ensures.bytes.1 c.if-count-eq0.true (search rules)),
 )
 
 pub returns-clause-takes : goal.returns-clause-takes
-returns-clause-takes g c = longer_script (g.I.Source.left c.args.script.now) (g.I.Source.left c.loop-piece.script) c.loop-piece.text.items c.loop-piece.invariant.taken (omega (arith, c.loop-piece-test.false))
+returns-clause-takes g c = longer_script (g.I.Source.log c.args.script.now).left (g.I.Source.log c.loop-piece.script).left c.loop-piece.text.items c.loop-piece.invariant.taken (omega (arith, c.loop-piece-test.false))

@@ -5,10 +5,10 @@ use Rattle.ft_tool.proofs.script.take_script.Given as goal
 
 abbrev pub invariant-loop-piece : goal.invariant-loop-piece
 invariant-loop-piece g l = record {
-  taken : Consumes (g.I.Source.left l.fn.script) (g.I.Source.left l.script) l.text.items;
+  taken : Consumes (g.I.Source.log l.fn.script).left (g.I.Source.log l.script).left l.text.items;
   within : length l.text.items ≤ 1048577;
-  gave : GaveSome (g.I.Source.takes l.fn.script) (g.I.Source.takes l.script) (length l.text.items);
-  count : g.I.Source.failures l.script ≡ g.I.Source.failures l.fn.script;
+  gave : GaveSome (g.I.Source.log l.fn.script).takes (g.I.Source.log l.script).takes (length l.text.items);
+  count : (g.I.Source.log l.script).failures ≡ (g.I.Source.log l.fn.script).failures;
 }
 
 abbrev pub decreases-loop-piece : goal.decreases-loop-piece

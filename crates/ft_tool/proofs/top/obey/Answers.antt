@@ -1,5 +1,4 @@
 use Rattle.std.proofs.Common.{◌≡◌, refl, ap, subst}
-use Rattle.ft_edge.specs.Logs.{shelf_log, source_log}
 use Rattle.ft_command.specs.Commands.{Usage, Campaigns, Surveys, Demonstrates, Links, HasFewSteps}
 use Rattle.ft_command.specs.Asked.{campaign_view, debugging_view, asked}
 use Rattle.ft_tool.specs.Demonstrations.{ShowsSample}
@@ -47,14 +46,14 @@ returns-in-Assemble-clause-does g c = does_untaken (ap asked c.in-Assemble.is) (
 pub returns-in-Usage-clause-does : goal.returns-in-Usage-clause-does
 returns-in-Usage-clause-does g c =
     does_untaken (ap asked c.in-Usage.is)
-    (does_alone Usage c.put_usage.result (shelf_log g.F.Shelf c.args.shelf.now) (λ a. a ≡ usage) c.put_usage.ensures
+    (does_alone Usage c.put_usage.result (g.F.Shelf.log c.args.shelf.now) (λ a. a ≡ usage) c.put_usage.ensures
     (λ files script a h. h) (λ files. refl))
 
 pub returns-in-Demo-clause-does : goal.returns-in-Demo-clause-does
 returns-in-Demo-clause-does g c =
     let turns = c.in-Demo.turns in
     does_untaken (ap asked c.in-Demo.is)
-    (does_alone (Demonstrates turns) c.demonstrate.result (shelf_log g.F.Shelf c.args.shelf.now) (ShowsSample turns)
+    (does_alone (Demonstrates turns) c.demonstrate.result (g.F.Shelf.log c.args.shelf.now) (ShowsSample turns)
     c.demonstrate.ensures (λ files script a h. h) (λ files. refl))
 
 pub campaign_file-requires : goal.campaign_file-requires
@@ -62,8 +61,8 @@ campaign_file-requires g c = subst (λ x. HasFewSteps (asked x)) c.in-Campaign.i
 
 pub returns-in-Campaign-clause-does : goal.returns-in-Campaign-clause-does
 returns-in-Campaign-clause-does g c =
-    let shelf = shelf_log g.F.Shelf c.args.shelf.now in
-    let new = shelf_log g.F.Shelf c.campaign_file.new.shelf in
+    let shelf = g.F.Shelf.log c.args.shelf.now in
+    let new = g.F.Shelf.log c.campaign_file.new.shelf in
     let campaign = campaign_view c.in-Campaign.asked in
     let done = c.campaign_file.ensures in
     does_untaken (ap asked c.in-Campaign.is)
@@ -76,8 +75,8 @@ survey_file-requires g c = subst (λ x. HasFewSteps (asked x)) c.in-Survey.is c.
 
 pub returns-in-Survey-clause-does : goal.returns-in-Survey-clause-does
 returns-in-Survey-clause-does g c =
-    let shelf = shelf_log g.F.Shelf c.args.shelf.now in
-    let new = shelf_log g.F.Shelf c.survey_file.new.shelf in
+    let shelf = g.F.Shelf.log c.args.shelf.now in
+    let new = g.F.Shelf.log c.survey_file.new.shelf in
     let campaign = campaign_view c.in-Survey.asked in
     let done = c.survey_file.ensures in
     does_untaken (ap asked c.in-Survey.is)
@@ -87,8 +86,8 @@ returns-in-Survey-clause-does g c =
 
 pub returns-in-Link-clause-does : goal.returns-in-Link-clause-does
 returns-in-Link-clause-does g c =
-    let shelf = shelf_log g.F.Shelf c.args.shelf.now in
-    let new = shelf_log g.F.Shelf c.link_file.new.shelf in
+    let shelf = g.F.Shelf.log c.args.shelf.now in
+    let new = g.F.Shelf.log c.link_file.new.shelf in
     let name = c.in-Link.name.now in
     let done = c.link_file.ensures in
     let m = some_files shelf.files in
@@ -98,15 +97,15 @@ returns-in-Link-clause-does g c =
 
 pub returns-in-Debug-clause-does : goal.returns-in-Debug-clause-does
 returns-in-Debug-clause-does g c =
-    let shelf = shelf_log g.F.Shelf c.args.shelf.now in
-    let new = shelf_log g.F.Shelf c.debug_file.new.shelf in
-    let script = source_log g.I.Source c.args.script.now in
+    let shelf = g.F.Shelf.log c.args.shelf.now in
+    let new = g.F.Shelf.log c.debug_file.new.shelf in
+    let script = g.I.Source.log c.args.script.now in
     let done = c.debug_file.ensures in
     does_session (debugging_view c.in-Debug.asked) c.debug_file.result shelf new script
-    (source_log g.I.Source c.debug_file.new.script) (ap asked c.in-Debug.is) done.ends done.load_failures done.made
+    (g.I.Source.log c.debug_file.new.script) (ap asked c.in-Debug.is) done.ends done.load_failures done.made
 
 pub returns-in-Debug-clause-script : goal.returns-in-Debug-clause-script
 returns-in-Debug-clause-script g c =
-    takes_session (debugging_view c.in-Debug.asked) (g.F.Shelf.files c.args.shelf.now)
-    (source_log g.I.Source c.args.script.now) (source_log g.I.Source c.debug_file.new.script) (ap asked c.in-Debug.is)
+    takes_session (debugging_view c.in-Debug.asked) (g.F.Shelf.log c.args.shelf.now).files
+    (g.I.Source.log c.args.script.now) (g.I.Source.log c.debug_file.new.script) (ap asked c.in-Debug.is)
     c.debug_file.ensures.script

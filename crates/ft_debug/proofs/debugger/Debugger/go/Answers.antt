@@ -1,16 +1,15 @@
 use Rattle.std.proofs.Common.{◌∙◌, sym}
-use Rattle.ft_edge.specs.Logs.{sink_log}
 use Rattle.ft_debug.proofs.Gone.{go_none, go_stopped, go_breaks, go_on}
 use Rattle.ft_debug.proofs.debugger.Debugger.go.Goals as goal
 
 pub returns-then-count-eq0-clause-does : goal.returns-then-count-eq0-clause-does
 returns-then-count-eq0-clause-does g c =
-    go_none (g.P.Program.object c.args.program.now) c.args.count c.args.self.now (sink_log g.K.Sink c.args.out.now)
+    go_none (g.P.Program.object c.args.program.now) c.args.count c.args.self.now (g.K.Sink.log c.args.out.now)
     c.if-count-eq0.true
 
 pub returns-then-not-is_running-clause-does : goal.returns-then-not-is_running-clause-does
 returns-then-not-is_running-clause-does g c =
-    go_stopped (g.P.Program.object c.args.program.now) c.args.count c.args.self.now (sink_log g.K.Sink c.args.out.now)
+    go_stopped (g.P.Program.object c.args.program.now) c.args.count c.args.self.now (g.K.Sink.log c.args.out.now)
     (sym c.is_running.ensures ∙ c.if-not-is_running.true)
 
 pub returns-in_err-advance-clause-does : goal.returns-in_err-advance-clause-does

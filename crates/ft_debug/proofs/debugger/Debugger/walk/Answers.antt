@@ -1,5 +1,4 @@
 use Rattle.std.proofs.Common.{◌≡◌, ◌&&◌, not, true, false, refl, ap, sym, ◌∙◌, arith}
-use Rattle.ft_edge.specs.Logs.{sink_log}
 use Rattle.ft_semantics.specs.Strike.{is_running}
 use Rattle.ft_debug.specs.Inside.{halting}
 use Rattle.ft_debug.proofs.Advanced.{walked_none, walked_more, walk_halts, walk_ends, walk_breaks}
@@ -11,7 +10,7 @@ loop-init g c = record {
   breaks = refl;
   position = omega arith;
   walked = walked_none (g.P.Program.object c.args.program.now) (halting c.args.halts c.args.self.now.breaks)
-      c.args.count c.args.self.now (sink_log g.K.Sink c.args.out.now);
+      c.args.count c.args.self.now (g.K.Sink.log c.args.out.now);
 }
 
 pub returns-then-not-goes_on-clause-does : goal.returns-then-not-goes_on-clause-does

@@ -1,5 +1,4 @@
 use Rattle.std.proofs.Common.{◌≡◌, ◌+◌}
-use Rattle.ft_edge.specs.Logs.{sink_log}
 use Rattle.ft_debug.specs.Inside.{Ready, halting}
 use Rattle.ft_debug.proofs.Advanced.{Walked}
 use Rattle.ft_debug.proofs.debugger.Debugger.walk.Given as goal
@@ -12,5 +11,5 @@ invariant-loop g l =
       breaks : l.self.breaks ≡ l.fn.self.breaks;
       position : l.self.present.position ≡ l.fn.self.present.position + l.counter;
       walked : Walked o (halting l.halts l.fn.self.breaks) l.count l.counter l.fn.self l.self
-          (sink_log g.K.Sink l.fn.out) (sink_log g.K.Sink l.out);
+          (g.K.Sink.log l.fn.out) (g.K.Sink.log l.out);
     }

@@ -9,7 +9,6 @@ use Rattle.ft_syntax.proofs.PlainForms.{list_empty, list_drop, statement_first, 
 use Rattle.ft_scope.specs.declared.slot.Slot.{Slot}
 use Rattle.ft_scope.specs.declared.slot.Slot.TheVariants.{Cell}
 use Rattle.ft_scope.specs.Size.{same_slot, StatementsFit}
-use Rattle.ft_edge.specs.Logs.{sink_log}
 use Rattle.ft_meaning.specs.Meaning.{indexed_cell, value, loops, run, at_zero, then_do, evaluated, evaluated_both, assigned, Ended}
 use Rattle.ft_meaning.specs.Runs.{state, Ready}
 use Rattle.ft_meaning.proofs.Longer.{loops_grows, run_grows}
@@ -48,7 +47,7 @@ repeat-returns-in-Err-clause-runs g t c =
     let ne : value e l.self.vars.items l.self.cells.items ≢ 0 = λ z. c.loop-self-test.true (c.word.ensures ∙ z) in
     let some : l.self.left ≡ suc (l.self.left - 1) = omega (arith, c.if-self-eq0.false) in
     stops_run (loops c.args.self.now.left e (run body)) (run body) (map (λ n. n.items) c.args.names.now) c.args.self.now (record l.self { left = l.self.left - 1 }) c.statements.new.self
-    (sink_log g.K.Sink c.args.out.now) (sink_log g.K.Sink l.out) (sink_log g.K.Sink c.statements.new.out) c.in-Err.stop
+    (g.K.Sink.log c.args.out.now) (g.K.Sink.log l.out) (g.K.Sink.log c.statements.new.out) c.in-Err.stop
     (λ first o w is.
     let R = l.invariant.runs first o w is in
     let T = loop_turn e (run body) (state l.self R.0 R.1) R.2 (l.self.left - 1) ne some R.3 in
@@ -112,7 +111,7 @@ statements-returns-in-Err-clause-runs g t c =
     let after = plain_list same_slot (drop (l.s-index + 1) all) in
     let next : plain_list same_slot (drop l.s-index all) ≡ follow one after = list_drop same_slot all l.s-index s (omega arith) ∙ ap (λ x. plain_statement same_slot x after) (sym c.s-item.is) ∙ statement_first same_slot s after in
     stops_run (run (plain_list same_slot all)) (run one) (map (λ n. n.items) c.args.names.now) c.args.self.now l.self c.statement.new.self
-    (sink_log g.K.Sink c.args.out.now) (sink_log g.K.Sink l.out) (sink_log g.K.Sink c.statement.new.out) c.in-Err.stop
+    (g.K.Sink.log c.args.out.now) (g.K.Sink.log l.out) (g.K.Sink.log c.statement.new.out) c.in-Err.stop
     (λ first o w is.
     let R = l.invariant.runs first o w is in
     (R.0, R.1, run after, run_grows after, R.2 ∙ ap (λ b. run b (state l.self R.0 R.1)) next ∙ run_follow one after (state l.self R.0 R.1), R.3))
@@ -203,8 +202,8 @@ statement-returns-in-While-clause-runs g t c =
     let body = plain_list same_slot c.deref.result.now in
     let form : plain_statement same_slot c.args.s.now none ≡ loop e body none = matched_while same_slot c.args.s.now c.in-While.test c.in-While.body c.deref.result.now none c.in-While.is c.deref.ensures.value in
     runs_from (loops r.left e (run body)) (run (plain_statement same_slot c.args.s.now none)) (λ w. w)
-    (map (λ n. n.items) c.args.names.now) c.args.self.now c.repeat.new.self (sink_log g.K.Sink c.args.out.now)
-    (sink_log g.K.Sink c.repeat.new.out) c.repeat.result
+    (map (λ n. n.items) c.args.names.now) c.args.self.now c.repeat.new.self (g.K.Sink.log c.args.out.now)
+    (g.K.Sink.log c.repeat.new.out) c.repeat.result
     (λ o w. ap (λ b. run b (state r o w)) form ∙ then_ended (loops r.left e (run body) (state r o w))) c.repeat.ensures.runs
 
 pub statement-returns-then-word-ne0-clause-runs : goal.statement-returns-then-word-ne0-clause-runs
@@ -216,8 +215,8 @@ statement-returns-then-word-ne0-clause-runs g t c =
     let form : plain_statement same_slot c.args.s.now none ≡ choose e yes no none = matched_if same_slot c.args.s.now c.in-If.test c.in-If.yes c.in-If.no c.deref-then-word-ne0.result.now c.in-If.no.items none c.in-If.is c.deref-then-word-ne0.ensures.value refl in
     let ne : value e r.vars.items r.cells.items ≢ 0 = λ z. c.if-word-ne0.true (c.word.ensures ∙ z) in
     runs_from (run yes) (run (plain_statement same_slot c.args.s.now none)) (λ w. w + (expression_nodes e + 1))
-    (map (λ n. n.items) c.args.names.now) c.args.self.now c.statements.new.self (sink_log g.K.Sink c.args.out.now)
-    (sink_log g.K.Sink c.statements.new.out) c.statements.result
+    (map (λ n. n.items) c.args.names.now) c.args.self.now c.statements.new.self (g.K.Sink.log c.args.out.now)
+    (g.K.Sink.log c.statements.new.out) c.statements.result
     (λ o w. ap (λ b. run b (state r o w)) form ∙ then_ended (at_zero (value e r.vars.items r.cells.items) (run no (evaluated e (state r o w))) (run yes (evaluated e (state r o w)))) ∙ at_value (value e r.vars.items r.cells.items) (run no (evaluated e (state r o w))) (run yes (evaluated e (state r o w))) ne) c.statements.ensures.runs
 
 pub statement-returns-else-word-ne0-clause-runs : goal.statement-returns-else-word-ne0-clause-runs
@@ -230,7 +229,7 @@ statement-returns-else-word-ne0-clause-runs g t c =
     let z : value e r.vars.items r.cells.items ≡ 0 = sym c.word.ensures ∙ c.if-word-ne0.false in
     runs_from (run no) (run (plain_statement same_slot c.args.s.now none)) (λ w. w + (expression_nodes e + 1))
     (map (λ n. n.items) c.args.names.now) c.args.self.now c.statements-else-word-ne0.new.self
-    (sink_log g.K.Sink c.args.out.now) (sink_log g.K.Sink c.statements-else-word-ne0.new.out)
+    (g.K.Sink.log c.args.out.now) (g.K.Sink.log c.statements-else-word-ne0.new.out)
     c.statements-else-word-ne0.result
     (λ o w. ap (λ b. run b (state r o w)) form ∙ then_ended (at_zero (value e r.vars.items r.cells.items) (run no (evaluated e (state r o w))) (run yes (evaluated e (state r o w)))) ∙ ap (λ v. at_zero v (run no (evaluated e (state r o w))) (run yes (evaluated e (state r o w)))) z) c.statements-else-word-ne0.ensures.runs
 
@@ -242,7 +241,7 @@ statement-returns-in-Assign-clause-runs g t c =
     let form : plain_statement same_slot c.args.s.now none ≡ assign to e none = ap (λ x. plain_statement same_slot x none) c.in-Assign.is ∙ assign_form same_slot to c.in-Assign.value none in
     runs_from (λ s. Ended (assigned to c.word-word.result s)) (run (plain_statement same_slot c.args.s.now none))
     (λ w. w + (expression_nodes e + 1)) (map (λ n. n.items) c.args.names.now) c.args.self.now c.assign.new.self
-    (sink_log g.K.Sink c.args.out.now) (sink_log g.K.Sink c.assign.new.out) c.assign.result
+    (g.K.Sink.log c.args.out.now) (g.K.Sink.log c.assign.new.out) c.assign.result
     (λ o w. ap (λ b. run b (state r o w)) form ∙ ap (λ x. Ended (assigned to x (evaluated e (state r o w)))) (sym c.word-word.ensures)) c.assign.ensures.runs
 
 -- an assignment with an index, level by level
@@ -276,7 +275,7 @@ statement-returns-in-AssignAt-clause-runs g t c =
     let named : k ≡ indexed_cell to (value i r.vars.items r.cells.items) = c.cell-k.ensures.cell in
     runs_from (λ s. Ended (assigned (Cell k) word.result s)) (run (plain_statement same_slot c.args.s.now none))
     (λ w. w + (expression_nodes i + expression_nodes e + 1)) (map (λ n. n.items) c.args.names.now) c.args.self.now
-    c.assign_cell.new.self (sink_log g.K.Sink c.args.out.now) (sink_log g.K.Sink c.assign_cell.new.out)
+    c.assign_cell.new.self (g.K.Sink.log c.args.out.now) (g.K.Sink.log c.assign_cell.new.out)
     c.assign_cell.result
     (λ o w.
     ap (λ b. run b (state r o w)) form

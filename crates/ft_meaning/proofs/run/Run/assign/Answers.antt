@@ -1,5 +1,4 @@
 use Rattle.std.proofs.Common.{map, sym, ap, ◌∙◌, subst, slice_set}
-use Rattle.ft_edge.specs.Logs.{sink_log}
 use Rattle.ft_meaning.specs.Meaning.{assigned, Ended}
 use Rattle.ft_meaning.specs.Runs.{state, RunsTo}
 use Rattle.ft_meaning.proofs.run.Run.assign.Goals as goal
@@ -7,7 +6,7 @@ use Rattle.ft_meaning.proofs.run.Run.assign.Goals as goal
 pub returns-in-Cell-clause-runs : goal.returns-in-Cell-clause-runs
 returns-in-Cell-clause-runs g c =
     subst (λ x. RunsTo (λ s. Ended (assigned x c.args.word s)) (map (λ n. n.items) c.args.names.now) c.args.self.now
-    c.assign_cell.new.self (sink_log g.K.Sink c.args.out.now) (sink_log g.K.Sink c.assign_cell.new.out)
+    c.assign_cell.new.self (g.K.Sink.log c.args.out.now) (g.K.Sink.log c.assign_cell.new.out)
     c.assign_cell.result)
     (sym c.in-Cell.is) c.assign_cell.ensures.runs
 

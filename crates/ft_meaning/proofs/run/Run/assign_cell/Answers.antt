@@ -3,7 +3,6 @@ use Rattle.std.proofs.lemmas.List.{length-map}
 use Rattle.ft_isa.specs.Words.{cell_address}
 use Rattle.ft_isa.specs.declared.output.Output.{Output}
 use Rattle.ft_edge.specs.Lines.{BreaksOff, with_lines}
-use Rattle.ft_edge.specs.Logs.{sink_log}
 use Rattle.ft_meaning.proofs.Sinks.{name_found, room_for, line_is, told_push, breaks_here}
 use Rattle.ft_meaning.proofs.run.Run.assign_cell.Goals as goal
 
@@ -25,8 +24,8 @@ returns-in-Err-clause-runs g c = λ first o w is.
     let here : c.args.k < length ns = omega (arith, c.requires.fits, c.requires.ready.as_many, length-map ns (λ n. n.items)) in
     let x : Output = record { addr = cell_address c.args.k; value = c.args.word } in
     let same = line_is names c.args.k c.args.word c.deref.result.now (name_found ns c.args.k d here ∙ ap (λ (n : Vec ℕ Global). n.items) (sym c.index-names-k.is) ∙ sym c.deref.ensures.value) in
-    let before = sink_log g.K.Sink c.args.out.now in
-    let after = sink_log g.K.Sink c.put_output.new.out in
+    let before = g.K.Sink.log c.args.out.now in
+    let after = g.K.Sink.log c.put_output.new.out in
     breaks_here names first before after o x is (subst (λ (l : List ℕ). BreaksOff (l ∷ []) before after) (sym same)
     c.in-Err.ensures.puts)
 
@@ -40,8 +39,8 @@ returns-clause-runs g c = λ first o w is.
     let same = line_is names c.args.k c.args.word c.deref.result.now
     (name_found ns c.args.k d here ∙ ap (λ (n : Vec ℕ Global). n.items) (sym c.index-names-k.is)
     ∙ sym c.deref.ensures.value) in
-    let before = sink_log g.K.Sink c.args.out.now in
-    let after = sink_log g.K.Sink c.put_output.new.out in (
+    let before = g.K.Sink.log c.args.out.now in
+    let after = g.K.Sink.log c.put_output.new.out in (
       o ++ x ∷ [],
       w,
       refl,

@@ -1,6 +1,5 @@
 use Rattle.std.proofs.Common.{◌+◌, ◌%◌, ◌^◌, ◌∷◌, ◌++◌, [], refl, sym, subst, arith}
 use Rattle.ft_edge.specs.Lines.{Puts, end_of_puts}
-use Rattle.ft_edge.specs.Logs.{sink_log}
 use Rattle.ft_types.specs.Texts.{line_at}
 use Rattle.ft_recover.specs.Passing.{Passes}
 use Rattle.ft_recover.proofs.Stretches.{passes_over, passes_put}
@@ -11,7 +10,7 @@ returns-then-self-gt0-clause-heard g c = λ first before h.
     let self = c.args.self.now in (
       h.0,
       h.1,
-      passes_over (g.P.Program.object first.program.now) first.passed first.count before c.args.output self.passed self.count (sink_log g.K.Sink first.out.now) (sink_log g.K.Sink self.out.now) h.2
+      passes_over (g.P.Program.object first.program.now) first.passed first.count before c.args.output self.passed self.count (g.K.Sink.log first.out.now) (g.K.Sink.log self.out.now) h.2
           _ _ (omega (arith, c.if-self-gt0.true)) refl refl,
     )
 
@@ -20,9 +19,9 @@ returns-clause-heard g c = λ first before h.
     let o = g.P.Program.object first.program.now in
     let self = c.args.self.now in
     let x = c.args.output in
-    let start = sink_log g.K.Sink first.out.now in
-    let old = sink_log g.K.Sink self.out.now in
-    let new = sink_log g.K.Sink c.put_output.new.out in
+    let start = g.K.Sink.log first.out.now in
+    let old = g.K.Sink.log self.out.now in
+    let new = g.K.Sink.log c.put_output.new.out in
     let put = subst (λ q. Puts (end_of_puts c.put_output.result) (line_at q x ∷ []) old new) h.1 c.put_output.ensures in (
       h.0,
       h.1,

@@ -9,7 +9,7 @@ use Rattle.ft_semantics.specs.Step.{Stepping, step}
 use Rattle.ft_semantics.specs.Run.{Ran, run-add_one, state_after, wild_after}
 use Rattle.ft_machine.specs.declared.stepped.Stepped.TheVariants.{Detected}
 use Rattle.ft_machine.specs.Answers.{told, told_output}
-use Rattle.ft_inject.specs.Runs.{CleanRun, IsClean}
+use Rattle.ft_runs.specs.Runs.{CleanRun, IsClean}
 use Rattle.ft_tolerance.proofs.Whole.{accepted_fits}
 use Rattle.ft_tolerance.proofs.AnyAnswers.{AreSame, step_same}
 

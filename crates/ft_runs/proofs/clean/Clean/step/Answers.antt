@@ -2,9 +2,9 @@ use Rattle.std.proofs.Common.{None, sym, ap, ◌∙◌}
 use Rattle.ft_semantics.specs.Run.{state_after}
 use Rattle.ft_semantics.specs.Step.{step}
 use Rattle.ft_machine.specs.Answers.{told}
-use Rattle.ft_inject.specs.Runs.{CleanRun}
-use Rattle.ft_inject.proofs.CleanSteps.{clean_same, clean_next, told_same, clean_undetected}
-use Rattle.ft_inject.proofs.clean.Clean.step.Goals as goal
+use Rattle.ft_runs.specs.Runs.{CleanRun}
+use Rattle.ft_runs.proofs.CleanSteps.{clean_same, clean_next, told_same, clean_undetected}
+use Rattle.ft_runs.proofs.clean.Clean.step.Goals as goal
 
 pub invariant_of-self : goal.invariant_of-self
 invariant_of-self g c =

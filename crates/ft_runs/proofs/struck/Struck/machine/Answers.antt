@@ -2,8 +2,8 @@ use Rattle.std.proofs.Common.{◌≡◌, true, None, subst}
 use Rattle.ft_semantics.specs.Run.{state_after}
 use Rattle.ft_semantics.specs.Strike.{is_there}
 use Rattle.ft_tolerance.specs.Alike.{IsAlikeAfter}
-use Rattle.ft_inject.specs.Runs.{StruckRun}
-use Rattle.ft_inject.proofs.struck.Struck.machine.Goals as goal
+use Rattle.ft_runs.specs.Runs.{StruckRun}
+use Rattle.ft_runs.proofs.struck.Struck.machine.Goals as goal
 
 pub returns-clause-there : goal.returns-clause-there
 returns-clause-there g c =

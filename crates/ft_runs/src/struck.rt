@@ -5,7 +5,7 @@ ghost use Rattle.ft_semantics.specs.Step.{step};
 ghost use Rattle.ft_semantics.specs.Strike.{is_there};
 ghost use Rattle.ft_machine.specs.Answers.{told};
 ghost use Rattle.ft_tolerance.specs.Alike.{IsAlikeAfter};
-ghost use Rattle.ft_inject.specs.Runs.{struck_now};
+ghost use Rattle.ft_runs.specs.Runs.{struck_now};
 
 use ft_isa::{Strike, Wild};
 use ft_machine::{Machine, Stepped, WildLeft};
@@ -27,7 +27,7 @@ pub struct Struck<'a, 'w, P: Program> {
 }
 
 impl<'a, 'w, P: Program> Model for Struck<'a, 'w, P> {
-    ghost use Rattle.ft_inject.specs.Runs.{StruckRun, IsStruckRun};
+    ghost use Rattle.ft_runs.specs.Runs.{StruckRun, IsStruckRun};
 
     ghost Value = { StruckRun };
 

@@ -1,9 +1,10 @@
 //! Whole runs of accepted programs under a plan.
-ghost use Rattle.std.specs.Prelude.{◌≡◌, ◌≢◌, ◌≤◌, None, []};
+ghost use Rattle.std.specs.Prelude.{◌≡◌, ◌≢◌, None, []};
+ghost use Rattle.ft_edge.specs.Lines.{Puts};
 ghost use Rattle.ft_semantics.specs.Agrees.{Agrees};
 ghost use Rattle.ft_semantics.specs.Run.{outputs_after, status_after};
 ghost use Rattle.ft_isa.specs.declared.output.Output.{Output as Committed};
-ghost use Rattle.ft_machine.specs.Drives.{EndsAs, Puts, output_lines, IsExcused, IsOfCell};
+ghost use Rattle.ft_machine.specs.Drives.{EndsAs, output_lines, put_end, IsOfCell};
 ghost use Rattle.ft_machine.specs.Goes.{goes_on};
 ghost use Rattle.ft_tolerance.specs.Soundness.{IsNeverDetected};
 
@@ -24,10 +25,8 @@ pub fn run<'a, P: Program, K: Sink>(
 ) -> RunEnd
     requires { start.taken ≡ 0 }
     ensures ends { EndsAs result (status_after start.entry.object plan.entry.strike plan.entry.wild.now steps) }
-    ensures lines { Puts result (output_lines start.entry.object (outputs_after start.entry.object plan.entry.strike plan.entry.wild.now steps))
-        (K.written out.old) (K.written out.new) (K.pieces out.old) (K.pieces out.new) }
-    ensures count { K.failures out.old ≤ K.failures out.new }
-    ensures cause { IsExcused result (K.failures out.old) (K.failures out.new) }
+    ensures lines { Puts (put_end result) (output_lines start.entry.object (outputs_after start.entry.object plan.entry.strike plan.entry.wild.now steps))
+        (K.log out.old) (K.log out.new) }
 
     // One fault is masked or detected: outputs and status agree with those of the run without it.
     ensures agrees { Agrees

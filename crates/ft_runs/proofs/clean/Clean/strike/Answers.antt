@@ -1,9 +1,9 @@
 use Rattle.std.proofs.Common.{subst, sym, ◌∙◌}
 use Rattle.ft_isa.specs.declared.plan.Wild.{Wild as Answer}
 use Rattle.std.proofs.Common.{List}
-use Rattle.ft_inject.specs.Runs.{CleanRun, IsStruckRun}
-use Rattle.ft_inject.proofs.StruckSteps.{struck_begins}
-use Rattle.ft_inject.proofs.clean.Clean.strike.Goals as goal
+use Rattle.ft_runs.specs.Runs.{CleanRun, IsStruckRun}
+use Rattle.ft_runs.proofs.StruckSteps.{struck_begins}
+use Rattle.ft_runs.proofs.clean.Clean.strike.Goals as goal
 
 pub invariant_of-result : goal.invariant_of-result
 invariant_of-result g c =

@@ -4,9 +4,9 @@ use Rattle.ft_semantics.specs.Step.{step}
 use Rattle.ft_machine.specs.declared.stepped.Stepped.{Stepped}
 use Rattle.ft_machine.specs.declared.stepped.Stepped.TheVariants.{Detected}
 use Rattle.ft_machine.specs.Answers.{told}
-use Rattle.ft_inject.specs.Runs.{StruckRun}
-use Rattle.ft_inject.proofs.StruckSteps.{struck_next, struck_told}
-use Rattle.ft_inject.proofs.struck.Struck.step.Goals as goal
+use Rattle.ft_runs.specs.Runs.{StruckRun}
+use Rattle.ft_runs.proofs.StruckSteps.{struck_next, struck_told}
+use Rattle.ft_runs.proofs.struck.Struck.step.Goals as goal
 
 pub invariant_of-self : goal.invariant_of-self
 invariant_of-self g c =

@@ -25,7 +25,7 @@ pub struct Clean<'a, P: Program> {
 }
 
 impl<'a, P: Program> Model for Clean<'a, P> {
-    ghost use Rattle.ft_inject.specs.Runs.{CleanRun, IsClean};
+    ghost use Rattle.ft_runs.specs.Runs.{CleanRun, IsClean};
 
     ghost Value = { CleanRun };
 

@@ -1,6 +1,6 @@
 use Rattle.std.proofs.Common.{None, sym, ap, ◌∙◌}
 use Rattle.ft_semantics.specs.Run.{Ran, run-zero}
-use Rattle.ft_inject.proofs.clean.Clean.start.Goals as goal
+use Rattle.ft_runs.proofs.clean.Clean.start.Goals as goal
 
 pub invariant_of-result : goal.invariant_of-result
 invariant_of-result g c = record {

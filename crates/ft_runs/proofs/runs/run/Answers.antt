@@ -1,17 +1,18 @@
-use Rattle.std.proofs.Common.{◌≡◌, ◌≢◌, [], Option, None, ap, ◌∙◌, subst}
+use Rattle.std.proofs.Common.{◌≢◌, [], Option, None, ap, ◌∙◌, subst}
+use Rattle.ft_edge.specs.Lines.{Puts}
 use Rattle.ft_typing.specs.Accepted.{IsAccepted}
 use Rattle.ft_types.specs.Spellable.{IsSpellable}
 use Rattle.ft_semantics.specs.Run.{Ran, run-zero, state_after, outputs_after, status_after}
 use Rattle.ft_semantics.specs.declared.status.Status.{Status}
 use Rattle.ft_semantics.specs.declared.status.Status.TheVariants as status
 use Rattle.ft_isa.specs.declared.plan.Strike.{Strike}
-use Rattle.ft_machine.specs.Drives.{EndsAs, Puts, output_lines}
+use Rattle.ft_machine.specs.Drives.{EndsAs, output_lines, put_end}
 use Rattle.ft_machine.specs.declared.run.RunEnd.{RunEnd}
 use Rattle.ft_machine.specs.declared.run.RunEnd.TheVariants.{Done, Detected, OutOfSteps, WriteFault}
-use Rattle.ft_inject.specs.Runs.{CleanRun}
+use Rattle.ft_runs.specs.Runs.{CleanRun}
 use Rattle.ft_tolerance.proofs.Whole.{never_detected}
 use Rattle.ft_tolerance.proofs.Masking.{tolerant}
-use Rattle.ft_inject.proofs.runs.run.Goals as goal
+use Rattle.ft_runs.proofs.runs.run.Goals as goal
 
 pub drive-requires-clause-start : goal.drive-requires-clause-start
 drive-requires-clause-start g c =
@@ -47,5 +48,5 @@ returns-clause-undetected g c = λ none.
 
 pub returns-clause-lines : goal.returns-clause-lines
 returns-clause-lines g c =
-    subst (λ (x : CleanRun). Puts c.drive.result (output_lines x.object (outputs_after x.object c.args.plan.strike c.args.plan.wild.now c.args.steps)) (g.K.Sink.written c.args.out.now) (g.K.Sink.written c.drive.new.out) (g.K.Sink.pieces c.args.out.now) (g.K.Sink.pieces c.drive.new.out))
+    subst (λ (x : CleanRun). Puts (put_end c.drive.result) (output_lines x.object (outputs_after x.object c.args.plan.strike c.args.plan.wild.now c.args.steps)) (g.K.Sink.log c.args.out.now) (g.K.Sink.log c.drive.new.out))
     c.start.view_is c.drive.ensures.lines

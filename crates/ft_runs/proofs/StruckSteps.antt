@@ -18,7 +18,7 @@ use Rattle.ft_machine.specs.Answers.{told, told_output, told_status}
 use Rattle.ft_tolerance.specs.TypedState.{Place}
 use Rattle.ft_tolerance.specs.Soundness.{EndsOrFits}
 use Rattle.ft_tolerance.specs.Alike.{Follows, keeps_alike, is_detected, IsAlikeOrDetected, is_alike, has_stopped, IsAlikeAfter, colour_of_site}
-use Rattle.ft_inject.specs.Runs.{CleanRun, IsClean, StruckRun, struck_now, IsStruckRun}
+use Rattle.ft_runs.specs.Runs.{CleanRun, IsClean, StruckRun, struck_now, IsStruckRun}
 use Rattle.ft_tolerance.proofs.Whole.{along, accepted_fits}
 use Rattle.ft_tolerance.proofs.Masking.{before, alike_at_once, alike_next, follows_along}
 

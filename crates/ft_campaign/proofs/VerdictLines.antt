@@ -1,26 +1,12 @@
--- Lines of verdicts that were put, one after the other.
-use Rattle.std.proofs.Common.{◌≡◌, ℕ, suc, ◌+◌, ◌<◌, ◌≤◌, List, [], ◌∷◌, ◌++◌, length, take, drop, get_or, Option, ap, sym, ◌∙◌, subst, arith}
+-- The lines of verdicts, one after the other.
+use Rattle.std.proofs.Common.{◌≡◌, ℕ, suc, ◌+◌, ◌<◌, ◌≤◌, List, [], ◌∷◌, ◌++◌, length, take, drop, get_or, ap, sym, ◌∙◌, arith}
 use Rattle.std.specs.List.{zip}
 use Rattle.std.proofs.Math.Seq.{split_at}
 use Rattle.std.proofs.lemmas.List.{take_more, take_all, length-map, get_or-map}
 use Rattle.std.proofs.lemmas.Slice.Zip.{length-zip, get_or-zip}
-use Rattle.std.specs.Io.KnownBytes.{append_known}
-use Rattle.ft_edge.specs.Causes.{AddsPrefix}
-use Rattle.ft_edge.specs.Told.{append_told}
-use Rattle.ft_edge.specs.Puts.{PutsLines, BreaksOff}
-use Rattle.ft_edge.proofs.PutLines.{puts_one, puts_then, breaks_one, breaks_then, breaks_before}
 use Rattle.ft_isa.specs.declared.plan.Strike.{Strike}
 use Rattle.ft_campaign.specs.declared.verdict.Verdict.{Verdict}
 use Rattle.ft_campaign.specs.Texts.{verdict_line, verdict_lines}
-
--- one more line was put
-pub puts_more : (ls : List (List ℕ)) (line : List ℕ) (first old new : Option (List ℕ)) (a b c : Option (List (List ℕ))) → PutsLines ls first old a b → new ≡ append_known old line → c ≡ append_told b (line ∷ []) → PutsLines (ls ++ line ∷ []) first new a c
-puts_more ls line first old new a b c h e p = puts_then ls (line ∷ []) first old new a b c h (puts_one line old new b c e p)
-
--- the put of the next line failed
-pub breaks : (all ls : List (List ℕ)) (line : List ℕ) (rest : List (List ℕ)) (first old new : Option (List ℕ)) (a b c : Option (List (List ℕ))) → all ≡ ls ++ line ∷ rest → PutsLines ls first old a b → AddsPrefix old new line → c ≡ append_told b (line ∷ []) → BreaksOff all first new a c
-breaks all ls line rest first old new a b c e h f p =
-    subst (λ lines. BreaksOff lines first new a c) (sym e) (breaks_then ls (line ∷ rest) first old new a b c h (breaks_before (line ∷ []) rest old new b c (breaks_one line old new b c f p)))
 
 -- the line of fault number i
 line_is : (xs : List Strike) (vs : List Verdict) (i : ℕ) (x : Strike) (v d : Verdict) → i < length xs → length vs ≡ length xs → x ≡ get_or xs i x → v ≡ get_or vs i d → get_or (verdict_lines xs vs) i (verdict_line x v) ≡ verdict_line x v

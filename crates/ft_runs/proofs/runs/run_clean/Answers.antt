@@ -7,8 +7,8 @@ use Rattle.ft_machine.specs.Goes.{goes_on}
 use Rattle.ft_machine.proofs.Driven.{run_whole}
 use Rattle.ft_machine.proofs.Spanned.{cell_bounds}
 use Rattle.ft_machine.proofs.Tabulated.{cells_there}
-use Rattle.ft_inject.specs.Runs.{CleanRun}
-use Rattle.ft_inject.proofs.runs.run_clean.Goals as goal
+use Rattle.ft_runs.specs.Runs.{CleanRun}
+use Rattle.ft_runs.proofs.runs.run_clean.Goals as goal
 
 pub run_under-requires-clause-start : goal.run_under-requires-clause-start
 run_under-requires-clause-start g c =
