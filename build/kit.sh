@@ -3,6 +3,10 @@
 # The kit that the proofs were made with, as `rt version` names it.
 kit_of_proofs() { sed -n 's/.*`rt version`: \([^)]*\)).*/\1/p' "$top/docs/PROMISES.md"; }
 
+# Whether the kit keeps what `rt ci` proved, by checksum. `rt ci` then takes names of crates, and --anew. Kits differ in this:
+# one that keeps nothing proves every crate from nothing.
+keeps_proofs() { rt help 2>&1 | grep -q -e --anew; }
+
 # Fails where there is no kit.
 need_kit() {
   local found

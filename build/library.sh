@@ -1,7 +1,8 @@
 #!/usr/bin/env bash
 # Proves the crates that the C library stands on, and makes it: libtalft.a, libtalft.so, talft.pc and talft.py, in
-# crates/ft_c/out/library, or for another processor in crates/ft_c/out/library-ARCH. It takes what the kit has kept, as
-# build/prove.sh does. A static library is compiled from its crate's proof, so the exports are proved once more.
+# crates/ft_c/out/library, or for another processor in crates/ft_c/out/library-ARCH. It takes what the kit has kept,
+# where it keeps proofs, as build/prove.sh does. A static library is compiled from its crate's proof, so the exports are proved
+# once more.
 #
 #     build/library.sh [ARCH]        x86_64, or aarch64; CC and AR name the C compiler and the archiver
 set -u

@@ -1,7 +1,7 @@
 #!/usr/bin/env bash
 # Proves the crates that the program stands on, lowest first and with all processors, and builds it: `rt ci` over a copy of
-# these crates alone, without the wrong bodies that the gate tries as well. The kit keeps what is proved, by checksum. So
-# this goes on where an earlier run, or the gate, ended. With --anew it takes nothing from them.
+# these crates alone, without the wrong bodies that the gate tries as well. A kit that keeps what is proved, by checksum, goes
+# on where an earlier run, or the gate, ended. With --anew it takes nothing from them.
 set -u
 top=$(cd "$(dirname "${BASH_SOURCE[0]}")/.." && pwd) || exit 2
 . "$top/build/sources.sh" || exit 2
@@ -30,12 +30,18 @@ cp "$top/HANDLES" "$tree" &&
   tar -C "$top/crates" --exclude=out --exclude=must-fail -cf - "${crates[@]}" | tar -C "$tree/crates" -xf - || exit 2
 
 cd "$tree" || exit 2
+# A kit that keeps nothing proves all from nothing, and knows no --anew.
+keeps_proofs || set --
 PYTHONUNBUFFERED=1 rt ci "$@" </dev/null >"$log" 2>&1 &
 proof=$!
 stopped() {
   kill "$proof" 2>/dev/null
   wait "$proof"
-  show 'talft: stopped; the next run keeps what is proved so far'
+  if keeps_proofs; then
+    show 'talft: stopped; the next run keeps what is proved so far'
+  else
+    show 'talft: stopped; this kit keeps nothing, so the next run begins anew'
+  fi
   exit "$1"
 }
 trap 'stopped 129' HUP

@@ -1,8 +1,9 @@
 #!/usr/bin/env bash
 # Builds program, tarball and package twice, and compares the bytes: in other folders, one after the other, under another user,
 # umask, locale, time zone and number of processors. Without --packages the program is compiled in each copy, from proofs that
-# the kit has kept; with --anew each copy is proved from nothing, too. With `--packages PROGRAM` the tarball and the package of
-# this program are made twice, which takes seconds: the gate does so. It prints a line for each file.
+# the kit has kept; with --anew, or where the kit keeps nothing, each copy is proved from nothing, too. With
+# `--packages PROGRAM` the tarball and the package of this program are made twice, which takes seconds: the gate does so. It
+# prints a line for each file.
 set -u
 from=$(cd "$(dirname "$0")/.." && pwd)
 way=${1-} given=${2-}

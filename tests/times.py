@@ -3,9 +3,10 @@
 
     tests/times.py OUT COMMAND..
 
-as in `tests/times.py times.md rt ci --anew`. It looks at all processes of the prover twice a second, so what another run
-proves in the meantime counts, too: run it alone. The table OUT has each crate's minutes in the order of crates.txt, by
-proof, tests and wrong bodies, their sum, and how long the command took. The status is the command's.
+as in `tests/times.py times.md rt ci`, with --anew after it where the kit keeps proofs. It looks at all processes of the prover
+twice a second, so what another run proves in the meantime counts, too: run it alone. The table OUT has each crate's minutes in
+the order of crates.txt, by proof, tests and wrong bodies, their sum, and how long the command took. The status is the
+command's.
 """
 import os
 import re

@@ -4,7 +4,7 @@
 #
 #     bash tests/users.sh [--quick | --anew]
 #
-# With --quick nothing is proved, and the installed program is a stand-in. With --anew nothing is taken from what the kit has
+# With --quick nothing is proved, and the installed program is a stand-in. With --anew nothing is taken from what a kit has
 # kept of earlier proofs. Tools that are missing are named, and what needs them is left out.
 set -u
 from=$(cd "$(dirname "$0")/.." && pwd)

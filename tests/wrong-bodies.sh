@@ -1,10 +1,13 @@
 #!/usr/bin/env bash
 # Tries the wrong bodies that the gate leaves out: tests/wrong-bodies/CRATE/*.edit, each of which the prover must refuse.
-# The gate tries those in crates/CRATE/must-fail. Begins with what `rt ci` or `rt check` has proved of the crates. With
-# names, tries those crates alone. The last line is "N refused, M not".
+# The gate tries those in crates/CRATE/must-fail. With names, tries those crates alone. A kit that keeps proofs begins with
+# what `rt ci` has proved. Another one takes the libraries that `rt check` built, and proves those that are missing. The last
+# line is "N refused, M not".
 #   bash tests/wrong-bodies.sh [CRATE..]
 set -u
 top=$(cd "$(dirname "${BASH_SOURCE[0]}")/.." && pwd) || exit 2
+. "$top/build/kit.sh" || exit 2
+need_kit || exit 2
 crates=("$@")
 [ ${#crates[@]} -gt 0 ] || mapfile -t crates < <(ls "$top/tests/wrong-bodies")
 room=$(mktemp -d) || exit 2
@@ -14,8 +17,25 @@ tar -C "$top" --exclude=out --exclude=must-fail -cf - crates | tar -C "$room" -x
 for crate in "${crates[@]}"; do
   cp -r "$top/tests/wrong-bodies/$crate" "$room/crates/$crate/must-fail" || exit 2
 done
-# `rt ci` proves what it has not kept, tries the edits of these crates, and says of each what came of it.
-(cd "$room" && rt ci "${crates[@]}" </dev/null) 2>&1 | tee "$room/log" | grep --line-buffered '^rt: must-fail'
+# Takes the libraries that `rt check` built: by links, or copied where the copy is on another file system. The kit replaces
+# their files, and changes none.
+take_libraries() {
+  local built out
+  for built in "$top"/crates/*/out/rlib; do
+    [ -e "$built/stamp" ] || continue
+    out=$room/${built#"$top/"} && out=${out%/rlib}
+    mkdir -p "$out" && { cp -al "$built" "$out" 2>/dev/null || cp -a "$built" "$out"; } || return
+  done
+}
+# Tries the wrong bodies of these crates, and says of each what came of it.
+try() {
+  if keeps_proofs; then
+    rt ci "${crates[@]}"
+  else
+    take_libraries && rt must-fail "${crates[@]}"
+  fi
+}
+(cd "$room" && try </dev/null) 2>&1 | tee "$room/log" | grep --line-buffered '^rt: must-fail'
 refused=$(grep -c '^rt: must-fail .*: refused, as it must be' "$room/log")
 not=$(($(find "$room"/crates/*/must-fail -name '*.edit' | wc -l) - refused))
 echo "$refused refused, $not not"
