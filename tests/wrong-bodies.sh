@@ -6,6 +6,7 @@
 #   bash tests/wrong-bodies.sh [CRATE..]
 set -u
 top=$(cd "$(dirname "${BASH_SOURCE[0]}")/.." && pwd) || exit 2
+. "$top/build/sources.sh" || exit 2
 . "$top/build/kit.sh" || exit 2
 need_kit || exit 2
 crates=("$@")
@@ -17,14 +18,15 @@ tar -C "$top" --exclude=out --exclude=must-fail -cf - crates | tar -C "$room" -x
 for crate in "${crates[@]}"; do
   cp -r "$top/tests/wrong-bodies/$crate" "$room/crates/$crate/must-fail" || exit 2
 done
-# Takes the libraries that `rt check` built: by links, or copied where the copy is on another file system. The kit replaces
-# their files, and changes none.
+# Takes the libraries that `rt check` built below these crates: by links, or copied where the copy is on another file system.
+# The kit replaces their files, and changes none.
 take_libraries() {
-  local built out
-  for built in "$top"/crates/*/out/rlib; do
-    [ -e "$built/stamp" ] || continue
-    out=$room/${built#"$top/"} && out=${out%/rlib}
-    mkdir -p "$out" && { cp -al "$built" "$out" 2>/dev/null || cp -a "$built" "$out"; } || return
+  local crate out
+  for crate in $(for crate in "${crates[@]}"; do needed "$crate"; done | sort -u); do
+    out=crates/$crate/out
+    [ -e "$top/$out/rlib/stamp" ] || continue
+    mkdir -p "$room/$out" && { cp -al "$top/$out/rlib" "$room/$out" 2>/dev/null || cp -a "$top/$out/rlib" "$room/$out"; } ||
+      return
   done
 }
 # Tries the wrong bodies of these crates, and says of each what came of it.

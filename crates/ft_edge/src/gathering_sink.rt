@@ -1,5 +1,5 @@
 //! A sink that gathers what it takes and hands it to a writer in large pieces.
-ghost use Rattle.std.specs.Prelude.{◌≡◌, ◌≢◌, ◌≤◌, [], length, drop, None, IsTrue, IfOk, IfErr, OnOk, OnErr};
+ghost use Rattle.std.specs.Prelude.{◌≡◌, ◌≢◌, ◌≤◌, ◌+◌, [], length, drop, None, IsTrue, IfOk, IfErr, OnOk, OnErr};
 ghost use Rattle.std.specs.Io.KnownBytes.{Appends, Keeps};
 ghost use Rattle.ft_edge.specs.Calls.{next_count};
 ghost use Rattle.ft_edge.specs.Streams.{AppendsFront};
@@ -100,6 +100,7 @@ impl<W: Write + Drop> GatheringSink<W> {
         ensures count { self.old.failures ≤ self.new.failures }
         ensures same_count { OnOk result (self.new.failures ≡ self.old.failures) }
         ensures counted { OnErr result (self.new.failures ≡ next_count self.old.failures) }
+        ensures room { OnOk result (length self.new.gathered.items ≤ 65536) }
     {
         if !self.hand_on() {
             return self.fail();
@@ -118,6 +119,7 @@ impl<W: Write + Drop> GatheringSink<W> {
         ensures count { self.old.failures ≤ self.new.failures }
         ensures same_count { OnOk result (self.new.failures ≡ self.old.failures) }
         ensures counted { OnErr result (self.new.failures ≡ next_count self.old.failures) }
+        ensures grows { OnOk result (length self.new.gathered.items ≡ length self.old.gathered.items + length bytes.now) }
     {
         match self.gathered.extend_from_slice(bytes) {
             Ok(()) => Ok(()),
