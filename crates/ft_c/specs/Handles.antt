@@ -1,5 +1,5 @@
 -- What calls do with the run that a handle holds.
-use Rattle.std.specs.Prelude.{◌≡◌, ℕ, List, [], Option, Some, None, true}
+use Rattle.std.specs.Prelude.{◌≡◌, ℕ, List, [], Option, Some, None, true, false}
 use Rattle.ft_isa.specs.declared.plan.Site.{Site}
 use Rattle.ft_isa.specs.PlanText.{IsSiteText}
 use Rattle.ft_semantics.specs.Strike.{is_there}
@@ -24,6 +24,14 @@ pub record IsStruckIn (old new : Option TaskRun) (text : List ℕ) (value : ℕ)
   pub first : before.strike ≡ None
   pub there : is_there (state_after before.object None [] before.taken) site ≡ true
   pub holds : new ≡ Some (record { object = before.object; strike = Some (record { step = before.taken; site = site; value = value }); taken = before.taken })
+
+-- the run that a handle held was struck before, or the site that the text says was not there
+pub record IsNotStruckIn (old : Option TaskRun) (text : List ℕ) : Type 0 where
+  pub before : TaskRun
+  pub site : Site
+  pub held : old ≡ Some before
+  pub says : IsSiteText text site
+  pub missed : before.strike ≡ None → is_there (state_after before.object None [] before.taken) site ≡ false
 
 -- a run begins again, and the handle holds it
 pub record BeginsAgain (old new : Option TaskRun) : Type 0 where

@@ -2,7 +2,7 @@
 ghost use Rattle.std.specs.Prelude.{◌≡◌, ◌≢◌, None};
 ghost use Rattle.ft_isa.specs.PlanText.{IsSiteText};
 ghost use Rattle.ft_isa.specs.declared.plan.Site.{Site as Place};
-ghost use Rattle.ft_c.specs.Handles.{BeginsAgain, GoesOnIn, IsStruckIn};
+ghost use Rattle.ft_c.specs.Handles.{BeginsAgain, GoesOnIn, IsNotStruckIn, IsStruckIn};
 ghost use Rattle.ft_embed.specs.Tasks.{IsOpened};
 ghost use Rattle.ft_embed.specs.Verdicts.{Tells, verdict_on};
 
@@ -91,6 +91,7 @@ pub extern "C" fn talft_advance(
 pub extern "C" fn talft_strike(alloc: Global, machine: &mut Handle, site: &[u8], value: u64) -> u32
     ensures struck { result ≡ 0 → IsStruckIn machine.old.task machine.new.task site.now value }
     ensures no_site { result ≡ 2 → (place : Place) → IsSiteText site.now place → ⊥ }
+    ensures not_there { result ≡ 18 → IsNotStruckIn machine.old.task site.now }
     ensures none { result ≡ 17 → machine.old.task ≡ None }
     ensures kept { result ≢ 0 → machine.new.task ≡ machine.old.task }
 {

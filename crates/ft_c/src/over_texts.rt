@@ -1,6 +1,7 @@
 //! Calls over texts.
 ghost use Rattle.std.specs.Prelude.{◌≡◌, ◌≢◌};
-ghost use Rattle.ft_embed.specs.Texts.{Given, IsAsmBroken, IsAsmRefused, IsAssembled, IsCompiled, IsMalformed, IsSourceRefused, IsText};
+ghost use Rattle.ft_asm.specs.Refusals.{IsAssembly};
+ghost use Rattle.ft_embed.specs.Texts.{Given, IsAsmBroken, IsAsmRefused, IsCompiled, IsMalformed, IsSourceRefused, IsText};
 
 use ft_embed::{Refused, assemble_into, compile_into, disassemble_into};
 use std::alloc::Global;
@@ -18,6 +19,7 @@ pub extern "C" fn talft_compile(
 ) -> u32
     ensures given { result ≢ 5 → result ≢ 6 → Given (IsCompiled text.now) out.old out.new made.new result }
     ensures refused { result ≡ 6 → IsSourceRefused text.now why.new }
+    ensures kept { result ≡ 6 → out.new ≡ out.old }
 {
     let written = compile_into(alloc, text, out);
     *made = written.made;
@@ -36,7 +38,7 @@ pub extern "C" fn talft_assemble(
     made: &mut usize,
     why: &mut Refused,
 ) -> u32
-    ensures given { result ≢ 5 → result ≢ 7 → result ≢ 12 → Given (IsAssembled text.now) out.old out.new made.new result }
+    ensures given { result ≢ 5 → result ≢ 7 → result ≢ 12 → Given (IsAssembly text.now) out.old out.new made.new result }
     ensures refused { result ≡ 12 → IsAsmRefused text.now why.new }
     ensures broken { result ≡ 7 → IsAsmBroken text.now why.new }
 {

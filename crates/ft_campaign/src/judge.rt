@@ -62,8 +62,8 @@ fn judge_fault<'w, P: Program, L: Ledger>(
     )
 }
 
-/// Finds the verdict of each fault, in the list's order.
-pub(crate) fn find_verdicts<P: Program, L: Ledger>(
+/// Finds the verdict of each fault, in the list's order. `steps` counts the machine's steps.
+pub fn find_verdicts<P: Program, L: Ledger>(
     alloc: Global,
     program: &P,
     faults: &[Strike],

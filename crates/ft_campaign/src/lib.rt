@@ -24,10 +24,11 @@ mod verdict;
 pub use campaign_end::CampaignEnd;
 pub use campaigns::{campaign, survey};
 pub use fault_list::{ListError, read_faults};
+pub use judge::find_verdicts;
 pub use laws::{
     faults_of_accepted_objects_are_not_corrupt, one_text_has_one_list,
     runs_that_meet_stay_together, verdicts_are_one,
 };
 pub use lines::end_line;
-pub use totals::Totals;
+pub use totals::{Totals, totals_of};
 pub use verdict::Verdict;

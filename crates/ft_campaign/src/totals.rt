@@ -82,7 +82,7 @@ fn count_corrupt(verdicts: &[Verdict]) -> u32
 }
 
 /// How many of the verdicts there are of each kind.
-pub(crate) fn totals_of(verdicts: &[Verdict]) -> Totals
+pub fn totals_of(verdicts: &[Verdict]) -> Totals
     requires { length verdicts.now ≤ 65536 }
     ensures { result ≡ totals_of verdicts.now }
 {

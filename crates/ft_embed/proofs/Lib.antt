@@ -6,3 +6,8 @@ pub mod Ends
 pub mod Recovered
 pub mod NoAnswers
 pub mod Tasked
+pub mod CellBytes
+pub mod OtherWords
+pub mod SetCells
+pub mod LinkTurns
+pub mod Tried

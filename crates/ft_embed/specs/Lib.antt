@@ -4,3 +4,6 @@ pub mod Plans
 pub mod Outputs
 pub mod Recoveries
 pub mod Tasks
+pub mod Cells
+pub mod Links
+pub mod Trials

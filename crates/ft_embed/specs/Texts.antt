@@ -4,7 +4,7 @@ use Rattle.std.specs.Option.{option_map}
 use Rattle.ft_types.specs.Objects.{name_of}
 use Rattle.ft_format.specs.Broken.{broken, object_of, version_at}
 use Rattle.ft_format.specs.declared.object_error.ObjectError.{ObjectError}
-use Rattle.ft_asm.specs.Reads.{Applies, Is, TooLong, Text, Order, Broken, text_of}
+use Rattle.ft_asm.specs.Reads.{Applies, TooLong, Text, Order, Broken, text_of}
 use Rattle.ft_object.specs.declared.decode_error.DecodeError.{DecodeError}
 use Rattle.ft_object.specs.declared.decode_error.DecodeError.TheVariants as decodes
 use Rattle.ft_embed.specs.Verdicts.{told_error}
@@ -116,12 +116,6 @@ IsText bytes text = text ≡ text_of (object_of bytes)
 -- this is the name of cell k of the object of these bytes
 abbrev pub IsNameOf : List ℕ → ℕ → List ℕ → Type 0
 IsNameOf bytes k name = option_map name_of (slice_get (object_of bytes).cells k) ≡ Some name
-
--- these bytes are the object that the assembly text reads as, in version 2 of the format
-pub record IsAssembled (text bytes : List ℕ) : Type 0 where
-  pub object : Object
-  pub applies : Applies text (Is object)
-  pub spelled : Spells bytes Second object
 
 -- why an assembly text is refused: the number of the refusal, and a line or the most bytes of a text
 abbrev pub told_asm : ℕ → ℕ → Refused

@@ -1,32 +1,16 @@
 //! Assembly texts that are read and written into a buffer of the caller.
-ghost use Rattle.std.specs.Prelude.{◌≡◌, ◌≢◌, ℕ, List, IfOk, IfErr};
+ghost use Rattle.std.specs.Prelude.{◌≡◌, ◌≢◌, ℕ, List};
 ghost use Rattle.ft_asm.specs.Reads.{text_of};
-ghost use Rattle.ft_asm.specs.Refusals.{IsRefusal};
+ghost use Rattle.ft_asm.specs.Refusals.{IsAssembly, IsRefusal};
 ghost use Rattle.ft_types.specs.Spellable.{IsSpellable};
-ghost use Rattle.ft_embed.specs.Texts.{Given, IsAsmBroken, IsAsmRefused, IsAssembled, IsMalformed, IsText};
+ghost use Rattle.ft_embed.specs.Texts.{Given, IsAsmBroken, IsAsmRefused, IsMalformed, IsText};
 
 use crate::handing::{Written, hand_over, none_written, not_written};
 use crate::refused::{told_asm, told_error};
-use ft_asm::{AsmError, assemble, disassemble};
-use ft_object::encode;
+use ft_asm::{AsmError, assemble_bytes, disassemble};
 use ft_types::Program;
 use ft_view::View;
 use std::alloc::Global;
-
-/// The bytes of the object that an assembly text reads as.
-fn assemble_bytes(alloc: Global, text: &[u8]) -> Result<Vec<u8>, AsmError>
-    ensures ok { IfOk result (λ bytes. IsAssembled text.now bytes.items) }
-    ensures err { IfErr result (IsRefusal text.now) }
-{
-    let object = match assemble(alloc, text) {
-        Ok(object) => object,
-        Err(error) => return Err(error),
-    };
-    match encode(alloc, &object) {
-        Ok(bytes) => Ok(bytes),
-        Err(_) => Err(AsmError::NoMemory),
-    }
-}
 
 /// What is answered for an assembly text that is refused.
 #[tactic(auto, using(crate::proofs::Judged::asm_text, crate::proofs::Judged::asm_order, crate::proofs::Judged::asm_long, crate::proofs::Judged::asm_broken))]
@@ -48,7 +32,7 @@ fn refuse_text(error: AsmError) -> Written
 /// is 0; 15 where they find no room; 12 for a text that is refused; 7 where the tables that it means
 /// break a rule of the format; or 5, out of memory.
 pub fn assemble_into(alloc: Global, text: &[u8], out: &mut [u8]) -> Written
-    ensures given { result.status ≢ 5 → result.status ≢ 7 → result.status ≢ 12 → Given (IsAssembled text.now) out.old out.new result.made result.status }
+    ensures given { result.status ≢ 5 → result.status ≢ 7 → result.status ≢ 12 → Given (IsAssembly text.now) out.old out.new result.made result.status }
     ensures refused { result.status ≡ 12 → IsAsmRefused text.now result.why }
     ensures broken { result.status ≡ 7 → IsAsmBroken text.now result.why }
 {

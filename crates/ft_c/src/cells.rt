@@ -1,0 +1,23 @@
+//! Cells of an object that the caller holds.
+ghost use Rattle.std.specs.Prelude.{◌≡◌, ◌≢◌};
+ghost use Rattle.ft_embed.specs.Cells.{HasNoCell, HasOtherCell, IsSet};
+ghost use Rattle.ft_embed.specs.Texts.{IsMalformed};
+
+use ft_embed::{Refused, set_cell};
+
+/// Changes the bytes of an object so that they spell the same object with another initial word of a cell of type
+/// `int`. The object is accepted exactly where it was before. The answer is 0; 7 for bytes that spell no object;
+/// 16 where there is no such cell; or 19 where it is of another type. In each case but 0 the bytes stay.
+#[unsafe(no_mangle)]
+pub extern "C" fn talft_set_cell(bytes: &mut [u8], cell: u32, word: u64, why: &mut Refused) -> u32
+    ensures set { result ≢ 7 → result ≢ 16 → result ≢ 19 → IsSet bytes.old bytes.new cell word }
+    ensures status { result ≢ 7 → result ≢ 16 → result ≢ 19 → result ≡ 0 }
+    ensures malformed { result ≡ 7 → IsMalformed bytes.old why.new }
+    ensures none { result ≡ 16 → HasNoCell bytes.old cell }
+    ensures other { result ≡ 19 → HasOtherCell bytes.old cell }
+    ensures kept { result ≢ 0 → bytes.new ≡ bytes.old }
+{
+    let verdict = set_cell(bytes, cell, word);
+    *why = verdict.why;
+    verdict.status
+}

@@ -1,0 +1,32 @@
+//! Modules that are linked.
+ghost use Rattle.std.specs.Prelude.{◌≡◌, ◌≢◌, ◌⊎◌};
+ghost use Rattle.ft_embed.specs.Links.{IsLinkedOf, IsUnlinked};
+ghost use Rattle.ft_embed.specs.Texts.{Given};
+
+use ft_embed::{Module, Refused, link_into};
+use std::alloc::Global;
+
+/// Writes the object that a link map links of modules, in version 2 of the format. The map names the file of each
+/// module, and the first module of the array with this name is taken. The answer is 0; 15 where the bytes find no
+/// room; 13 for a map or modules that are refused; 7 or 8 for a module whose bytes are refused; 20 where no module
+/// has a name; or 5, out of memory.
+#[unsafe(no_mangle)]
+pub extern "C" fn talft_link(
+    alloc: Global,
+    map: &[u8],
+    modules: &[Module],
+    out: &mut [u8],
+    made: &mut usize,
+    module: &mut u32,
+    why: &mut Refused,
+) -> u32
+    ensures linked { (result ≡ 0) ⊎ (result ≡ 15) → Given (IsLinkedOf modules.now map.now) out.old out.new made.new result }
+    ensures unlinked { result ≢ 0 → result ≢ 5 → result ≢ 15 → IsUnlinked modules.now map.now (record { status = result; «module» = «module».new; why = why.new }) }
+    ensures kept { result ≢ 0 → out.new ≡ out.old }
+{
+    let answer = link_into(alloc, map, modules, out);
+    *made = answer.written.made;
+    *module = answer.module;
+    *why = answer.written.why;
+    answer.written.status
+}

@@ -1,0 +1,39 @@
+//! Faults that are tried on an object.
+ghost use Rattle.std.specs.Prelude.{◌≡◌, ◌≤◌, ◌⊎◌, List};
+ghost use Rattle.ft_isa.specs.declared.plan.Wild.{Wild as Answer};
+ghost use Rattle.ft_embed.specs.Plans.{AreAnswers};
+ghost use Rattle.ft_embed.specs.Trials.{IsListRefused, TriesFile, WantsRoom};
+ghost use Rattle.ft_embed.specs.Verdicts.{IsAcceptedFile, Tells, verdict_on};
+
+use ft_embed::{FaultTotals, FaultVerdict, Refused, campaign};
+use std::alloc::Global;
+
+/// Checks the object that bytes spell, and runs it without a fault and under each fault of a list, each for at most
+/// `steps` steps, which are at most 1,000,000, and with the answers to wild loads that a text says. The list is a text
+/// of lines such as `4:r1:6`. The verdicts go into the array, in the list's order. The answer is 0; 15 where they
+/// find no room; 11 for a list that is refused; 2 for a text that says no answers, or too many steps; 7 or 8 for
+/// bytes that are refused; or 5, out of memory.
+#[unsafe(no_mangle)]
+pub extern "C" fn talft_campaign(
+    alloc: Global,
+    bytes: &[u8],
+    list: &[u8],
+    wild: &[u8],
+    steps: u64,
+    out: &mut [FaultVerdict],
+    totals: &mut FaultTotals,
+    why: &mut Refused,
+) -> u32
+    ensures tries { result ≡ 0 → TriesFile bytes.now list.now wild.now steps totals.new out.new }
+    ensures accepted { (result ≡ 11) ⊎ (result ≡ 15) → IsAcceptedFile bytes.now }
+    ensures wants { result ≡ 15 → WantsRoom list.now totals.new out.old out.new }
+    ensures bad_list { result ≡ 11 → IsListRefused list.now steps why.new }
+    ensures malformed { result ≡ 7 → Tells result why.new (verdict_on bytes.now) }
+    ensures refused { result ≡ 8 → Tells result why.new (verdict_on bytes.now) }
+    ensures no_plan { result ≡ 2 → (answers : List Answer) → AreAnswers wild.now answers → steps ≤ 1000000 → ⊥ }
+{
+    let answer = campaign(alloc, bytes, list, wild, steps, out);
+    *totals = answer.totals;
+    *why = answer.why;
+    answer.status
+}

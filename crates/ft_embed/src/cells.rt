@@ -1,0 +1,90 @@
+//! Objects that get another initial word of a cell, in place.
+ghost use Rattle.std.specs.Prelude.{◌≡◌, ◌≢◌, ◌≤◌, ◌+◌, ◌*◌, ◌++◌, length, take, drop, slice_get, Some, true, false};
+ghost use Rattle.ft_isa.specs.BasicTypes.{int};
+ghost use Rattle.ft_types.specs.Spellable.{IsSpellable};
+ghost use Rattle.ft_format.specs.Layout.{bytes_of};
+ghost use Rattle.std.specs.Int.{w64};
+ghost use Rattle.ft_embed.specs.Cells.{HasIntCell, HasNoCell, HasOtherCell, IsSet};
+ghost use Rattle.ft_embed.specs.Texts.{IsMalformed};
+
+use crate::refused::{nothing, told_error};
+use crate::verdict::Verdict;
+use ft_isa::{Base, Basic};
+use ft_types::Program;
+use ft_view::View;
+
+/// Whether a basic type is `int`.
+fn is_int(basic: Basic) -> bool
+    ensures yes { result ≡ true → basic ≡ int }
+    ensures no { result ≡ false → basic ≢ int }
+{
+    match basic.base {
+        Base::Int => basic.refs == 0,
+        Base::Code(_) => false,
+    }
+}
+
+/// Nothing is refused, or for what has no place.
+fn without_place(status: u32) -> Verdict
+    ensures { result.status ≡ status }
+{
+    Verdict {
+        status,
+        why: nothing(),
+    }
+}
+
+/// Looks for a cell of type `int` of the object that bytes spell. The status is 0; 7 for bytes that spell no
+/// object; 16 where there is no such cell; or 19 where it is of another type.
+fn find_int_cell(bytes: &[u8], cell: u32) -> Verdict
+    ensures found { result.status ≡ 0 → HasIntCell bytes.now cell }
+    ensures malformed { result.status ≡ 7 → IsMalformed bytes.now result.why }
+    ensures none { result.status ≡ 16 → HasNoCell bytes.now cell }
+    ensures other { result.status ≡ 19 → HasOtherCell bytes.now cell }
+    ensures status { result.status ≢ 7 → result.status ≢ 16 → result.status ≢ 19 → result.status ≡ 0 }
+{
+    let view = match View::over(bytes) {
+        Ok(view) => view,
+        Err(error) => {
+            return Verdict {
+                status: 7,
+                why: told_error(error),
+            };
+        }
+    };
+    if cell >= view.counts().cells {
+        return without_place(16);
+    }
+    let head = view.cell(cell);
+    if !is_int(head.basic) {
+        return without_place(19);
+    }
+    without_place(0)
+}
+
+/// Writes a word at a place.
+fn put_word(bytes: &mut [u8], at: usize, word: u64)
+    requires { at + 8 ≤ length bytes.old }
+    ensures { bytes.new ≡ take at bytes.old ++ (bytes_of w64 word ++ drop (at + 8) bytes.old) }
+{
+    bytes[at..at + 8].copy_from_slice(&word.to_be_bytes());
+}
+
+/// Changes bytes so that they spell the same object with another initial word of a cell of type `int`. The object
+/// is accepted exactly where it was before. The status is 0; 7 for bytes that spell no object; 16 where there is
+/// no such cell; or 19 where it is of another type. In each case but 0 the bytes stay.
+pub fn set_cell(bytes: &mut [u8], cell: u32, word: u64) -> Verdict
+    ensures set { result.status ≢ 7 → result.status ≢ 16 → result.status ≢ 19 → IsSet bytes.old bytes.new cell word }
+    ensures status { result.status ≢ 7 → result.status ≢ 16 → result.status ≢ 19 → result.status ≡ 0 }
+    ensures malformed { result.status ≡ 7 → IsMalformed bytes.old result.why }
+    ensures none { result.status ≡ 16 → HasNoCell bytes.old cell }
+    ensures other { result.status ≡ 19 → HasOtherCell bytes.old cell }
+    ensures kept { result.status ≢ 0 → bytes.new ≡ bytes.old }
+{
+    let found = find_int_cell(bytes, cell);
+    if found.status == 0 {
+        // The record of a cell has its initial word in its second half.
+        put_word(bytes, 56 + 16 * cell as usize, word);
+    }
+    found
+}

@@ -1,0 +1,132 @@
+//! Modules of a link, and why they are not linked.
+ghost use Rattle.std.specs.Prelude.{◌≡◌, ◌≢◌, List, ℕ, Option};
+ghost use Rattle.ft_typing.specs.Accepted.{Refusal};
+ghost use Rattle.ft_checker.specs.Judges.{IsRefusalOf as IsCheckRefusalOf};
+ghost use Rattle.ft_link_map.specs.MapAnswers.{Answer, IsRefusal};
+ghost use Rattle.ft_modules.specs.LinkRefusals.{LinkRefusal};
+ghost use Rattle.ft_linker.specs.LinkErrors.{IsRefusalOf};
+ghost use Rattle.ft_embed.specs.Links.{IsUnaccepted, IsUnlinkedBy, SaidUnlinked, bad_map, told_link};
+
+use crate::checking::refuse;
+use crate::refused::{Refused, nothing};
+use ft_checker::CheckError;
+use ft_link_map::MapError;
+use ft_linker::LinkError;
+
+/// A module of a link: the name of its file in the map, and the bytes of its object.
+#[repr(C)]
+#[derive(Clone, Copy)]
+pub struct Module<'a> {
+    pub name: &'a [u8],
+    pub bytes: &'a [u8],
+}
+
+/// Why modules are not linked: a status; the number of the module that it is about, in the order of the map, from 0, or 0
+/// where it is about a line; and a refusal.
+#[derive(Clone, Copy)]
+pub struct Unlinked {
+    pub status: u32,
+    pub module: u32,
+    pub why: Refused,
+}
+
+/// A refusal of a link with one number.
+fn told_link(number: u32, place: u64) -> Refused
+    ensures { result ≡ told_link number place }
+{
+    Refused {
+        part: 7,
+        number,
+        place,
+        index: 0,
+    }
+}
+
+/// Out of memory.
+pub(crate) fn no_room() -> Unlinked
+    ensures { result.status ≡ 5 }
+{
+    Unlinked {
+        status: 5,
+        module: 0,
+        why: nothing(),
+    }
+}
+
+/// A map that is refused.
+pub(crate) fn bad_map(number: u32, place: u64) -> Unlinked
+    ensures { result ≡ bad_map number place }
+{
+    Unlinked {
+        status: 13,
+        module: 0,
+        why: told_link(number, place),
+    }
+}
+
+/// What is answered for a map that is refused.
+pub(crate) fn refuse_map(error: MapError) -> Unlinked
+    ensures told { (said : Answer) → IsRefusal error said → result.status ≢ 5 → SaidUnlinked said result }
+    ensures some { (result.status ≢ 0) × (result.status ≢ 15) }
+{
+    match error {
+        MapError::Line { line } => bad_map(1, line as u64),
+        MapError::Twice { line } => bad_map(2, line as u64),
+        MapError::NoMemory => no_room(),
+    }
+}
+
+/// Modules that are not linked, by the number of the refusal.
+fn link_refused(module: u32, why: Refused) -> Unlinked
+    ensures { result ≡ record { status = 13; «module» = «module»; why = why } }
+{
+    Unlinked {
+        status: 13,
+        module,
+        why,
+    }
+}
+
+/// What is answered for modules that are not linked.
+pub(crate) fn refuse_modules(error: LinkError) -> Unlinked
+    ensures told { (x : Option LinkRefusal) → IsRefusalOf x error → result.status ≢ 5 → IsUnlinkedBy x result }
+    ensures some { (result.status ≢ 0) × (result.status ≢ 15) }
+{
+    match error {
+        LinkError::Cells { module } => link_refused(module, told_link(3, module as u64)),
+        LinkError::Rows { module } => link_refused(module, told_link(4, module as u64)),
+        LinkError::Code {
+            module,
+            block,
+            index,
+        } => link_refused(
+            module,
+            Refused {
+                part: 7,
+                number: 5,
+                place: block as u64,
+                index: index as u64,
+            },
+        ),
+        LinkError::TooBig { module } => link_refused(module, told_link(6, module as u64)),
+        LinkError::Block { line } => link_refused(0, told_link(7, line as u64)),
+        LinkError::Stub { line } => link_refused(0, told_link(8, line as u64)),
+        LinkError::Missing { line } => link_refused(0, told_link(9, line as u64)),
+        LinkError::Types { line } => link_refused(0, told_link(10, line as u64)),
+        LinkError::NoMemory => no_room(),
+    }
+}
+
+/// What is answered for a module that is not accepted.
+#[tactic(auto, using(crate::proofs::LinkTurns::some_status))]
+pub(crate) fn refuse_module(error: CheckError, module: u32) -> Unlinked
+    ensures told { (x : Option Refusal) → IsCheckRefusalOf x error → result.status ≢ 5 → IsUnaccepted x «module» result }
+    ensures some { (result.status ≢ 0) × (result.status ≢ 15) }
+{
+    let verdict = refuse(error);
+    Unlinked {
+        status: verdict.status,
+        module,
+        why: verdict.why,
+    }
+}
