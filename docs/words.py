@@ -3,7 +3,8 @@
 
     docs/words.py [--each]      the sum, or each document with its words
 
-Left out is what a script makes: whole documents, and what stands between `<!-- .. -->` and `<!-- end .. -->`.
+A word has a letter or a digit: the lines of a table are none. Left out is what a script makes: whole documents, and what stands
+between `<!-- .. -->` and `<!-- end .. -->`.
 """
 import os
 import re
@@ -11,6 +12,7 @@ import sys
 
 TOP = os.path.dirname(os.path.dirname(os.path.abspath(__file__)))
 MADE = {"CRATES.md", "READING.md", "TRACE.md"}
+WORD = re.compile(r"\S*[^\W_]\S*")
 PART = re.compile(r"<!-- (?!end).*? -->\n.*?<!-- end.*? -->", re.DOTALL)
 
 
@@ -23,7 +25,7 @@ def documents():
 
 def words(path):
     with open(os.path.join(TOP, path), encoding="utf-8") as file:
-        return len(PART.sub("", file.read()).split())
+        return len(WORD.findall(PART.sub("", file.read())))
 
 
 def main(options):

@@ -23,3 +23,6 @@ report 'the table of limits' '' "$(python3 "$top/docs/limits.py" | diff - "$top/
 # What the promises quote of the headline is its clause.
 clause() { sed -n '/ensures headline {/,/}$/p' "$1" | tr -s ' \n' ' ' | sed 's/^ //'; }
 report 'the clause that the promises quote' "$(clause "$top/crates/ft_tool/src/top.rt")" "$(clause "$top/docs/PROMISES.md")"
+
+# Pages that are short enough to be read.
+report 'at most 40,000 words by hand' yes "$(python3 "$top/docs/words.py" | tr -d ' ,' | awk '{ print $1 <= 40000 ? "yes" : $1 }')"
