@@ -27,6 +27,24 @@
     >>> talft.check(talft.schedule(data))
     >>> talft.assemble(talft.disassemble(data)) == data
     True
+    >>> counter = talft.compile("cell n = 0; n = n + 1;")
+    >>> talft.run(talft.set_cell(counter, 0, 41))
+    ('done', [('n', 42)])
+    >>> talft.set_cell(counter, 7, 0)
+    Traceback (most recent call last):
+    IndexError: no cell 7
+    >>> talft.campaign(data, "4:r1:6\\n900:r2:7\\n", steps=100)[1]
+    ('idle', 0)
+    >>> talft.campaign(data, "4:x:6")
+    Traceback (most recent call last):
+    talft.Refused: list 1 1
+    >>> talft.check(talft.link("module main.obj\\n", {"main.obj": data}))
+    >>> talft.link("module main.obj\\nexport show 900\\n", {"main.obj": data})
+    Traceback (most recent call last):
+    talft.Refused: link 7 2
+    >>> talft.link("module main.obj\\n", {})
+    Traceback (most recent call last):
+    KeyError: 'no module 0 of the link map'
 
 The library is found by the environment's TALFT_LIBRARY, else beside this file, else where the system looks. Each
 function may be called from several threads at once; what `stream` gives stays on its thread.
@@ -35,10 +53,12 @@ function may be called from several threads at once; what `stream` gives stays o
 import ctypes
 import os
 
-__all__ = ["Refused", "assemble", "check", "compile", "disassemble", "recover", "run", "schedule", "stream", "upgrade"]
+__all__ = ["Refused", "assemble", "campaign", "check", "compile", "disassemble", "link", "recover", "run", "schedule",
+           "set_cell", "stream", "upgrade"]
 
 _OK, _DETECTED, _BAD_PLAN, _NO_MEMORY = 0, 1, 2, 5
-_CUT, _FULL, _NO_ROOM = 9, 14, 15
+_CUT, _FULL, _NO_ROOM, _NO_CELL, _OTHER_TYPE, _NO_MODULE = 9, 14, 15, 16, 19, 20
+_VERDICTS = "masked", "detected", "idle"
 _ENDS = {_OK: "done", _DETECTED: "detected", _CUT: "cut"}
 
 
@@ -59,17 +79,35 @@ class _Ran(ctypes.Structure):
     _fields_ = [(name, ctypes.c_uint64) for name in ("steps", "count", "restarts", "again")]
 
 
+class _Module(ctypes.Structure):
+    _fields_ = [
+        ("name", ctypes.c_char_p),
+        ("name_len", ctypes.c_size_t),
+        ("bytes", ctypes.c_char_p),
+        ("len", ctypes.c_size_t),
+    ]
+
+
+class _Verdict(ctypes.Structure):
+    _fields_ = [("verdict", ctypes.c_uint64), ("at", ctypes.c_uint64)]
+
+
+class _Totals(ctypes.Structure):
+    _fields_ = [(name, ctypes.c_uint64) for name in ("count", "masked", "detected", "idle")]
+
+
 class _Machine(ctypes.Structure):
     _fields_ = [("there", ctypes.c_uint64), ("at", ctypes.c_void_p)]
 
 
 class Refused(ValueError):
-    """Why bytes or a text are refused: `status`, `part`, `number`, `place` and `index`, as in talft.h. As a text it is
-    the line that the command writes."""
+    """Why bytes or a text are refused: `status`, `part`, `number`, `place`, `index`, and `module` of a link, as in talft.h.
+    As a text it is the line that the command writes."""
 
-    def __init__(self, status, why):
+    def __init__(self, status, why, module=0):
         self.status, self.part, self.number = status, why.part, why.number
-        self.place, self.index = why.place, why.index
+        self.place, self.index, self.module = why.place, why.index, module
+        block = f"{module} {why.place} {why.index}"
         super().__init__(
             {
                 1: f"object {why.number} {why.place}",
@@ -78,6 +116,8 @@ class Refused(ValueError):
                 4: f"check block {why.place} index {why.index} premise {why.number}",
                 5: f"source {why.number} {why.place}",
                 6: f"asm {why.number} {why.place}",
+                7: f"link {why.number} {block if why.number == 5 else why.place}",
+                8: f"list {why.number} {why.place}",
             }.get(why.part, f"status {status}")
         )
 
@@ -98,11 +138,19 @@ def _load():
         getattr(library, runner).argtypes = [
             text, size, text, size, text, size, word, ctypes.POINTER(_Output), size, ctypes.POINTER(_Ran), why,
         ]
+    library.talft_set_cell.argtypes = [text, size, ctypes.c_uint32, word, why]
+    library.talft_link.argtypes = [
+        text, size, ctypes.POINTER(_Module), size, text, size, made, ctypes.POINTER(ctypes.c_uint32), why,
+    ]
+    library.talft_campaign.argtypes = [
+        text, size, text, size, text, size, word, ctypes.POINTER(_Verdict), size, ctypes.POINTER(_Totals), why,
+    ]
     machine = ctypes.POINTER(_Machine)
     library.talft_open.argtypes = [text, size, machine, why]
     library.talft_advance.argtypes = [machine, word, ctypes.POINTER(_Output), size, ctypes.POINTER(_Ran)]
     library.talft_close.argtypes, library.talft_close.restype = [machine], None
-    for function in (*writers, "talft_check", "talft_name", "talft_run", "talft_recover", "talft_open", "talft_advance"):
+    others = ("check", "name", "run", "recover", "set_cell", "link", "campaign", "open", "advance")
+    for function in (*writers, *(f"talft_{name}" for name in others)):
         getattr(library, function).restype = ctypes.c_uint32
     return library
 
@@ -114,10 +162,10 @@ def _bytes(data):
     return data.encode() if isinstance(data, str) else bytes(data)
 
 
-def _answer(status, why):
+def _answer(status, why, module=0):
     if status == _NO_MEMORY:
         raise MemoryError
-    raise Refused(status, why)
+    raise Refused(status, why, module)
 
 
 def _written(function, *asked):
@@ -228,3 +276,54 @@ def schedule(data):
     """The schedule of an object, which has to be accepted."""
     data = _bytes(data)
     return _written(_LIBRARY.talft_schedule, data, len(data))
+
+
+def set_cell(data, cell, word):
+    """The object with another initial word of a cell, which is given by its number and has to be of type `int`. It is
+    accepted exactly where the object is."""
+    data, why = _bytes(data), _Refusal()
+    out = ctypes.create_string_buffer(data)
+    status = _LIBRARY.talft_set_cell(out, len(data), cell, word, ctypes.byref(why))
+    if status == _NO_CELL:
+        raise IndexError(f"no cell {cell}")
+    if status == _OTHER_TYPE:
+        raise TypeError(f"cell {cell} is not of type int")
+    if status != _OK:
+        _answer(status, why)
+    return out.raw[: len(data)]
+
+
+def link(text, modules):
+    """The object that a link map links of modules, which are given by the names of their files."""
+    text, module = _bytes(text), ctypes.c_uint32(0)
+    pairs = [(_bytes(name), _bytes(data)) for name, data in modules.items()]
+    given = (_Module * len(pairs))(*((name, len(name), data, len(data)) for name, data in pairs))
+    room, made, why = 4096, ctypes.c_size_t(0), _Refusal()
+    while True:
+        out = ctypes.create_string_buffer(room)
+        status = _LIBRARY.talft_link(
+            text, len(text), given, len(pairs), out, room, ctypes.byref(made), ctypes.byref(module), ctypes.byref(why),
+        )
+        if status == _OK:
+            return out.raw[: made.value]
+        if status == _NO_MODULE:
+            raise KeyError(f"no module {module.value} of the link map")
+        if status != _NO_ROOM:
+            _answer(status, why, module.value)
+        room = made.value
+
+
+def campaign(data, faults, steps=1_000_000, wild=""):
+    """Checks an object and tries each fault of a list: for each, in order, its verdict ("masked", "detected", "idle"), and
+    the step that detected it, else 0. `faults` is a text of lines such as "4:r1:6"."""
+    data, faults, wild = _bytes(data), _bytes(faults), _bytes(wild)
+    room, totals, why = faults.count(b"\n") + 1, _Totals(), _Refusal()
+    out = (_Verdict * room)()
+    status = _LIBRARY.talft_campaign(
+        data, len(data), faults, len(faults), wild, len(wild), steps, out, room, ctypes.byref(totals), ctypes.byref(why),
+    )
+    if status == _BAD_PLAN:
+        raise ValueError(f"no plan: wild {wild!r}, {steps} steps")
+    if status != _OK:
+        _answer(status, why)
+    return [(_VERDICTS[one.verdict], one.at) for one in out[: totals.count]]

@@ -2,13 +2,14 @@
  * talft: the checker, the machine and the compiler of the command talft, as a C library.
  *
  * What is said here of answers, refusals, outputs, runs and bytes is proved; docs/PROMISES.md has the clauses. Tested only:
- * that talft_ran is 0 after a refusal, when NOT_STRUCK comes, which calls take memory, and that NO_MEMORY comes only when
+ * that talft_ran and talft_totals are 0 after a refusal, which calls take memory, and that NO_MEMORY comes only when
  * memory is short. The proofs take for granted what a caller owes; nothing checks that. docs/EMBEDDING.md says more.
  *
  * WHAT A CALLER OWES
  *   - No pointer is NULL, not even where a length or a room is 0.
  *   - A pointer with a length points to that many bytes, or elements. They exist, are aligned for their type, and are
- *     initialized, also those that a call only writes. The whole is shorter than 2^63 bytes.
+ *     initialized, also those that a call only writes. The whole is shorter than 2^63 bytes. This holds of the pointers in
+ *     a talft_module, too.
  *   - During a call nothing else reads what the call may write, or writes what it reads. What a call writes overlaps
  *     neither what it reads nor anything else that it writes.
  *   - malloc, realloc and free belong to one allocator, report when there is no memory, and align blocks to 16. With
@@ -24,7 +25,7 @@
  * UNITS      Lengths, rooms and places are in bytes, and count from 0. A room for outputs is in outputs. A step is a
  *            step of the machine: an instruction takes two, its fetch and itself.
  * STACK      talft_compile used up to 169 KiB in all tests, with 97 nested loops, 98 nested brackets and 199 operators. The
- *            others used up to 16 KiB. This is measured, not proved.
+ *            others used up to 17 KiB. This is measured, not proved.
  */
 #ifndef TALFT_H
 #define TALFT_H
@@ -40,26 +41,34 @@ extern "C" {
 enum {
     TALFT_OK = 0,            /* accepted; done; written */
     TALFT_DETECTED = 1,      /* the machine noticed a fault and has stopped */
-    TALFT_BAD_PLAN = 2,      /* the text of the fault, of the answers or of the site says none */
+    TALFT_BAD_PLAN = 2,      /* the text of the fault, of the answers or of the site says none; too many steps */
     TALFT_NO_MEMORY = 5,     /* there was no memory; it may come in place of any other answer of a call that takes any */
     TALFT_BAD_SOURCE = 6,    /* the source is refused: part 5 */
     TALFT_MALFORMED = 7,     /* the bytes spell no object: part 1 */
     TALFT_REFUSED = 8,       /* the checker refuses the object: part 2, 3 or 4 */
     TALFT_CUT = 9,           /* the machine still runs after the steps */
+    TALFT_BAD_LIST = 11,     /* the fault list is refused: part 8 */
     TALFT_BAD_ASSEMBLY = 12, /* the assembly text is refused: part 6 */
+    TALFT_NOT_LINKED = 13,   /* the link map is refused, or what it links: part 7 */
     TALFT_FULL = 14,         /* the array of outputs is full, and the machine still runs */
     TALFT_NO_ROOM = 15,      /* the buffer is too small; *made says how many bytes are wanted */
     TALFT_NO_CELL = 16,      /* the object has no such cell */
     TALFT_NOT_NOW = 17,      /* the talft_machine is open already, or not open */
-    TALFT_NOT_STRUCK = 18    /* nothing is struck: there was a strike before, the run has stopped, or the site is absent */
+    TALFT_NOT_STRUCK = 18,   /* nothing is struck: there was a strike before, the run has stopped, or the site is absent */
+    TALFT_OTHER_TYPE = 19,   /* the cell is not of type `int` */
+    TALFT_NO_MODULE = 20     /* no module of the array has a name that the link map gives */
 };
 
-/* Why something is refused. Its part is 0 where the answer is none of 6, 7, 8 and 12. */
+/* Why something is refused. Its part is 0 where the answer is none of 6, 7, 8, 11, 12 and 13. */
 typedef struct talft_refusal {
-    uint32_t part;   /* 0 nothing, 1 the bytes, 2 the entry, 3 a cell, 4 an instruction, 5 a source, 6 an assembly text */
-    uint32_t number; /* 1: the rule, 1 to 9. 4: the premise, 1 to 18. 5: the refusal, 1 to 12. 6: the refusal, 1 to 3 */
-    uint64_t place;  /* 1: the byte. 3: the cell. 4: the block. 5: the byte, or what is above a limit. 6: the line, from 1 */
-    uint64_t index;  /* 4: the index of the instruction in its block, from 0 */
+    uint32_t part;   /* 0 nothing, 1 the bytes, 2 the entry, 3 a cell, 4 an instruction, 5 a source, 6 an assembly text,
+                        7 a link, 8 a fault list */
+    uint32_t number; /* 1: the rule, 1 to 9. 4: the premise, 1 to 18. The refusal of 5: 1 to 12. 6: 1 to 3. 7: 1 to 11.
+                        8: 1 to 3 */
+    uint64_t place;  /* 1: the byte. 3: the cell. 4: the block. 5: the byte, or what is above a limit. 6: the line, from 1.
+                        7: the line from 1, the module from 0, the block (number 5), or 65536 (number 11). 8: the line from
+                        1, 65536 (number 2), or the faults times the steps (number 3) */
+    uint64_t index;  /* 4, 7 (number 5): the index of the instruction in its block, from 0 */
 } talft_refusal;
 
 /* A pair that was committed: the cell by its number in the object, from 0, and the word. */
@@ -130,6 +139,65 @@ uint32_t talft_schedule(const uint8_t *bytes, size_t len, uint8_t *out, size_t r
 /* The name of a cell, without a zero at its end. OK, NO_ROOM, NO_CELL or MALFORMED. It takes no memory. */
 uint32_t talft_name(const uint8_t *bytes, size_t len, uint32_t cell, uint8_t *out, size_t room, size_t *made,
                     talft_refusal *why);
+
+/*
+ * Changes the bytes of an object so that they spell the same object with another initial word of a cell, which is of type
+ * `int`. The object is accepted exactly where it was before, so an object that was checked need not be checked again. OK,
+ * MALFORMED, NO_CELL or OTHER_TYPE; in each case but OK the bytes are as they were. It takes no memory.
+ */
+uint32_t talft_set_cell(uint8_t *bytes, size_t len, uint32_t cell, uint64_t word, talft_refusal *why);
+
+/* A module of a link: the name of its file in the link map, and the bytes of its object. */
+typedef struct talft_module {
+    const uint8_t *name;
+    size_t name_len;
+    const uint8_t *bytes;
+    size_t len;
+} talft_module;
+
+/*
+ * Links 1 to 64 modules as a link map says, and writes the object, in version 2 of the format. For each line `module FILE`
+ * of the map the first module of the array with the name FILE is taken. The object is accepted; it runs as the modules do,
+ * and one fault is masked or detected. OK or NO_ROOM: *made is the number of its bytes.
+ *
+ * NOT_LINKED, part 7: the number of the refusal is that of the command `talft link`. MALFORMED or REFUSED: a module is, as
+ * by talft_check. NO_MODULE: no module has the name. In these cases *module is the number of the module in the map, from 0;
+ * it is 0 where the refusal is about a line. Or NO_MEMORY. In each case but OK `out` is as it was.
+ */
+uint32_t talft_link(const uint8_t *map, size_t map_len, const talft_module *modules, size_t count, uint8_t *out,
+                    size_t room, size_t *made, uint32_t *module, talft_refusal *why);
+
+/* What a fault did to a run, against the run without it. A fault of an accepted object does nothing else. */
+enum {
+    TALFT_FAULT_MASKED = 0,   /* outputs and end are the same */
+    TALFT_FAULT_DETECTED = 1, /* the machine noticed it and has stopped; the outputs so far begin those of the run without it */
+    TALFT_FAULT_IDLE = 2      /* nothing was struck */
+};
+
+/* The verdict of a fault, and the number of the step that detected it, from 0; else 0. */
+typedef struct talft_verdict {
+    uint64_t verdict;
+    uint64_t at;
+} talft_verdict;
+
+/* How many faults were tried, and how many have each verdict. */
+typedef struct talft_totals {
+    uint64_t count;
+    uint64_t masked;
+    uint64_t detected;
+    uint64_t idle;
+} talft_totals;
+
+/*
+ * Checks an object, and runs it without a fault and under each fault of a list, each for at most `steps` steps, which are at
+ * most 1,000,000. The list is a text of at most 65,536 lines such as `4:r1:6`; `wild` is as in talft_run. OK: the array has
+ * the verdict of each fault, in the list's order, and the totals count them. NO_ROOM: totals->count is how many faults there
+ * are, and the array is as it was. BAD_LIST, part 8: number 1, a line is no fault; 2, there are too many; 3, the number of
+ * faults times that of the steps is above 1,000,000,000. Or BAD_PLAN, MALFORMED, REFUSED or NO_MEMORY.
+ */
+uint32_t talft_campaign(const uint8_t *bytes, size_t len, const uint8_t *list, size_t list_len, const uint8_t *wild,
+                        size_t wild_len, uint64_t steps, talft_verdict *verdicts, size_t room, talft_totals *totals,
+                        talft_refusal *why);
 
 /*
  * A run that goes on from call to call. Begin it as TALFT_NO_MACHINE, and neither read nor write what is in it. A copy of

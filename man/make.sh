@@ -41,7 +41,7 @@ document() {
 }
 
 sum() { sha256sum | cut -d' ' -f1; }
-sum_of_sources() { cat "$1" man/page.lua man/help.py man/make.sh man/*.more | sum; }
+sum_of_sources() { cat $1 man/page.lua man/help.py man/make.sh man/*.more | sum; }
 
 head_of() { printf '.TH %s %d %s talft "Manual of talft"\n' "${1^^}" "$2" "$(date -u +%F)"; }
 
@@ -55,6 +55,15 @@ lines() {
   [ ! -f "man/$name.more" ] || cat "man/$name.more"
   printf '.SH SEE ALSO\n'
   pages | awk -v page="$name.$section" '$1 "." $2 != page { printf "%s.BR %s (%d)", n++ ? " ,\n" : "", $1, $2 } END { print "" }'
+}
+
+# The same of the C library: its document, and the header as it is.
+lines_of_library() {
+  lines talft 3 EMBEDDING 'the checker, the machine and the compiler of talft as a C library' | sed '/^\.SH SEE ALSO$/,$d'
+  printf '.SH THE HEADER\n.nf\n'
+  sed 's/\\/\\e/g; s/-/\\-/g; s/^[.'"'"']/\\\&&/' include/talft.h
+  printf '.fi\n.SH SEE ALSO\n'
+  pages | awk '{ printf "%s.BR %s (%d)", n++ ? " ,\n" : "", $1, $2 } END { print "" }'
 }
 
 # The same of a tool's page.
@@ -83,6 +92,7 @@ is_asked=${1-}
 while read -r name section document about; do
   page "man/$name.$section" "docs/$document.md" lines "$name" "$section" "$document" "$about"
 done < <(pages)
+page man/talft.3 'docs/EMBEDDING.md include/talft.h' lines_of_library
 for name in $(tools); do
   page "man/talft-$name.1" "tools/$name" lines_of_tool "$name"
 done

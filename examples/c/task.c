@@ -1,10 +1,11 @@
-/* A task on board. It runs an object by slices, and hands out the outputs as they come. In the first cycle a fault is
- * struck; where it is detected, the task begins the run again and leaves out the outputs that it handed out before. So the
- * outputs of each cycle are those of the run without a fault.
+/* A task on board. Before each cycle it sets its input, a cell of the object. It runs the object by slices, and hands out
+ * the outputs as they come. In the first cycle a fault is struck; where it is detected, the task begins the run again and
+ * leaves out the outputs that it handed out before. So the outputs of each cycle are those of the run without a fault.
  *
- *     task FILE SLICE [CYCLES [STEP SITE VALUE]]
+ *     task FILE SLICE [CYCLES [STEP SITE VALUE]] [CELL=WORD,WORD,..]
  *
- * prints the lines of each cycle, and ends with the status of the last one.
+ * prints the lines of each cycle, and ends with the status of the last one. Cycle i begins with word i in the cell; after the
+ * last word the cell keeps it.
  */
 #include "talft.h"
 
@@ -27,6 +28,21 @@ static void hand_out(const talft_output *output)
 
     if (talft_name(bytes, len, (uint32_t)output->cell, name, sizeof name, &made, &why) == TALFT_OK)
         printf("%.*s %" PRIu64 "\n", (int)made, (const char *)name, output->value);
+}
+
+/* Sets a cell, by its name, to the next word of a text, and gives what follows: nothing where there is no such cell. */
+static const char *set_input(const char *text, size_t name_len, const char *words)
+{
+    uint8_t name[40] = {0};
+    size_t made = 0;
+    char *end = NULL;
+    talft_refusal why = {0, 0, 0, 0};
+    uint64_t word = strtoull(words, &end, 0);
+
+    for (uint32_t cell = 0; talft_name(bytes, len, cell, name, sizeof name, &made, &why) == TALFT_OK; cell++)
+        if (made == name_len && memcmp(name, text, made) == 0)
+            return talft_set_cell(bytes, len, cell, word, &why) == TALFT_OK ? end : NULL;
+    return NULL;
 }
 
 /* The run of one cycle, from its begin to its end. The fault, if there is one, strikes before a step. */
@@ -67,20 +83,32 @@ int main(int argc, char **argv)
 {
     talft_machine machine = TALFT_NO_MACHINE;
     talft_refusal why = {0, 0, 0, 0};
-    FILE *file = argc == 3 || argc == 4 || argc == 7 ? fopen(argv[1], "rb") : NULL;
+    const char *input = argc > 3 ? strchr(argv[argc - 1], '=') : NULL, *words = input != NULL ? input + 1 : NULL;
+    int count = argc - (input != NULL);
+    FILE *file = count == 3 || count == 4 || count == 7 ? fopen(argv[1], "rb") : NULL;
     uint64_t slice = file != NULL ? strtoull(argv[2], NULL, 10) : 0;
-    uint64_t cycles = argc > 3 ? strtoull(argv[3], NULL, 10) : 1;
-    uint32_t status;
+    uint64_t cycles = count > 3 ? strtoull(argv[3], NULL, 10) : 1;
+    uint32_t status = TALFT_OK;
+    int is_open = 0;
 
     if (file == NULL || slice == 0)
         return 2;
     len = fread(bytes, 1, sizeof bytes, file);
     fclose(file);
-    status = talft_open(bytes, len, &machine, &why);
     for (uint64_t i = 0; (status == TALFT_OK || status == TALFT_CUT) && i < cycles; i++) {
-        if (i > 0)
-            talft_restart(&machine);
-        if (argc == 7 && i == 0)
+        if (input != NULL && *words != '\0') {
+            talft_close(&machine);
+            is_open = 0;
+            words = set_input(argv[argc - 1], (size_t)(input - argv[argc - 1]), words);
+            if (words == NULL)
+                return 2;
+            words += *words == ',';
+        }
+        status = is_open ? talft_restart(&machine) : talft_open(bytes, len, &machine, &why);
+        if (status != TALFT_OK)
+            break;
+        is_open = 1;
+        if (count == 7 && i == 0)
             status = cycle(&machine, slice, strtoull(argv[4], NULL, 10), argv[5], strtoull(argv[6], NULL, 10));
         else
             status = cycle(&machine, slice, 0, NULL, 0);

@@ -3,7 +3,7 @@ library=$top/crates/ft_c/out/library
 embed=(-std=c99 -Wall -Wextra -Werror -pedantic -O2 -I"$top/include")
 if has cc 'the C library' && has ar 'the C library'; then
   report 'the C library is made' 0 "$(bash "$top/build/library.sh" >embed.said 2>&1; echo $?)"
-  report 'what the shared library shows' "$(sed -n 's/^\(uint32_t\|void\) \(talft_[a-z]*\)(.*/\2/p' "$top/include/talft.h" |
+  report 'what the shared library shows' "$(sed -n 's/^\(uint32_t\|void\) \(talft_[a-z_]*\)(.*/\2/p' "$top/include/talft.h" |
     grep -v '^talft_arena$' | sort | tr '\n' ' ')" "$(nm -D --defined-only "$library/libtalft.so" | awk '{ print $3 }' | sort | tr '\n' ' ')"
   report 'what it asks of the C library' 'free malloc memcpy memmove memset realloc ' \
     "$(nm -D --undefined-only "$library/libtalft.so" | awk '$1 == "U" { sub(/@.*/, "", $2); print $2 }' | sort | tr '\n' ' ')"
@@ -30,6 +30,23 @@ if has cc 'the C library' && has ar 'the C library'; then
     done
     report "two cycles of $name" "$(printf '%s\n%s' "${whole%$'\n'*}" "$whole")" "$(./embed_task "embed_objects/$name.obj" 1000 2; echo $?)"
   done
+  # A task sets its input before each cycle: as many runs, each of the object that tools/set makes.
+  printf 'cell in = 0; cell out = 0; out = in + 1;' >embed_step.src
+  "$top/talft" compile embed_step.src >embed_step.obj 2>/dev/null
+  report 'a task with inputs' "$(for word in 7 8 1; do
+    TALFT=$top/talft "$top/tools/set" embed_step.obj in=$word >embed_set.obj 2>/dev/null && "$top/talft" run embed_set.obj 2>/dev/null
+  done)" "$(./embed_task embed_step.obj 3 3 in=7,8,1)"
+  # From Python: a cell that is set, a campaign and a link, beside tools/set and the command.
+  beside() { TALFT_LIBRARY=$library/libtalft.so PYTHONPATH=$library python3 -B "$top/tests/embed/beside.py" "$@"; }
+  TALFT=$top/talft "$top/tools/set" embed_step.obj in=41 >embed_set.obj 2>/dev/null
+  report 'a cell that is set' "$(sha256sum <embed_set.obj)" "$(beside set embed_step.obj 0 41 | sha256sum)"
+  printf '0:r1:6\n4:r1:6\n5:pcb:1\n7:d:9\n20000:r2:1\n' >embed_faults
+  report 'a campaign' "$("$top/talft" campaign "$top/examples/five.obj" --faults embed_faults --steps 1000 2>/dev/null)" \
+    "$(beside campaign "$top/examples/five.obj" embed_faults 1000)"
+  printf 'module a.obj\nmodule b.obj\n' >embed_map && cp embed_step.obj a.obj && cp embed_step.obj b.obj
+  report 'a link' "$("$top/talft" link embed_map 2>/dev/null | sha256sum)" "$(beside link embed_map a.obj b.obj | sha256sum)"
+  printf 'module a.obj\nexport x 900\n' >embed_map
+  report 'a link that is refused' "$("$top/talft" link embed_map 2>/dev/null)" "$(beside link embed_map a.obj)"
   report 'Python' '' "$(cd "$library" && TALFT_LIBRARY=$library/libtalft.so python3 -m doctest talft.py 2>&1)"
   report 'a recovery from Python' "$("$top/talft" recover "$top/examples/five.obj" --steps 1000 --fault 4:r1:6 2>/dev/null)" \
     "$(cd "$library" && TALFT_LIBRARY=$library/libtalft.so python3 -c 'import sys, talft

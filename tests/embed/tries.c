@@ -4,8 +4,9 @@
  *     tries COUNT SEED FILE..
  *
  * For each object it checks that talft_check, talft_run, talft_recover and talft_open agree on the status and the refusal,
- * for each bit turned and for COUNT damages; that each allocation that fails ends a call with status 5 or its usual answer;
- * and that no block is left. The last line has the number of calls and a sum of all answers, which tells processors apart.
+ * for each bit turned and for COUNT damages; that a cell that is set keeps the verdict, and set back makes the bytes again;
+ * that a campaign and a link agree with the check; that each allocation that fails ends a call with status 5 or its usual
+ * answer; and that no block is left. The last line has the number of calls and a sum of all answers, which tells processors apart.
  */
 #include "../../embed/rattle.h"
 #include "talft.h"
@@ -113,6 +114,68 @@ static uint32_t by_machine(size_t len, talft_refusal *why)
     return status;
 }
 
+/* A cell is set and set back. What was accepted stays so, and what is refused stays refused. */
+static void by_cell(size_t len, uint32_t verdict)
+{
+    talft_refusal why = {9, 9, 9, 9}, other = {9, 9, 9, 9};
+    uint32_t cell = (uint32_t)(draw() % 4), status;
+    uint64_t word = draw(), before = 0;
+
+    if (verdict != TALFT_MALFORMED && cell < bytes[11] + 256u * bytes[10])
+        for (int i = 0; i < 8; i++)
+            before = before << 8 | bytes[56 + 16 * cell + (uint32_t)i];
+    memcpy(again, bytes, len);
+    status = answered(talft_set_cell(bytes, len, cell, word, &why), &why);
+    if ((status == TALFT_MALFORMED) != (verdict == TALFT_MALFORMED))
+        wrong("talft_set_cell and talft_check differ");
+    if (status == TALFT_OK) {
+        if (talft_check(bytes, len, &other) != verdict)
+            wrong("a cell that is set changes the verdict");
+        if (talft_set_cell(bytes, len, cell, before, &why) != TALFT_OK)
+            wrong("a cell cannot be set again");
+    }
+    if (memcmp(again, bytes, len) != 0)
+        wrong("the bytes are not as they were");
+}
+
+/* A campaign of a few faults, and a link of the object alone. */
+static void by_lists(size_t len, uint32_t verdict, const talft_refusal *refused)
+{
+    static const char list[] = "4:r1:6\n7:r33:99\n20:pcg:3\n31:d:9\n9:qv0:1\n900:r2:7", map[] = "module own\n";
+    talft_verdict verdicts[6] = {{0, 0}};
+    talft_totals totals = {0, 0, 0, 0};
+    talft_refusal why = {9, 9, 9, 9};
+    talft_module modules[2] = {{(const uint8_t *)"other", 5, bytes, 0}, {(const uint8_t *)"own", 3, bytes, len}};
+    size_t room = draw() % 8 == 0 ? 5 : 6, made = 0;
+    uint32_t module = 9, status;
+
+    status = answered(talft_campaign(bytes, len, (const uint8_t *)list, sizeof list - 1, (const uint8_t *)"", 0, STEPS,
+                                     verdicts, room, &totals, &why), &why);
+    if (verdict != TALFT_OK ? status != verdict || !same(&why, refused) : status != (room == 6 ? TALFT_OK : TALFT_NO_ROOM))
+        wrong("talft_campaign and talft_check differ");
+    if (verdict == TALFT_OK && totals.count != 6)
+        wrong("a campaign leaves out faults");
+    if (status == TALFT_OK && totals.masked + totals.detected + totals.idle != 6)
+        wrong("a campaign counts other verdicts");
+    for (size_t i = 0; i < 6; i++) {
+        add(verdicts[i].verdict);
+        add(verdicts[i].at);
+    }
+    status = answered(talft_link((const uint8_t *)map, sizeof map - 1, modules, 2, again, draw() % sizeof again, &made,
+                                 &module, &why), &why);
+    if (verdict != TALFT_OK ? status != verdict || !same(&why, refused)
+                            : status != TALFT_OK && status != TALFT_NO_ROOM && status != TALFT_NOT_LINKED)
+        wrong("talft_link and talft_check differ");
+    if (module != 0)
+        wrong("a link tells another module");
+    if (status == TALFT_OK && talft_check(again, made, &why) != TALFT_OK)
+        wrong("what is linked is not accepted");
+    add(made);
+    if (answered(talft_link((const uint8_t *)map, sizeof map - 1, modules, 1, again, 64, &made, &module, &why), &why) !=
+        TALFT_NO_MODULE)
+        wrong("a module is found that is not there");
+}
+
 /* Each call over the object. They agree on its refusal. */
 static void try_all(size_t len)
 {
@@ -144,6 +207,8 @@ static void try_all(size_t len)
     answered(talft_schedule(bytes, len, again, draw() % sizeof again, &made, &other), &other);
     cell = (uint32_t)(draw() % 4);
     answered(talft_name(bytes, len, cell, again, draw() % 40, &made, &other), &other);
+    by_cell(len, verdict);
+    by_lists(len, verdict, &why);
     if (live != 0)
         wrong("a block is left");
 }
@@ -156,7 +221,13 @@ static void try_failing(size_t len)
     talft_ran ran = {0, 0, 0, 0};
     size_t made = 0;
 
-    for (int call = 0; call < 6; call++) {
+    static const char list[] = "4:r1:6\n9:r2:7\n", map[] = "module own\n";
+    talft_verdict verdicts[2] = {{0, 0}};
+    talft_totals totals = {0, 0, 0, 0};
+    talft_module own = {(const uint8_t *)"own", 3, bytes, len};
+    uint32_t module = 0;
+
+    for (int call = 0; call < 8; call++) {
         uint32_t usual = 0;
         for (uint64_t n = 0;; n++) {
             uint32_t status = 0;
@@ -171,6 +242,10 @@ static void try_failing(size_t len)
                                            outputs, ROOM, &ran, &why); break;
             case 3: status = by_machine(len, &why); break;
             case 4: status = talft_disassemble(bytes, len, text, sizeof text, &made, &why); break;
+            case 5: status = talft_campaign(bytes, len, (const uint8_t *)list, sizeof list - 1, (const uint8_t *)"", 0, STEPS,
+                                            verdicts, 2, &totals, &why); break;
+            case 6: status = talft_link((const uint8_t *)map, sizeof map - 1, &own, 1, again, sizeof again, &made, &module,
+                                        &why); break;
             default: status = talft_schedule(bytes, len, again, sizeof again, &made, &why); break;
             }
             random_state = state;
