@@ -34,15 +34,15 @@ wrong-bodies:
 ARCH = x86_64
 HEAP = heap
 library:
-	@HEAP=$(HEAP) PREFIX=$(PREFIX) bash build/library.sh $(ARCH)
+	@HEAP=$(HEAP) bash build/library.sh $(ARCH)
 
 install: install-program install-library
 
-# The program alone, as a release has it.
+# The program with its manual, tools and examples, and what it is a build of.
 install-program: $(if $(PROGRAM),,all)
 	install -d $(bin) $(share)/man/man1 $(share)/man/man5 $(share)/man/man7 $(to_bash) $(to_vim)/syntax $(to_vim)/ftdetect \
 	  $(share)/talft/editors/vscode $(share)/talft/editors/debugging $(share)/talft/examples/c $(share)/talft/examples/rust \
-	  $(share)/talft/tools/wasm $(share)/talft/tools/debugging
+	  $(share)/talft/tools/wasm $(share)/talft/tools/debugging $(share)/doc/talft
 	install -m 755 $(or $(PROGRAM),crates/talft/out/talft) $(bin)/talft
 	install -m 644 man/*.1 $(share)/man/man1
 	install -m 644 man/*.5 $(share)/man/man5
@@ -62,6 +62,8 @@ install-program: $(if $(PROGRAM),,all)
 	install -m 644 $(filter-out $(scripts),$(wildcard tools/*.*)) $(share)/talft/tools
 	install -m 644 tools/wasm/*.* $(share)/talft/tools/wasm
 	install -m 644 tools/debugging/*.py $(share)/talft/tools/debugging
+	top=$$(pwd -P) program=$(or $(PROGRAM),crates/talft/out/talft) bash -c '. build/about.sh; about' >$(share)/doc/talft/BUILD
+	chmod 644 $(share)/doc/talft/BUILD
 
 install-library: library
 	install -d $(lib)/pkgconfig $(include) $(share)/man/man3 $(share)/talft/tools $(share)/talft/embed
@@ -81,16 +83,18 @@ uninstall:
 	rm -f $(patsubst man/%,$(share)/man/man1/%,$(wildcard man/*.1)) $(patsubst man/%,$(share)/man/man5/%,$(wildcard man/*.5))
 	rm -f $(patsubst man/%,$(share)/man/man7/%,$(wildcard man/*.7))
 	rm -rf $(share)/talft
+	rm -f $(share)/doc/talft/BUILD
+	rmdir $(share)/doc/talft 2>/dev/null || true
 
-# A tarball and a Debian package of what is built, in out/.
-dist: all
+# A tarball and a Debian package of program and library, in out/.
+dist: all library
 	@bash build/dist.sh tar out "" $(GATE_LOG)
 
-deb: all
+deb: all library
 	@bash build/dist.sh deb out "" $(GATE_LOG)
 
 # What was proved, tried and measured, in one folder in out/. It runs the gate where GATE_LOG names no log of it.
-evidence: all
+evidence: all library
 	@bash build/evidence.sh out $(GATE_LOG)
 
 # The documents, the manual pages and the trace as a site in out/site, with a search.
@@ -99,7 +103,7 @@ site:
 	@python3 build/site.py out/site
 
 # Builds twice, in other folders, at other times, with another locale and number of processors, and compares the bytes.
-same-bytes: all
+same-bytes: all library
 	@bash tests/same_bytes.sh
 
 clean:

@@ -1,4 +1,4 @@
-# What a build is of: version, commit, kit, and the time that its files get. The caller sets `top`, and has read kit.sh.
+# What a build is of: version, commit, kit, and the time that its files get. The caller sets `top`, and `program`.
 
 version=$(cat "$top/VERSION")
 

@@ -1,15 +1,15 @@
 #!/usr/bin/env bash
 # Makes a release: `dist.sh tar|deb FOLDER [PROGRAM [LOG]]` writes the tarball or the Debian package into the folder, and
-# prints its name. PROGRAM is what `make` proved and built. LOG is that of a gate run, for the counts in PROOF.md. The bytes
-# depend on the sources, the program, the kit and LOG alone: names are sorted, owners are 0, and times are those of the commit, or
-# $SOURCE_DATE_EPOCH.
+# prints its name. PROGRAM is what `make` proved and built; the C library is what `make library` did. LOG is that of a gate
+# run, for the counts in PROOF.md. The bytes depend on the sources, the kit, the C compiler and LOG alone: names are sorted,
+# owners are 0, and times are those of the commit, or $SOURCE_DATE_EPOCH.
 set -eu
 export LC_ALL=C TZ=UTC
 umask 022
 top=$(cd "$(dirname "${BASH_SOURCE[0]}")/.." && pwd)
 . "$top/build/kit.sh"
 . "$top/build/about.sh"
-kind=$1 to=$2 program=${3:-$top/crates/talft/out/talft} log=${4-}
+kind=${1-} to=${2-out} program=${3:-$top/crates/talft/out/talft} log=${4-}
 SOURCE_DATE_EPOCH=$(time_of_sources)
 export SOURCE_DATE_EPOCH
 mkdir -p "$to"
@@ -29,7 +29,7 @@ case $kind in
     machine=$(dpkg --print-architecture) name=talft_${version}_$(dpkg --print-architecture)
     bash "$top/build/stage.sh" "$work/root" "$program" ${log:+"$log"}
     mkdir -p "$work/deb/usr" "$work/deb/DEBIAN"
-    mv "$work/root/bin" "$work/root/share" "$work/deb/usr"
+    mv "$work/root"/{bin,include,lib,share} "$work/deb/usr"
     rm "$work/root/CHECKSUMS"
     mv "$work/root"/* "$work/deb/usr/share/doc/talft"
     gzip -9n "$work/deb"/usr/share/man/man*/*
@@ -44,15 +44,17 @@ Maintainer: $(sed -n 's/^Maintainers: //p' "$top/SECURITY.md")
 Installed-Size: $size
 Depends: libc6 (>= 2.34)
 Recommends: python3 (>= 3.9)
-Suggests: clang, lld, vim, parallel, slurm-client
+Suggests: gcc, pkg-config, clang, lld, vim, parallel, slurm-client
 Section: devel
 Priority: optional
 Description: fault-tolerant typed assembly, with a proved checker
  An object that the checker accepts masks or detects one fault in a register, a
  program counter or a pending store. The package has the program, its manual,
- completion, syntax files, examples, and tools for programs in C, fault lists,
- campaigns, pictures and debugging.
+ completion, syntax files, examples, the C library with its header, and tools
+ for programs in C, fault lists, campaigns, pictures and debugging.
 CONTROL
+    # dpkg then tells the system of the shared library.
+    echo 'activate-noawait ldconfig' >"$work/deb/DEBIAN/triggers"
     find "$work/deb" -exec touch -h -d "@$SOURCE_DATE_EPOCH" {} +
     dpkg-deb --root-owner-group --threads-max=1 -Zxz -z6 --build "$work/deb" "$to/$name.deb" >/dev/null
     echo "$to/$name.deb"

@@ -21,14 +21,16 @@ python3 "$top/docs/trace.py" --check >"$to/trace.problems"
 python3 "$top/docs/trace.py" --csv "$to/trace.csv" && python3 "$top/docs/trace.py" --page "$to/trace.html" &&
   python3 "$top/build/counts.py" "$to/gate.log" >"$to/counts.md" &&
   cp "$top"/docs/{TRACE,PROMISES,QUALIFICATION,KNOWN,READING,LIMITS,SPEED}.md "$top"/{CHANGELOG,SECURITY}.md "$to" || exit 2
-program=$top/crates/talft/out/talft
+program=$top/crates/talft/out/talft library=$top/crates/ft_c/out/library
 if command -v rt >/dev/null; then
   python3 "$top/build/sbom.py" "$version" "$(commit_of_sources)" "$(time_of_sources)" "$(dirname "$(rt doc)")" "$(rt version)" \
-    "$program" >"$to/SBOM.spdx.json"
+    "$program" "$library/libtalft.a" "$library/libtalft.so" >"$to/SBOM.spdx.json"
 fi
 {
   about
   echo "program: $(sha256sum <"$program" | cut -d' ' -f1)"
+  echo "libtalft.a: $(sha256sum <"$library/libtalft.a" | cut -d' ' -f1)"
+  echo "libtalft.so.0: $(sha256sum <"$library/libtalft.so" | cut -d' ' -f1)"
   echo "kit here: $(rt version 2>/dev/null || echo none)"
   echo "gate: ${status:+status $status; }last line: $(tail -n 1 "$to/gate.log")"
   grep '^rt: ok' "$to/gate.log" | tail -n 1

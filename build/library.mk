@@ -4,7 +4,6 @@ CC = cc
 AR = ar
 HEAP = heap
 CFLAGS = -O2
-PREFIX = /usr/local
 VERSION := $(shell cat VERSION)
 warnings = -std=c99 -Wall -Wextra -pedantic
 
@@ -17,14 +16,14 @@ $(OUT)/heap.o: embed/$(HEAP).c embed/rattle.h include/talft.h
 
 $(OUT)/libtalft.a: $(ARCHIVE) $(OUT)/heap.o
 	rm -f $@
-	cd $(OUT) && $(AR) x $(abspath $(ARCHIVE)) && $(AR) rcs libtalft.a *.o && ls *.o | grep -vx heap.o | xargs rm -f
+	cd $(OUT) && $(AR) x $(abspath $(ARCHIVE)) && $(AR) rcsD libtalft.a *.o && ls *.o | grep -vx heap.o | xargs rm -f
 
 $(OUT)/libtalft.so: $(OUT)/libtalft.a embed/talft.map
 	$(CC) -shared -Wl,--whole-archive $(OUT)/libtalft.a -Wl,--no-whole-archive -Wl,--version-script=embed/talft.map \
 	  -Wl,--gc-sections -Wl,-soname,libtalft.so.0 -Wl,-z,defs -s -o $@
 
 $(OUT)/talft.pc: embed/talft.pc.in VERSION
-	sed 's|@PREFIX@|$(PREFIX)|; s|@VERSION@|$(VERSION)|' embed/talft.pc.in >$@
+	sed 's|@VERSION@|$(VERSION)|' embed/talft.pc.in >$@
 
 $(OUT)/talft.py: embed/talft.py
 	cp embed/talft.py $@

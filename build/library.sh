@@ -6,6 +6,8 @@
 #
 #     build/library.sh [ARCH]        x86_64, or aarch64; CC and AR name the C compiler and the archiver
 set -u
+# The members of an archive are in the order of their names.
+export LC_ALL=C
 top=$(cd "$(dirname "${BASH_SOURCE[0]}")/.." && pwd) || exit 2
 . "$top/build/sources.sh" || exit 2
 . "$top/build/kit.sh" || exit 2
@@ -18,8 +20,7 @@ esac
 
 # Links what was compiled with the C code of embed/.
 link() {
-  make -s -C "$top" -f build/library.mk ARCHIVE="$out/libft_c.a" OUT="$out" CC="$cc" AR="$ar" HEAP="${HEAP-heap}" \
-    PREFIX="${PREFIX-/usr/local}"
+  make -s -C "$top" -f build/library.mk ARCHIVE="$out/libft_c.a" OUT="$out" CC="$cc" AR="$ar" HEAP="${HEAP-heap}"
 }
 crates=$(needed ft_c)
 if [ -e "$out/libft_c.a" ] && [ -z "$(cd "$top" && find crates.txt HANDLES \

@@ -1,5 +1,7 @@
 #!/usr/bin/env python3
-"""Writes what the program was made from, as an SPDX 2.3 document: `sbom.py VERSION COMMIT SECONDS KIT_FOLDER KIT PROGRAM`.
+"""Writes what program and C library were made from, as an SPDX 2.3 document.
+
+    sbom.py VERSION COMMIT SECONDS KIT_FOLDER KIT PROGRAM LIBRARY..
 
 The checksum of a crate is the SHA-256 of the lines that `sha256sum` writes for its files, in the order of their names.
 """
@@ -34,7 +36,7 @@ def sum_of_folder(folder, parts=("",)):
 
 def package(name, version, checksum, comment):
     return {
-        "SPDXID": f"SPDXRef-{name.replace('_', '-')}",
+        "SPDXID": identifier(name),
         "name": name,
         "versionInfo": version,
         "downloadLocation": NOTHING,
@@ -47,25 +49,64 @@ def package(name, version, checksum, comment):
     }
 
 
-def main(words):
-    version, commit, seconds, kit_folder, kit, program = words
-    own = [name for name in needed() if name in crates()]
-    libraries = sorted({library for name in own for library in crates()[name] if library not in crates()} | {"std"})
-    packages = [package("program-talft", version, sum_of_file(program), f"The program bin/talft, of commit {commit}.")]
-    links = [("SPDXRef-DOCUMENT", "DESCRIBES", "program-talft")]
-    for name in own:
-        folder = os.path.join(TOP, "crates", name)
-        checksum = sum_of_folder(folder, ("src", "specs", "proofs"))
-        packages.append(package(name, version, checksum, "A crate of this repository."))
-        links.append(("SPDXRef-program-talft", "CONTAINS", name))
-        links += [(f"SPDXRef-{name.replace('_', '-')}", "DEPENDS_ON", library) for library in crates()[name]]
-    for name in libraries:
+def identifier(name):
+    return f"SPDXRef-{name.replace('_', '-')}"
+
+
+def released_files(program, library_files):
+    """What is released: of each file its path, what it is, and the crates that it stands on."""
+    released = {"program-talft": (program, "The program bin/talft", needed())}
+    for path in library_files:
+        name = os.path.basename(path)
+        released[f"library-{name}"] = (path, f"The C library {name}", needed("ft_c"))
+    return released
+
+
+def of_crates(released, version, commit):
+    """The packages and the links of what is released and of its crates."""
+    packages = [package(name, version, sum_of_file(path), f"{what}, of commit {commit}.")
+                for name, (path, what, _) in released.items()]
+    links = [("SPDXRef-DOCUMENT", "DESCRIBES", identifier(name)) for name in released]
+    for name in crates():
+        users = [of for of, (*_, stands_on) in released.items() if name in stands_on]
+        if users:
+            checksum = sum_of_folder(os.path.join(TOP, "crates", name), ("src", "specs", "proofs"))
+            packages.append(package(name, version, checksum, "A crate of this repository."))
+        links += [(identifier(of), "CONTAINS", identifier(name)) for of in users]
+        links += [(identifier(name), "DEPENDS_ON", identifier(library)) for library in crates()[name] if users]
+    return packages, links
+
+
+def of_kit(released, kit_folder, kit):
+    """The same of the kit: its libraries that were compiled in, and what proved and compiled."""
+    packages, links, users = [], [], {"std": list(released)}
+    for of, (*_, stands_on) in released.items():
+        for library in {library for name in stands_on for library in crates()[name]} - set(crates()) - {"std"}:
+            users.setdefault(library, []).append(of)
+    for name in sorted(users):
         folder = os.path.join(kit_folder, "rattle", name)
         packages.append(package(name, kit, sum_of_folder(folder), f"A library of the kit, {kit}."))
-        links.append(("SPDXRef-program-talft", "CONTAINS", name))
+        links += [(identifier(of), "CONTAINS", identifier(name)) for of in users[name]]
     compiled = sum_of_folder(kit_folder, ("bin", "c", "logic_built", "toolchain"))
     packages.append(package("rattle-kit", kit, compiled, "Prover and compiler: bin/, c/, logic_built/ and toolchain/."))
-    links.append(("SPDXRef-rattle-kit", "BUILD_TOOL_OF", "program-talft"))
+    links += [("SPDXRef-rattle-kit", "BUILD_TOOL_OF", identifier(of)) for of in released]
+    return packages, links
+
+
+def of_heap(released, version):
+    """The same of the C code that the library is linked with."""
+    users = [of for of in released if of != "program-talft"]
+    if not users:
+        return [], []
+    checksum = sum_of_file(os.path.join(TOP, "embed", "heap.c"))
+    found = package("heap.c", version, checksum, "Memory of the C library, embed/heap.c: compiled by the C compiler of the host.")
+    return [found], [(identifier(of), "CONTAINS", "SPDXRef-heap.c") for of in users]
+
+
+def main(words):
+    version, commit, seconds, kit_folder, kit, program, *library_files = words
+    released = released_files(program, library_files)
+    parts = of_crates(released, version, commit), of_kit(released, kit_folder, kit), of_heap(released, version)
     date = datetime.datetime.fromtimestamp(int(seconds), datetime.timezone.utc)
     written = {
         "spdxVersion": "SPDX-2.3",
@@ -76,12 +117,12 @@ def main(words):
         "creationInfo": {
             "created": date.strftime("%Y-%m-%dT%H:%M:%SZ"),
             "creators": ["Tool: talft build/sbom.py"],
-            "comment": f"{kit}; commit {commit}. The C library and the loader of the host are no part of this.",
+            "comment": f"{kit}; commit {commit}. The libc and the loader of the host are no part of this.",
         },
-        "packages": packages,
+        "packages": [found for packages, _ in parts for found in packages],
         "relationships": [
-            {"spdxElementId": source, "relationshipType": kind, "relatedSpdxElement": f"SPDXRef-{target.replace('_', '-')}"}
-            for source, kind, target in links
+            {"spdxElementId": source, "relationshipType": kind, "relatedSpdxElement": target}
+            for _, links in parts for source, kind, target in links
         ],
     }
     print(json.dumps(written, indent=1))

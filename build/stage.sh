@@ -1,6 +1,6 @@
 #!/usr/bin/env bash
-# Lays a release out in a folder: `stage.sh FOLDER PROGRAM [LOG]`. The folder gets bin/ and share/, and beside them what a
-# release is checked by: BUILD, PROOF.md, SBOM.spdx.json and CHECKSUMS. LOG is that of a gate run, for the counts.
+# Lays a release out in a folder: `stage.sh FOLDER PROGRAM [LOG]`. The folder gets bin/, include/, lib/ and share/, and beside
+# them what a release is checked by: PROOF.md, SBOM.spdx.json and CHECKSUMS. LOG is that of a gate run, for the counts.
 set -eu
 export LC_ALL=C TZ=UTC
 umask 022
@@ -11,22 +11,20 @@ to=$1 program=$(readlink -f "$2") log=${3-}
 seconds=$(time_of_sources)
 
 mkdir -p "$to"
-make -s -C "$top" install-program PROGRAM="$program" DESTDIR="$(readlink -f "$to")" PREFIX=
+make -s -C "$top" install-program install-library PROGRAM="$program" DESTDIR="$(readlink -f "$to")" PREFIX=
 for name in README.md CHANGELOG.md SECURITY.md; do
   install -m 644 "$top/$name" "$to/$name"
 done
-mkdir -p "$to/share/doc/talft"
 install -m 644 "$top"/docs/*.md "$to/share/doc/talft"
 python3 "$top/docs/trace.py" --csv "$to/share/doc/talft/trace.csv"
 python3 "$top/docs/trace.py" --page "$to/share/doc/talft/trace.html"
-about >"$to/BUILD"
 {
   printf '# Proof\n\n%s\n\n' "$(about)"
   python3 "$top/build/counts.py" ${log:+"$log"}
 } >"$to/PROOF.md"
 if command -v rt >/dev/null; then
   python3 "$top/build/sbom.py" "$version" "$(commit_of_sources)" "$seconds" "$(dirname "$(rt doc)")" "$(rt version)" \
-    "$program" >"$to/SBOM.spdx.json"
+    "$program" "$to/lib/libtalft.a" "$to/lib/libtalft.so.0" >"$to/SBOM.spdx.json"
 fi
 (cd "$to" && find . -type f ! -name CHECKSUMS | sort | sed 's|^\./||' | tr '\n' '\0' | xargs -0 sha256sum) >"$to/CHECKSUMS"
 find "$to" -exec touch -h -d "@$seconds" {} +

@@ -1,9 +1,13 @@
 """Keeps the verdicts of campaigns in SQLite."""
 import contextlib
+import os
 import sqlite3
 
 from bounds import class_of
 from common import Refused
+from messages import named
+
+BEGINNING = b"SQLite format 3\0"
 
 TABLES = """
 CREATE TABLE IF NOT EXISTS campaign (
@@ -25,6 +29,16 @@ CREATE TABLE IF NOT EXISTS verdict (
   PRIMARY KEY (campaign, number)
 ) WITHOUT ROWID;
 """
+
+
+def check_database(path):
+    """Refuses a file that is no database, before a campaign is run whose verdicts it is to keep."""
+    if not os.path.exists(path):
+        return
+    with open(path, "rb") as file:
+        start = file.read(len(BEGINNING))
+    if start and start != BEGINNING:
+        raise Refused(f"--database: {named(path)}: is not a database of SQLite; give another file")
 
 
 def keep(path, told, told_about, verdicts):

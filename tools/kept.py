@@ -1,14 +1,18 @@
 """What a campaign leaves beside its lines: the object, the steps of its runs, and whether they were cut."""
 import collections
+import itertools
 import json
 import os
 import re
 import subprocess
+import tempfile
 
-from common import SITES, Refused, check_object, not_run, program
+from common import SITES, VERDICT, Refused, check_object, not_run, program, verdicts
 from debugging.sessions import length_of_run
 from messages import named
 
+# How many faults of each verdict are tried again to see whether lines are an object's, and among how many they are looked for.
+MOST_TRIED, MOST_LOOKED_AT = 16, 100_000
 Kept = collections.namedtuple("Kept", "object words wild command faults version began is_cut steps")
 
 
@@ -29,6 +33,44 @@ def kept_in(folder):
                         told.get("version"), told.get("began"), told.get("cut"), int(words[words.index("--steps") + 1]))
         except (ValueError, KeyError, IndexError) as error:
             raise Refused(f"{named(file)}: is not a file of the tool `campaign`, or is damaged") from error
+
+
+def some_of(path):
+    """The first faults of each verdict but idle: number of the line, fault, verdict, and a step of which its run is known."""
+    found = collections.defaultdict(list)
+    for number, line in enumerate(itertools.islice(verdicts(path), MOST_LOOKED_AT), 1):
+        step, site, word, verdict, at = line
+        if verdict != "idle" and len(found[verdict]) < MOST_TRIED:
+            told = verdict if at is None else f"{verdict} {at}"
+            found[verdict].append((number, f"{step}:{site}:{word}", told, max(step, at or 0)))
+    return sorted(itertools.chain.from_iterable(found.values()))
+
+
+def is_possible(told, again):
+    """Whether a fault with this verdict may have the other one in a run that is cut after the last known step."""
+    return told == again or again == "corrupt" or (told in ("masked", "corrupt") and again == "masked")
+
+
+def check_lines(path, object_file, wild=None):
+    """Refuses lines that are another object's, as far as it shows where some of their faults are tried again."""
+    some = some_of(path)
+    if not some:
+        return
+    steps = max(known for *_, known in some) + 1
+    with tempfile.NamedTemporaryFile("w", suffix=".faults") as faults:
+        faults.write("".join(f"{fault}\n" for _, fault, *_ in some))
+        faults.flush()
+        words = [program(), "survey", object_file, "--faults", faults.name, "--steps", str(steps)]
+        try:
+            done = subprocess.run(words + (["--wild", wild] if wild else []), stdin=subprocess.DEVNULL,
+                                  stdout=subprocess.PIPE, universal_newlines=True, check=False)
+        except OSError as error:
+            raise not_run(program(), error) from error
+    again = [match[4] or f"{match[5]} {match[6]}" for match in map(VERDICT.fullmatch, done.stdout.splitlines()) if match]
+    for (number, fault, told, _), verdict in zip(some, again):
+        if not is_possible(told, verdict):
+            raise Refused(f"{named(path)}:{number}: `{fault} {told}`: on {named(object_file)} this fault is {verdict}; give the "
+                          "object of this campaign, and its --wild")
 
 
 def is_cut(object_file, steps, wild=None):

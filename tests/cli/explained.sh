@@ -71,7 +71,7 @@ explained 'a fault after the end' 0 'out 5\n' \
 explained 'a fault in no entry' 0 'out 5\n' \
   'five.obj: the fault struck nothing: at step 4 the queue has no entry 3\n' run five.obj --fault 4:qv3:6
 printf 'cell out = 0;\nwhile (1) { out = 1; }\n' >endless.src
-explained 'a meaning that is cut' 9 'out 1\nout 1\n' 'endless.src: still running after 2 turns: raise `--turns`\n' mean endless.src --turns 2
+explained 'a meaning that is cut' 9 'out 1\nout 1\n' 'endless.src: still running after 2 turns: raise `--turns`\nendless.src:2:8: note: this test is never 0, so the loop never ends\n while (1) { out = 1; }\n        ^\n' mean endless.src --turns 2
 
 # Help, and the same help by the script that answers before the program is proved.
 about_talft=$(. "$top/build/kit.sh"; . "$top/build/about.sh"; about)
@@ -111,7 +111,7 @@ explained 'an entry block that is not there' 7 'object 9 44\n' \
   'entry.asm:6:7: error: there is no block 3: the text has 1 block, numbered from 0\n entry 3\n       ^\n' asm entry.asm
 printf 'cell out int 0\nnode 0 memory\ncell out int 1\ntype 0 0\nblock 0\nhalt\nentry 0\n' >order.asm
 explained 'a line out of order' 12 'asm 2 3\n' \
-  'order.asm:3:1: error: this line is out of order: cells, nodes, types with their `reg` and then `pend` lines, blocks with their instructions, and `entry` follow each other\n cell out int 1\n ^~~~\n' asm order.asm
+  'order.asm:3:1: error: this line is out of order: first come cells, then nodes, types (each with its `reg` and then `pend` lines), blocks (each with its instructions), and `entry`\n cell out int 1\n ^~~~\n' asm order.asm
 printf 'cell out int 0\ncell out int 1\nnode 0 memory\ntype 0 0\nblock 0\nhalt\nentry 0\n' >twice.asm
 explained 'a name given twice' 7 'object 8 139\n' \
   'twice.asm:2:6: error: invalid `out`: an earlier cell has this name\n cell out int 1\n      ^~~\n' asm twice.asm
@@ -150,7 +150,7 @@ printf 'module said-count.obj\nmodule five.asm\n' >text.map
 explained 'a text as a module' 7 'object 1 0\n' \
   'five.asm: error: this is an assembly text, not an object: `talft asm FILE >OBJECT` makes an object\n' link text.map
 printf 'module said-count.obj\nmodule nosuch.obj\n' >missing.map
-explained 'a module that is missing' 3 '' 'nosuch.obj: error: no such file\n' link missing.map
+explained 'a module that is missing' 3 '' 'missing.map:2:8: error: `nosuch.obj`: no such file\n module nosuch.obj\n        ^~~~~~~~~~\n' link missing.map
 
 # What is quoted is short, and has no control characters.
 long=$(head -c 200000 /dev/zero | tr '\0' 9)
@@ -181,25 +181,25 @@ explained 'a leading zero' 11 'list 1 1\n' \
   'zeros.faults:1:7: error: invalid fault: expected STEP:SITE:WORD; invalid word `06`: numbers have no leading zeros\n 4:r1:06\n       ^\n' \
   campaign five.obj --faults zeros.faults
 printf '4:r1:6 \n' >blank.faults
-explained 'a trailing blank' 11 'list 1 1\n' 'blank.faults:1:7: error: the line ends with a blank\n 4:r1:6 \n       ^\n' \
+explained 'a trailing blank' 11 'list 1 1\n' 'blank.faults:1:7: error: the line ends with whitespace\n 4:r1:6 \n       ^\n' \
   campaign five.obj --faults blank.faults
 printf '4:r1:6\r\n' >return.faults
 explained 'a list with carriage returns' 11 'list 1 1\n' \
-  'return.faults:1:7: error: the line ends with a carriage return: save the file with Unix line ends\n 4:r1:6?\n       ^\n' \
+  'return.faults:1:7: error: the line ends with a carriage return: save the file with Unix line endings\n 4:r1:6?\n       ^\n' \
   campaign five.obj --faults return.faults
 printf '\xef\xbb\xbf4:r1:6\n' >mark.faults
 explained 'a list with a byte order mark' 11 'list 1 1\n' \
   'mark.faults:1:1: error: the file begins with a byte order mark: save it without one\n ?4:r1:6\n ^\n' \
   campaign five.obj --faults mark.faults
 printf '4:r1:6\n\n' >empty.faults
-explained 'an empty line in a list' 11 'list 1 2\n' 'empty.faults:2:1: error: the line is empty, and no line may be\n \n ^\n' \
+explained 'an empty line in a list' 11 'list 1 2\n' 'empty.faults:2:1: error: empty lines are not allowed in this file\n \n ^\n' \
   campaign five.obj --faults empty.faults
 printf '# faults\n4:r1:6\n' >comment.faults
-explained 'a comment in a list' 11 'list 1 1\n' 'comment.faults:1:1: error: there are no comments in this file\n # faults\n ^\n' \
+explained 'a comment in a list' 11 'list 1 1\n' 'comment.faults:1:1: error: comments are not allowed in this file\n # faults\n ^\n' \
   campaign five.obj --faults comment.faults
 printf 'module said-count.obj\r\n' >return.map
 explained 'a map with carriage returns' 13 'link 1 1\n' \
-  'return.map:1:22: error: the line ends with a carriage return: save the file with Unix line ends\n module said-count.obj?\n                      ^\n' \
+  'return.map:1:22: error: the line ends with a carriage return: save the file with Unix line endings\n module said-count.obj?\n                      ^\n' \
   link return.map
 
 # Files of the wrong kind.
@@ -213,8 +213,8 @@ printf '4:r1:6\n' >said.list
 explained 'a fault list in the place of an object' 7 'object 2 7\n' \
   'said.list: error: this is a fault list, not an object: it stands after `--faults`\n' check said.list
 explained 'an object in the place of a fault list' 11 'list 1 1\n' \
-  'five.obj: error: this is an object, not a fault list\n' campaign five.obj --faults five.obj
-explained 'an object in the place of a map' 13 'link 1 1\n' 'five.obj: error: this is an object, not a link map\n' link five.obj
+  'five.obj: error: this is an object, not a fault list: a fault list has one STEP:SITE:WORD on each line; `tools/faults` writes one\n' campaign five.obj --faults five.obj
+explained 'an object in the place of a map' 13 'link 1 1\n' 'five.obj: error: this is an object, not a link map: a link map is a text with a line `module FILE` for each object\n' link five.obj
 : >nothing
 explained 'an empty file in the place of an object' 7 'object 2 0\n' 'nothing: error: the file is empty\n' run nothing
 explained 'a device in the place of an object' 7 'object 2 0\n' '/dev/null: error: the file is empty\n' run /dev/null
@@ -242,7 +242,7 @@ explained 'a declaration without a value' 6 'source 4 9\n' \
   compile array.src
 printf 'cell out = 0;\nwhile (out < 3) {\n  out = out + 1;\n' >brace.src
 explained 'a brace that is not closed' 6 'source 4 49\n' \
-  'brace.src:3:17: error: expected `}` after `;`\n   out = out + 1;\n                 ^\nbrace.src:2:17: note: it closes this `{`\n while (out < 3) {\n                 ^\n' \
+  'brace.src:3:17: error: expected `}` after `;`\n   out = out + 1;\n                 ^\nbrace.src:2:17: note: to match this `{`\n while (out < 3) {\n                 ^\n' \
   compile brace.src
 printf 'main:\n' >label.asm
 explained 'a label' 12 'asm 1 1\n' \
@@ -252,12 +252,77 @@ printf 'cell a[4] = 0;\na[5] = 2;\n' >beyond.src
 explained 'a constant index beyond its array' 0 'a[1] 2\n' \
   'beyond.src:2:3: note: `a` has 4 cells: the index 5 means cell 1\n a[5] = 2;\n   ^\n' mean beyond.src
 
+# More habits, by what is said in the first line: of a source, of an instruction in a text with the cell `out`, and of words.
+habit_in() {
+  "$top/talft" "$@" >with 2>said </dev/null
+  head -n 1 said
+}
+while IFS='|' read -r text message; do
+  printf '%b\n' "$text" >habit.src
+  report "what is said of \`$text\`" "habit.src:$message" "$(habit_in compile habit.src)"
+done <<'END'
+cell out = 0;\nout := 5;|2:5: error: unexpected character `:`: write `=` to assign
+cell out = 0;\nout = 2 ** 3;|2:10: error: unexpected `*`: there are no powers, only products
+cell a[3] = 0;\nvar i;\na[i++] = 3;|3:5: error: unexpected `+`: write a statement of its own, as in `a = a + 1;`
+cell a[3] = {1, 2};|1:15: error: unexpected character `,`: all cells of an array begin with the same value
+cell a = 0, b = 0;|1:11: error: unexpected character `,`: there are no lists: each name has its own declaration, as in `var a; var b;`
+cell out = 0;\nout = out + 1);|2:14: error: unexpected `)`: there is no `(` that it closes
+cell out = 0;\nout = 5;;|2:9: error: unexpected `;`: there are no empty statements
+cell out = 0;\n{ out = 5; }|2:1: error: unexpected `{`: a block follows `while (..)`, `if (..)` or `else`
+cell out = 1 + 2;|1:14: error: unexpected `+`: a cell begins with a number, and statements compute
+cell a[n] = 0;|1:8: error: unexpected `n`: a number stands here
+cell out = -1;|1:12: error: unexpected `-`: numbers have no sign: -1 is 18446744073709551615 (2^64 - 1)
+cell out = 0;\nif (out <= 3) { out = 1; }|2:10: error: unexpected `=`: write `(b < a) == 0` for `a <= b`
+cell out = 0;\ncell b = 0\nb = 1;|2:11: error: expected `;` after `0`
+END
+while IFS='|' read -r line message; do
+  printf 'cell out int 0\nnode 0 memory\ntype 0 0\nblock 0\n%s\nhalt\nentry 0\n' "$line" >habit.asm
+  report "what is said of \`$line\`" "habit.asm:5:$message" "$(habit_in asm habit.asm)"
+done <<'END'
+mov r1 G out ref:int|10: error: invalid `out`: numbers are decimal digits, as in `42`; the address of this cell is 1048576
+st_G out r1|6: error: invalid `out`: a register is r0 to r63; put the address of this cell, 1048576, into a register by `mov`
+mov r1 G r2 int|10: error: invalid `r2`: numbers are decimal digits, as in `42`; to copy a register, add 0 to it, as in `add r1 r2 G 0`
+mov r1 G #5 int|10: error: invalid `#5`: numbers are written without `#`
+add r1 r2 5|11: error: invalid `5`: a register is r0 to r63, and a number comes after its colour, as in `G 5`
+li r1 5|1: error: unknown instruction `li`: `man talft-assembly` lists the instructions
+END
+printf 'int main() { return 0; }\n' >program.c
+printf '#include <stdio.h>\nint main() { return 0; }\n' >program
+printf '4:r1:6 detected 11\n' >verdicts.faults
+printf '4: r1:6\n' >blanks.faults
+mkdir -p maps && printf 'module five.obj\nmodule nosuch.obj\n' >maps/two.map
+while IFS='|' read -r words message; do
+  # shellcheck disable=SC2086
+  report "what is said of \`$words\`" "$message" "$(habit_in $words)"
+done <<'END'
+compile five.src -o five.obj|talft: error: unknown option `-o` for `compile`: it writes to standard output: add `>FILE`
+check five.obj mixed.obj|talft: error: unexpected argument `mixed.obj` after OBJECT: a call takes one OBJECT
+link five.obj mixed.obj|talft: error: unexpected argument `mixed.obj` after MAP: a link map is a text with a line `module FILE` for each object
+campaign five.obj five.faults|talft: error: unexpected argument `five.faults` after OBJECT: the fault list comes after `--faults`
+debug five.obj step 4|talft: error: unexpected argument `step` after OBJECT: commands come from standard input
+run -- five.obj|talft: error: unexpected `--`: OBJECT comes right after the command
+version|talft: error: unknown command `version`; did you mean `--version`?
+compile program.c|program.c: error: this is a C program, not a source: `tools/cc FILE -o OBJECT` makes an object
+run program|program: error: this is a C program, not an object: `tools/cc FILE -o OBJECT` makes an object
+campaign five.obj --faults verdicts.faults|verdicts.faults:1:7: error: a verdict follows the fault: a fault list has STEP:SITE:WORD alone
+campaign five.obj --faults blanks.faults|blanks.faults:1:3: error: invalid fault: expected STEP:SITE:WORD; invalid site ` r1`: it contains whitespace
+link maps/two.map|maps/two.map:2:8: error: `nosuch.obj`: no such file; names are relative to the current folder, not to the map's
+END
+# An object with bytes of value 10, copied as a text: each gets a carriage return.
+printf 'cell a = 10;\na = 10;\n' >ten.src
+"$top/talft" compile ten.src >ten.obj 2>errors
+python3 -c 'import sys; sys.stdout.buffer.write(open("ten.obj", "rb").read().replace(b"\n", b"\r\n"))' >text.obj
+report 'what is said of an object that was copied as a text' \
+  "$(printf '%s\n' "text.obj: error: the object has $(wc -c <text.obj) bytes, and its header gives $(wc -c <ten.obj)" \
+    '  a carriage return stands before each line feed, as when a text is copied: copy the object as binary')" \
+  "$("$top/talft" check text.obj 2>&1 >with)"
+
 # A script of the debugger that is a file is read once more, one that is a pipe is not.
 printf 'step 1\nstpe 2\n\nreg r64\n' >wrong.script
 said_of_script='standard input:2:1: error: unknown command `stpe`; did you mean `step`?
  stpe 2
  ^
-standard input:3:1: error: the line is empty, and no line may be
+standard input:3:1: error: empty lines are not allowed in this file
  
  ^
 standard input:4:1: error: invalid command: expected `reg R`
@@ -318,7 +383,9 @@ wait
 rm -f once
 
 "$top/talft" trial five.obj >/dev/full 2>said
-report 'a full device, explained' "4 talft: error: the output could not be written" "$? $(cat said)"
+report 'a full device, explained' "4 talft: error: the output could not be written: no space is left on the device" "$? $(cat said)"
+"$top/talft" trial five.obj >&- 2>said
+report 'a closed standard output, explained' '4 talft: error: the output could not be written: standard output is closed' "$? $(cat said)"
 "$top/talft" check missing >/dev/null 2>&-
 report 'standard error that is closed' 3 $?
 report 'standard error that is a pipe' 'missing: error: no such file' "$("$top/talft" check missing 2>&1 | cat)"
@@ -346,7 +413,11 @@ if command -v script >script.path; then
     report "what is said of \`$words\` into a file" '' "$(cat said)"
   done
   script -qec "$top/talft upgrade five.obj" typescript </dev/null >with
-  report 'what is said of an object stands on a line of its own' "$binary" "$(tail -n 1 with | tr -d '\r')"
+  report 'what is said of an object comes before it' "$binary" "$(head -n 1 with | tr -d '\r')"
+  report 'what comes after an object begins a line' '' "$(tail -c 1 with | tr -d '\n')"
+  script -qec "$top/talft debug five.obj 2>said" typescript </dev/null >/dev/null
+  report 'what is said of a session on a terminal' \
+    'talft: note: debugger commands are read from the terminal up to Ctrl-D; `tools/debugger OBJECT` has a prompt and help' "$(cat said)"
   script -qec "env TALFT_EXPLAIN=0 $top/talft upgrade five.obj 2>said" typescript </dev/null >/dev/null
   report 'an object on a terminal, and no explanation' '' "$(cat said)"
 else

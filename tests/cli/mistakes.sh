@@ -4,6 +4,8 @@ mkdir mistakes && cd mistakes || exit 2
 cp "$top/examples/five.obj" five.obj
 cp "$top/examples/five.asm" five.asm
 cp "$top/examples/unknown.src" unknown.src
+cp "$top/examples/indexed.obj" other.obj
+cp "$top/examples/count.asm" other.asm
 echo 'var a; a = 1;' >one.src
 printf '4:r1:6\n' >list
 printf '4:r1:6\n4:r64:6\n' >bad
@@ -56,6 +58,9 @@ done <<END
 1|faults list|faults: list: is not an object; \`talft compile\`, \`talft asm\` and \`cc\` make objects
 2|faults five.obj --sample -1|faults: \`--sample\`: invalid number \`-1\`: expected a whole number, at least 0
 2|faults five.obj --sample 1 --sample 2|faults: \`--sample\` is given twice
+1|faults five.obj --about five.obj|faults: five.obj: is an input; give the output another name
+1|campaign five.obj --faults list --database five.asm|campaign: --database: five.asm: is not a database of SQLite; give another file
+1|campaign five.obj --faults list --database nofolder/x|campaign: nofolder/x: there is no folder \`nofolder\`
 1|plot nosuch|plot: nosuch: no such file
 1|plot folder|plot: folder: is a folder
 1|plot empty|plot: empty: is empty; expected the lines of a campaign
@@ -77,6 +82,7 @@ done <<END
 1|report none --object five.obj|report: none: has no faults to show: its campaign had an empty list
 1|report lines --object five.obj --out folder|report: folder: is a folder; give the output the name of a file
 1|report lines --object five.obj --source one.src|report: one.src: is not the source of five.obj: the instructions differ
+1|report lines --object other.obj|report: lines:1: \`4:r1:6 detected 11\`: on other.obj this fault is masked; give the object of this campaign, and its --wild
 2|explain five.obj|explain: missing \`--fault STEP:SITE:WORD\`
 1|explain folder --fault 4:r1:6|explain: folder: is a folder
 1|explain empty --fault 4:r1:6|explain: empty: is empty; expected an object, an assembly text or a source
@@ -90,6 +96,9 @@ done <<END
 2|ending five.obj --steps ten|ending: \`--steps\`: invalid number \`ten\`: expected a whole number, at least 1
 1|ending five.obj --fault 40:r1:1 --steps 20|ending: --fault: the step 40 is not below the 20 steps of the run: raise --steps
 1|ending five.obj --text nosuch|ending: nosuch: no such file
+1|ending five.obj --text other.asm|ending: --text: other.asm: is not the text of five.obj; give the one that \`cc --text\` wrote for it
+1|ending five.obj --text other.obj|ending: other.obj: error: this is an object, not an assembly text: \`talft dis FILE\` writes its assembly text
+1|set five.obj --from lines -o lines|set: lines: is an input; give the output another name
 2|set|set: missing OBJECT
 1|set five.obj out|set: invalid argument \`out\`: expected NAME=WORD
 1|set five.obj =3|set: invalid argument \`=3\`: expected NAME=WORD
@@ -111,6 +120,8 @@ done <<END
 1|cc /dev/null -o x.obj|cc: /dev/null: is empty; expected C files, or one module .wasm
 1|cc nosuch.c -o x.obj|cc: nosuch.c: no such file
 END
+TALFT=$PWD/folder refuses 'a folder as the program' \
+  "faults: $PWD/folder: is a folder; set \$TALFT to the program \`talft\`, or add its folder to PATH" faults five.obj
 report 'no file is made' '' "$(ls x.obj ./*.new nofolder 2>/dev/null)"
 
 # What clang says stays, and is explained: a stand-in says it.
@@ -146,8 +157,24 @@ if has clang 'the functions of a C file' && has wasm-ld 'the functions of a C fi
   refuses 'an entry that is misspelled' 'cc: two.c: defines no function `fooo`; did you mean `foo`?' \
     cc two.c --entry fooo -o x.obj
   refuses 'an entry with a parameter' \
-    'cc: two.c: function step: offset 0x38: the entry takes 1 parameter; name a function without parameters' \
+    'cc: two.c: function step: offset 0x38: the entry takes 1 parameter; nothing passes arguments: give a function without '\
+'parameters, as `int main(void)`' \
     cc two.c --entry step -o x.obj
+  printf 'volatile int x;\nint main(int argc, char **argv) { x = argc; return 0; }\n' >main.c
+  refuses 'a main with arguments' \
+    'cc: main.c: function main: offset 0x46: the entry takes 2 parameters; nothing passes arguments: give a function without '\
+'parameters, as `int main(void)`' cc main.c -o x.obj
+  printf 'volatile int x;\nvoid run(void) { while (1) x = x + 1; }\n' >endless.c
+  tool 'an endless C program' 0 '' cc endless.c --steps 1000 -o endless.obj
+  report 'what is said of an endless C program' \
+    'cc: note: endless.obj: the run was cut after 1000 steps; --steps verifies more, and a program that never ends is always cut' \
+    "$(tail -n 1 said)"
+  printf 'int x;\nvoid run(void) { int a[1000]; for (int i = 0; i < 1000; i++) a[i] = i; x = a[x]; }\n' >large.c
+  tool 'an array that is larger than the stack' 0 '' cc large.c --steps 1000 -o large.obj
+  report 'what is said of an array that is larger than the stack' 'if this is the stack, raise --stack (512)' \
+    "$(tail -n 1 said | sed 's/.*; //')"
+  echo 'int x; void run() { x = 1; }' >plus.cpp
+  refuses 'a C++ file' 'cc: plus.cpp: defines no function `run` or `main`; use --entry with `_Z3runv`' cc plus.cpp -o x.obj
   refuses 'a C file without a function' \
     'cc: nothing.c: defines no function `run` or `main`; the entry is `void run(void)`, and not static' cc nothing.c -o x.obj
 fi

@@ -54,7 +54,8 @@ def choose_entry(module, name):
         raise Refused(f"exports no function `{plain(name)}`", "link with -Wl,--export=" + plain(name))
     func = exported[name]
     if func.params:
-        raise Refused(f"the entry takes {counted(func.params, 'parameter')}", "name a function without parameters",
+        raise Refused(f"the entry takes {counted(func.params, 'parameter')}", "nothing passes arguments: give a function without "
+                      "parameters, as `int main(void)`",
                       func.name, func.at)
     if len(func.results) > 1:
         raise Refused(f"the entry has {counted(func.results, 'result')}", "name a function with one result or none",

@@ -2,14 +2,15 @@
 use crate::content::{Content, say_other_kind};
 use crate::excerpt::Place;
 use crate::lines::{MARKED, RETURN, is_marked};
+use crate::listing::cell_of;
 use crate::mnemonics::{form_of, operand_of, say_unknown};
-use crate::operands::{Operand, meaning_of, say_rule, word_at, word_start};
+use crate::operands::{Operand, is_register, meaning_of, say_rule, word_at, word_start};
 use crate::page::Page;
-use ft_isa::NoMemory;
+use ft_isa::{FIRST_CELL, NoMemory};
 
 /// What is said of a line that may not stand where it does.
 const ORDER: &str =
-    "this line is out of order: cells, nodes, types with their `reg` and then `pend` lines, blocks with their instructions, and `entry` follow each other\n";
+    "this line is out of order: first come cells, then nodes, types (each with its `reg` and then `pend` lines), blocks (each with its instructions), and `entry`\n";
 
 /// Says by what a first word is followed.
 fn say_forms(page: &mut Page, word: &[u8], forms: &str) -> Result<(), NoMemory> {
@@ -40,13 +41,35 @@ fn say_operand(
     say_rule(page, operand)
 }
 
-/// Explains why a line is refused that begins with a known word.
+/// Says what to do about a name or a register where a word should stand, and about a name in the place of a register.
+fn say_instead(page: &mut Page, operand: Operand<'_>, text: &[u8]) -> Result<(), NoMemory> {
+    let is_word = operand.form == "W";
+    if is_word && is_register(operand.text) {
+        return page.say("; to copy a register, add 0 to it, as in `add r1 r2 G 0`");
+    }
+    let Some(number) = cell_of(text, operand.text) else {
+        return Ok(());
+    };
+    let address = FIRST_CELL.saturating_add(number);
+    if is_word {
+        return page.say(format_args!("; the address of this cell is {address}"));
+    }
+    if operand.form == "R" {
+        return page.say(format_args!(
+            "; put the address of this cell, {address}, into a register by `mov`"
+        ));
+    }
+    Ok(())
+}
+
+/// Explains why a line of a text is refused that begins with a known word.
 fn explain_operands(
     page: &mut Page,
     name: &str,
     start: Place<'_>,
     word: &[u8],
     forms: &'static str,
+    text: &[u8],
 ) -> Result<(), NoMemory> {
     let line = start.line();
     let Some(operand) = operand_of(line, forms) else {
@@ -59,6 +82,7 @@ fn explain_operands(
     let place = start.after(operand.at);
     page.head_at(name, &place)?;
     say_operand(page, operand, word, forms)?;
+    say_instead(page, operand, text)?;
     page.say("\n")?;
     place.show(page, operand.text.len())
 }
@@ -76,8 +100,13 @@ fn explain_byte(
     place.show(page, 1)
 }
 
-/// Explains why a line is refused that is none of the forms.
-fn explain_form(page: &mut Page, name: &str, start: Place<'_>) -> Result<(), NoMemory> {
+/// Explains why a line of a text is refused that is none of the forms.
+fn explain_form(
+    page: &mut Page,
+    name: &str,
+    start: Place<'_>,
+    text: &[u8],
+) -> Result<(), NoMemory> {
     let line = start.line();
     if is_marked(line) {
         return explain_byte(page, name, start, MARKED);
@@ -93,7 +122,7 @@ fn explain_form(page: &mut Page, name: &str, start: Place<'_>) -> Result<(), NoM
     let place = start.after(word_start(line, 0));
     let word = word_at(line, word_start(line, 0));
     if let Some(forms) = form_of(word) {
-        return explain_operands(page, name, start, word, forms);
+        return explain_operands(page, name, start, word, forms, text);
     }
     page.head_at(name, &place)?;
     say_unknown(page, word)?;
@@ -138,7 +167,7 @@ pub(crate) fn explain_text(
         && let Some(start) = Place::of_line(text, told as usize)
     {
         return match number {
-            1 => explain_form(page, name, start),
+            1 => explain_form(page, name, start, text),
             _ => explain_order(page, name, start),
         };
     }

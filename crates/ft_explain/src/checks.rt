@@ -59,7 +59,7 @@ fn say_unlike_row(
     known: Option<RegKnown>,
 ) -> Result<(), NoMemory> {
     say_reg(page, row.reg, known)?;
-    page.say(format_args!(", and code type {t} wants "))?;
+    page.say(format_args!(", but code type {t} expects "))?;
     let colour = row.colour;
     let basic = row.basic;
     say_known(page, Some(RegKnown { colour, basic }))?;
@@ -93,7 +93,7 @@ fn say_rows<P: Program>(page: &mut Page, program: &P, t: u32, count: u32) -> Res
     requires count { count ≡ length (reg_rows (P.object program.now) t) }
 {
     page.say(format_args!(
-        "  the colours and types are those of code type {t}, but one of these does not have the wanted value:"
+        "  the colours and types match code type {t}, but one of these registers does not have the expected value:"
     ))?;
     for j in 0..count {
         let number = program.reg_row(t, j).reg.number();
@@ -188,8 +188,8 @@ fn say_counts<P: Program>(
         page.count(u32::from(head.ints), "integer variable")?;
         return page.say("\n");
     }
-    page.say(format_args!("  code type {t} wants "))?;
-    page.count(head.queue, "waiting store")?;
+    page.say(format_args!("  code type {t} expects "))?;
+    page.count(head.queue, "pending store")?;
     page.say("\n")
 }
 

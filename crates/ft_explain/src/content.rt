@@ -23,6 +23,8 @@ pub(crate) enum Content {
     Map,
     /// A script of the debugger.
     Script,
+    /// A program in C.
+    C,
     /// A module of WebAssembly.
     Wasm,
     /// A text with two bytes for each character.
@@ -45,6 +47,7 @@ impl Content {
             Content::List => "a fault list",
             Content::Map => "a link map",
             Content::Script => "a debugger script",
+            Content::C => "a C program",
             Content::Wasm => "a WebAssembly module",
             Content::Wide => "UTF-16 text",
             Content::Empty => "empty",
@@ -59,12 +62,19 @@ impl Content {
             Content::Object if wanted == Content::Assembly =>
                 ": `talft dis FILE` writes its assembly text",
             Content::Object if wanted == Content::Source => ": `talft run FILE` runs it",
+            Content::Object if wanted == Content::Map =>
+                ": a link map is a text with a line `module FILE` for each object",
+            Content::Object if wanted == Content::List =>
+                ": a fault list has one STEP:SITE:WORD on each line; `tools/faults` writes one",
+            Content::Unknown if wanted == Content::Object =>
+                ": `talft compile`, `talft asm` and `tools/cc` make objects",
             Content::Source => ": `talft compile FILE >OBJECT` makes an object",
             Content::Assembly => ": `talft asm FILE >OBJECT` makes an object",
             Content::List => ": it stands after `--faults`",
             Content::Map => ": `talft link FILE >OBJECT` makes an object",
             Content::Script => ": `talft debug OBJECT <FILE` carries it out",
-            Content::Wasm => ": `wasm2asm` makes an assembly text of it",
+            Content::C => ": `tools/cc FILE -o OBJECT` makes an object",
+            Content::Wasm => ": `tools/cc FILE -o OBJECT` makes an object",
             Content::Wide => ": save it as ASCII text",
             _ => "",
         }
@@ -150,8 +160,38 @@ fn content_of_line(line: &[u8]) -> Content {
     }
 }
 
+/// Whether a line of a text is one for the preprocessor of C.
+fn has_directive(text: &[u8]) -> bool {
+    let mut rest = text;
+    for _ in 0..text.len() {
+        let Some((line, after)) = read_line(rest) else {
+            return false;
+        };
+        if line.starts_with(b"#include") || line.starts_with(b"#define ") {
+            return true;
+        }
+        rest = after;
+    }
+    false
+}
+
+/// Whether a text is a program in C, by the name of its file or by a line.
+fn is_c(name: &str, text: &[u8]) -> bool {
+    let name = name.as_bytes();
+    name.ends_with(b".c") || name.ends_with(b".h") || has_directive(text)
+}
+
+/// What a file holds, as far as its name and its beginning tell.
+pub(crate) fn content_of_file(name: &str, bytes: &[u8]) -> Content {
+    let content = content_of(bytes);
+    if content == Content::Unknown && is_c(name, bytes.get(..LOOKED_AT).unwrap_or(bytes)) {
+        return Content::C;
+    }
+    content
+}
+
 /// What bytes hold, as far as their beginning tells.
-pub(crate) fn content_of(bytes: &[u8]) -> Content {
+fn content_of(bytes: &[u8]) -> Content {
     let bytes = bytes.get(..LOOKED_AT).unwrap_or(bytes);
     if bytes.is_empty() {
         Content::Empty
@@ -192,7 +232,7 @@ pub(crate) fn say_other_kind(
     bytes: &[u8],
     wanted: Content,
 ) -> Result<bool, NoMemory> {
-    let content = content_of(bytes);
+    let content = content_of_file(name, bytes);
     if content == wanted || content == Content::Unknown {
         return Ok(false);
     }

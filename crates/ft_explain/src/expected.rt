@@ -193,17 +193,51 @@ fn habit_after_first(word: &[u8], next: Kind) -> Option<&'static str> {
     }
 }
 
+/// What to write for `a <= b`.
+const AT_MOST: &str = "write `(b < a) == 0` for `a <= b`";
+
+/// Whether a statement may begin after a token of this kind.
+fn begins_statement(last: Kind) -> bool {
+    matches!(last, Kind::Semi | Kind::LBrace | Kind::RBrace)
+}
+
 /// What to write in the place of a habit that a token of this kind shows after the last one.
 fn habit_after(last: Kind, next: Kind) -> Option<&'static str> {
     match next {
         Kind::If if last == Kind::Else => Some("write `else { if (..) { .. } }`"),
-        Kind::Assign if last == Kind::Less => Some("write `(b < a) == 0` for `a <= b`"),
+        Kind::Assign if last == Kind::Less => Some(AT_MOST),
+        Kind::Star if last == Kind::Star => Some("there are no powers, only products"),
+        Kind::Plus if last == Kind::Plus => Some(
+            "write a statement of its own, as in `a = a + 1;`",
+        ),
+        Kind::Semi if begins_statement(last) => Some("there are no empty statements"),
+        Kind::LBrace if begins_statement(last) => Some(
+            "a block follows `while (..)`, `if (..)` or `else`",
+        ),
         Kind::And if last == Kind::And => Some("write `&` for `&&`"),
         Kind::Or if last == Kind::Or => Some("write `|` for `||`"),
         Kind::LParen if last == Kind::Name => Some("there are no calls"),
         Kind::Minus if !ends_term(last) => Some("numbers have no sign: write `0 - 1`"),
-        Kind::Var | Kind::Cell if matches!(last, Kind::Semi | Kind::LBrace | Kind::RBrace) => {
+        Kind::Var | Kind::Cell if begins_statement(last) => {
             Some("declarations come before the first statement")
+        }
+        _ => None,
+    }
+}
+
+/// What is said of an array that begins with several values.
+const SAME_VALUE: &str = "all cells of an array begin with the same value";
+
+/// What is wrong with the first value or with the length in the declaration of a cell.
+fn habit_of_cell(before: Before<'_>, next: Kind) -> Option<&'static str> {
+    let last = before.last?.kind;
+    match next {
+        Kind::Minus if last == Kind::Assign => {
+            Some("numbers have no sign: -1 is 18446744073709551615 (2^64 - 1)")
+        }
+        Kind::Name if matches!(last, Kind::Assign | Kind::LBracket) => Some("a number stands here"),
+        Kind::Plus | Kind::Minus | Kind::Star | Kind::Shl if before.assigned => {
+            Some("a cell begins with a number, and statements compute")
         }
         _ => None,
     }
@@ -224,7 +258,8 @@ fn habit_inside(before: Before<'_>, next: Kind) -> Option<&'static str> {
         (Some(Kind::Cell), Kind::Semi) if !before.assigned => {
             Some("a cell begins with a value, as in `cell a = 0;` or `cell a[4] = 0;`")
         }
-        (Some(Kind::Cell), Kind::LBrace) => Some("all cells of an array begin with the same value"),
+        (Some(Kind::Cell), Kind::LBrace) => Some(SAME_VALUE),
+        (Some(Kind::Cell), _) => habit_of_cell(before, next),
         (Some(Kind::While | Kind::If), Kind::Assign) if before.open > 0 => {
             Some("write `==` to compare")
         }
@@ -240,6 +275,12 @@ pub(crate) fn habit(source: &[u8], at: usize) -> Option<&'static str> {
         return Some("there is no `{` that it closes");
     }
     let last = before.last?;
+    if next == Kind::RParen && before.open == 0 {
+        return Some("there is no `(` that it closes");
+    }
+    if next == Kind::Assign && last.kind == Kind::Less {
+        return Some(AT_MOST);
+    }
     if last.kind == Kind::Number
         && next == Kind::Name
         && last.at.saturating_add(last.text.len()) == at
@@ -282,6 +323,16 @@ fn opened_at(source: &[u8], wanted: usize) -> Option<usize> {
     found
 }
 
+/// What to write in the place of a comma.
+pub(crate) fn instead_of_comma(source: &[u8], at: usize) -> &'static str {
+    // After the brace that begins a list, its first number is taken for the beginning of a statement.
+    if read_before(source, at).first == Some(Kind::Number) {
+        SAME_VALUE
+    } else {
+        "there are no lists: each name has its own declaration, as in `var a; var b;`"
+    }
+}
+
 /// What to write in the place of a byte that begins no token.
 pub(crate) fn instead_of(byte: u8) -> &'static str {
     match byte {
@@ -289,7 +340,6 @@ pub(crate) fn instead_of(byte: u8) -> &'static str {
         b'!' => ": write `(a == b) == 0` for `a != b`",
         b'/' => ": comments begin with `#`, and there is no division",
         b'%' => ": there is no division",
-        b',' => ": there are no lists: each name has its own declaration, as in `var a; var b;`",
         b'"' | b'\'' => ": there are no texts and no characters, only numbers",
         b'.' => ": numbers are whole",
         b':' => ": a block stands between `{` and `}`",

@@ -20,8 +20,16 @@ pub(crate) fn asks_for_help(word: &str) -> bool {
 }
 
 /// Whether a word asks for the version.
-pub(crate) fn is_version(word: &str) -> bool {
+fn is_version(word: &str) -> bool {
     word == "--version" || word == "-V"
+}
+
+/// Whether words ask for the version.
+pub fn asks_for_version(words: &[String]) -> bool {
+    match words {
+        [first, ..] => is_version(first.as_str()),
+        [] => false,
+    }
 }
 
 /// Says the version.

@@ -10,6 +10,7 @@ mod assembly;
 mod checks;
 mod content;
 mod detections;
+mod endless;
 mod excerpt;
 mod expected;
 mod fields;
@@ -47,6 +48,7 @@ mod unread;
 mod usage;
 mod version;
 
+pub use help::asks_for_version;
 pub use last_line::LastLine;
 pub use look::{Found, Look};
 pub use telling::explain;

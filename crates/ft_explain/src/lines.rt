@@ -5,7 +5,7 @@ const MARK: &[u8] = b"\xef\xbb\xbf";
 
 /// What is said of a line that ends with a carriage return.
 pub(crate) const RETURN: &str =
-    "the line ends with a carriage return: save the file with Unix line ends";
+    "the line ends with a carriage return: save the file with Unix line endings";
 
 /// What is said of a text that begins with a byte order mark.
 pub(crate) const MARKED: &str = "the file begins with a byte order mark: save it without one";
@@ -38,16 +38,16 @@ pub(crate) fn wrong_line(line: &[u8]) -> Option<(usize, &'static str)> {
         return Some((last, RETURN));
     }
     if line.trim_ascii().is_empty() {
-        return Some((0, "the line is empty, and no line may be"));
+        return Some((0, "empty lines are not allowed in this file"));
     }
     if begins_comment(line.trim_ascii_start()) {
-        return Some((0, "there are no comments in this file"));
+        return Some((0, "comments are not allowed in this file"));
     }
     if is_blank(line.first()) {
-        return Some((0, "the line begins with a blank"));
+        return Some((0, "the line begins with whitespace"));
     }
     if is_blank(line.last()) {
-        return Some((last, "the line ends with a blank"));
+        return Some((last, "the line ends with whitespace"));
     }
     None
 }

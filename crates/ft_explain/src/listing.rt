@@ -134,6 +134,23 @@ pub(crate) fn line_with(text: &[u8], first: &[u8]) -> Option<usize> {
     None
 }
 
+/// The number of the cell with this name; `None` where the text has no such cell.
+pub(crate) fn cell_of(text: &[u8], name: &[u8]) -> Option<u64> {
+    let mut rest = text;
+    let mut number: u64 = 0;
+    for _ in 0..text.len() {
+        let (line, after) = read_line(rest)?;
+        if part_of(line) == Some(Part::Cell) {
+            if word(line, 1) == name {
+                return Some(number);
+            }
+            number = number.saturating_add(1);
+        }
+        rest = after;
+    }
+    None
+}
+
 /// Whether a block whose line has this number is empty: no instruction follows it.
 pub(crate) fn is_empty_block(text: &[u8], number: usize) -> bool {
     let mut rest = text;

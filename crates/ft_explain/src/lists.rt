@@ -14,6 +14,14 @@ fn begun(line: &[u8]) -> usize {
     }
 }
 
+/// Whether other words follow a fault on its line, as in what a campaign writes.
+fn has_verdict(line: &[u8]) -> bool {
+    match str::from_utf8(line).unwrap_or("").split_once(' ') {
+        Some((fault, _)) => read_strike(fault.as_bytes()).is_ok(),
+        None => false,
+    }
+}
+
 /// What is wrong with a whole list, with a campaign or with a script.
 fn say_whole(page: &mut Page, number: u64, told: u64) -> Result<(), NoMemory> {
     match number {
@@ -39,6 +47,10 @@ fn explain_line(page: &mut Page, name: &str, start: Place<'_>) -> Result<(), NoM
     }
     let place = start.after(begun(start.line()));
     page.head_at(name, &place)?;
+    if has_verdict(start.line()) {
+        page.say("a verdict follows the fault: a fault list has STEP:SITE:WORD alone\n")?;
+        return place.show(page, 1);
+    }
     page.say("invalid fault: expected STEP:SITE:WORD; ")?;
     say_wrong_part(page, str::from_utf8(start.line()).unwrap_or(""))?;
     page.say("\n")?;

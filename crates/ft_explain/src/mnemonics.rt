@@ -172,10 +172,10 @@ fn say_meant(page: &mut Page, word: &str) -> Result<(), NoMemory> {
             ));
         }
     }
-    if !say_near_operation(page, word)? {
-        say_near_form(page, word)?;
+    if say_near_operation(page, word)? || say_near_form(page, word)? {
+        return Ok(());
     }
-    Ok(())
+    page.say(": `man talft-assembly` lists the instructions")
 }
 
 /// Says that a word begins no line of an assembly text, and what to write.

@@ -33,13 +33,13 @@ fn misspelled(word: &[u8]) -> &'static str {
         return "words are separated by spaces, without commas";
     }
     if has(word, b' ') || has(word, b'\t') {
-        return "there is a blank in it";
+        return "it contains whitespace";
     }
     if has(word, b'\r') {
-        return "there is a carriage return in it: save the file with Unix line ends";
+        return "it contains a carriage return: save the file with Unix line endings";
     }
     if has(word, b'.') {
-        return "numbers are whole";
+        return "numbers are integers";
     }
     "numbers are decimal digits, as in `42`"
 }

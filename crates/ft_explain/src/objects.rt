@@ -1,5 +1,5 @@
 //! Objects that are refused.
-use crate::content::{Content, content_of, say_kind};
+use crate::content::{Content, content_of_file, say_kind};
 use crate::excerpt::part;
 use crate::fields::{Field, HEADER, field_at};
 use crate::page::Page;
@@ -30,17 +30,32 @@ fn value_of(bytes: &[u8]) -> u64 {
 /// The rule of the format with this number, in words.
 pub(crate) fn rule(number: u64) -> &'static str {
     match number {
-        1 => "this is not an object: it does not begin with TALFT and the number of version 1 or 2",
+        1 => "this is not an object: it does not begin with TALFT and version 1 or 2",
         2 => "the object does not have as many bytes as its header gives",
         3 => "a count, a scope or a length is out of its range",
         4 => "padding, or a field that the record does not use, is not zero",
-        5 => "a code has no meaning, a type has more than 8 `ref`, or a node is of the wrong sort",
-        6 => "a number names a part that does not exist or may not be named here",
+        5 => "a code is unknown, a type has more than 8 `ref`, or a node is of the wrong kind",
+        6 => "a number refers to a part that does not exist, or that this part may not refer to",
         7 =>
-            "ends, starts or registers are not in rising order, or a row or a byte belongs to nothing",
+            "ends, starts or registers are not in ascending order, or a row or a byte belongs to nothing",
         8 => "a cell's name is too long, has a byte that is not allowed, or is used twice",
         _ => "the entry block does not exist",
     }
+}
+
+/// What is said of an object that was copied as a text.
+const AS_TEXT: &str =
+    "  a carriage return stands before each line feed, as when a text is copied: copy the object as binary\n";
+
+/// Whether bytes are as many too many as they have line feeds with a carriage return before.
+fn is_as_text(bytes: &[u8], wanted: usize) -> bool {
+    let mut ends: usize = 0;
+    let mut last = 0;
+    for byte in bytes {
+        ends = ends.saturating_add(usize::from(last == b'\r' && *byte == b'\n'));
+        last = *byte;
+    }
+    ends > 0 && bytes.len().checked_sub(wanted) == Some(ends)
 }
 
 /// What is wrong with the number of the bytes.
@@ -49,7 +64,13 @@ fn say_length(page: &mut Page, bytes: &[u8]) -> Result<(), NoMemory> {
     match header_of(bytes) {
         Some(header) => {
             let wanted = total(header);
-            page.say(format_args!("the object has {length} bytes, and its header gives {wanted}\n"))
+            page.say(format_args!(
+                "the object has {length} bytes, and its header gives {wanted}\n"
+            ))?;
+            if is_as_text(bytes, wanted) {
+                page.say(AS_TEXT)?;
+            }
+            Ok(())
         }
         None => page.say(format_args!("the object has {length} bytes: its header alone has 48\n")),
     }
@@ -124,7 +145,7 @@ pub(crate) fn explain_object(
     let Some(bytes) = object else {
         return explain_unseen(page, name, number, at);
     };
-    let content = content_of(bytes);
+    let content = content_of_file(name, bytes);
     if !may_be_damaged(bytes, content) {
         return say_kind(page, name, content, Content::Object);
     }

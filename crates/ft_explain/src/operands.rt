@@ -61,7 +61,7 @@ pub(crate) fn count_words(line: &[u8]) -> usize {
 }
 
 /// Whether a word is a register.
-fn is_register(word: &[u8]) -> bool {
+pub(crate) fn is_register(word: &[u8]) -> bool {
     matches!(read_site(word), Some(Site::R(_)))
 }
 
@@ -115,9 +115,10 @@ fn fits(word: &[u8], form: &str) -> bool {
 fn rule_of(form: &str) -> &'static str {
     match form.as_bytes() {
         b"R" => "a register is r0 to r63",
+        b"SECOND" => "a register is r0 to r63, and a number comes after its colour, as in `G 5`",
         b"C" => "a colour is G or B",
         b"BASIC" => "a basic type is `int` or `code:T`, after any number of `ref:`",
-        b"nothing" => "nothing follows in this line",
+        b"nothing" => "nothing may follow on this line",
         b"KIND" => "a node is `word`, `var`, `sel`, `memory`, `upd`, `rem` or an operation",
         _ => "",
     }
@@ -140,7 +141,11 @@ pub(crate) fn meaning_of(form: &str) -> &'static str {
 
 /// What is wrong with an operand whatever it should be; nothing where it depends on that.
 fn habit_of(text: &[u8]) -> &'static str {
-    if begins_comment(text) {
+    if let [b'#', byte, ..] = text
+        && byte.is_ascii_digit()
+    {
+        "numbers are written without `#`"
+    } else if begins_comment(text) {
         "a comment begins with `#`, on a line of its own"
     } else if text.ends_with(b",") {
         "words are separated by spaces, without commas"
@@ -231,6 +236,12 @@ pub(crate) fn wrong_operation(line: &[u8]) -> Option<Operand<'_>> {
     let wrong = wrong_operand(line, "R R R")?;
     if is_colour(wrong.text) {
         return wrong_operand(line, "R R C W");
+    }
+    if wrong.at == place_of_word(line, 3) && is_number(wrong.text, u64::MAX) {
+        return Some(Operand {
+            form: "SECOND",
+            ..wrong
+        });
     }
     Some(wrong)
 }

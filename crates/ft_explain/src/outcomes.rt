@@ -2,6 +2,7 @@
 ghost use Rattle.ft_types.specs.Spellable.{IsSpellable};
 
 use crate::detections::say_detection;
+use crate::endless::note_endless;
 use crate::indices::note_indices;
 use crate::loads::{OBJECT_LIMIT, load};
 use crate::page::Page;
@@ -26,6 +27,18 @@ fn begin(page: &mut Page, name: &str) -> Result<(), NoMemory> {
 fn say_cut(page: &mut Page, name: &str, count: u64, what: &str) -> Result<(), NoMemory> {
     begin(page, name)?;
     page.say(format_args!("still running after {count} {what}: raise `--{what}`\n"))
+}
+
+/// Says that the run or the meaning of a source was cut, and which loop never ends.
+fn say_cut_source<S: Shelf>(
+    page: &mut Page,
+    name: &str,
+    count: u64,
+    what: &str,
+    shelf: &mut S,
+) -> Result<(), NoMemory> {
+    say_cut(page, name, count, what)?;
+    note_endless(page, name, shelf)
 }
 
 /// Says why a strike found nothing to strike.
@@ -150,8 +163,12 @@ pub(crate) fn explain_outcome<S: Shelf>(
         Command::Run(run) | Command::Trial(run) | Command::Recover(run) => {
             explain_run(page, run, status, shelf)
         }
-        Command::Exec(asked) if status == 9 => say_cut(page, asked.source, asked.steps, "steps"),
-        Command::Mean(asked) if status == 9 => say_cut(page, asked.source, asked.turns, "turns"),
+        Command::Exec(asked) if status == 9 => {
+            say_cut_source(page, asked.source, asked.steps, "steps", shelf)
+        }
+        Command::Mean(asked) if status == 9 => {
+            say_cut_source(page, asked.source, asked.turns, "turns", shelf)
+        }
         Command::Compile(source) if status == 0 => note_indices(page, *source, shelf),
         Command::Exec(asked) if status == 0 => note_indices(page, asked.source, shelf),
         Command::Mean(asked) if status == 0 => note_indices(page, asked.source, shelf),

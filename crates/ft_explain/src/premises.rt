@@ -46,11 +46,11 @@ fn ends(instr: Instr) -> &'static str {
     }
 }
 
-/// What is wrong with the stores that wait.
+/// What is wrong with the pending stores.
 fn queues(instr: Instr) -> &'static str {
     match instr {
         Instr::Halt => "a green store waits for its blue one",
-        _ => "the waiting stores are not those that the target's code type wants",
+        _ => "the pending stores are not those that the target's code type expects",
     }
 }
 
@@ -63,15 +63,15 @@ pub(crate) fn premise(number: u64, instr: Instr) -> &'static str {
         4 => "its address register holds no address of a cell (`ref`)",
         5 => "its target register holds no address of a block (`code`)",
         6 => states(instr),
-        7 => "eight stores are waiting already",
+        7 => "eight stores are pending already",
         8 => "no green store waits for it",
-        9 => "its address is not known to be that of the oldest waiting store",
-        10 => "its value is not known to be that of the oldest waiting store",
+        9 => "its address is not known to be that of the oldest pending store",
+        10 => "its value is not known to be that of the oldest pending store",
         11 => "the word that it tests is not known to be the one that `bz_G` tests",
         12 => "its target is not known to be that of the green jump or branch",
-        13 => "a register is not what the target's code type wants",
+        13 => "a register is not what the target's code type expects",
         14 => queues(instr),
-        15 => "the memory is not known to be what the target's code type wants",
+        15 => "the memory is not known to be what the target's code type expects",
         16 => "its substitution does not fit the integer variables of the target or of this block",
         17 => ends(instr),
         _ => "the cells of its run do not all have one type, or have 8 `ref` already",

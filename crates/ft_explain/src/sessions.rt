@@ -45,6 +45,9 @@ fn say_bad(page: &mut Page, line: &str) -> Result<(), NoMemory> {
     }
     page.say("unknown command ")?;
     page.quote(first.as_bytes())?;
+    if matches!(first.as_bytes(), b"quit" | b"exit" | b"q") {
+        return page.say(": a session ends where its commands end");
+    }
     for (word, _) in COMMANDS {
         if is_near(page.alloc(), first, *word)? {
             return say_near(page, word.as_bytes());

@@ -1,7 +1,7 @@
 //! Sources that are refused.
 use crate::content::{Content, say_other_kind};
 use crate::excerpt::{Place, letter_from, part};
-use crate::expected::{Lack, habit, instead_of, lack_at, unclosed};
+use crate::expected::{Lack, habit, instead_of, instead_of_comma, lack_at, unclosed};
 use crate::lines::{MARKED, is_marked};
 use crate::near::{is_near, say_near};
 use crate::page::Page;
@@ -62,6 +62,13 @@ fn say_byte(page: &mut Page, source: &[u8], at: usize, token: &[u8]) -> Result<(
     }
     match token {
         [byte, ..] if is_in_name(*byte) => page.say("a name has at most 32 bytes"),
+        [b','] => {
+            page.say("unexpected character `,`: ")?;
+            page.say(instead_of_comma(source, at))
+        }
+        [b':'] if part(source, at, at.saturating_add(2)) == b":=".as_slice() => {
+            page.say("unexpected character `:`: write `=` to assign")
+        }
         [byte, ..] => {
             page.say("unexpected character ")?;
             say_of(page, token, instead_of(*byte))
@@ -176,13 +183,13 @@ fn say_whole(page: &mut Page, number: u64, told: u64) -> Result<(), NoMemory> {
 /// What is wrong where a source is refused with this number.
 fn rule(number: u64) -> &'static str {
     match number {
-        2 => "a character begins no token, or a name has more than 32 bytes",
+        2 => "a character is not part of the language, or a name has more than 32 bytes",
         3 => "a number is too large",
-        4 => "a token is not expected there",
-        5 => "it is nested too deep, or has too many operators",
+        4 => "a token is unexpected there",
+        5 => "it is nested too deeply, or has too many operators",
         6 => "a name is declared twice",
         7 => "a name is not declared",
-        11 => "an array lacks an index, or something else has one",
+        11 => "an array has no index, or something else has one",
         _ => "an array has 1 to 1024 cells",
     }
 }
@@ -245,7 +252,7 @@ fn explain_unclosed(
     )?;
     page.name(name)?;
     page.say(format_args!(
-        ":{}:{}: note: it closes this `{{`\n",
+        ":{}:{}: note: to match this `{{`\n",
         brace.number(),
         brace.column()
     ))?;

@@ -26,6 +26,9 @@ fn say_site_and_word(page: &mut Page, rest: &str) -> Result<(), NoMemory> {
     if read_site(site.as_bytes()).is_none() {
         page.say("invalid site ")?;
         page.quote(site.as_bytes())?;
+        if site.contains(' ') {
+            return page.say(": it contains whitespace");
+        }
         return page.say(": a site is r0 to r63, d, pcg, pcb, qa0 to qa7 or qv0 to qv7");
     }
     match word {

@@ -1,4 +1,5 @@
 //! Files that could not be read.
+use crate::excerpt::Place;
 use crate::look::Look;
 use crate::page::Page;
 use ft_edge::{LoadFault, Shelf};
@@ -13,16 +14,49 @@ fn can_be_read<S: Shelf>(page: &Page, name: &str, shelf: &mut S) -> bool {
     !matches!(shelf.load(name, LIMIT, &mut bytes), Err(LoadFault::Failed))
 }
 
-/// The first file of a link map's modules that cannot be read.
-fn first_unread<'m, S: Shelf>(page: &Page, map: &'m [u8], shelf: &mut S) -> Option<&'m str> {
+/// What the line of a module begins with in a link map.
+const MODULE: &str = "module ";
+
+/// The first line of a link map whose module cannot be read, counted from 1, and the module's file.
+fn first_unread<'m, S: Shelf>(
+    page: &Page,
+    map: &'m [u8],
+    shelf: &mut S,
+) -> Option<(usize, &'m str)> {
+    let mut number: usize = 0;
     for line in str::from_utf8(map).ok()?.lines() {
-        if let Some(file) = line.strip_prefix("module ")
+        number = number.saturating_add(1);
+        if let Some(file) = line.strip_prefix(MODULE)
             && !can_be_read(page, file, shelf)
         {
-            return Some(file);
+            return Some((number, file));
         }
     }
     None
+}
+
+/// Says why the module of a link map's line cannot be read.
+fn say_why_module<L: Look>(
+    page: &mut Page,
+    name: &str,
+    map: &[u8],
+    unread: (usize, &str),
+    look: &L,
+) -> Result<(), NoMemory> {
+    let (number, file) = unread;
+    let Some(start) = Place::of_line(map, number) else {
+        return say_why(page, file, look);
+    };
+    let place = start.after(MODULE.len());
+    page.head_at(name, &place)?;
+    page.quote(file.as_bytes())?;
+    page.say(": ")?;
+    page.say(look.look(file).words())?;
+    if name.contains('/') && !file.starts_with("/") {
+        page.say("; names are relative to the current folder, not to the map's")?;
+    }
+    page.say("\n")?;
+    place.show(page, file.len())
 }
 
 /// Says why a file cannot be read.
@@ -85,7 +119,7 @@ pub(crate) fn explain_unread_module<S: Shelf, L: Look>(
 ) -> Result<(), NoMemory> {
     match map {
         Some(map) => match first_unread(page, map, shelf) {
-            Some(file) => say_why(page, file, look),
+            Some(unread) => say_why_module(page, name, map, unread, look),
             None => page.say("talft: error: a file cannot be read\n"),
         },
         None => say_why(page, name, look),

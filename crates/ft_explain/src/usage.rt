@@ -1,7 +1,8 @@
 //! Words that are no command.
 use crate::forms::{COMMANDS, OPTIONS, command_lines, first_word, most_of, operand_of, value_of};
 use crate::help::{
-    asks_for_help, is_help, is_version, say_commands, say_form, say_help, say_help_of, say_version,
+    asks_for_help, asks_for_version, is_help, say_commands, say_form, say_help, say_help_of,
+    say_version,
 };
 use crate::near::{is_near, say_near};
 use crate::numbers::{is_number, say_misfit};
@@ -77,13 +78,35 @@ fn say_near_option(page: &mut Page, command: &'static str, word: &str) -> Result
     Ok(())
 }
 
+/// Whether a word is the option of other programs for the file that they write.
+fn is_of_output(word: &str) -> bool {
+    matches!(word.as_bytes(), b"-o" | b"--out" | b"--output")
+}
+
 /// Says that a command does not take an option.
 fn say_unknown_option(page: &mut Page, command: &'static str, word: &str) -> Result<(), NoMemory> {
     page.say("unknown option ")?;
     page.quote(word.as_bytes())?;
     let name = first_word(command);
     page.say(format_args!(" for `{name}`"))?;
+    if is_of_output(word) {
+        return page.say(": it writes to standard output: add `>FILE`");
+    }
     say_near_option(page, command, word)
+}
+
+/// Says that a word stands after the operand where an option may.
+fn say_extra(page: &mut Page, command: &'static str, word: &str) -> Result<(), NoMemory> {
+    page.say("unexpected argument ")?;
+    page.quote(word.as_bytes())?;
+    let operand = operand_of(command);
+    page.say(format_args!(" after {operand}: "))?;
+    match first_word(command).as_bytes() {
+        b"link" => page.say("a link map is a text with a line `module FILE` for each object"),
+        b"campaign" | b"survey" => page.say("the fault list comes after `--faults`"),
+        b"debug" => page.say("commands come from standard input"),
+        _ => page.say(format_args!("a call takes one {operand}")),
+    }
 }
 
 /// Says that a command does not take this where an option may stand.
@@ -92,10 +115,7 @@ fn say_untaken(page: &mut Page, command: &'static str, word: &str) -> Result<(),
         return page.say("an argument is empty");
     }
     if !word.starts_with("-") {
-        page.say("unexpected argument ")?;
-        page.quote(word.as_bytes())?;
-        let operand = operand_of(command);
-        return page.say(format_args!(" after {operand}"));
+        return say_extra(page, command, word);
     }
     if let Some((option, _)) = word.split_once('=')
         && let Some(value) = value_of(command, option)
@@ -153,6 +173,9 @@ fn say_turns(page: &mut Page, word: &str, most: u64) -> Result<(), NoMemory> {
 /// Says that an option stands where the operand should.
 fn say_misplaced(page: &mut Page, command: &'static str, word: &str) -> Result<(), NoMemory> {
     let called = operand_of(command);
+    if word == "--" {
+        return page.say(format_args!("unexpected `--`: {called} comes right after the command"));
+    }
     page.say(format_args!("missing {called}: it comes before options such as "))?;
     page.quote(word.as_bytes())
 }
@@ -198,6 +221,9 @@ fn say_words(page: &mut Page, command: &'static str, rest: &[String]) -> Result<
 
 /// Says which command was probably meant.
 fn say_near_command(page: &mut Page, word: &str) -> Result<(), NoMemory> {
+    if matches!(word.as_bytes(), b"version" | b"-v" | b"-version") {
+        return say_near(page, b"--version");
+    }
     for command in COMMANDS {
         let name = first_word(*command);
         if is_near(page.alloc(), word, name)? {
@@ -237,7 +263,7 @@ pub(crate) fn explain_usage(page: &mut Page, words: &[String]) -> Result<(), NoM
     if is_help(first.as_str()) {
         return say_help_for(page, rest);
     }
-    if is_version(first.as_str()) {
+    if asks_for_version(words) {
         return say_version(page);
     }
     let Some(command) = command_lines(first.as_str()) else {

@@ -1,24 +1,25 @@
 //! Calls that are explained on standard error.
+use crate::build::line_of_build;
 use crate::looks::Folders;
-use crate::streams::{STANDARD_ERROR, is_object_on_terminal, is_pipe, is_terminal};
-use crate::{NOT_WRITTEN, answer, ended};
+use crate::streams::{STANDARD_ERROR, STANDARD_INPUT, STANDARD_OUTPUT, is_pipe, is_terminal};
+use crate::watched::Watched;
+use crate::{NO_MEMORY, NOT_WRITTEN, answer, ended};
 use ft_edge::{FolderShelf, GatheringSink, MemShelf, Shelf};
-use ft_explain::{LastLine, explain};
+use ft_explain::{LastLine, asks_for_version, explain};
 use ft_isa::NoMemory;
 use std::alloc::Global;
-use std::io::Write;
 use std::rt::{Env, Files};
 use std::{env, fs, io};
 
 /// The variable of the environment that forbids explanations, by the value 0.
 const VARIABLE: &str = "TALFT_EXPLAIN";
 
-/// What is said after an object went to a terminal.
-const BINARY: &str =
-    "talft: note: an object is binary: redirect it to a file, as in `talft compile SOURCE >FILE.obj`\n";
-
 /// What is said of arguments that are no text.
 const NO_TEXT: &str = "talft: error: an argument is not UTF-8 text\n";
+
+/// What is said before commands of the debugger are read from a terminal.
+const COMMANDS: &str =
+    "talft: note: debugger commands are read from the terminal up to Ctrl-D; `tools/debugger OBJECT` has a prompt and help\n";
 
 /// The most bytes of a link map.
 const MAP_LIMIT: usize = 65_536;
@@ -114,44 +115,72 @@ fn explanation<R: Files + AllocGlobal + Clone + Drop>(
     )
 }
 
+/// Says why standard output could not be written; nothing where the reader of a pipe has enough.
+fn say_unwritten<R: Files + Eprint + AllocGlobal>(rt: &R, reason: &str) {
+    if !is_pipe(rt) {
+        let _ = rt.eprint("talft: error: the output could not be written");
+        let _ = rt.eprint(reason);
+        let _ = rt.eprint("\n");
+    }
+}
+
 /// Says on standard error what a person is told of a call. The status is what the call is about: what cannot be
-/// written there changes nothing. Nothing is said where the reader of a pipe has enough.
+/// written there changes nothing.
 fn say<R: Env + Files + Eprint + AllocGlobal + Clone + Drop>(
     rt: &R,
     words: &[String],
     status: u8,
     line: &[u8],
 ) {
-    if status == NOT_WRITTEN && is_pipe(rt) {
-        return;
-    }
     if words.is_empty() && is_some_argument_no_text(rt) {
         let _ = rt.eprint(NO_TEXT);
         return;
     }
-    if is_object_on_terminal(rt, words, status) {
-        // The bytes of an object end in no line feed.
-        if is_terminal(rt, STANDARD_ERROR) {
-            let _ = rt.eprint("\n");
-        }
-        let _ = rt.eprint(BINARY);
+    if asks_for_version(words)
+        && let Some(line) = line_of_build(rt, rt.alloc())
+    {
+        let _ = rt.eprint(line.as_str());
+        return;
     }
     if let Ok(text) = explanation(rt, words, status, line) {
         let _ = rt.eprint(text.as_str());
     }
 }
 
+/// Whether the words ask for a session of the debugger.
+fn ask_for_session(words: &[String]) -> bool {
+    match words {
+        [command, _, ..] => command.as_str() == "debug",
+        _ => false,
+    }
+}
+
 /// Does what the words ask for, and says on standard error what a person is told of it. What is written to
 /// standard output and the status are as without.
-pub(crate) fn run<R: Env + Files + Eprint + Input + AllocGlobal + Clone + Drop, W: Write + Drop>(
+pub(crate) fn run<R: Env + Files + Print + Eprint + Input + AllocGlobal + Clone + Drop>(
     rt: &R,
     words: &[String],
-    out: GatheringSink<W>,
 ) -> io::Result<u8> {
+    if ask_for_session(words) && is_terminal(rt, STANDARD_INPUT) {
+        let _ = rt.eprint(COMMANDS);
+    }
+    let is_shown = is_terminal(rt, STANDARD_OUTPUT);
+    let mut watched = Watched::new(rt, io::writer(rt), is_shown);
+    let Ok(out) = GatheringSink::new(rt.alloc(), &mut watched) else {
+        return Ok(NO_MEMORY);
+    };
     let mut out = LastLine::new(out);
     let status = answer(rt, words, &mut out)?;
     let (out, line) = out.into_parts();
     let status = ended(out, status);
+    if status == NOT_WRITTEN {
+        say_unwritten(rt, watched.reason());
+        return Ok(status);
+    }
+    // The bytes of an object end in no line feed.
+    if watched.has_shown_object() && is_terminal(rt, STANDARD_ERROR) {
+        let _ = rt.eprint("\n");
+    }
     say(rt, words, status, line.as_bytes());
     Ok(status)
 }

@@ -7,9 +7,11 @@
 //! refused, detected or cut is explained on standard error.
 #![tactic(auto)]
 
+mod build;
 mod explained;
 mod looks;
 mod streams;
+mod watched;
 
 use ft_edge::{FolderShelf, GatheringSink, Sink, StdinSource};
 use std::io::Write;
@@ -51,12 +53,12 @@ fn run<R: Env + Files + Print + Eprint + Input + AllocGlobal + Clone + Drop>(
         Err(error) if error.kind() == io::ErrorKind::InvalidData => Vec::new(rt.alloc()),
         Err(error) => return Err(error),
     };
+    if explained::is_wanted(rt) {
+        return explained::run(rt, words.as_slice());
+    }
     let Ok(mut out) = GatheringSink::new(rt.alloc(), io::writer(rt)) else {
         return Ok(NO_MEMORY);
     };
-    if explained::is_wanted(rt) {
-        return explained::run(rt, words.as_slice(), out);
-    }
     let status = answer(rt, words.as_slice(), &mut out)?;
     Ok(ended(out, status))
 }

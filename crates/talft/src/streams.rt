@@ -3,7 +3,10 @@ use std::fs;
 use std::rt::Files;
 
 /// Where the system tells what standard output is.
-const STANDARD_OUTPUT: &str = "/proc/self/fd/1";
+pub(crate) const STANDARD_OUTPUT: &str = "/proc/self/fd/1";
+
+/// Where the system tells what standard input is.
+pub(crate) const STANDARD_INPUT: &str = "/proc/self/fd/0";
 
 /// Where the system tells what standard error is.
 pub(crate) const STANDARD_ERROR: &str = "/proc/self/fd/2";
@@ -30,24 +33,4 @@ pub(crate) fn is_pipe<R: Files + AllocGlobal>(rt: &R) -> bool {
         Ok(name) => name.as_str().starts_with("pipe:"),
         Err(_) => false,
     }
-}
-
-/// Whether the words ask for an object.
-fn ask_for_object(words: &[String]) -> bool {
-    let [command, ..] = words else {
-        return false;
-    };
-    matches!(
-        command.as_str().as_bytes(),
-        b"compile" | b"asm" | b"upgrade" | b"schedule" | b"link"
-    )
-}
-
-/// Whether a call with these words that ended with this status has written an object to a terminal.
-pub(crate) fn is_object_on_terminal<R: Files + AllocGlobal>(
-    rt: &R,
-    words: &[String],
-    status: u8,
-) -> bool {
-    status == 0 && ask_for_object(words) && is_terminal(rt, STANDARD_OUTPUT)
 }

@@ -1,0 +1,72 @@
+//! Loops of sources that never end by their test.
+use crate::excerpt::Place;
+use crate::loads::{SOURCE_LIMIT, load};
+use crate::page::Page;
+use ft_edge::Shelf;
+use ft_isa::{NoMemory, read_number};
+use ft_lexer::{Kind, Lexer, Token};
+
+/// How much of `while (NUMBER)` was seen, with the number at its place.
+#[derive(Clone, Copy)]
+enum Seen<'s> {
+    /// Nothing of it.
+    Nothing,
+    /// `while`.
+    While,
+    /// `while (`.
+    Open,
+    /// `while (NUMBER`, with a number that is not 0.
+    Test(Token<'s>),
+}
+
+impl<'s> Seen<'s> {
+    /// What is seen after one more token.
+    fn then(self, token: Token<'s>) -> Seen<'s> {
+        match (self, token.kind) {
+            (_, Kind::While) => Seen::While,
+            (Seen::While, Kind::LParen) => Seen::Open,
+            (Seen::Open, Kind::Number) if read_number(token.text) != Some(0) => Seen::Test(token),
+            _ => Seen::Nothing,
+        }
+    }
+}
+
+/// The test of the first loop whose test is a number that is not 0.
+fn endless_test(source: &[u8]) -> Option<Token<'_>> {
+    let mut lexer = Lexer::new(source);
+    let mut seen = Seen::Nothing;
+    for _ in 0..source.len() {
+        let Some(Ok(token)) = lexer.next() else {
+            return None;
+        };
+        if let Seen::Test(test) = seen
+            && token.kind == Kind::RParen
+        {
+            return Some(test);
+        }
+        seen = seen.then(token);
+    }
+    None
+}
+
+/// Says of a source whose run or meaning was cut which loop never ends by its test.
+pub(crate) fn note_endless<S: Shelf>(
+    page: &mut Page,
+    name: &str,
+    shelf: &mut S,
+) -> Result<(), NoMemory> {
+    let Some(source) = load(page.alloc(), name, SOURCE_LIMIT, shelf)? else {
+        return Ok(());
+    };
+    let Some(test) = endless_test(source.as_slice()) else {
+        return Ok(());
+    };
+    let place = Place::of(source.as_slice(), test.at);
+    page.name(name)?;
+    page.say(format_args!(
+        ":{}:{}: note: this test is never 0, so the loop never ends\n",
+        place.number(),
+        place.column()
+    ))?;
+    place.show(page, test.text.len())
+}

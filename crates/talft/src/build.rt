@@ -1,0 +1,34 @@
+//! What the installed program is a build of: version, commit and kit.
+use ft_edge::{FolderShelf, Load, Shelf};
+use std::alloc::Global;
+use std::fs;
+use std::rt::Files;
+
+/// Where the system names the file of the program that runs.
+const OWN_FILE: &str = "/proc/self/exe";
+
+/// Where an installation names its build, in the folder that has `bin`.
+const BUILD: &str = "share/doc/talft/BUILD";
+
+/// The most bytes of that file.
+const LIMIT: usize = 1024;
+
+/// The name of the file of the build of the program that runs.
+fn file_of_build<R: Files + AllocGlobal>(rt: &R) -> Option<String> {
+    let own = fs::read_link(rt, OWN_FILE).ok()?;
+    let (bin, _) = own.as_str().rsplit_once('/')?;
+    let (above, _) = bin.rsplit_once('/')?;
+    format!(in rt.alloc(); "{above}/{BUILD}").ok()
+}
+
+/// The line that names version, commit and kit, with its line feed; `None` where the program is not installed.
+pub(crate) fn line_of_build<R: Files + AllocGlobal>(rt: &R, alloc: Global) -> Option<String> {
+    let name = file_of_build(rt)?;
+    let mut bytes = Vec::new(alloc);
+    let mut shelf = FolderShelf::new(rt.clone().ok()?, alloc);
+    let Ok(Load::Whole) = shelf.load(name.as_str(), LIMIT, &mut bytes) else {
+        return None;
+    };
+    let (line, _) = str::from_utf8(bytes.as_slice()).ok()?.split_once('\n')?;
+    format!(in alloc; "{line}\n").ok()
+}
