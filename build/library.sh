@@ -8,6 +8,7 @@ set -u
 top=$(cd "$(dirname "${BASH_SOURCE[0]}")/.." && pwd) || exit 2
 . "$top/build/sources.sh" || exit 2
 . "$top/build/kit.sh" || exit 2
+. "$top/build/cross.sh" || exit 2
 arch=${1-x86_64}
 case $arch in
   x86_64) out=$top/crates/ft_c/out/library cc=${CC-cc} ar=${AR-ar} ;;
@@ -20,43 +21,22 @@ link() {
   make -s -C "$top" -f build/library.mk ARCHIVE="$out/libft_c.a" OUT="$out" CC="$cc" AR="$ar" HEAP="${HEAP-heap}" \
     PREFIX="${PREFIX-/usr/local}"
 }
-crates=$(needed ft_c)
-if [ -e "$out/libft_c.a" ] && [ -z "$(cd "$top" && find crates.txt HANDLES \
-  $(printf 'crates/%s/src crates/%s/specs crates/%s/proofs ' $(for crate in $crates; do echo $crate $crate $crate; done)) \
-  -newer "$out/libft_c.a" -print -quit 2>/dev/null)" ]; then
+if is_newer_than_sources "$out/libft_c.a" ft_c; then
   link
   exit
 fi
 need_kit || exit 2
-kit=$(dirname "$(dirname "$(readlink -f "$(command -v rt)")")")
 
 tree=$(mktemp -d "${TMPDIR:-/tmp}/talft-library-XXXXXX") || exit 2
 trap 'rm -rf "$tree"' EXIT
-mkdir -p "$tree/.git" "$tree/crates" "$out" || exit 2
-touch "$tree/begun"
-cp "$top/HANDLES" "$tree" &&
-  awk -F'[: ]' 'NR == FNR { needed[$1]; next } $1 in needed' <(printf '%s\n' $crates) "$top/crates.txt" >"$tree/crates.txt" &&
-  tar -C "$top/crates" --exclude=out --exclude=must-fail -cf - $crates | tar -C "$tree/crates" -xf - || exit 2
-log=$tree/log
+mkdir -p "$out" || exit 2
+log=$tree.log
+trap 'rm -rf "$tree" "$log"' EXIT
 failed() {
   tail -n 20 "$log"
   echo "talft: the library is not $1"
   exit 1
 }
-(cd "$tree" && rt ci) </dev/null >"$log" 2>&1 || failed proved
-
-# What rattle is told of the crate and the libraries below it.
-words=(--crate-name ft_c src/lib.rt --crate-type staticlib --target "$arch-unknown-linux-gnu" -L "dependency=$kit/rlibs"
-  --antt-project "$kit/rattle/logic/antt-project.json" --logic-built "$kit/logic_built" --toolchain "$kit/toolchain")
-for name in std $(sed -n 's/^ft_c staticlib: //p' "$top/crates.txt"); do
-  if [ -d "$tree/crates/$name" ]; then
-    words+=(--extern "$name=$tree/crates/$name/out/rlib/$name.rlib")
-  else
-    words+=(--extern "$name=$kit/rlibs/$name.rlib")
-  fi
-done
-for crate in $crates; do
-  words+=(-L "dependency=$tree/crates/$crate/out/rlib" --links "$crate=")
-done
-(cd "$tree/crates/ft_c" && "$kit/bin/rattle" build "${words[@]}" --backend llvm -o libft_c.a) </dev/null >"$log" 2>&1 || failed compiled
+prove_in "$tree" ft_c >"$log" 2>&1 || failed proved
+compile_in "$tree" ft_c "$arch" libft_c.a src/lib.rt --crate-type staticlib >"$log" 2>&1 || failed compiled
 cp "$tree/crates/ft_c/libft_c.a" "$out/libft_c.a" && touch -r "$tree/begun" "$out/libft_c.a" && link
