@@ -16,11 +16,19 @@ PROGRAM =
 # The log of a gate run, for the counts in a release and for the evidence.
 GATE_LOG =
 
-.PHONY: all check wrong-bodies library install install-program install-library uninstall dist deb evidence same-bytes site clean
+.PHONY: all program program-aarch64 check wrong-bodies library install install-program install-library uninstall dist deb evidence \
+  same-bytes site clean
 
-# Proves the crates that the program stands on, and builds it.
-all:
+# Proves the crates that the program stands on, and builds it. With ARCH=aarch64 the program and the C library are made for
+# that processor, as crates/talft/out/talft-aarch64 and crates/ft_c/out/library-aarch64.
+ARCH = x86_64
+all: $(if $(filter x86_64,$(ARCH)),program,program-$(ARCH) library)
+
+program:
 	@bash build/prove.sh
+
+program-aarch64:
+	@bash build/program.sh aarch64
 
 # The gate: all crates, their tests, the wrong bodies, and the program over real files.
 check:
@@ -31,7 +39,6 @@ wrong-bodies:
 	@bash tests/wrong-bodies.sh
 
 # The C library. With ARCH=aarch64 it is made for that processor; with HEAP=arena it takes its memory from the caller.
-ARCH = x86_64
 HEAP = heap
 library:
 	@HEAP=$(HEAP) bash build/library.sh $(ARCH)

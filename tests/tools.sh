@@ -337,6 +337,10 @@ embed() {
       "$top/crates/talft/out/talft" qemu-aarch64 ./loader_arm -- "$@" 2>&1 | sed 's/^[0-9]* //')"
     aarch64-linux-gnu-gcc "${words[@]}" -O2 -static "$top/tests/embed/tries.c" "$library-aarch64/libft_c.a" -o tries_arm
     report 'ARM answers as x86-64' "$(./tries 100 5 "$@")" "$(qemu-aarch64 ./tries_arm 100 5 "$@")"
+    report 'the program for ARM is made' 0 "$(bash "$top/build/program.sh" aarch64 >said 2>&1; echo $?)"
+    report 'the program for ARM answers as the command' 'answers are the same' "$(python3 "$top/tests/embed/alike.py" 1000 \
+      "$top/crates/talft/out/talft" qemu-aarch64 -L /usr/aarch64-linux-gnu "$top/crates/talft/out/talft-aarch64" -- \
+      "$top"/examples/*.src "$top"/examples/*.asm "$@" 2>&1 | sed 's/^[0-9]* //')"
   fi
 }
 

@@ -143,7 +143,7 @@ static void by_lists(size_t len, uint32_t verdict, const talft_refusal *refused)
 {
     static const char list[] = "4:r1:6\n7:r33:99\n20:pcg:3\n31:d:9\n9:qv0:1\n900:r2:7", map[] = "module own\n";
     talft_verdict verdicts[6] = {{0, 0}};
-    talft_totals totals = {0, 0, 0, 0};
+    talft_totals totals = {9, 9, 9, 9};
     talft_refusal why = {9, 9, 9, 9};
     talft_module modules[2] = {{(const uint8_t *)"other", 5, bytes, 0}, {(const uint8_t *)"own", 3, bytes, len}};
     size_t room = draw() % 8 == 0 ? 5 : 6, made = 0;
@@ -153,6 +153,8 @@ static void by_lists(size_t len, uint32_t verdict, const talft_refusal *refused)
                                      verdicts, room, &totals, &why), &why);
     if (verdict != TALFT_OK ? status != verdict || !same(&why, refused) : status != (room == 6 ? TALFT_OK : TALFT_NO_ROOM))
         wrong("talft_campaign and talft_check differ");
+    if (status != TALFT_OK && status != TALFT_NO_ROOM && (totals.count | totals.masked | totals.detected | totals.idle) != 0)
+        wrong("totals are told of a refusal");
     if (verdict == TALFT_OK && totals.count != 6)
         wrong("a campaign leaves out faults");
     if (status == TALFT_OK && totals.masked + totals.detected + totals.idle != 6)

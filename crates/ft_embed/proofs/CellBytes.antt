@@ -1,11 +1,11 @@
 -- The bytes of an object, cut at the initial word of a cell, and the object with another word there.
-use Rattle.std.proofs.Common.{◌≡◌, ℕ, zero, suc, ◌+◌, ◌*◌, ◌<◌, ◌≤◌, List, [], ◌∷◌, ◌++◌, length, take, drop, map, Some, None, slice_get, refl, sym, ap, subst, ◌∙◌, append_assoc, arith}
+use Rattle.std.proofs.Common.{◌≡◌, ℕ, zero, suc, ◌+◌, ◌*◌, ◌≤◌, List, [], ◌∷◌, ◌++◌, length, take, drop, map, Some, slice_get, refl, sym, ap, subst, ◌∙◌, append_assoc, arith}
 use Rattle.std.specs.List.{flat_map}
-use Rattle.std.specs.Int.{w8, w16, w32, w64, to_be_bytes}
+use Rattle.std.specs.Int.{w8, w16, w32, w64}
 use Rattle.std.proofs.lemmas.List.{length-append}
 use Rattle.std.proofs.Math.Seq.{take-append_seam, drop-append_seam, drop-append-add}
 use Rattle.std.proofs.lemmas.List.Elements.{All-cons}
-use Rattle.std.specs.Prelude.{All, ◌≢◌, ◌^◌}
+use Rattle.std.specs.Prelude.{All, ◌≢◌}
 use Rattle.std.specs.List.{AllPairs}
 use Rattle.ft_isa.specs.Words.{IsWord}
 use Rattle.ft_types.specs.Spellable.{IsCell, IsInstr, IsSpellable}
@@ -17,7 +17,7 @@ use Rattle.ft_format.specs.declared.version.Version.{Version}
 use Rattle.ft_format.specs.Versions.{magic}
 use Rattle.ft_format.specs.Layout.{bytes_of, written, spelled, header_layout, cell_layout, code_layout, type_layout, reg_layout, pair_layout, subst_layout}
 use Rattle.ft_types.specs.NodeRows.{node_row}
-use Rattle.ft_format.specs.Rows.{base_code, base_type, cell_row, cell_rows, header_row, type_rows, reg_row, queue_row, block_row, instr_row, subst_row, all_regs, all_queue, all_names, spelling}
+use Rattle.ft_format.specs.Rows.{base_code, base_type, cell_row, cell_rows, type_rows, reg_row, queue_row, block_row, instr_row, subst_row, all_regs, all_queue, all_names, spelling}
 use Rattle.ft_embed.specs.Cells.{begun_with, with_word, object_with_word}
 
 -- LISTS

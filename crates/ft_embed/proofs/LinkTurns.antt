@@ -1,5 +1,5 @@
 -- Modules that are added in turn, and why they are not linked.
-use Rattle.std.proofs.Common.{◌≡◌, ◌≢◌, ◌⊎◌, inl, inr, ℕ, ◌+◌, ◌≤◌, List, [], ◌∷◌, ◌++◌, length, drop, Option, Some, None, refl, sym, ap, subst, ◌∙◌, arith}
+use Rattle.std.proofs.Common.{◌≡◌, ◌≢◌, ◌⊎◌, inl, inr, ℕ, ◌+◌, ◌≤◌, List, [], ◌∷◌, length, drop, Option, Some, None, refl, sym, ap, subst, ◌∙◌, arith}
 use Rattle.std.specs.Str.{bytes_eq}
 use Rattle.std.specs.Prelude.{if◌then◌else◌}
 use Rattle.std.proofs.Common.{zero, suc, ◌<◌, get_or, drop-cons, add-one}
@@ -17,8 +17,8 @@ use Rattle.ft_linker.specs.Linking.{added_refusal, refusal_of}
 use Rattle.ft_embed.specs.declared.refused.Refused.{Refused}
 use Rattle.ft_embed.specs.declared.unlinked.Unlinked.{Unlinked}
 use Rattle.ft_embed.specs.declared.unlinked.Module.{Module}
-use Rattle.ft_embed.specs.Verdicts.{Tells, judged, told_error, nothing}
-use Rattle.ft_embed.specs.Links.{unlinked, SaysOf, IsMap, EndsAtMap, bad_line, line_twice, long_map, bad_map, bytes_of, EndsAtObject, not_accepted, not_added, EndsAtBytes, no_object, no_module, EndsAtModule, not_given, ends_at_bytes, AddsObject, IsAdded, AddsAll, EndsInTurn, IsUnlinked, ends_at_map, ends_in_turn, ends_at_end, IsLinkedOf, IsUnlinkedBy, IsUnaccepted, SaidUnlinked, IsAddedTo, IsLinkedAll, IsUnlinkedAll, HasAdded}
+use Rattle.ft_embed.specs.Verdicts.{Tells, judged, told_error}
+use Rattle.ft_embed.specs.Links.{unlinked, SaysOf, IsMap, EndsAtMap, bad_line, line_twice, bytes_of, EndsAtObject, not_accepted, not_added, no_object, no_module, EndsAtModule, ends_at_bytes, AddsObject, AddsAll, EndsInTurn, IsUnlinked, ends_at_map, ends_at_end, IsLinkedOf, IsUnlinkedBy, IsUnaccepted, SaidUnlinked, IsAddedTo, IsLinkedAll, IsUnlinkedAll, HasAdded}
 
 -- REFUSALS
 

@@ -1,5 +1,5 @@
 -- Typing looks at the types of an object's cells, and not at their initial words.
-use Rattle.std.proofs.Common.{◌≡◌, ℕ, zero, suc, ◌+◌, ◌-◌, ◌&&◌, ◌==◌, true, false, List, [], ◌∷◌, map, length, Option, Some, None, slice_get, take, drop, refl, sym, ap, subst, ◌∙◌, ⊎_elim}
+use Rattle.std.proofs.Common.{◌≡◌, ℕ, zero, suc, ◌+◌, ◌-◌, ◌&&◌, ◌==◌, true, false, List, [], ◌∷◌, map, Option, Some, None, slice_get, take, drop, refl, sym, ap, subst, ◌∙◌, ⊎_elim}
 use Rattle.std.specs.Prelude.{Bool, nat_le, if◌then◌else◌}
 use Rattle.std.specs.List.{list_all}
 use Rattle.std.specs.Option.{option_map}
@@ -20,7 +20,6 @@ use Rattle.ft_static.specs.FormOrder.{same_polynomial, same_updates}
 use Rattle.ft_static.specs.NormalForm.{constant}
 use Rattle.ft_types.specs.declared.object.Object.{Object}
 use Rattle.ft_types.specs.declared.object.Cell.{Cell}
-use Rattle.ft_types.specs.declared.object.Block.{Block}
 use Rattle.ft_types.specs.declared.object.RegType.{RegType}
 use Rattle.ft_types.specs.Objects.{basic_of, reg_rows, queue_rows, memory_of, block_instrs}
 use Rattle.ft_typing.specs.TypedWord.{cell_of, cell_type, block_at, HasTypeOver, has_type_over, has_type, types_of_run, common_type, only_referable, run_type, is_cell_type}

@@ -1,4 +1,4 @@
-use Rattle.std.proofs.Common.{length, subst}
+use Rattle.std.proofs.Common.{subst}
 use Rattle.ft_typing.specs.Accepted.{refusal}
 use Rattle.ft_linker.specs.LinkErrors.{IsRefusalOf}
 use Rattle.ft_linker.specs.Linking.{added_refusal}
