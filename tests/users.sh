@@ -4,7 +4,11 @@
 #
 #     bash tests/users.sh [--quick | --anew]
 #
+<<<<<<< HEAD
 # With --quick nothing is proved, and the installed program is a stand-in. With --anew nothing is taken from what a kit has
+=======
+# With --quick nothing is proved, and the installed program and library are stand-ins. With --anew nothing is taken from what the kit has
+>>>>>>> f267262a4b6b18def7aa0acaf05fa83cd4eea8e1
 # kept of earlier proofs. Tools that are missing are named, and what needs them is left out.
 set -u
 from=$(cd "$(dirname "$0")/.." && pwd)
@@ -75,6 +79,8 @@ if [ "$way" = --quick ]; then
   mkdir -p crates/talft/out
   printf '#!/bin/sh\necho "a stand-in"\n' >crates/talft/out/talft
   chmod +x crates/talft/out/talft
+  mkdir -p crates/ft_c/out/library
+  ar rcs crates/ft_c/out/library/libft_c.a
 else
   start=$(date +%s)
   if [ "$way" = --anew ]; then bash build/prove.sh --anew; else make; fi
@@ -118,7 +124,12 @@ fi
 if command -v bat >/dev/null || has batcat 'the syntax file of bat'; then
   report 'the syntax file of bat' '0 wrong' "$(python3 tests/editors.py bat $sources 2>&1 | sed 's/.* bytes, //')"
 fi
-report 'the installed tools' '' "$(diff -r tools "$usr/share/talft/tools")"
+report 'the installed tools' "Only in $usr/share/talft/tools: talft.py" "$(diff -r tools "$usr/share/talft/tools")"
+if [ "$way" != --quick ] && has pkg-config 'the installed library'; then
+  cc examples/c/loader.c $(PKG_CONFIG_PATH=$usr/lib/pkgconfig pkg-config --cflags --libs talft) -o "$work/loader"
+  report 'the installed library' accepted "$(LD_LIBRARY_PATH=$usr/lib "$work/loader" examples/five.obj 2>&1)"
+  report 'the installed version' "$(cat "$usr/share/doc/talft/BUILD")" "$("$usr/bin/talft" --version 2>&1 >/dev/null)"
+fi
 report 'a tool that is installed' 'usage: faults' "$("$usr/share/talft/tools/faults" --help | head -n 1 | cut -c1-13)"
 report 'the installed examples' '' "$(diff -r examples "$usr/share/talft/examples")"
 make -s uninstall DESTDIR="$here" PREFIX=/usr >"$work/said" 2>&1

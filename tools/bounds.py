@@ -65,7 +65,7 @@ def read_about(path):
         of = {name: int(told["of"][name]) for name in CLASSES}
         return of, int(told["drawn"]), str(told["words"])
     except (ValueError, KeyError, TypeError) as error:
-        raise Refused(f"{path}: it is not what `faults --about` writes") from error
+        raise Refused(f"{path}: is not what `faults --about` writes") from error
 
 
 def share(value):

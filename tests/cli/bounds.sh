@@ -28,5 +28,5 @@ report 'the lines in the database' "$(head -n -1 lines | cut -d' ' -f1 | md5sum)
 cd ..
 refuses 'a word about another list' 'campaign: bounds/sample: it is about 500 faults, and bounds/every has 1792' \
   campaign bounds/five.obj --faults bounds/every --steps 100 --dir bounds/four --about bounds/sample
-refuses 'a word about no list' 'campaign: bounds/some: it is not what `faults --about` writes' \
+refuses 'a word about no list' 'campaign: bounds/some: is not what `faults --about` writes' \
   campaign bounds/five.obj --faults bounds/some --steps 100 --dir bounds/four --about bounds/some
