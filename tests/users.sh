@@ -4,11 +4,7 @@
 #
 #     bash tests/users.sh [--quick | --anew]
 #
-<<<<<<< HEAD
-# With --quick nothing is proved, and the installed program is a stand-in. With --anew nothing is taken from what a kit has
-=======
-# With --quick nothing is proved, and the installed program and library are stand-ins. With --anew nothing is taken from what the kit has
->>>>>>> f267262a4b6b18def7aa0acaf05fa83cd4eea8e1
+# With --quick nothing is proved, and the installed program and library are stand-ins. With --anew nothing is taken from what a kit has
 # kept of earlier proofs. Tools that are missing are named, and what needs them is left out.
 set -u
 from=$(cd "$(dirname "$0")/.." && pwd)
