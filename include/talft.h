@@ -54,7 +54,10 @@ enum {
     TALFT_NOT_STRUCK = 18    /* nothing is struck: there was a strike before, the run has stopped, or the site is absent */
 };
 
-/* Why something is refused. Its part is 0 where the answer is none of 6, 7, 8 and 12. */
+/*
+ * Why something is refused. Its part is 0 where the answer is none of 6, 7, 8 and 12; but talft_open may leave it as it was
+ * then. Of this 0 the clause of talft_check alone speaks.
+ */
 typedef struct talft_refusal {
     uint32_t part;   /* 0 nothing, 1 the bytes, 2 the entry, 3 a cell, 4 an instruction, 5 a source, 6 an assembly text */
     uint32_t number; /* 1: the rule, 1 to 9. 4: the premise, 1 to 18. 5: the refusal, 1 to 12. 6: the refusal, 1 to 3 */
