@@ -59,7 +59,10 @@ enum {
     TALFT_NO_MODULE = 20     /* no module of the array has a name that the link map gives */
 };
 
-/* Why something is refused. Its part is 0 where the answer is none of 6, 7, 8, 11, 12 and 13. */
+/*
+ * Why something is refused. Its part is 0 where the answer is none of 6, 7, 8, 11, 12 and 13; but talft_open may leave it as it was
+ * then. Of this 0 the clause of talft_check alone speaks.
+ */
 typedef struct talft_refusal {
     uint32_t part;   /* 0 nothing, 1 the bytes, 2 the entry, 3 a cell, 4 an instruction, 5 a source, 6 an assembly text,
                         7 a link, 8 a fault list */
