@@ -82,11 +82,11 @@ const TEXTS: &[(&str, &str)] = &[
     ),
     (
         "st_G r0 r1 r2\n",
-        "file:1:12: error: unexpected `r2`: nothing follows in this line\n st_G r0 r1 r2\n            ^~\n",
+        "file:1:12: error: unexpected `r2`: nothing may follow on this line\n st_G r0 r1 r2\n            ^~\n",
     ),
     (
         "block 0\r\n",
-        "file:1:8: error: the line ends with a carriage return: save the file with Unix line ends\n block 0?\n        ^\n",
+        "file:1:8: error: the line ends with a carriage return: save the file with Unix line endings\n block 0?\n        ^\n",
     ),
     (
         "\u{feff}halt\n",
@@ -111,7 +111,7 @@ const TEXTS: &[(&str, &str)] = &[
     ("", "file: error: the file is empty\n"),
     (
         "entry 0\nhalt\n",
-        "file:2:1: error: this line is out of order: cells, nodes, types with their `reg` and then `pend` lines, blocks with their instructions, and `entry` follow each other\n halt\n ^~~~\n",
+        "file:2:1: error: this line is out of order: first come cells, then nodes, types (each with its `reg` and then `pend` lines), blocks (each with its instructions), and `entry`\n halt\n ^~~~\n",
     ),
     (
         "node 0 memory\n",

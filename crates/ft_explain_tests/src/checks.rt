@@ -53,7 +53,7 @@ const REFUSED: &[Refused] = &[
     (
         N,
         &[],
-        "file: error: block 0, instruction 10: eight stores are waiting already (premise 7)\n  st_G r0 r1\n  r0: G ref:int\n  r1: G int\n",
+        "file: error: block 0, instruction 10: eight stores are pending already (premise 7)\n  st_G r0 r1\n  r0: G ref:int\n  r1: G int\n",
     ),
     (
         P8,
@@ -63,12 +63,12 @@ const REFUSED: &[Refused] = &[
     (
         P9,
         &[],
-        "file: error: block 0, instruction 5: its address is not known to be that of the oldest waiting store (premise 9)\n  st_B r32 r33\n  r32: B ref:int\n  r33: B int\n",
+        "file: error: block 0, instruction 5: its address is not known to be that of the oldest pending store (premise 9)\n  st_B r32 r33\n  r32: B ref:int\n  r33: B int\n",
     ),
     (
         X2,
         &[],
-        "file: error: block 0, instruction 7: its value is not known to be that of the oldest waiting store (premise 10)\n  st_B r32 r34\n  r32: B ref:int\n  r34: B int\n",
+        "file: error: block 0, instruction 7: its value is not known to be that of the oldest pending store (premise 10)\n  st_B r32 r34\n  r32: B ref:int\n  r34: B int\n",
     ),
     (
         P11,
@@ -83,12 +83,12 @@ const REFUSED: &[Refused] = &[
     (
         P13,
         &[],
-        "file: error: block 0, instruction 5: a register is not what the target's code type wants (premise 13)\n  jmp_B r33 0 2\n  r33: B code:1\n  the colours and types are those of code type 1, but one of these does not have the wanted value: r0 r32\n",
+        "file: error: block 0, instruction 5: a register is not what the target's code type expects (premise 13)\n  jmp_B r33 0 2\n  r33: B code:1\n  the colours and types match code type 1, but one of these registers does not have the expected value: r0 r32\n",
     ),
     (
         J,
         &[(203, 0)],
-        "file: error: block 0, instruction 5: a register is not what the target's code type wants (premise 13)\n  jmp_B r33 0 2\n  r33: B code:1\n  r32: G int, and code type 1 wants B int\n",
+        "file: error: block 0, instruction 5: a register is not what the target's code type expects (premise 13)\n  jmp_B r33 0 2\n  r33: B code:1\n  r32: G int, but code type 1 expects B int\n",
     ),
     (
         P14,
@@ -98,7 +98,7 @@ const REFUSED: &[Refused] = &[
     (
         P15,
         &[],
-        "file: error: block 0, instruction 9: the memory is not known to be what the target's code type wants (premise 15)\n  jmp_B r33 0 2\n  r33: B code:1\n",
+        "file: error: block 0, instruction 9: the memory is not known to be what the target's code type expects (premise 15)\n  jmp_B r33 0 2\n  r33: B code:1\n",
     ),
     (
         P16,

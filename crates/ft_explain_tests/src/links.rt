@@ -97,19 +97,19 @@ const LINES: &[(&str, &str)] = &[
     ),
     (
         "module m\nexport go 1\r\n",
-        "map:2:12: error: the line ends with a carriage return: save the file with Unix line ends\n export go 1?\n            ^\n",
+        "map:2:12: error: the line ends with a carriage return: save the file with Unix line endings\n export go 1?\n            ^\n",
     ),
     (
         "module m\n\n",
-        "map:2:1: error: the line is empty, and no line may be\n \n ^\n",
+        "map:2:1: error: empty lines are not allowed in this file\n \n ^\n",
     ),
     (
         "module m\n# a\n",
-        "map:2:1: error: there are no comments in this file\n # a\n ^\n",
+        "map:2:1: error: comments are not allowed in this file\n # a\n ^\n",
     ),
     (
         "module m\nmodule \n",
-        "map:2:7: error: the line ends with a blank\n module \n       ^\n",
+        "map:2:7: error: the line ends with whitespace\n module \n       ^\n",
     ),
 ];
 
@@ -171,7 +171,11 @@ const MODULES: &[(u8, &str, &str)] = &[
         "check cell 2\n",
         "map: error: a module is not accepted; `talft check` of each tells which\n",
     ),
-    (3, "", "m: error: cannot be read\n"),
+    (
+        3,
+        "",
+        "map:1:8: error: `m`: cannot be read\n module m\n        ^\n",
+    ),
 ];
 
 #[test]

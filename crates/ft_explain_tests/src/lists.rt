@@ -34,7 +34,7 @@ fn a_campaign_that_is_too_long_is_explained(rt: HostRuntime) -> Result<(), Fail>
 const LINES: &[(&str, &str)] = &[
     (
         "4:r1:6\r\n",
-        "list:1:7: error: the line ends with a carriage return: save the file with Unix line ends\n 4:r1:6?\n       ^\n",
+        "list:1:7: error: the line ends with a carriage return: save the file with Unix line endings\n 4:r1:6?\n       ^\n",
     ),
     (
         "\u{feff}4:r1:6\n",
@@ -42,15 +42,15 @@ const LINES: &[(&str, &str)] = &[
     ),
     (
         "4:r1:6\n\n",
-        "list:2:1: error: the line is empty, and no line may be\n \n ^\n",
+        "list:2:1: error: empty lines are not allowed in this file\n \n ^\n",
     ),
     (
         "# a\n",
-        "list:1:1: error: there are no comments in this file\n # a\n ^\n",
+        "list:1:1: error: comments are not allowed in this file\n # a\n ^\n",
     ),
     (
         "4:r1:6 \n",
-        "list:1:7: error: the line ends with a blank\n 4:r1:6 \n       ^\n",
+        "list:1:7: error: the line ends with whitespace\n 4:r1:6 \n       ^\n",
     ),
     (
         "4:r1:06\n",
@@ -83,7 +83,7 @@ fn lines_that_are_no_fault_are_explained(rt: HostRuntime) -> Result<(), Fail> {
 fn lines_that_are_no_command_are_explained(rt: HostRuntime) -> Result<(), Fail> {
     let script: &[u8] = b"step 1\nstpe 2\nreg r64\n\nwhere\n";
     let text =
-        "standard input:2:1: error: unknown command `stpe`; did you mean `step`?\n stpe 2\n ^\nstandard input:3:1: error: invalid command: expected `reg R`\n reg r64\n ^\nstandard input:4:1: error: the line is empty, and no line may be\n \n ^\n";
+        "standard input:2:1: error: unknown command `stpe`; did you mean `step`?\n stpe 2\n ^\nstandard input:3:1: error: invalid command: expected `reg R`\n reg r64\n ^\nstandard input:4:1: error: empty lines are not allowed in this file\n \n ^\n";
     check_told(&rt, "debug file", 0, "", &[("script", script)], text)
 }
 

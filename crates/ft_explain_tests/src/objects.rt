@@ -8,7 +8,7 @@ const ALTERED: &[(usize, u8, &str)] = &[
     (
         0,
         0x55,
-        "file: error: this is not an object: it does not begin with TALFT and the number of version 1 or 2\n",
+        "file: error: this is not an object: it does not begin with TALFT and version 1 or 2\n",
     ),
     (
         10,
@@ -23,17 +23,17 @@ const ALTERED: &[(usize, u8, &str)] = &[
     (
         104,
         0x08,
-        "file: error: a code has no meaning, a type has more than 8 `ref`, or a node is of the wrong sort\n  byte 104, instruction 0: its kind, 8\n",
+        "file: error: a code is unknown, a type has more than 8 `ref`, or a node is of the wrong kind\n  byte 104, instruction 0: its kind, 8\n",
     ),
     (
         64,
         0x02,
-        "file: error: a number names a part that does not exist or may not be named here\n  byte 68, node 0: its first part, 0\n",
+        "file: error: a number refers to a part that does not exist, or that this part may not refer to\n  byte 68, node 0: its first part, 0\n",
     ),
     (
         99,
         0x01,
-        "file: error: ends, starts or registers are not in rising order, or a row or a byte belongs to nothing\n  byte 96, block 0: its first instruction, 1\n",
+        "file: error: ends, starts or registers are not in ascending order, or a row or a byte belongs to nothing\n  byte 96, block 0: its first instruction, 1\n",
     ),
     (
         216,
@@ -89,13 +89,16 @@ const OTHERS: &[(&[u8], &str)] = &[
     ),
     (
         b"\0asm\x01\0\0\0",
-        "file: error: this is a WebAssembly module, not an object: `wasm2asm` makes an assembly text of it\n",
+        "file: error: this is a WebAssembly module, not an object: `tools/cc FILE -o OBJECT` makes an object\n",
     ),
     (
         b"\xff\xfec\0e\0",
         "file: error: this is UTF-16 text, not an object: save it as ASCII text\n",
     ),
-    (b"hello\n", "file: error: this is a text, not an object\n"),
+    (
+        b"hello\n",
+        "file: error: this is a text, not an object: `talft compile`, `talft asm` and `tools/cc` make objects\n",
+    ),
     (b"", "file: error: the file is empty\n"),
 ];
 

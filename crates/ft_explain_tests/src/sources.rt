@@ -47,7 +47,7 @@ const SOURCES: &[(&str, &str)] = &[
     ),
     (
         "cell a = 0; if (1) { a = 2;",
-        "file:1:28: error: expected `}` after `;`\n cell a = 0; if (1) { a = 2;\n                            ^\nfile:1:20: note: it closes this `{`\n cell a = 0; if (1) { a = 2;\n                    ^\n",
+        "file:1:28: error: expected `}` after `;`\n cell a = 0; if (1) { a = 2;\n                            ^\nfile:1:20: note: to match this `{`\n cell a = 0; if (1) { a = 2;\n                    ^\n",
     ),
     (
         "cell a = 0; if (1) { } else if (2) { }",
@@ -67,7 +67,7 @@ const SOURCES: &[(&str, &str)] = &[
     ),
     (
         "cell a = -1;",
-        "file:1:10: error: unexpected `-`: numbers have no sign: write `0 - 1`\n cell a = -1;\n          ^\n",
+        "file:1:10: error: unexpected `-`: numbers have no sign: -1 is 18446744073709551615 (2^64 - 1)\n cell a = -1;\n          ^\n",
     ),
     (
         "cell a = 0x10;",
