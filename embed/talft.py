@@ -170,7 +170,7 @@ def _answer(status, why, module=0):
 
 def _written(function, *asked):
     """What a function writes into a buffer, which is made larger where it has to be."""
-    room, made, why = 4096, ctypes.c_size_t(0), _Refusal()
+    room, made, why = 65536, ctypes.c_size_t(0), _Refusal()
     while True:
         out = ctypes.create_string_buffer(room)
         status = function(*asked, out, room, ctypes.byref(made), ctypes.byref(why))
