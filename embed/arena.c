@@ -89,16 +89,17 @@ void rattle_dealloc(void *p)
 struct tried rattle_realloc(void *p, size_t kept, size_t n, size_t align)
 {
     struct head *block = (struct head *)p - 1;
-    uint64_t units = 1 + (uint64_t)n / UNIT + (n % UNIT != 0);
+    uint64_t had = block->units, units = 1 + (uint64_t)n / UNIT + (n % UNIT != 0);
     struct tried moved;
 
     if (n <= SIZE_MAX / 2 && align <= UNIT) {
-        if (block->units < units)
+        if (had < units)
             join(block);
         if (block->units >= units) {
             cut(block, units);
             return told(block);
         }
+        cut(block, had);
     }
     moved = rattle_alloc(n, align);
     if (moved.ok) {

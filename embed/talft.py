@@ -33,6 +33,12 @@
     >>> talft.set_cell(counter, 7, 0)
     Traceback (most recent call last):
     IndexError: no cell 7
+    >>> talft.set_cell(counter, 2**32, 0)
+    Traceback (most recent call last):
+    OverflowError: 4294967296 is not from 0 to 2^32 - 1
+    >>> talft.run(data, steps=-1)
+    Traceback (most recent call last):
+    OverflowError: -1 is not from 0 to 2^64 - 1
     >>> talft.campaign(data, "4:r1:6\\n900:r2:7\\n", steps=100)[1]
     ('idle', 0)
     >>> talft.campaign(data, "4:x:6")
@@ -51,6 +57,7 @@ function may be called from several threads at once; what `stream` gives stays o
 """
 
 import ctypes
+import operator
 import os
 
 __all__ = ["Refused", "assemble", "campaign", "check", "compile", "disassemble", "link", "recover", "run", "schedule",
@@ -159,7 +166,17 @@ _LIBRARY = _load()
 
 
 def _bytes(data):
+    if isinstance(data, int):
+        raise TypeError("expected bytes or a text, not a number")
     return data.encode() if isinstance(data, str) else bytes(data)
+
+
+def _number(value, bits=64):
+    """The number itself; ctypes would take the rest modulo 2^bits."""
+    value = operator.index(value)
+    if not 0 <= value < 2**bits:
+        raise OverflowError(f"{value} is not from 0 to 2^{bits} - 1")
+    return value
 
 
 def _answer(status, why, module=0):
@@ -170,7 +187,7 @@ def _answer(status, why, module=0):
 
 def _written(function, *asked):
     """What a function writes into a buffer, which is made larger where it has to be."""
-    room, made, why = 4096, ctypes.c_size_t(0), _Refusal()
+    room, made, why = 65536, ctypes.c_size_t(0), _Refusal()
     while True:
         out = ctypes.create_string_buffer(room)
         status = function(*asked, out, room, ctypes.byref(made), ctypes.byref(why))
@@ -191,7 +208,7 @@ def check(data):
 
 def _run(function, data, steps, fault, wild):
     """What a function that runs an object answers, with an array that is made larger where it has to be."""
-    data, room = _bytes(data), 1024
+    data, room, steps = _bytes(data), 1024, _number(steps)
     plan = _bytes(fault), _bytes(wild)
     ran, why = _Ran(), _Refusal()
     while True:
@@ -230,8 +247,8 @@ def recover(data, steps=1_000_000, fault="", wild=""):
 
 def stream(data, steps=1_000_000):
     """Checks an object and runs it by a slice of steps at a time; gives the name and the word of each output when it
-    comes."""
-    data, machine, why, ran = _bytes(data), _Machine(), _Refusal(), _Ran()
+    comes. How it ended ("done", "cut") is the generator's value, as `yield from` gives it."""
+    data, machine, why, ran, steps = _bytes(data), _Machine(), _Refusal(), _Ran(), _number(steps)
     status = _LIBRARY.talft_open(data, len(data), ctypes.byref(machine), ctypes.byref(why))
     if status != _OK:
         _answer(status, why)
@@ -244,6 +261,7 @@ def stream(data, steps=1_000_000):
             steps -= ran.steps
             for pair in out[: ran.count]:
                 yield _written(_LIBRARY.talft_name, data, len(data), pair.cell).decode(), pair.value
+        return "done" if status == _OK else "cut"
     finally:
         _LIBRARY.talft_close(ctypes.byref(machine))
 
@@ -283,7 +301,7 @@ def set_cell(data, cell, word):
     accepted exactly where the object is."""
     data, why = _bytes(data), _Refusal()
     out = ctypes.create_string_buffer(data)
-    status = _LIBRARY.talft_set_cell(out, len(data), cell, word, ctypes.byref(why))
+    status = _LIBRARY.talft_set_cell(out, len(data), _number(cell, 32), _number(word), ctypes.byref(why))
     if status == _NO_CELL:
         raise IndexError(f"no cell {cell}")
     if status == _OTHER_TYPE:
@@ -316,7 +334,7 @@ def link(text, modules):
 def campaign(data, faults, steps=1_000_000, wild=""):
     """Checks an object and tries each fault of a list: for each, in order, its verdict ("masked", "detected", "idle"), and
     the step that detected it, else 0. `faults` is a text of lines such as "4:r1:6"."""
-    data, faults, wild = _bytes(data), _bytes(faults), _bytes(wild)
+    data, faults, wild, steps = _bytes(data), _bytes(faults), _bytes(wild), _number(steps)
     room, totals, why = faults.count(b"\n") + 1, _Totals(), _Refusal()
     out = (_Verdict * room)()
     status = _LIBRARY.talft_campaign(

@@ -49,6 +49,10 @@ each 'debug' five.script debug five.obj
 each 'demo' /dev/null demo 3
 each 'upgrade' /dev/null upgrade five.obj
 each 'upgrade of bytes that are no object' /dev/null upgrade five.faults
+each 'dis' /dev/null dis five.obj
+each 'asm' /dev/null asm five.asm
+each 'asm of a refused text' /dev/null asm five.faults
+each 'schedule' /dev/null schedule five.obj
 (cd "$work" && for name in caller doubler; do "$program" asm "$top/examples/$name.asm" >$name.obj; done)
 cp "$top/examples/caller.map" "$work"
 cd "$work" || exit

@@ -7,7 +7,7 @@ import re
 import subprocess
 import tempfile
 
-from common import SITES, VERDICT, Refused, check_object, not_run, program, verdicts
+from common import SITES, VERDICT, Refused, check_object, in_this_process, not_run, program, verdicts
 from debugging.sessions import length_of_run
 from messages import named
 
@@ -92,15 +92,19 @@ def version():
 def used_registers(object_file):
     """The registers that instructions of an object name; d is not among them."""
     check_object(object_file)
-    try:
-        done = subprocess.run([program(), "dis", object_file], stdin=subprocess.DEVNULL, capture_output=True, text=True,
-                              check=False)
-    except OSError as error:
-        raise not_run(program(), error) from error
-    if done.returncode != 0:
-        raise Refused(f"{named(object_file)}: {(done.stdout + done.stderr).strip() or 'not an object'}")
+    said = in_this_process("dis", object_file)
+    if said is None:
+        try:
+            done = subprocess.run([program(), "dis", object_file], stdin=subprocess.DEVNULL, capture_output=True,
+                                  check=False)
+        except OSError as error:
+            raise not_run(program(), error) from error
+        if done.returncode != 0:
+            told = (done.stdout + done.stderr).decode("utf-8", "replace").strip()
+            raise Refused(f"{named(object_file)}: {told or 'not an object'}")
+        said = done.stdout
     registers, found = set(SITES[:64]), set()
-    for line in done.stdout.splitlines():
+    for line in said.decode("utf-8", "replace").splitlines():
         words = line.split()
         # Other lines have types of registers, and names that may look like a register.
         if words and words[0] not in ("cell", "node", "type", "block", "entry", "reg"):

@@ -48,6 +48,22 @@ if has cc 'the C library' && has ar 'the C library'; then
   printf 'module a.obj\nexport x 900\n' >embed_map
   report 'a link that is refused' "$("$top/talft" link embed_map 2>/dev/null)" "$(beside link embed_map a.obj)"
   report 'Python' '' "$(cd "$library" && TALFT_LIBRARY=$library/libtalft.so python3 -m doctest talft.py 2>&1)"
+  # The tools ask the library where it is, and the program where it is not: the same answers, and fewer processes.
+  mkdir embed_kit && cp -r "$top/tools" embed_kit/tools && cp "$library/talft.py" embed_kit/tools
+  printf '#!/bin/sh\necho "$1" >>"%s"\nexec "%s" "$@"\n' "$PWD/embed_calls" "$top/talft" >embed_kit/talft
+  chmod +x embed_kit/talft
+  "$top/talft" dis embed_step.obj >embed_step.asm 2>/dev/null
+  head -c 100 embed_step.obj >embed_cut.obj
+  by_tools() {
+    : >embed_calls
+    for words in 'set embed_step.obj in=41' 'ending embed_step.obj --text embed_step.asm' 'set embed_step.obj to=1' \
+      'ending embed_cut.obj --text embed_step.asm' 'debugger embed_step.asm' 'debugger embed_step.src' 'debugger embed_cut.obj'; do
+      env -u TALFT TALFT_LIBRARY="$1" python3 -B "embed_kit/tools/${words%% *}" ${words#* } 2>&1 <<<"step" | sha256sum
+    done
+  }
+  report 'the tools by the library' "$(by_tools "$PWD/none.so")" "$(by_tools "$library/libtalft.so")"
+  by_tools "$library/libtalft.so" >/dev/null
+  report 'the calls that are left' 'debug dis' "$(sort -u embed_calls | tr '\n' ' ' | sed 's/ $//')"
   report 'a recovery from Python' "$("$top/talft" recover "$top/examples/five.obj" --steps 1000 --fault 4:r1:6 2>/dev/null)" \
     "$(cd "$library" && TALFT_LIBRARY=$library/libtalft.so python3 -c 'import sys, talft
 end, outputs, again = talft.recover(open(sys.argv[1], "rb").read(), 1000, "4:r1:6")

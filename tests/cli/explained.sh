@@ -418,6 +418,9 @@ if command -v script >script.path; then
   script -qec "$top/talft debug five.obj 2>said" typescript </dev/null >/dev/null
   report 'what is said of a session on a terminal' \
     'talft: note: debugger commands are read from the terminal up to Ctrl-D; `tools/debugger OBJECT` has a prompt and help' "$(cat said)"
+  script -qec "$top/talft debug five.obj step 4 2>said" typescript </dev/null >/dev/null
+  report 'what is said of no session on a terminal' 1 "$(grep -c 'unexpected argument `step`' said)"
+  report 'and of commands from the terminal' 0 "$(grep -c 'are read from the terminal' said)"
   script -qec "env TALFT_EXPLAIN=0 $top/talft upgrade five.obj 2>said" typescript </dev/null >/dev/null
   report 'an object on a terminal, and no explanation' '' "$(cat said)"
 else

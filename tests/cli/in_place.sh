@@ -17,6 +17,7 @@ in_place() {
 }
 in_place 'a large object that is checked' 8 'check block 0 index 0 premise 1\n' check large.obj
 in_place 'a large object that is not run' 8 'check block 0 index 0 premise 1\n' run large.obj
+in_place 'a recovery of a large object' 8 'check block 0 index 0 premise 1\n' recover large.obj
 in_place 'a large object that is tried' 9 '' trial large.obj --steps 1000
 in_place 'a campaign over a large object' 8 'check block 0 index 0 premise 1\n' campaign large.obj --faults one.faults --steps 100
 in_place 'a survey of a large object' 0 '0:r1:6 masked\nfaults 1 masked 1 detected 0 idle 0 corrupt 0\n' \

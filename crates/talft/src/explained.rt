@@ -150,7 +150,8 @@ fn say<R: Env + Files + Eprint + AllocGlobal + Clone + Drop>(
 /// Whether the words ask for a session of the debugger.
 fn ask_for_session(words: &[String]) -> bool {
     match words {
-        [command, _, ..] => command.as_str() == "debug",
+        [command, _] => command.as_str() == "debug",
+        [command, _, _, _] => command.as_str() == "debug",
         _ => false,
     }
 }
