@@ -60,6 +60,8 @@ each 'link' /dev/null link caller.map
 cd "$top/examples" || exit
 each 'a missing file' /dev/null trial missing
 
+# What is on standard error is then not the program's.
+export TALFT_EXPLAIN=0
 # The least memory in KB under which the program says `usage`.
 least=2048
 until [ "$(ulimit -v "$least" && "$program" 2>"$work/errors" </dev/null)" = usage ] || [ "$least" -gt 262144 ]; do

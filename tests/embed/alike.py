@@ -3,13 +3,17 @@
 
     alike.py COUNT TALFT OTHER.. -- FILE..
 
-OTHER may have words before the program, as `qemu-aarch64`. Sources and assembly texts are compiled and assembled by both.
-COUNT objects are made from the others by turning a few bytes; the numbers are drawn from a fixed seed."""
+OTHER may have words before the program, as `qemu-aarch64`. Sources and assembly texts are compiled and assembled by both, and
+so are random sources, until COUNT of them have objects. As many objects are made from the files' by turning a few bytes. The
+numbers are drawn from a fixed seed."""
 import os
 import random
 import subprocess
 import sys
 import tempfile
+
+sys.path.insert(0, os.path.join(os.path.dirname(os.path.abspath(__file__)), os.pardir, "debugging"))
+from random_sources import Source
 
 CALLS = (
     ["check", "OBJECT"], ["run", "OBJECT", "--steps", "20000"], ["dis", "OBJECT"], ["upgrade", "OBJECT"],
@@ -73,7 +77,13 @@ def main(words):
                 path = both.put(f"{number}.obj", data)
             objects.append(contents(path))
             both.compare_object(path, CALLS)
-        draw = random.Random(7)
+        draw, left = random.Random(7), count
+        while left:
+            source = both.put("random.src", ("\n".join(Source(draw).lines) + "\n").encode())
+            status, data = both.compare(["compile", source])
+            if status == 0:
+                both.compare_object(both.put("random.obj", data), CALLS)
+                left -= 1
         for number in range(count):
             path = both.put("damaged.obj", damaged(objects[number % len(objects)], draw))
             both.compare_object(path, CALLS[:2])
