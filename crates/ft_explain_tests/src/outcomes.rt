@@ -48,7 +48,8 @@ fn runs_are_explained(rt: HostRuntime) -> Result<(), Fail> {
 #[test]
 fn a_meaning_that_is_cut_is_explained(rt: HostRuntime) -> Result<(), Fail> {
     let source = b"cell out = 0; while (1) { out = 1; }";
-    let text = "file: still running after 3 turns: raise `--turns`\nfile:1:22: note: this test is never 0, so the loop never ends\n cell out = 0; while (1) { out = 1; }\n                      ^\n";
+    let text =
+        "file: still running after 3 turns: raise `--turns`\nfile:1:22: note: this test is never 0, so the loop never ends\n cell out = 0; while (1) { out = 1; }\n                      ^\n";
     check_said(&rt, "mean file --turns 3", &[("file", source)], text)
 }
 
