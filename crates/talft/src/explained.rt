@@ -151,7 +151,7 @@ fn say<R: Env + Files + Eprint + AllocGlobal + Clone + Drop>(
 fn ask_for_session(words: &[String]) -> bool {
     match words {
         [command, _] => command.as_str() == "debug",
-        [command, _, _, _] => command.as_str() == "debug",
+        [command, _, option, _] => command.as_str() == "debug" && option.as_str() == "--wild",
         _ => false,
     }
 }
