@@ -11,10 +11,10 @@ struct tried {
     void *p;
 };
 
-/* n bytes at a multiple of align. */
+/* n bytes at a multiple of align, which divides 16. */
 struct tried rattle_alloc(size_t n, size_t align);
 
-/* The block p, now of n bytes, with its first kept bytes as they were. Where there is none, p stays. */
+/* The block p, now of n bytes, with its first kept bytes as they were; kept is at most n. Where there is none, p stays. */
 struct tried rattle_realloc(void *p, size_t kept, size_t n, size_t align);
 
 void rattle_dealloc(void *p);

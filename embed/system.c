@@ -16,7 +16,7 @@ void rattle_set_errno(int32_t error);
 static int count;
 static char **words;
 
-/* The C library gives a program's words to each constructor. */
+/* The GNU C library gives a program's words to each constructor; another one need not. */
 __attribute__((constructor)) static void keep(int argc, char **argv)
 {
     count = argc;

@@ -1,19 +1,20 @@
 /*
  * talft: the checker, the machine and the compiler of the command talft, as a C library.
  *
- * What is said here of answers, refusals, outputs, runs and bytes is proved; docs/PROMISES.md has the clauses. Tested only:
- * that talft_ran and talft_totals are 0 after a refusal, which calls take memory, and that NO_MEMORY comes only when
- * memory is short. The proofs take for granted what a caller owes; nothing checks that. docs/EMBEDDING.md says more.
+ * What is said here of answers, refusals, outputs, runs and bytes is proved, except for what NOT PROVED lists.
+ * docs/PROMISES.md has the clauses. The proofs take for granted what a caller owes; nothing checks that. docs/EMBEDDING.md
+ * says more.
  *
  * WHAT A CALLER OWES
  *   - No pointer is NULL, not even where a length or a room is 0.
- *   - A pointer with a length points to that many bytes, or elements. They exist, are aligned for their type, and are
- *     initialized, also those that a call only writes. The whole is shorter than 2^63 bytes. This holds of the pointers in
- *     a talft_module, too.
+ *   - A pointer with a length points to that many bytes, or elements; one without a length points to one element. They exist,
+ *     are aligned for their type, and are initialized, also those that a call only writes. The whole is shorter than 2^63
+ *     bytes. This holds of the pointers in a talft_module, too.
  *   - During a call nothing else reads what the call may write, or writes what it reads. What a call writes overlaps
  *     neither what it reads nor anything else that it writes.
  *   - malloc, realloc and free belong to one allocator, report when there is no memory, and align blocks to 16. With
- *     embed/arena.c they are not used: the library then takes its memory from one block that the caller gives.
+ *     embed/arena.c they are not used: the library then takes its memory from one block that the caller gives, and that
+ *     nothing else uses.
  *   - The stack is large enough: see STACK.
  *   - No call is made from a signal handler, or in the child of a process with threads after a fork.
  *
@@ -26,6 +27,18 @@
  *            step of the machine: an instruction takes two, its fetch and itself.
  * STACK      talft_compile used up to 169 KiB in all tests, with 97 nested loops, 98 nested brackets and 199 operators. The
  *            others used up to 17 KiB. This is measured, not proved.
+ *
+ * NOT PROVED  The code is written to do the following, too, but no clause says
+ *   - that talft_disassemble, talft_name and talft_schedule answer OK, NO_ROOM or NO_CELL only where the bytes spell an
+ *     object, and talft_schedule only where it is accepted;
+ *   - that talft_open always answers NOT_NOW where the machine is open;
+ *   - that talft_strike, talft_restart and talft_campaign give no answer but those that are listed;
+ *   - that talft_campaign answers OK only within its limits on the steps, and on the faults times the steps;
+ *   - that talft_advance takes no step where there is no room;
+ *   - that `restarts` and `again` are as told, after talft_run and talft_advance, and where talft_recover answers FULL;
+ *   - that talft_ran and talft_totals are 0 after a refusal; with NOT_NOW talft_ran is as it was;
+ *   - that the part of a refusal is 0 where nothing is refused, except for talft_check with OK and talft_link with NO_MODULE;
+ *   - how much memory a call takes, that it is given back, and that NO_MEMORY comes only when memory is short.
  */
 #ifndef TALFT_H
 #define TALFT_H
@@ -51,7 +64,7 @@ enum {
     TALFT_BAD_ASSEMBLY = 12, /* the assembly text is refused: part 6 */
     TALFT_NOT_LINKED = 13,   /* the link map is refused, or what it links: part 7 */
     TALFT_FULL = 14,         /* the array of outputs is full, and the machine still runs */
-    TALFT_NO_ROOM = 15,      /* the buffer is too small; *made says how many bytes are wanted */
+    TALFT_NO_ROOM = 15,      /* too little room; *made says how many bytes are wanted, or totals->count how many verdicts */
     TALFT_NO_CELL = 16,      /* the object has no such cell */
     TALFT_NOT_NOW = 17,      /* the talft_machine is open already, or not open */
     TALFT_NOT_STRUCK = 18,   /* nothing is struck: there was a strike before, the run has stopped, or the site is absent */
@@ -60,17 +73,18 @@ enum {
 };
 
 /*
- * Why something is refused. Its part is 0 where the answer is none of 6, 7, 8, 11, 12 and 13; but talft_open may leave it as it was
- * then. Of this 0 the clause of talft_check alone speaks.
+ * Why something is refused. Its part is 0 where the answer is none of 6, 7, 8, 11, 12 and 13; but talft_open may leave it
+ * as it was then.
  */
 typedef struct talft_refusal {
     uint32_t part;   /* 0 nothing, 1 the bytes, 2 the entry, 3 a cell, 4 an instruction, 5 a source, 6 an assembly text,
                         7 a link, 8 a fault list */
     uint32_t number; /* 1: the rule, 1 to 9. 4: the premise, 1 to 18. The refusal of 5: 1 to 12. 6: 1 to 3. 7: 1 to 11.
                         8: 1 to 3 */
-    uint64_t place;  /* 1: the byte. 3: the cell. 4: the block. 5: the byte, or what is above a limit. 6: the line, from 1.
-                        7: the line from 1, the module from 0, the block (number 5), or 65536 (number 11). 8: the line from
-                        1, 65536 (number 2), or the faults times the steps (number 3) */
+    uint64_t place;  /* 1: the byte. 3: the cell. 4: the block. 5: the byte, 1048576 (number 1), or what is above a limit
+                        (numbers 8 to 10). 6: the line from 1, or 134217728 (number 3). 7: the line from 1, the module from
+                        0, the block (number 5), or 65536 (number 11). 8: the line from 1, 65536 (number 2), or the faults
+                        times the steps (number 3) */
     uint64_t index;  /* 4, 7 (number 5): the index of the instruction in its block, from 0 */
 } talft_refusal;
 
@@ -82,7 +96,7 @@ typedef struct talft_output {
 
 /* How far a run came. */
 typedef struct talft_ran {
-    uint64_t steps;    /* the steps that were taken */
+    uint64_t steps;    /* the steps that were taken; talft_recover: by the run whose outputs are in the array */
     uint64_t count;    /* the outputs that are in the array */
     uint64_t restarts; /* talft_recover: 1 where the run was begun again; else 0 */
     uint64_t again;    /* talft_recover: where it was, how many outputs the first run had committed; else 0 */
@@ -97,8 +111,8 @@ uint32_t talft_check(const uint8_t *bytes, size_t len, talft_refusal *why);
 
 /*
  * Checks an object, and runs it from its start for at most `steps` steps. `fault` is empty, or a text such as `4:r1:6`:
- * before step 4 register r1 becomes 6. `wild` is empty, or a text such as `5,stop`: what the first loads at addresses
- * without a cell give. Later ones stop the machine.
+ * before step 4 register r1 becomes 6. `wild` is empty, or a text such as `5,stop`: what the first wild loads give, which
+ * find nothing at their address. Later ones stop the machine.
  *
  * OK where the run is done, DETECTED, CUT, or FULL: the array holds `room` outputs and there may be more. The outputs in
  * the array are those of the first ran->steps steps, in order. DETECTED comes only under a fault. Whatever the fault, the
@@ -126,7 +140,10 @@ uint32_t talft_recover(const uint8_t *bytes, size_t len, const uint8_t *fault, s
 /* The object of a source, in version 2 of the format. OK, NO_ROOM, BAD_SOURCE or NO_MEMORY. */
 uint32_t talft_compile(const uint8_t *text, size_t len, uint8_t *out, size_t room, size_t *made, talft_refusal *why);
 
-/* The object of an assembly text. OK, NO_ROOM, BAD_ASSEMBLY, MALFORMED (its tables break a rule) or NO_MEMORY. */
+/*
+ * The object of an assembly text, in version 2 of the format. OK, NO_ROOM, BAD_ASSEMBLY, MALFORMED or NO_MEMORY. MALFORMED:
+ * its tables break a rule, and the place of `why` is in the bytes that would spell them.
+ */
 uint32_t talft_assemble(const uint8_t *text, size_t len, uint8_t *out, size_t room, size_t *made, talft_refusal *why);
 
 /* The assembly text of an object. OK, NO_ROOM, MALFORMED or NO_MEMORY. */
@@ -165,7 +182,7 @@ typedef struct talft_module {
  *
  * NOT_LINKED, part 7: the number of the refusal is that of the command `talft link`. MALFORMED or REFUSED: a module is, as
  * by talft_check. NO_MODULE: no module has the name. In these cases *module is the number of the module in the map, from 0;
- * it is 0 where the refusal is about a line. Or NO_MEMORY. In each case but OK `out` is as it was.
+ * it is 0 where the refusal is about the map or a line of it. Or NO_MEMORY. In each case but OK `out` is as it was.
  */
 uint32_t talft_link(const uint8_t *map, size_t map_len, const talft_module *modules, size_t count, uint8_t *out,
                     size_t room, size_t *made, uint32_t *module, talft_refusal *why);
@@ -195,8 +212,9 @@ typedef struct talft_totals {
  * Checks an object, and runs it without a fault and under each fault of a list, each for at most `steps` steps, which are at
  * most 1,000,000. The list is a text of at most 65,536 lines such as `4:r1:6`; `wild` is as in talft_run. OK: the array has
  * the verdict of each fault, in the list's order, and the totals count them. NO_ROOM: totals->count is how many faults there
- * are, and the array is as it was. BAD_LIST, part 8: number 1, a line is no fault; 2, there are too many; 3, the number of
- * faults times that of the steps is above 1,000,000,000. Or BAD_PLAN, MALFORMED, REFUSED or NO_MEMORY.
+ * are, and the array is as it was. BAD_LIST, part 8: number 1, a line is no fault; 2, there are too many, or the text has more
+ * than 4,194,304 bytes; 3, the number of faults times that of the steps is above 1,000,000,000. Or BAD_PLAN, MALFORMED,
+ * REFUSED or NO_MEMORY.
  */
 uint32_t talft_campaign(const uint8_t *bytes, size_t len, const uint8_t *list, size_t list_len, const uint8_t *wild,
                         size_t wild_len, uint64_t steps, talft_verdict *verdicts, size_t room, talft_totals *totals,
@@ -223,8 +241,7 @@ uint32_t talft_open(const uint8_t *bytes, size_t len, talft_machine *machine, ta
  * Takes at most `steps` further steps, and writes the outputs of these steps, in order. OK where the run is done, DETECTED,
  * CUT where all steps were taken (or 2^64 - 1 in all), FULL where the array is full, NOT_NOW where the machine is not
  * open. ran->steps is how many steps this call took. With no room for outputs it takes no step. DETECTED comes only after
- * a strike: then the outputs so far begin those of the run without the strike. A load at an address without a cell stops
- * the machine.
+ * a strike: then the outputs so far begin those of the run without the strike. A wild load stops the machine.
  */
 uint32_t talft_advance(talft_machine *machine, uint64_t steps, talft_output *outputs, size_t room, talft_ran *ran);
 
