@@ -3,7 +3,7 @@ ghost use Rattle.std.specs.Prelude.{◌≡◌, ◌≢◌, ◌≤◌, length, Lis
 ghost use Rattle.ft_isa.specs.declared.plan.Strike.{Strike as Fault};
 ghost use Rattle.ft_isa.specs.declared.plan.Wild.{Wild as Answer};
 ghost use Rattle.ft_format.specs.Broken.{object_of};
-ghost use Rattle.ft_embed.specs.Outputs.{RunsFile};
+ghost use Rattle.ft_embed.specs.Outputs.{IsOnce, RunsFile};
 ghost use Rattle.ft_embed.specs.Plans.{AreAnswers, IsFault};
 ghost use Rattle.ft_embed.specs.Recoveries.{RecoversFile};
 ghost use Rattle.ft_embed.specs.Texts.{Given, IsMalformed, IsNameOf, IsScheduleOf, IsUpgraded};
@@ -47,6 +47,7 @@ pub extern "C" fn talft_run(
     ensures no_plan { result ≡ 2 → (strike : Option Fault) (answers : List Answer) → IsFault fault.now strike → AreAnswers wild.now answers → ⊥ }
     ensures malformed { result ≡ 7 → Tells result why.new (verdict_on bytes.now) }
     ensures refused { result ≡ 8 → Tells result why.new (verdict_on bytes.now) }
+    ensures once { IsOnce ran.new }
 {
     let answer = run(alloc, bytes, fault, wild, steps, out);
     *ran = answer.ran;

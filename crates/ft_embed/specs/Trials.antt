@@ -56,6 +56,8 @@ pub record TriesFile (bytes list wild : List ℕ) (steps : ℕ) (totals : FaultT
   pub are_answers : AreAnswers wild answers
   pub faults : List Strike
   pub are_faults : IsFaultList list faults
+  pub few_steps : steps ≤ 1000000
+  pub few_in_all : length faults * steps ≤ 1000000000
   pub tries : Tries (object_of bytes) faults answers steps totals new
   pub sound : IsNeverDetected (object_of bytes) answers
 
@@ -81,4 +83,5 @@ pub data IsListRefused (list : List ℕ) (steps : ℕ) (told : Refused) : Type 0
 pub record TriesList (o : Object) (list : List ℕ) (w : List Wild) (steps : ℕ) (totals : FaultTotals) (new : List FaultVerdict) : Type 0 where
   pub faults : List Strike
   pub are_faults : IsFaultList list faults
+  pub few_in_all : length faults * steps ≤ 1000000000
   pub tries : Tries o faults w steps totals new

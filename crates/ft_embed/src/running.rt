@@ -8,7 +8,7 @@ ghost use Rattle.ft_semantics.specs.State.{start};
 ghost use Rattle.ft_semantics.specs.Strike.{struck_before};
 ghost use Rattle.ft_machine.specs.Spans.{Spares};
 ghost use Rattle.ft_embed.specs.Plans.{IsFault, AreAnswers};
-ghost use Rattle.ft_embed.specs.Outputs.{Ends, RunsFile, RunsInto, Takes};
+ghost use Rattle.ft_embed.specs.Outputs.{Ends, IsOnce, RunsFile, RunsInto, Takes};
 ghost use Rattle.ft_embed.specs.Verdicts.{Tells, judged, verdict_on};
 
 use crate::answer::{RunAnswer, has_run, not_run};
@@ -120,6 +120,7 @@ fn run_program<P: Program>(
     ensures refused { result.status ≡ 8 → Tells result.status result.why (judged (refusal (P.object program.now))) }
     ensures other { result.status ≢ 7 }
     ensures planned { result.status ≢ 2 }
+    ensures once { IsOnce result.ran }
 {
     match check(alloc, program) {
         Ok(_) => {}
@@ -149,6 +150,7 @@ fn run_bytes(
     ensures malformed { result.status ≡ 7 → Tells result.status result.why (verdict_on bytes.now) }
     ensures refused { result.status ≡ 8 → Tells result.status result.why (verdict_on bytes.now) }
     ensures planned { result.status ≢ 2 }
+    ensures once { IsOnce result.ran }
 {
     match View::over(bytes) {
         Ok(view) => run_program(alloc, &view, plan, steps, out),
@@ -161,7 +163,8 @@ fn run_bytes(
 
 /// A run that was not begun: two texts say no plan, or memory ran out.
 pub(crate) fn no_run(status: u32) -> RunAnswer
-    ensures { result.status ≡ status }
+    ensures status { result.status ≡ status }
+    ensures once { IsOnce result.ran }
 {
     not_run(Verdict {
         status,
@@ -186,6 +189,7 @@ pub fn run(
     ensures no_plan { result.status ≡ 2 → (strike : Option Fault) (answers : List Answer) → IsFault fault.now strike → AreAnswers wild.now answers → ⊥ }
     ensures malformed { result.status ≡ 7 → Tells result.status result.why (verdict_on bytes.now) }
     ensures refused { result.status ≡ 8 → Tells result.status result.why (verdict_on bytes.now) }
+    ensures once { IsOnce result.ran }
 {
     let Ok(strike) = read_fault(fault) else {
         return no_run(2);

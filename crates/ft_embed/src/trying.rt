@@ -152,6 +152,7 @@ fn try_list<P: Program>(
     ensures wants { result.status ≡ 15 → WantsRoom trial.entry.list.now result.totals out.old out.new }
     ensures bad_list { result.status ≡ 11 → IsListRefused trial.entry.list.now trial.entry.steps result.why }
     ensures kept { result.status ≡ 11 → out.new ≡ out.old }
+    ensures status { result.status ≢ 5 → result.status ≢ 11 → result.status ≢ 15 → result.status ≡ 0 }
     ensures other { (result.status ≢ 2) × (result.status ≢ 7) × (result.status ≢ 8) }
 {
     let faults = match read_faults(alloc, trial.list) {
@@ -183,6 +184,7 @@ fn try_program<P: Program>(
     ensures wants { result.status ≡ 15 → WantsRoom trial.entry.list.now result.totals out.old out.new }
     ensures bad_list { result.status ≡ 11 → IsListRefused trial.entry.list.now trial.entry.steps result.why }
     ensures refused { result.status ≡ 8 → Tells result.status result.why (judged (refusal (P.object program.now))) }
+    ensures status { result.status ≢ 5 → result.status ≢ 8 → result.status ≢ 11 → result.status ≢ 15 → result.status ≡ 0 }
     ensures other { (result.status ≢ 2) × (result.status ≢ 7) }
 {
     match check(alloc, program) {
@@ -203,6 +205,7 @@ fn try_bytes(alloc: Global, bytes: &[u8], trial: Trial, out: &mut [FaultVerdict]
     ensures bad_list { result.status ≡ 11 → IsListRefused trial.entry.list.now trial.entry.steps result.why }
     ensures malformed { result.status ≡ 7 → Tells result.status result.why (verdict_on bytes.now) }
     ensures refused { result.status ≡ 8 → Tells result.status result.why (verdict_on bytes.now) }
+    ensures status { result.status ≢ 5 → result.status ≢ 7 → result.status ≢ 8 → result.status ≢ 11 → result.status ≢ 15 → result.status ≡ 0 }
     ensures planned { result.status ≢ 2 }
 {
     match View::over(bytes) {
@@ -231,6 +234,7 @@ pub fn campaign(
     ensures malformed { result.status ≡ 7 → Tells result.status result.why (verdict_on bytes.now) }
     ensures refused { result.status ≡ 8 → Tells result.status result.why (verdict_on bytes.now) }
     ensures no_plan { result.status ≡ 2 → (answers : List Answer) → AreAnswers wild.now answers → steps ≤ 1000000 → ⊥ }
+    ensures status { result.status ≢ 2 → result.status ≢ 5 → result.status ≢ 7 → result.status ≢ 8 → result.status ≢ 11 → result.status ≢ 15 → result.status ≡ 0 }
 {
     if steps > MOST_STEPS {
         return not_tried(2, nothing(), 0);
