@@ -29,10 +29,7 @@
  *            others used up to 17 KiB. This is measured, not proved.
  *
  * NOT PROVED  The code is written to do the following, too, but no clause says
- *   - that talft_disassemble, talft_name and talft_schedule answer OK, NO_ROOM or NO_CELL only where the bytes spell an
- *     object, and talft_schedule only where it is accepted;
  *   - that talft_ran and talft_totals are 0 after a refusal;
- *   - that the part of a refusal is 0 where nothing is refused, except for talft_check with OK and talft_link with NO_MODULE;
  *   - how much memory a call takes, that it is given back, and that NO_MEMORY comes only when memory is short.
  */
 #ifndef TALFT_H

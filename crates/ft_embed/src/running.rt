@@ -9,7 +9,7 @@ ghost use Rattle.ft_semantics.specs.Strike.{struck_before};
 ghost use Rattle.ft_machine.specs.Spans.{Spares};
 ghost use Rattle.ft_embed.specs.Plans.{IsFault, AreAnswers};
 ghost use Rattle.ft_embed.specs.Outputs.{Ends, IsOnce, RunsFile, RunsInto, Takes};
-ghost use Rattle.ft_embed.specs.Verdicts.{Tells, judged, verdict_on};
+ghost use Rattle.ft_embed.specs.Verdicts.{Tells, judged, nothing as nothing_told, verdict_on};
 
 use crate::answer::{RunAnswer, has_run, not_run};
 use crate::checking::{check, refuse};
@@ -121,6 +121,7 @@ fn run_program<P: Program>(
     ensures other { result.status ≢ 7 }
     ensures planned { result.status ≢ 2 }
     ensures once { IsOnce result.ran }
+    ensures unrefused { result.status ≢ 8 → result.why ≡ nothing_told }
 {
     match check(alloc, program) {
         Ok(_) => {}
@@ -151,6 +152,7 @@ fn run_bytes(
     ensures refused { result.status ≡ 8 → Tells result.status result.why (verdict_on bytes.now) }
     ensures planned { result.status ≢ 2 }
     ensures once { IsOnce result.ran }
+    ensures unrefused { result.status ≢ 7 → result.status ≢ 8 → result.why ≡ nothing_told }
 {
     match View::over(bytes) {
         Ok(view) => run_program(alloc, &view, plan, steps, out),
@@ -165,6 +167,7 @@ fn run_bytes(
 pub(crate) fn no_run(status: u32) -> RunAnswer
     ensures status { result.status ≡ status }
     ensures once { IsOnce result.ran }
+    ensures unrefused { result.why ≡ nothing_told }
 {
     not_run(Verdict {
         status,
@@ -190,6 +193,7 @@ pub fn run(
     ensures malformed { result.status ≡ 7 → Tells result.status result.why (verdict_on bytes.now) }
     ensures refused { result.status ≡ 8 → Tells result.status result.why (verdict_on bytes.now) }
     ensures once { IsOnce result.ran }
+    ensures unrefused { result.status ≢ 7 → result.status ≢ 8 → result.why ≡ nothing_told }
 {
     let Ok(strike) = read_fault(fault) else {
         return no_run(2);

@@ -7,7 +7,7 @@ ghost use Rattle.ft_campaign.specs.FaultList.{IsFaultList, IsListError};
 ghost use Rattle.ft_campaign.specs.Verdicts.{AreVerdicts};
 ghost use Rattle.ft_embed.specs.Plans.{AreAnswers};
 ghost use Rattle.ft_embed.specs.Trials.{IsListRefused, Tries, TriesFile, TriesList, WantsRoom, told_list};
-ghost use Rattle.ft_embed.specs.Verdicts.{IsAcceptedFile, Tells, judged, verdict_on};
+ghost use Rattle.ft_embed.specs.Verdicts.{IsAcceptedFile, Tells, judged, nothing as nothing_told, verdict_on};
 
 use crate::checking::{check, refuse};
 use crate::plan_text::read_answers;
@@ -74,6 +74,7 @@ fn told_list(number: u32, place: u64) -> Refused
 fn refuse_list(error: ListError) -> TrialAnswer
     ensures told { (list : List ℕ) (steps : ℕ) → IsListError list error → result.status ≡ 11 → IsListRefused list steps result.why }
     ensures status { (result.status ≡ 5) ⊎ (result.status ≡ 11) }
+    ensures unrefused { result.status ≢ 11 → result.why ≡ nothing_told }
 {
     match error {
         ListError::Line { number } => not_tried(11, told_list(1, number as u64), 0),
@@ -117,6 +118,7 @@ fn try_faults<P: Program>(
     requires room { length faults.now ≤ length out.old }
     ensures tries { result.status ≡ 0 → Tries (P.object program.now) faults.now trial.entry.wild.now trial.entry.steps result.totals out.new }
     ensures status { (result.status ≡ 0) ⊎ (result.status ≡ 5) }
+    ensures unrefused { result.why ≡ nothing_told }
 {
     let found = find_counted::<P, Brand>(
         alloc,
@@ -154,6 +156,7 @@ fn try_list<P: Program>(
     ensures kept { result.status ≡ 11 → out.new ≡ out.old }
     ensures status { result.status ≢ 5 → result.status ≢ 11 → result.status ≢ 15 → result.status ≡ 0 }
     ensures other { (result.status ≢ 2) × (result.status ≢ 7) × (result.status ≢ 8) }
+    ensures unrefused { result.status ≢ 11 → result.why ≡ nothing_told }
 {
     let faults = match read_faults(alloc, trial.list) {
         Ok(faults) => faults,
@@ -186,6 +189,7 @@ fn try_program<P: Program>(
     ensures refused { result.status ≡ 8 → Tells result.status result.why (judged (refusal (P.object program.now))) }
     ensures status { result.status ≢ 5 → result.status ≢ 8 → result.status ≢ 11 → result.status ≢ 15 → result.status ≡ 0 }
     ensures other { (result.status ≢ 2) × (result.status ≢ 7) }
+    ensures unrefused { result.status ≢ 8 → result.status ≢ 11 → result.why ≡ nothing_told }
 {
     match check(alloc, program) {
         Ok(_) => try_list(alloc, program, trial, out),
@@ -207,6 +211,7 @@ fn try_bytes(alloc: Global, bytes: &[u8], trial: Trial, out: &mut [FaultVerdict]
     ensures refused { result.status ≡ 8 → Tells result.status result.why (verdict_on bytes.now) }
     ensures status { result.status ≢ 5 → result.status ≢ 7 → result.status ≢ 8 → result.status ≢ 11 → result.status ≢ 15 → result.status ≡ 0 }
     ensures planned { result.status ≢ 2 }
+    ensures unrefused { result.status ≢ 7 → result.status ≢ 8 → result.status ≢ 11 → result.why ≡ nothing_told }
 {
     match View::over(bytes) {
         Ok(view) => try_program(alloc, &view, trial, out),
@@ -235,6 +240,7 @@ pub fn campaign(
     ensures refused { result.status ≡ 8 → Tells result.status result.why (verdict_on bytes.now) }
     ensures no_plan { result.status ≡ 2 → (answers : List Answer) → AreAnswers wild.now answers → steps ≤ 1000000 → ⊥ }
     ensures status { result.status ≢ 2 → result.status ≢ 5 → result.status ≢ 7 → result.status ≢ 8 → result.status ≢ 11 → result.status ≢ 15 → result.status ≡ 0 }
+    ensures unrefused { result.status ≢ 7 → result.status ≢ 8 → result.status ≢ 11 → result.why ≡ nothing_told }
 {
     if steps > MOST_STEPS {
         return not_tried(2, nothing(), 0);
