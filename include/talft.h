@@ -28,9 +28,8 @@
  * STACK      talft_compile used up to 169 KiB in all tests, with 97 nested loops, 98 nested brackets and 199 operators. The
  *            others used up to 17 KiB. This is measured, not proved.
  *
- * NOT PROVED  The code is written to do the following, too, but no clause says
- *   - that talft_ran and talft_totals are 0 after a refusal;
- *   - how much memory a call takes, that it is given back, and that NO_MEMORY comes only when memory is short.
+ * NOT PROVED  No clause says how much memory a call takes, that it is given back, or that NO_MEMORY comes only when memory is
+ *             short.
  */
 #ifndef TALFT_H
 #define TALFT_H

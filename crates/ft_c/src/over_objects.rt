@@ -1,9 +1,9 @@
 //! Calls over the bytes of an object.
-ghost use Rattle.std.specs.Prelude.{◌≡◌, ◌≢◌, List, Option};
+ghost use Rattle.std.specs.Prelude.{◌≡◌, ◌≢◌, ◌⊎◌, List, Option};
 ghost use Rattle.ft_isa.specs.declared.plan.Strike.{Strike as Fault};
 ghost use Rattle.ft_isa.specs.declared.plan.Wild.{Wild as Answer};
 ghost use Rattle.ft_embed.specs.Cells.{HasNoCell};
-ghost use Rattle.ft_embed.specs.Outputs.{IsOnce, RunsFile};
+ghost use Rattle.ft_embed.specs.Outputs.{IsOnce, RunsFile, not_begun};
 ghost use Rattle.ft_embed.specs.Plans.{AreAnswers, IsFault};
 ghost use Rattle.ft_embed.specs.Recoveries.{RecoversFile};
 ghost use Rattle.ft_embed.specs.Texts.{Given, IsMalformed, IsNameOf, IsScheduleOfFile, IsUpgraded};
@@ -50,6 +50,7 @@ pub extern "C" fn talft_run(
     ensures refused { result ≡ 8 → Tells result why.new (verdict_on bytes.now) }
     ensures once { IsOnce ran.new }
     ensures unrefused { result ≢ 7 → result ≢ 8 → why.new ≡ nothing }
+    ensures unrun { (result ≡ 2) ⊎ (result ≡ 5) ⊎ (result ≡ 7) ⊎ (result ≡ 8) → ran.new ≡ not_begun }
 {
     let answer = run(alloc, bytes, fault, wild, steps, out);
     *ran = answer.ran;
@@ -76,6 +77,7 @@ pub extern "C" fn talft_recover(
     ensures malformed { result ≡ 7 → Tells result why.new (verdict_on bytes.now) }
     ensures refused { result ≡ 8 → Tells result why.new (verdict_on bytes.now) }
     ensures unrefused { result ≢ 7 → result ≢ 8 → why.new ≡ nothing }
+    ensures unrun { (result ≡ 2) ⊎ (result ≡ 5) ⊎ (result ≡ 7) ⊎ (result ≡ 8) → ran.new ≡ not_begun }
 {
     let answer = recover(alloc, bytes, fault, wild, steps, out);
     *ran = answer.ran;

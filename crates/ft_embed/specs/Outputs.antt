@@ -67,6 +67,10 @@ pub record RunsInto (o : Object) (strike : Option Strike) (w : List Wild) (steps
   pub agrees : Agrees (outputs_after o strike w taken) (status_after o strike w taken) (outputs_after o None w taken) (status_after o None w taken)
   pub all : status ≢ 14 → SameAfter o strike w taken steps
 
+-- what is told where nothing was run
+abbrev pub not_begun : Ran
+not_begun = record { steps = 0; count = 0; restarts = 0; again = 0 }
+
 -- what is told of a run that was not begun again
 abbrev pub IsOnce : Ran → Type 0
 IsOnce ran = (ran.restarts ≡ 0) × (ran.again ≡ 0)

@@ -40,6 +40,10 @@ fault_verdict v = record { verdict = verdict_number v; at = detected_at v }
 abbrev pub fault_totals : ℕ → Totals → FaultTotals
 fault_totals n t = record { count = n; masked = t.masked; detected = t.detected; idle = t.idle }
 
+-- so many faults, of which none was tried
+abbrev pub untried : ℕ → FaultTotals
+untried n = record { count = n; masked = 0; detected = 0; idle = 0 }
+
 -- faults were tried on an object: the array has the verdict of each, in order, and they are counted; none is corrupt
 pub record Tries (o : Object) (faults : List Strike) (w : List Wild) (steps : ℕ) (totals : FaultTotals) (new : List FaultVerdict) : Type 0 where
   pub found : List Verdict

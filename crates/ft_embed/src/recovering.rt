@@ -1,11 +1,12 @@
 //! Recoveries of accepted objects, whose outputs go into an array of the caller.
-ghost use Rattle.std.specs.Prelude.{◌≡◌, ◌≢◌, ℕ, List, Option, true, false};
+ghost use Rattle.std.specs.Prelude.{◌≡◌, ◌≢◌, ◌⊎◌, ℕ, List, Option, true, false};
 ghost use Rattle.ft_isa.specs.declared.plan.Strike.{Strike as Fault};
 ghost use Rattle.ft_isa.specs.declared.plan.Wild.{Wild as Answer};
 ghost use Rattle.ft_types.specs.Spellable.{IsSpellable};
 ghost use Rattle.ft_typing.specs.Accepted.{IsAccepted, refusal};
 ghost use Rattle.ft_semantics.specs.State.{start};
 ghost use Rattle.ft_embed.specs.Plans.{IsFault, AreAnswers};
+ghost use Rattle.ft_embed.specs.Outputs.{not_begun};
 ghost use Rattle.ft_embed.specs.Recoveries.{RecoversFile, RecoversInto};
 ghost use Rattle.ft_embed.specs.Verdicts.{Tells, judged, nothing as nothing_told, verdict_on};
 
@@ -53,6 +54,7 @@ fn recover_machines<P: Program>(
     ensures refused { result.status ≢ 8 }
     ensures planned { result.status ≢ 2 }
     ensures unrefused { result.why ≡ nothing_told }
+    ensures memory { result.status ≢ 5 }
 {
     let filled = run_machine(first, program, plan, steps, out);
     let before = first.status();
@@ -85,6 +87,7 @@ fn recover_program<P: Program>(
     ensures other { result.status ≢ 7 }
     ensures planned { result.status ≢ 2 }
     ensures unrefused { result.status ≢ 8 → result.why ≡ nothing_told }
+    ensures unrun { (result.status ≡ 5) ⊎ (result.status ≡ 8) → result.ran ≡ not_begun }
 {
     match check(alloc, program) {
         Ok(_) => {}
@@ -113,6 +116,7 @@ fn recover_bytes(
     ensures refused { result.status ≡ 8 → Tells result.status result.why (verdict_on bytes.now) }
     ensures planned { result.status ≢ 2 }
     ensures unrefused { result.status ≢ 7 → result.status ≢ 8 → result.why ≡ nothing_told }
+    ensures unrun { (result.status ≡ 5) ⊎ (result.status ≡ 7) ⊎ (result.status ≡ 8) → result.ran ≡ not_begun }
 {
     match View::over(bytes) {
         Ok(view) => recover_program(alloc, &view, plan, steps, out),
@@ -141,6 +145,7 @@ pub fn recover(
     ensures malformed { result.status ≡ 7 → Tells result.status result.why (verdict_on bytes.now) }
     ensures refused { result.status ≡ 8 → Tells result.status result.why (verdict_on bytes.now) }
     ensures unrefused { result.status ≢ 7 → result.status ≢ 8 → result.why ≡ nothing_told }
+    ensures unrun { (result.status ≡ 2) ⊎ (result.status ≡ 5) ⊎ (result.status ≡ 7) ⊎ (result.status ≡ 8) → result.ran ≡ not_begun }
 {
     let Ok(strike) = read_fault(fault) else {
         return no_run(2);

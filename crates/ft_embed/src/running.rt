@@ -1,5 +1,5 @@
 //! Runs of accepted objects, whose outputs go into an array of the caller.
-ghost use Rattle.std.specs.Prelude.{◌≡◌, ◌≢◌, ◌≤◌, ◌<◌, ℕ, length, IfOk, List, Option};
+ghost use Rattle.std.specs.Prelude.{◌≡◌, ◌≢◌, ◌⊎◌, ◌≤◌, ◌<◌, ℕ, length, IfOk, List, Option};
 ghost use Rattle.ft_isa.specs.declared.plan.Strike.{Strike as Fault};
 ghost use Rattle.ft_isa.specs.declared.plan.Wild.{Wild as Answer};
 ghost use Rattle.ft_types.specs.Spellable.{IsSpellable};
@@ -8,7 +8,7 @@ ghost use Rattle.ft_semantics.specs.State.{start};
 ghost use Rattle.ft_semantics.specs.Strike.{struck_before};
 ghost use Rattle.ft_machine.specs.Spans.{Spares};
 ghost use Rattle.ft_embed.specs.Plans.{IsFault, AreAnswers};
-ghost use Rattle.ft_embed.specs.Outputs.{Ends, IsOnce, RunsFile, RunsInto, Takes};
+ghost use Rattle.ft_embed.specs.Outputs.{Ends, IsOnce, RunsFile, RunsInto, Takes, not_begun};
 ghost use Rattle.ft_embed.specs.Verdicts.{Tells, judged, nothing as nothing_told, verdict_on};
 
 use crate::answer::{RunAnswer, has_run, not_run};
@@ -98,6 +98,7 @@ pub(crate) fn end_of(status: Status, taken: u64, steps: u64) -> u32
     ensures malformed { result ≢ 7 }
     ensures refused { result ≢ 8 }
     ensures planned { result ≢ 2 }
+    ensures memory { result ≢ 5 }
 {
     match status {
         Status::Done => 0,
@@ -122,6 +123,7 @@ fn run_program<P: Program>(
     ensures planned { result.status ≢ 2 }
     ensures once { IsOnce result.ran }
     ensures unrefused { result.status ≢ 8 → result.why ≡ nothing_told }
+    ensures unrun { (result.status ≡ 5) ⊎ (result.status ≡ 8) → result.ran ≡ not_begun }
 {
     match check(alloc, program) {
         Ok(_) => {}
@@ -153,6 +155,7 @@ fn run_bytes(
     ensures planned { result.status ≢ 2 }
     ensures once { IsOnce result.ran }
     ensures unrefused { result.status ≢ 7 → result.status ≢ 8 → result.why ≡ nothing_told }
+    ensures unrun { (result.status ≡ 5) ⊎ (result.status ≡ 7) ⊎ (result.status ≡ 8) → result.ran ≡ not_begun }
 {
     match View::over(bytes) {
         Ok(view) => run_program(alloc, &view, plan, steps, out),
@@ -168,6 +171,7 @@ pub(crate) fn no_run(status: u32) -> RunAnswer
     ensures status { result.status ≡ status }
     ensures once { IsOnce result.ran }
     ensures unrefused { result.why ≡ nothing_told }
+    ensures unrun { result.ran ≡ not_begun }
 {
     not_run(Verdict {
         status,
@@ -194,6 +198,7 @@ pub fn run(
     ensures refused { result.status ≡ 8 → Tells result.status result.why (verdict_on bytes.now) }
     ensures once { IsOnce result.ran }
     ensures unrefused { result.status ≢ 7 → result.status ≢ 8 → result.why ≡ nothing_told }
+    ensures unrun { (result.status ≡ 2) ⊎ (result.status ≡ 5) ⊎ (result.status ≡ 7) ⊎ (result.status ≡ 8) → result.ran ≡ not_begun }
 {
     let Ok(strike) = read_fault(fault) else {
         return no_run(2);
