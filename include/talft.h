@@ -28,17 +28,8 @@
  * STACK      talft_compile used up to 169 KiB in all tests, with 97 nested loops, 98 nested brackets and 199 operators. The
  *            others used up to 17 KiB. This is measured, not proved.
  *
- * NOT PROVED  The code is written to do the following, too, but no clause says
- *   - that talft_disassemble, talft_name and talft_schedule answer OK, NO_ROOM or NO_CELL only where the bytes spell an
- *     object, and talft_schedule only where it is accepted;
- *   - that talft_open always answers NOT_NOW where the machine is open;
- *   - that talft_strike, talft_restart and talft_campaign give no answer but those that are listed;
- *   - that talft_campaign answers OK only within its limits on the steps, and on the faults times the steps;
- *   - that talft_advance takes no step where there is no room;
- *   - that `restarts` and `again` are as told, after talft_run and talft_advance, and where talft_recover answers FULL;
- *   - that talft_ran and talft_totals are 0 after a refusal; with NOT_NOW talft_ran is as it was;
- *   - that the part of a refusal is 0 where nothing is refused, except for talft_check with OK and talft_link with NO_MODULE;
- *   - how much memory a call takes, that it is given back, and that NO_MEMORY comes only when memory is short.
+ * NOT PROVED  No clause says how much memory a call takes, that it is given back, or that NO_MEMORY comes only when memory is
+ *             short.
  */
 #ifndef TALFT_H
 #define TALFT_H

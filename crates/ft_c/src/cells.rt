@@ -2,6 +2,7 @@
 ghost use Rattle.std.specs.Prelude.{◌≡◌, ◌≢◌};
 ghost use Rattle.ft_embed.specs.Cells.{HasNoCell, HasOtherCell, IsSet};
 ghost use Rattle.ft_embed.specs.Texts.{IsMalformed};
+ghost use Rattle.ft_embed.specs.Verdicts.{nothing};
 
 use ft_embed::{Refused, set_cell};
 
@@ -16,6 +17,7 @@ pub extern "C" fn talft_set_cell(bytes: &mut [u8], cell: u32, word: u64, why: &m
     ensures none { result ≡ 16 → HasNoCell bytes.old cell }
     ensures other { result ≡ 19 → HasOtherCell bytes.old cell }
     ensures kept { result ≢ 0 → bytes.new ≡ bytes.old }
+    ensures unrefused { result ≢ 7 → why.new ≡ nothing }
 {
     let verdict = set_cell(bytes, cell, word);
     *why = verdict.why;

@@ -3,6 +3,7 @@ ghost use Rattle.std.specs.Prelude.{◌≡◌, ◌≢◌, None};
 ghost use Rattle.ft_isa.specs.PlanText.{IsSiteText};
 ghost use Rattle.ft_isa.specs.declared.plan.Site.{Site as Place};
 ghost use Rattle.ft_c.specs.Handles.{BeginsAgain, GoesOnIn, IsNotStruckIn, IsStruckIn};
+ghost use Rattle.ft_embed.specs.Outputs.{IsOnce};
 ghost use Rattle.ft_embed.specs.Tasks.{IsOpened};
 ghost use Rattle.ft_embed.specs.Verdicts.{Tells, verdict_on};
 
@@ -47,6 +48,7 @@ pub extern "C" fn talft_open(
     ensures opened { result ≡ 0 → IsOpened bytes.now machine.new.task }
     ensures refused { result ≢ 0 → result ≢ 5 → result ≢ 17 → Tells result why.new (verdict_on bytes.now) }
     ensures held { result ≡ 17 → machine.old.task ≢ None }
+    ensures free { result ≢ 17 → machine.old.task ≡ None }
     ensures kept { result ≢ 0 → machine.new.task ≡ machine.old.task }
 {
     match take(alloc, machine) {
@@ -73,6 +75,8 @@ pub extern "C" fn talft_advance(
     ensures went { result ≢ 17 → GoesOnIn machine.old.task machine.new.task result steps ran.new.steps ran.new.count out.new }
     ensures none { result ≡ 17 → machine.old.task ≡ None }
     ensures kept { result ≡ 17 → machine.new.task ≡ None }
+    ensures once { result ≢ 17 → IsOnce ran.new }
+    ensures same { result ≡ 17 → ran.new ≡ ran.old }
 {
     let Some(mut task) = take(alloc, machine) else {
         return 17;
@@ -94,6 +98,7 @@ pub extern "C" fn talft_strike(alloc: Global, machine: &mut Handle, site: &[u8],
     ensures not_there { result ≡ 18 → IsNotStruckIn machine.old.task site.now }
     ensures none { result ≡ 17 → machine.old.task ≡ None }
     ensures kept { result ≢ 0 → machine.new.task ≡ machine.old.task }
+    ensures status { result ≢ 2 → result ≢ 17 → result ≢ 18 → result ≡ 0 }
 {
     let Some(place) = read_site(site) else {
         return 2;
@@ -113,6 +118,7 @@ pub extern "C" fn talft_restart(alloc: Global, machine: &mut Handle) -> u32
     ensures again { result ≡ 0 → BeginsAgain machine.old.task machine.new.task }
     ensures none { result ≡ 17 → machine.old.task ≡ None }
     ensures kept { result ≢ 0 → machine.new.task ≡ machine.old.task }
+    ensures status { result ≢ 5 → result ≢ 17 → result ≡ 0 }
 {
     let Some(mut task) = take(alloc, machine) else {
         return 17;

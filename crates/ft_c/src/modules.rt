@@ -2,6 +2,7 @@
 ghost use Rattle.std.specs.Prelude.{◌≡◌, ◌≢◌, ◌⊎◌};
 ghost use Rattle.ft_embed.specs.Links.{IsLinkedOf, IsUnlinked};
 ghost use Rattle.ft_embed.specs.Texts.{Given};
+ghost use Rattle.ft_embed.specs.Verdicts.{nothing};
 
 use ft_embed::{Module, Refused, link_into};
 use std::alloc::Global;
@@ -23,6 +24,7 @@ pub extern "C" fn talft_link(
     ensures linked { (result ≡ 0) ⊎ (result ≡ 15) → Given (IsLinkedOf modules.now map.now) out.old out.new made.new result }
     ensures unlinked { result ≢ 0 → result ≢ 5 → result ≢ 15 → IsUnlinked modules.now map.now (record { status = result; «module» = «module».new; why = why.new }) }
     ensures kept { result ≢ 0 → out.new ≡ out.old }
+    ensures unrefused { (result ≡ 0) ⊎ (result ≡ 5) ⊎ (result ≡ 15) → why.new ≡ nothing }
 {
     let answer = link_into(alloc, map, modules, out);
     *made = answer.written.made;

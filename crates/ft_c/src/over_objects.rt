@@ -1,13 +1,13 @@
 //! Calls over the bytes of an object.
-ghost use Rattle.std.specs.Prelude.{◌≡◌, ◌≢◌, ◌≤◌, length, List, Option};
+ghost use Rattle.std.specs.Prelude.{◌≡◌, ◌≢◌, ◌⊎◌, List, Option};
 ghost use Rattle.ft_isa.specs.declared.plan.Strike.{Strike as Fault};
 ghost use Rattle.ft_isa.specs.declared.plan.Wild.{Wild as Answer};
-ghost use Rattle.ft_format.specs.Broken.{object_of};
-ghost use Rattle.ft_embed.specs.Outputs.{RunsFile};
+ghost use Rattle.ft_embed.specs.Cells.{HasNoCell};
+ghost use Rattle.ft_embed.specs.Outputs.{IsOnce, RunsFile, not_begun};
 ghost use Rattle.ft_embed.specs.Plans.{AreAnswers, IsFault};
 ghost use Rattle.ft_embed.specs.Recoveries.{RecoversFile};
-ghost use Rattle.ft_embed.specs.Texts.{Given, IsMalformed, IsNameOf, IsScheduleOf, IsUpgraded};
-ghost use Rattle.ft_embed.specs.Verdicts.{IsAcceptedFile, Tells, verdict_on};
+ghost use Rattle.ft_embed.specs.Texts.{Given, IsMalformed, IsNameOf, IsScheduleOfFile, IsUpgraded};
+ghost use Rattle.ft_embed.specs.Verdicts.{IsAcceptedFile, Tells, nothing, verdict_on};
 
 use ft_embed::{
     CellOutput, Ran, Refused, judge, name_into, recover, run, schedule_into, upgrade_into,
@@ -21,6 +21,7 @@ use std::alloc::Global;
 pub extern "C" fn talft_check(alloc: Global, bytes: &[u8], why: &mut Refused) -> u32
     ensures verdict { result ≢ 5 → Tells result why.new (verdict_on bytes.now) }
     ensures accepted { result ≡ 0 → IsAcceptedFile bytes.now }
+    ensures unrefused { result ≢ 7 → result ≢ 8 → why.new ≡ nothing }
 {
     let verdict = judge(alloc, bytes);
     *why = verdict.why;
@@ -47,6 +48,9 @@ pub extern "C" fn talft_run(
     ensures no_plan { result ≡ 2 → (strike : Option Fault) (answers : List Answer) → IsFault fault.now strike → AreAnswers wild.now answers → ⊥ }
     ensures malformed { result ≡ 7 → Tells result why.new (verdict_on bytes.now) }
     ensures refused { result ≡ 8 → Tells result why.new (verdict_on bytes.now) }
+    ensures once { IsOnce ran.new }
+    ensures unrefused { result ≢ 7 → result ≢ 8 → why.new ≡ nothing }
+    ensures unrun { (result ≡ 2) ⊎ (result ≡ 5) ⊎ (result ≡ 7) ⊎ (result ≡ 8) → ran.new ≡ not_begun }
 {
     let answer = run(alloc, bytes, fault, wild, steps, out);
     *ran = answer.ran;
@@ -72,6 +76,8 @@ pub extern "C" fn talft_recover(
     ensures no_plan { result ≡ 2 → (strike : Option Fault) (answers : List Answer) → IsFault fault.now strike → AreAnswers wild.now answers → ⊥ }
     ensures malformed { result ≡ 7 → Tells result why.new (verdict_on bytes.now) }
     ensures refused { result ≡ 8 → Tells result why.new (verdict_on bytes.now) }
+    ensures unrefused { result ≢ 7 → result ≢ 8 → why.new ≡ nothing }
+    ensures unrun { (result ≡ 2) ⊎ (result ≡ 5) ⊎ (result ≡ 7) ⊎ (result ≡ 8) → ran.new ≡ not_begun }
 {
     let answer = recover(alloc, bytes, fault, wild, steps, out);
     *ran = answer.ran;
@@ -91,6 +97,7 @@ pub extern "C" fn talft_upgrade(
 ) -> u32
     ensures given { result ≢ 5 → result ≢ 7 → Given (IsUpgraded bytes.now) out.old out.new made.new result }
     ensures malformed { result ≡ 7 → IsMalformed bytes.now why.new }
+    ensures unrefused { result ≢ 7 → why.new ≡ nothing }
 {
     let written = upgrade_into(alloc, bytes, out);
     *made = written.made;
@@ -108,9 +115,10 @@ pub extern "C" fn talft_schedule(
     made: &mut usize,
     why: &mut Refused,
 ) -> u32
-    ensures given { result ≢ 5 → result ≢ 7 → result ≢ 8 → Given (IsScheduleOf (object_of bytes.now)) out.old out.new made.new result }
+    ensures given { result ≢ 5 → result ≢ 7 → result ≢ 8 → Given (IsScheduleOfFile bytes.now) out.old out.new made.new result }
     ensures malformed { result ≡ 7 → Tells result why.new (verdict_on bytes.now) }
     ensures refused { result ≡ 8 → Tells result why.new (verdict_on bytes.now) }
+    ensures unrefused { result ≢ 7 → result ≢ 8 → why.new ≡ nothing }
 {
     let written = schedule_into(alloc, bytes, out);
     *made = written.made;
@@ -130,7 +138,8 @@ pub extern "C" fn talft_name(
 ) -> u32
     ensures given { result ≢ 7 → result ≢ 16 → Given (IsNameOf bytes.now cell) out.old out.new made.new result }
     ensures malformed { result ≡ 7 → IsMalformed bytes.now why.new }
-    ensures none { result ≡ 16 → length (object_of bytes.now).cells ≤ cell }
+    ensures none { result ≡ 16 → HasNoCell bytes.now cell }
+    ensures unrefused { result ≢ 7 → why.new ≡ nothing }
 {
     let written = name_into(bytes, cell, out);
     *made = written.made;

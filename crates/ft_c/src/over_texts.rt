@@ -2,6 +2,7 @@
 ghost use Rattle.std.specs.Prelude.{◌≡◌, ◌≢◌};
 ghost use Rattle.ft_asm.specs.Refusals.{IsAssembly};
 ghost use Rattle.ft_embed.specs.Texts.{Given, IsAsmBroken, IsAsmRefused, IsCompiled, IsMalformed, IsSourceRefused, IsText};
+ghost use Rattle.ft_embed.specs.Verdicts.{nothing};
 
 use ft_embed::{Refused, assemble_into, compile_into, disassemble_into};
 use std::alloc::Global;
@@ -20,6 +21,7 @@ pub extern "C" fn talft_compile(
     ensures given { result ≢ 5 → result ≢ 6 → Given (IsCompiled text.now) out.old out.new made.new result }
     ensures refused { result ≡ 6 → IsSourceRefused text.now why.new }
     ensures kept { result ≡ 6 → out.new ≡ out.old }
+    ensures unrefused { result ≢ 6 → why.new ≡ nothing }
 {
     let written = compile_into(alloc, text, out);
     *made = written.made;
@@ -41,6 +43,7 @@ pub extern "C" fn talft_assemble(
     ensures given { result ≢ 5 → result ≢ 7 → result ≢ 12 → Given (IsAssembly text.now) out.old out.new made.new result }
     ensures refused { result ≡ 12 → IsAsmRefused text.now why.new }
     ensures broken { result ≡ 7 → IsAsmBroken text.now why.new }
+    ensures unrefused { result ≢ 7 → result ≢ 12 → why.new ≡ nothing }
 {
     let written = assemble_into(alloc, text, out);
     *made = written.made;
@@ -60,6 +63,7 @@ pub extern "C" fn talft_disassemble(
 ) -> u32
     ensures given { result ≢ 5 → result ≢ 7 → Given (IsText bytes.now) out.old out.new made.new result }
     ensures malformed { result ≡ 7 → IsMalformed bytes.now why.new }
+    ensures unrefused { result ≢ 7 → why.new ≡ nothing }
 {
     let written = disassemble_into(alloc, bytes, out);
     *made = written.made;

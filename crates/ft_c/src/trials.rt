@@ -1,9 +1,9 @@
 //! Faults that are tried on an object.
-ghost use Rattle.std.specs.Prelude.{◌≡◌, ◌≤◌, ◌⊎◌, List};
+ghost use Rattle.std.specs.Prelude.{◌≡◌, ◌≢◌, ◌≤◌, ◌⊎◌, List};
 ghost use Rattle.ft_isa.specs.declared.plan.Wild.{Wild as Answer};
 ghost use Rattle.ft_embed.specs.Plans.{AreAnswers};
-ghost use Rattle.ft_embed.specs.Trials.{IsListRefused, TriesFile, WantsRoom};
-ghost use Rattle.ft_embed.specs.Verdicts.{IsAcceptedFile, Tells, verdict_on};
+ghost use Rattle.ft_embed.specs.Trials.{IsListRefused, TriesFile, WantsRoom, untried};
+ghost use Rattle.ft_embed.specs.Verdicts.{IsAcceptedFile, Tells, nothing, verdict_on};
 
 use ft_embed::{FaultTotals, FaultVerdict, Refused, campaign};
 use std::alloc::Global;
@@ -31,6 +31,9 @@ pub extern "C" fn talft_campaign(
     ensures malformed { result ≡ 7 → Tells result why.new (verdict_on bytes.now) }
     ensures refused { result ≡ 8 → Tells result why.new (verdict_on bytes.now) }
     ensures no_plan { result ≡ 2 → (answers : List Answer) → AreAnswers wild.now answers → steps ≤ 1000000 → ⊥ }
+    ensures status { result ≢ 2 → result ≢ 5 → result ≢ 7 → result ≢ 8 → result ≢ 11 → result ≢ 15 → result ≡ 0 }
+    ensures unrefused { result ≢ 7 → result ≢ 8 → result ≢ 11 → why.new ≡ nothing }
+    ensures untried { result ≢ 0 → result ≢ 15 → totals.new ≡ untried 0 }
 {
     let answer = campaign(alloc, bytes, list, wild, steps, out);
     *totals = answer.totals;

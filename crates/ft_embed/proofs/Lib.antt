@@ -11,3 +11,4 @@ pub mod OtherWords
 pub mod SetCells
 pub mod LinkTurns
 pub mod Tried
+pub mod Spelled

@@ -94,16 +94,17 @@ module _ (r : TaskRun) (s1 s2 : State) (w1 w2 : List Wild) (m count : ℕ) (old 
       ap (λ (s : State). s.status) a.state_is
       ∙ status_on r.object r.strike no_words r.taken (state_after r.object r.strike no_words r.taken) s1 w1 refl no_wild h.state later m
 
-  pub task_went : (steps most status : ℕ) → IsLimit steps r.taken most → m ≤ most → count ≤ length new → (s2.status ≡ Running → count < length new → m ≡ most)
+  pub task_went : (steps most status : ℕ) → IsLimit steps r.taken most → m ≤ most → (length new ≡ 0 → m ≡ 0) → count ≤ length new → (s2.status ≡ Running → count < length new → m ≡ most)
       → ((n room : ℕ) → n ≤ room → (s2.status ≡ Running → n < room → m ≡ most) → Ends status most m n room s2.status)
       → WentOn r (record { object = r.object; strike = r.strike; taken = r.taken + m }) status steps m count new
-  task_went steps most status limit few within all ends = record {
+  task_went steps most status limit few no_room within all ends = record {
     goes = refl;
     within = within;
     goes_on = goes;
     most = most;
     limit = limit;
     few = few;
+    no_room = no_room;
     ends = subst (Ends status most m count (length new)) stands (ends count (length new) within all);
     agrees = tolerant r.object r.strike no_words (r.taken + m) h.spellable h.accepted;
     sound = never_detected r.object no_words h.spellable h.accepted;

@@ -55,8 +55,8 @@ accepted_file bytes view same spelled accepted = record {
 
 -- the faults of a text were tried on the object of bytes
 pub tries_file : (bytes view list wild : List ℕ) (w : List Wild) (steps : ℕ) (totals : FaultTotals) (new : List FaultVerdict) → view ≡ bytes → Spells bytes (version_at bytes) (object_of view) → IsAccepted (object_of view)
-    → AreAnswers wild w → TriesList (object_of view) list w steps totals new → TriesFile bytes list wild steps totals new
-tries_file bytes view list wild w steps totals new same spelled accepted are tries =
+    → steps ≤ 1000000 → AreAnswers wild w → TriesList (object_of view) list w steps totals new → TriesFile bytes list wild steps totals new
+tries_file bytes view list wild w steps totals new same spelled accepted few are tries =
     let file = accepted_file bytes view same spelled accepted in
     record {
       file = file;
@@ -64,6 +64,8 @@ tries_file bytes view list wild w steps totals new same spelled accepted are tri
       are_answers = are;
       faults = tries.faults;
       are_faults = tries.are_faults;
+      few_steps = few;
+      few_in_all = tries.few_in_all;
       tries = subst (λ v. Tries (object_of v) tries.faults w steps totals new) same tries.tries;
       sound = never_detected (object_of bytes) w file.spelled.spellable file.accepted;
     }

@@ -16,6 +16,7 @@ use Rattle.ft_tolerance.specs.Soundness.{IsNeverDetected}
 use Rattle.ft_format.specs.Broken.{object_of}
 use Rattle.ft_embed.specs.Verdicts.{IsAcceptedFile}
 use Rattle.ft_embed.specs.Plans.{IsFault, AreAnswers}
+use Rattle.ft_embed.specs.declared.answer.Ran.{Ran}
 use Rattle.ft_embed.specs.declared.filling.CellOutput.{CellOutput}
 
 -- an output as C sees it: the number of its cell, and its word
@@ -65,6 +66,14 @@ pub record RunsInto (o : Object) (strike : Option Strike) (w : List Wild) (steps
   pub ends : Ends status steps taken count (length new) (status_after o strike w taken)
   pub agrees : Agrees (outputs_after o strike w taken) (status_after o strike w taken) (outputs_after o None w taken) (status_after o None w taken)
   pub all : status ≢ 14 → SameAfter o strike w taken steps
+
+-- what is told where nothing was run
+abbrev pub not_begun : Ran
+not_begun = record { steps = 0; count = 0; restarts = 0; again = 0 }
+
+-- what is told of a run that was not begun again
+abbrev pub IsOnce : Ran → Type 0
+IsOnce ran = (ran.restarts ≡ 0) × (ran.again ≡ 0)
 
 -- bytes whose object is accepted were run under the plan that two texts say
 pub record RunsFile (bytes fault wild : List ℕ) (steps status taken count : ℕ) (new : List CellOutput) : Type 0 where

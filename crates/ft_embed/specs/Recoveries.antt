@@ -1,5 +1,5 @@
 -- Recoveries, whose outputs go into an array of the caller.
-use Rattle.std.specs.Prelude.{◌≡◌, ◌≢◌, ℕ, ◌≤◌, List, length, take, map, Option, Some, None}
+use Rattle.std.specs.Prelude.{◌≡◌, ◌≢◌, ◌⊎◌, ℕ, ◌≤◌, List, length, take, map, Option, Some, None}
 use Rattle.ft_isa.specs.declared.plan.Strike.{Strike}
 use Rattle.ft_isa.specs.declared.plan.Wild.{Wild}
 use Rattle.ft_types.specs.declared.object.Object.{Object}
@@ -26,6 +26,7 @@ pub record RecoversInto (o : Object) (strike : Option Strike) (w : List Wild) (s
   pub ends : Ends status steps taken count (length new) (status_after o None w taken)
   pub all : status ≢ 14 → SameAfter o None w taken steps
   pub restart : status ≢ 14 → IsRestart (restart_output o strike w steps) restarts again
+  pub full : IsRestart None restarts again ⊎ IsRestart (restart_output o strike w steps) restarts again
 
 -- bytes whose object is accepted were recovered under the plan that two texts say
 pub record RecoversFile (bytes fault wild : List ℕ) (steps status taken count restarts again : ℕ) (new : List CellOutput) : Type 0 where

@@ -61,6 +61,7 @@ pub record WentOn (r new : TaskRun) (status steps taken count : ℕ) (out : List
   pub most : ℕ
   pub limit : IsLimit steps r.taken most
   pub few : taken ≤ most
+  pub no_room : length out ≡ 0 → taken ≡ 0
   pub ends : Ends status most taken count (length out) (status_after r.object r.strike [] (r.taken + taken))
   pub agrees : Agrees (outputs_after r.object r.strike [] (r.taken + taken)) (status_after r.object r.strike [] (r.taken + taken))
       (outputs_after r.object None [] (r.taken + taken)) (status_after r.object None [] (r.taken + taken))

@@ -7,7 +7,7 @@ use Rattle.ft_format.specs.declared.object_error.ObjectError.{ObjectError}
 use Rattle.ft_asm.specs.Reads.{Applies, TooLong, Text, Order, Broken, text_of}
 use Rattle.ft_object.specs.declared.decode_error.DecodeError.{DecodeError}
 use Rattle.ft_object.specs.declared.decode_error.DecodeError.TheVariants as decodes
-use Rattle.ft_embed.specs.Verdicts.{told_error}
+use Rattle.ft_embed.specs.Verdicts.{told_error, IsAcceptedFile}
 use Rattle.ft_types.specs.declared.object.Object.{Object}
 use Rattle.ft_format.specs.declared.version.Version.TheVariants.{Second}
 use Rattle.ft_format.specs.Format.{Spells}
@@ -109,13 +109,24 @@ pub record IsScheduleOf (o : Object) (new : List ℕ) : Type 0 where
   pub alike : (w : List Wild) (n : ℕ) → RunsAlike o schedule w n
   pub to : Spells new Second schedule
 
--- this is the text of the object of these bytes
-abbrev pub IsText : List ℕ → List ℕ → Type 0
-IsText bytes text = text ≡ text_of (object_of bytes)
+-- these bytes are the schedule of the object that other bytes spell, which is accepted
+pub record IsScheduleOfFile (bytes new : List ℕ) : Type 0 where
+  pub file : IsAcceptedFile bytes
+  pub is : IsScheduleOf (object_of bytes) new
 
--- this is the name of cell k of the object of these bytes
-abbrev pub IsNameOf : List ℕ → ℕ → List ℕ → Type 0
-IsNameOf bytes k name = option_map name_of (slice_get (object_of bytes).cells k) ≡ Some name
+-- the bytes spell an object, and this is its text
+pub record IsText (bytes text : List ℕ) : Type 0 where
+  pub spelled : Spells bytes (version_at bytes) (object_of bytes)
+  pub is : text ≡ text_of (object_of bytes)
+
+-- this is the name of cell k of an object
+abbrev pub IsCellName : Object → ℕ → List ℕ → Type 0
+IsCellName o k name = option_map name_of (slice_get o.cells k) ≡ Some name
+
+-- the bytes spell an object, and this is the name of its cell k
+pub record IsNameOf (bytes : List ℕ) (k : ℕ) (name : List ℕ) : Type 0 where
+  pub spelled : Spells bytes (version_at bytes) (object_of bytes)
+  pub is : IsCellName (object_of bytes) k name
 
 -- why an assembly text is refused: the number of the refusal, and a line or the most bytes of a text
 abbrev pub told_asm : ℕ → ℕ → Refused

@@ -40,6 +40,10 @@ fault_verdict v = record { verdict = verdict_number v; at = detected_at v }
 abbrev pub fault_totals : ℕ → Totals → FaultTotals
 fault_totals n t = record { count = n; masked = t.masked; detected = t.detected; idle = t.idle }
 
+-- so many faults, of which none was tried
+abbrev pub untried : ℕ → FaultTotals
+untried n = record { count = n; masked = 0; detected = 0; idle = 0 }
+
 -- faults were tried on an object: the array has the verdict of each, in order, and they are counted; none is corrupt
 pub record Tries (o : Object) (faults : List Strike) (w : List Wild) (steps : ℕ) (totals : FaultTotals) (new : List FaultVerdict) : Type 0 where
   pub found : List Verdict
@@ -56,6 +60,8 @@ pub record TriesFile (bytes list wild : List ℕ) (steps : ℕ) (totals : FaultT
   pub are_answers : AreAnswers wild answers
   pub faults : List Strike
   pub are_faults : IsFaultList list faults
+  pub few_steps : steps ≤ 1000000
+  pub few_in_all : length faults * steps ≤ 1000000000
   pub tries : Tries (object_of bytes) faults answers steps totals new
   pub sound : IsNeverDetected (object_of bytes) answers
 
@@ -81,4 +87,5 @@ pub data IsListRefused (list : List ℕ) (steps : ℕ) (told : Refused) : Type 0
 pub record TriesList (o : Object) (list : List ℕ) (w : List Wild) (steps : ℕ) (totals : FaultTotals) (new : List FaultVerdict) : Type 0 where
   pub faults : List Strike
   pub are_faults : IsFaultList list faults
+  pub few_in_all : length faults * steps ≤ 1000000000
   pub tries : Tries o faults w steps totals new

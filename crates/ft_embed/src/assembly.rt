@@ -4,6 +4,7 @@ ghost use Rattle.ft_asm.specs.Reads.{text_of};
 ghost use Rattle.ft_asm.specs.Refusals.{IsAssembly, IsRefusal};
 ghost use Rattle.ft_types.specs.Spellable.{IsSpellable};
 ghost use Rattle.ft_embed.specs.Texts.{Given, IsAsmBroken, IsAsmRefused, IsMalformed, IsText};
+ghost use Rattle.ft_embed.specs.Verdicts.{nothing as nothing_told};
 
 use crate::handing::{Written, hand_over, none_written, not_written};
 use crate::refused::{told_asm, told_error};
@@ -18,6 +19,7 @@ fn refuse_text(error: AsmError) -> Written
     ensures refused { (text : List ℕ) → IsRefusal text error → result.status ≡ 12 → IsAsmRefused text result.why }
     ensures broken { (text : List ℕ) → IsRefusal text error → result.status ≡ 7 → IsAsmBroken text result.why }
     ensures status { result.status ≢ 12 → result.status ≢ 7 → result.status ≡ 5 }
+    ensures unrefused { result.status ≢ 12 → result.status ≢ 7 → result.why ≡ nothing_told }
 {
     match error {
         AsmError::Text { line } => not_written(12, told_asm(1, line as u64)),
@@ -35,6 +37,7 @@ pub fn assemble_into(alloc: Global, text: &[u8], out: &mut [u8]) -> Written
     ensures given { result.status ≢ 5 → result.status ≢ 7 → result.status ≢ 12 → Given (IsAssembly text.now) out.old out.new result.made result.status }
     ensures refused { result.status ≡ 12 → IsAsmRefused text.now result.why }
     ensures broken { result.status ≡ 7 → IsAsmBroken text.now result.why }
+    ensures unrefused { result.status ≢ 12 → result.status ≢ 7 → result.why ≡ nothing_told }
 {
     match assemble_bytes(alloc, text) {
         Ok(bytes) => hand_over(bytes.as_slice(), out),
@@ -45,7 +48,9 @@ pub fn assemble_into(alloc: Global, text: &[u8], out: &mut [u8]) -> Written
 /// Writes the text of a program.
 fn text_into<P: Program>(alloc: Global, program: &P, out: &mut [u8]) -> Written
     requires { IsSpellable (P.object program.now) }
-    ensures { result.status ≢ 5 → Given (λ text. text ≡ text_of (P.object program.now)) out.old out.new result.made result.status }
+    ensures given { result.status ≢ 5 → Given (λ text. text ≡ text_of (P.object program.now)) out.old out.new result.made result.status }
+    ensures other { result.status ≢ 7 }
+    ensures unrefused { result.why ≡ nothing_told }
 {
     match disassemble(alloc, program) {
         Ok(text) => hand_over(text.as_slice(), out),
@@ -59,6 +64,7 @@ fn text_into<P: Program>(alloc: Global, program: &P, out: &mut [u8]) -> Written
 pub fn disassemble_into(alloc: Global, bytes: &[u8], out: &mut [u8]) -> Written
     ensures given { result.status ≢ 5 → result.status ≢ 7 → Given (IsText bytes.now) out.old out.new result.made result.status }
     ensures malformed { result.status ≡ 7 → IsMalformed bytes.now result.why }
+    ensures unrefused { result.status ≢ 7 → result.why ≡ nothing_told }
 {
     match View::over(bytes) {
         Ok(view) => text_into(alloc, &view, out),

@@ -6,6 +6,7 @@ ghost use Rattle.ft_format.specs.Layout.{bytes_of};
 ghost use Rattle.std.specs.Int.{w64};
 ghost use Rattle.ft_embed.specs.Cells.{HasIntCell, HasNoCell, HasOtherCell, IsSet};
 ghost use Rattle.ft_embed.specs.Texts.{IsMalformed};
+ghost use Rattle.ft_embed.specs.Verdicts.{nothing as nothing_told};
 
 use crate::refused::{nothing, told_error};
 use crate::verdict::Verdict;
@@ -26,7 +27,8 @@ fn is_int(basic: Basic) -> bool
 
 /// Nothing is refused, or for what has no place.
 fn without_place(status: u32) -> Verdict
-    ensures { result.status ≡ status }
+    ensures status { result.status ≡ status }
+    ensures unrefused { result.why ≡ nothing_told }
 {
     Verdict {
         status,
@@ -42,6 +44,7 @@ fn find_int_cell(bytes: &[u8], cell: u32) -> Verdict
     ensures none { result.status ≡ 16 → HasNoCell bytes.now cell }
     ensures other { result.status ≡ 19 → HasOtherCell bytes.now cell }
     ensures status { result.status ≢ 7 → result.status ≢ 16 → result.status ≢ 19 → result.status ≡ 0 }
+    ensures unrefused { result.status ≢ 7 → result.why ≡ nothing_told }
 {
     let view = match View::over(bytes) {
         Ok(view) => view,
@@ -80,6 +83,7 @@ pub fn set_cell(bytes: &mut [u8], cell: u32, word: u64) -> Verdict
     ensures none { result.status ≡ 16 → HasNoCell bytes.old cell }
     ensures other { result.status ≡ 19 → HasOtherCell bytes.old cell }
     ensures kept { result.status ≢ 0 → bytes.new ≡ bytes.old }
+    ensures unrefused { result.status ≢ 7 → result.why ≡ nothing_told }
 {
     let found = find_int_cell(bytes, cell);
     if found.status == 0 {

@@ -3,7 +3,7 @@ ghost use Rattle.std.specs.Prelude.{◌≡◌, ◌≢◌, ◌⊎◌, ◌<◌, If
 ghost use Rattle.ft_typing.specs.Accepted.{Refusal, refusal};
 ghost use Rattle.ft_types.specs.Spellable.{IsSpellable};
 ghost use Rattle.ft_checker.specs.Judges.{Judges, IsRefusalOf};
-ghost use Rattle.ft_embed.specs.Verdicts.{IsAcceptedFile, Tells, judged, verdict_on};
+ghost use Rattle.ft_embed.specs.Verdicts.{IsAcceptedFile, Tells, judged, nothing as nothing_told, verdict_on};
 
 use crate::refused::{nothing, told_cell, told_entry, told_error, told_instr};
 use crate::verdict::Verdict;
@@ -49,6 +49,7 @@ pub(crate) fn check<'a, P: Program>(
 pub(crate) fn refuse(error: CheckError) -> Verdict
     ensures told { (x : Option Refusal) → IsRefusalOf x error → result.status ≢ 5 → Tells result.status result.why (judged x) }
     ensures status { (result.status ≡ 5) ⊎ (result.status ≡ 8) }
+    ensures unrefused { result.status ≢ 8 → result.why ≡ nothing_told }
 {
     match error {
         CheckError::EntryType => Verdict {
@@ -77,7 +78,8 @@ pub(crate) fn refuse(error: CheckError) -> Verdict
 /// Checks an object that bytes spell.
 fn judge_program<P: Program>(alloc: Global, program: &P) -> Verdict
     requires { IsSpellable (P.object program.now) }
-    ensures { result.status ≢ 5 → Tells result.status result.why (judged (refusal (P.object program.now))) }
+    ensures told { result.status ≢ 5 → Tells result.status result.why (judged (refusal (P.object program.now))) }
+    ensures unrefused { result.status ≢ 8 → result.why ≡ nothing_told }
 {
     match check(alloc, program) {
         Ok(_) => Verdict {
@@ -94,6 +96,7 @@ fn judge_program<P: Program>(alloc: Global, program: &P) -> Verdict
 pub fn judge(alloc: Global, bytes: &[u8]) -> Verdict
     ensures verdict { result.status ≢ 5 → Tells result.status result.why (verdict_on bytes.now) }
     ensures accepted { result.status ≡ 0 → IsAcceptedFile bytes.now }
+    ensures unrefused { result.status ≢ 7 → result.status ≢ 8 → result.why ≡ nothing_told }
 {
     match View::over(bytes) {
         Ok(view) => judge_program(alloc, &view),

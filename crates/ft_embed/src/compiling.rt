@@ -3,6 +3,7 @@ ghost use Rattle.std.specs.Prelude.{◌≡◌, ◌≢◌, IfOk, IfErr};
 ghost use Rattle.ft_scope.specs.Outcome.{IsRefusalOf};
 ghost use Rattle.ft_syntax.specs.declared.source_error.SourceError.TheVariants as errors;
 ghost use Rattle.ft_embed.specs.Texts.{Given, IsCompiled, IsSourceRefused, told_source};
+ghost use Rattle.ft_embed.specs.Verdicts.{nothing as nothing_told};
 
 use crate::handing::{Written, hand_over, none_written, not_written};
 use crate::refused::told_source;
@@ -31,6 +32,7 @@ fn refuse_source(error: SourceError) -> Written
     ensures told { result.status ≡ 6 → result.why ≡ told_source error }
     ensures named { result.status ≡ 6 → error ≢ errors.NoMemory }
     ensures status { result.status ≢ 6 → result.status ≡ 5 }
+    ensures unrefused { result.status ≢ 6 → result.why ≡ nothing_told }
 {
     if error == SourceError::NoMemory {
         return none_written(5);
@@ -45,6 +47,7 @@ pub fn compile_into(alloc: Global, text: &[u8], out: &mut [u8]) -> Written
     ensures given { result.status ≢ 5 → result.status ≢ 6 → Given (IsCompiled text.now) out.old out.new result.made result.status }
     ensures refused { result.status ≡ 6 → IsSourceRefused text.now result.why }
     ensures kept { result.status ≡ 6 → out.new ≡ out.old }
+    ensures unrefused { result.status ≢ 6 → result.why ≡ nothing_told }
 {
     match compile_bytes(alloc, text) {
         Ok(bytes) => hand_over(bytes.as_slice(), out),

@@ -47,6 +47,7 @@ fn put_told(last: Stepped, out: &mut [CellOutput], at: usize) -> usize
     ensures written { take result out.new ≡ take at out.old ++ map cell_output (option_to_list (output_told last)) }
     ensures same { length out.new ≡ length out.old }
     ensures within { result ≤ length out.old }
+    ensures further { at ≤ result }
 {
     match last {
         Stepped::Commit(output) => {
@@ -84,6 +85,7 @@ pub(crate) fn fill<P: Program>(
     ensures within { result.count ≤ length out.new }
     ensures same { length out.new ≡ length out.old }
     ensures all { machine.new.status ≡ Status.Running → result.count < length out.new → result.taken ≡ most }
+    ensures no_room { length out.old ≤ from → result.taken ≡ 0 }
 {
     let mut left = most;
     let mut count = from;

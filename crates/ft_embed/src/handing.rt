@@ -18,7 +18,8 @@ pub struct Written {
 /// Writes bytes into a buffer, where they find room, and tells their number.
 #[tactic(auto, using(crate::proofs::Judged::handed, crate::proofs::Judged::not_handed))]
 pub(crate) fn hand_over(bytes: &[u8], out: &mut [u8]) -> Written
-    ensures { HandsOver bytes.now out.old out.new result.made result.status }
+    ensures handed { HandsOver bytes.now out.old out.new result.made result.status }
+    ensures unrefused { result.why ≡ nothing_told }
 {
     let made = bytes.len();
     if made > out.len() {

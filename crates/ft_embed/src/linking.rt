@@ -5,6 +5,7 @@ ghost use Rattle.ft_types.specs.Spellable.{IsSpellable};
 ghost use Rattle.ft_link_map.specs.Sound.{IsSound};
 ghost use Rattle.ft_embed.specs.Links.{AddsAll, AddsObject, EndsAtModule, EndsAtObject, EndsInTurn, IsAddedTo, IsLinkedAll, IsLinkedOf, IsUnlinked, IsUnlinkedAll, bytes_of};
 ghost use Rattle.ft_embed.specs.Texts.{Given};
+ghost use Rattle.ft_embed.specs.Verdicts.{nothing as nothing_told};
 
 use crate::checking::check;
 use crate::handing::{Written, hand_over, none_written, not_written};
@@ -46,6 +47,7 @@ fn add_object<P: Program>(
     ensures ok { OnOk result (AddsObject linker.old (P.object program.now) linker.new) }
     ensures err { IfErr result (λ u. u.status ≢ 5 → EndsAtObject linker.old (P.object program.now) u) }
     ensures some { IfErr result (λ u. (u.status ≢ 0) × (u.status ≢ 15)) }
+    ensures unrefused { IfErr result (λ u. u.status ≡ 5 → u.why ≡ nothing_told) }
 {
     match check(alloc, program) {
         Ok(checked) => match linker.add(&checked) {
@@ -68,6 +70,7 @@ fn add_module(
     ensures ok { OnOk result (IsAddedTo given.now linker.old name.now linker.new) }
     ensures err { IfErr result (λ u. u.status ≢ 5 → EndsAtModule given.now linker.old name.now u) }
     ensures some { IfErr result (λ u. (u.status ≢ 0) × (u.status ≢ 15)) }
+    ensures unrefused { IfErr result (λ u. u.status ≡ 5 → u.why ≡ nothing_told) }
 {
     let Some(bytes) = bytes_of(given, name) else {
         return Err(Unlinked {
@@ -99,6 +102,7 @@ fn add_modules(
     ensures long { OnOk result (length linker.new ≡ length linkage.now.files) }
     ensures err { IfErr result (λ u. u.status ≢ 5 → EndsInTurn given.now [] linkage.now.files u) }
     ensures some { IfErr result (λ u. (u.status ≢ 0) × (u.status ≢ 15)) }
+    ensures unrefused { IfErr result (λ u. u.status ≡ 5 → u.why ≡ nothing_told) }
 {
     let files = linkage.files.as_slice();
     let mut number = 0;
@@ -119,6 +123,7 @@ fn link_added(alloc: Global, linker: Linker, linkage: &LinkMap) -> Result<Vec<u8
     ensures ok { IfOk result (λ bytes. IsLinkedAll linkage.now linker bytes.items) }
     ensures err { IfErr result (λ u. u.status ≢ 5 → IsUnlinkedAll linkage.now linker u) }
     ensures some { IfErr result (λ u. (u.status ≢ 0) × (u.status ≢ 15)) }
+    ensures unrefused { IfErr result (λ u. u.status ≡ 5 → u.why ≡ nothing_told) }
 {
     match linker.finish(linkage) {
         Ok(object) => match encode(alloc, &object) {
@@ -134,6 +139,7 @@ fn link_bytes(alloc: Global, text: &[u8], given: &[Module]) -> Result<Vec<u8>, U
     ensures ok { IfOk result (λ bytes. IsLinkedOf given.now text.now bytes.items) }
     ensures err { IfErr result (λ u. u.status ≢ 5 → IsUnlinked given.now text.now u) }
     ensures some { IfErr result (λ u. (u.status ≢ 0) × (u.status ≢ 15)) }
+    ensures unrefused { IfErr result (λ u. u.status ≡ 5 → u.why ≡ nothing_told) }
 {
     if text.len() > MAP_LIMIT {
         return Err(bad_map(11, 65_536));
@@ -167,6 +173,7 @@ pub fn link_into(alloc: Global, text: &[u8], given: &[Module], out: &mut [u8]) -
     ensures unlinked { result.written.status ≢ 0 → result.written.status ≢ 5 → result.written.status ≢ 15
         → IsUnlinked given.now text.now (record { status = result.written.status; «module» = result.«module»; why = result.written.why }) }
     ensures kept { result.written.status ≢ 0 → out.new ≡ out.old }
+    ensures unrefused { (result.written.status ≡ 0) ⊎ (result.written.status ≡ 5) ⊎ (result.written.status ≡ 15) → result.written.why ≡ nothing_told }
 {
     match link_bytes(alloc, text, given) {
         Ok(bytes) => LinkAnswer {

@@ -1,10 +1,11 @@
 //! Objects that are upgraded or scheduled into a buffer of the caller, and the names of their cells.
 ghost use Rattle.std.specs.Prelude.{◌≡◌, ◌≢◌, ◌≤◌, ℕ, List, length, IfOk, IfErr};
 ghost use Rattle.ft_types.specs.Spellable.{IsSpellable};
-ghost use Rattle.ft_typing.specs.Accepted.{refusal};
+ghost use Rattle.ft_typing.specs.Accepted.{IsAccepted, refusal};
 ghost use Rattle.ft_format.specs.Broken.{broken, object_of};
-ghost use Rattle.ft_embed.specs.Texts.{Given, IsMalformed, IsNameOf, IsScheduleOf, IsUpgraded, IsWhy};
-ghost use Rattle.ft_embed.specs.Verdicts.{Tells, judged, verdict_on};
+ghost use Rattle.ft_embed.specs.Cells.{HasNoCell};
+ghost use Rattle.ft_embed.specs.Texts.{Given, IsCellName, IsMalformed, IsNameOf, IsScheduleOf, IsScheduleOfFile, IsUpgraded, IsWhy};
+ghost use Rattle.ft_embed.specs.Verdicts.{Tells, judged, nothing as nothing_told, verdict_on};
 
 use crate::checking::{check, refuse};
 use crate::handing::{Written, hand_over, none_accepted, none_written, not_written};
@@ -37,6 +38,7 @@ fn upgrade_bytes(alloc: Global, bytes: &[u8]) -> Result<Vec<u8>, DecodeError>
 fn refuse_bytes(error: DecodeError) -> Written
     ensures told { (bytes : List ℕ) → IsWhy (broken bytes) error → result.status ≡ 7 → IsMalformed bytes result.why }
     ensures status { result.status ≢ 7 → result.status ≡ 5 }
+    ensures unrefused { result.status ≢ 7 → result.why ≡ nothing_told }
 {
     match error {
         DecodeError::Object(error) => not_written(7, told_error(error)),
@@ -49,6 +51,7 @@ fn refuse_bytes(error: DecodeError) -> Written
 pub fn upgrade_into(alloc: Global, bytes: &[u8], out: &mut [u8]) -> Written
     ensures given { result.status ≢ 5 → result.status ≢ 7 → Given (IsUpgraded bytes.now) out.old out.new result.made result.status }
     ensures malformed { result.status ≡ 7 → IsMalformed bytes.now result.why }
+    ensures unrefused { result.status ≢ 7 → result.why ≡ nothing_told }
 {
     match upgrade_bytes(alloc, bytes) {
         Ok(new) => hand_over(new.as_slice(), out),
@@ -62,7 +65,8 @@ pub fn upgrade_into(alloc: Global, bytes: &[u8], out: &mut [u8]) -> Written
 pub fn name_into(bytes: &[u8], cell: u32, out: &mut [u8]) -> Written
     ensures given { result.status ≢ 7 → result.status ≢ 16 → Given (IsNameOf bytes.now cell) out.old out.new result.made result.status }
     ensures malformed { result.status ≡ 7 → IsMalformed bytes.now result.why }
-    ensures none { result.status ≡ 16 → length (object_of bytes.now).cells ≤ cell }
+    ensures none { result.status ≡ 16 → HasNoCell bytes.now cell }
+    ensures unrefused { result.status ≢ 7 → result.why ≡ nothing_told }
 {
     match View::over(bytes) {
         Ok(view) => cell_name_into(&view, cell, out),
@@ -74,9 +78,10 @@ pub fn name_into(bytes: &[u8], cell: u32, out: &mut [u8]) -> Written
 #[tactic(auto, using(ft_types::proofs::Counted::spellable_counted))]
 fn cell_name_into(view: &View, cell: u32, out: &mut [u8]) -> Written
     requires { IsSpellable (object_of view.now) }
-    ensures given { result.status ≢ 16 → Given (IsNameOf view.now cell) out.old out.new result.made result.status }
+    ensures given { result.status ≢ 16 → Given (IsCellName (object_of view.now) cell) out.old out.new result.made result.status }
     ensures none { result.status ≡ 16 → length (object_of view.now).cells ≤ cell }
     ensures other { result.status ≢ 7 }
+    ensures unrefused { result.why ≡ nothing_told }
 {
     if cell >= view.counts().cells {
         return none_written(16);
@@ -101,6 +106,8 @@ fn schedule_program<P: Program>(alloc: Global, program: &P, out: &mut [u8]) -> W
     ensures given { result.status ≢ 5 → result.status ≢ 8 → Given (IsScheduleOf (P.object program.now)) out.old out.new result.made result.status }
     ensures refused { result.status ≡ 8 → Tells result.status result.why (judged (refusal (P.object program.now))) }
     ensures other { result.status ≢ 7 }
+    ensures accepted { result.status ≢ 5 → result.status ≢ 8 → IsAccepted (P.object program.now) }
+    ensures unrefused { result.status ≢ 8 → result.why ≡ nothing_told }
 {
     let checked = match check(alloc, program) {
         Ok(checked) => checked,
@@ -116,9 +123,10 @@ fn schedule_program<P: Program>(alloc: Global, program: &P, out: &mut [u8]) -> W
 /// where its bytes find no room; 7 for bytes that spell no object; 8 for an object that is refused; or 5,
 /// out of memory.
 pub fn schedule_into(alloc: Global, bytes: &[u8], out: &mut [u8]) -> Written
-    ensures given { result.status ≢ 5 → result.status ≢ 7 → result.status ≢ 8 → Given (IsScheduleOf (object_of bytes.now)) out.old out.new result.made result.status }
+    ensures given { result.status ≢ 5 → result.status ≢ 7 → result.status ≢ 8 → Given (IsScheduleOfFile bytes.now) out.old out.new result.made result.status }
     ensures malformed { result.status ≡ 7 → Tells result.status result.why (verdict_on bytes.now) }
     ensures refused { result.status ≡ 8 → Tells result.status result.why (verdict_on bytes.now) }
+    ensures unrefused { result.status ≢ 7 → result.status ≢ 8 → result.why ≡ nothing_told }
 {
     match View::over(bytes) {
         Ok(view) => schedule_program(alloc, &view, out),

@@ -1,13 +1,14 @@
 //! Recoveries of accepted objects, whose outputs go into an array of the caller.
-ghost use Rattle.std.specs.Prelude.{◌≡◌, ◌≢◌, ℕ, List, Option, true, false};
+ghost use Rattle.std.specs.Prelude.{◌≡◌, ◌≢◌, ◌⊎◌, ℕ, List, Option, true, false};
 ghost use Rattle.ft_isa.specs.declared.plan.Strike.{Strike as Fault};
 ghost use Rattle.ft_isa.specs.declared.plan.Wild.{Wild as Answer};
 ghost use Rattle.ft_types.specs.Spellable.{IsSpellable};
 ghost use Rattle.ft_typing.specs.Accepted.{IsAccepted, refusal};
 ghost use Rattle.ft_semantics.specs.State.{start};
 ghost use Rattle.ft_embed.specs.Plans.{IsFault, AreAnswers};
+ghost use Rattle.ft_embed.specs.Outputs.{not_begun};
 ghost use Rattle.ft_embed.specs.Recoveries.{RecoversFile, RecoversInto};
-ghost use Rattle.ft_embed.specs.Verdicts.{Tells, judged, verdict_on};
+ghost use Rattle.ft_embed.specs.Verdicts.{Tells, judged, nothing as nothing_told, verdict_on};
 
 use crate::answer::{RunAnswer, has_run, has_run_again, not_run};
 use crate::checking::{check, refuse};
@@ -52,6 +53,8 @@ fn recover_machines<P: Program>(
     ensures malformed { result.status ≢ 7 }
     ensures refused { result.status ≢ 8 }
     ensures planned { result.status ≢ 2 }
+    ensures unrefused { result.why ≡ nothing_told }
+    ensures memory { result.status ≢ 5 }
 {
     let filled = run_machine(first, program, plan, steps, out);
     let before = first.status();
@@ -83,6 +86,8 @@ fn recover_program<P: Program>(
     ensures refused { result.status ≡ 8 → Tells result.status result.why (judged (refusal (P.object program.now))) }
     ensures other { result.status ≢ 7 }
     ensures planned { result.status ≢ 2 }
+    ensures unrefused { result.status ≢ 8 → result.why ≡ nothing_told }
+    ensures unrun { (result.status ≡ 5) ⊎ (result.status ≡ 8) → result.ran ≡ not_begun }
 {
     match check(alloc, program) {
         Ok(_) => {}
@@ -110,6 +115,8 @@ fn recover_bytes(
     ensures malformed { result.status ≡ 7 → Tells result.status result.why (verdict_on bytes.now) }
     ensures refused { result.status ≡ 8 → Tells result.status result.why (verdict_on bytes.now) }
     ensures planned { result.status ≢ 2 }
+    ensures unrefused { result.status ≢ 7 → result.status ≢ 8 → result.why ≡ nothing_told }
+    ensures unrun { (result.status ≡ 5) ⊎ (result.status ≡ 7) ⊎ (result.status ≡ 8) → result.ran ≡ not_begun }
 {
     match View::over(bytes) {
         Ok(view) => recover_program(alloc, &view, plan, steps, out),
@@ -137,6 +144,8 @@ pub fn recover(
     ensures no_plan { result.status ≡ 2 → (strike : Option Fault) (answers : List Answer) → IsFault fault.now strike → AreAnswers wild.now answers → ⊥ }
     ensures malformed { result.status ≡ 7 → Tells result.status result.why (verdict_on bytes.now) }
     ensures refused { result.status ≡ 8 → Tells result.status result.why (verdict_on bytes.now) }
+    ensures unrefused { result.status ≢ 7 → result.status ≢ 8 → result.why ≡ nothing_told }
+    ensures unrun { (result.status ≡ 2) ⊎ (result.status ≡ 5) ⊎ (result.status ≡ 7) ⊎ (result.status ≡ 8) → result.ran ≡ not_begun }
 {
     let Ok(strike) = read_fault(fault) else {
         return no_run(2);

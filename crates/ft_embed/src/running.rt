@@ -1,5 +1,5 @@
 //! Runs of accepted objects, whose outputs go into an array of the caller.
-ghost use Rattle.std.specs.Prelude.{◌≡◌, ◌≢◌, ◌≤◌, ◌<◌, ℕ, length, IfOk, List, Option};
+ghost use Rattle.std.specs.Prelude.{◌≡◌, ◌≢◌, ◌⊎◌, ◌≤◌, ◌<◌, ℕ, length, IfOk, List, Option};
 ghost use Rattle.ft_isa.specs.declared.plan.Strike.{Strike as Fault};
 ghost use Rattle.ft_isa.specs.declared.plan.Wild.{Wild as Answer};
 ghost use Rattle.ft_types.specs.Spellable.{IsSpellable};
@@ -8,8 +8,8 @@ ghost use Rattle.ft_semantics.specs.State.{start};
 ghost use Rattle.ft_semantics.specs.Strike.{struck_before};
 ghost use Rattle.ft_machine.specs.Spans.{Spares};
 ghost use Rattle.ft_embed.specs.Plans.{IsFault, AreAnswers};
-ghost use Rattle.ft_embed.specs.Outputs.{Ends, RunsFile, RunsInto, Takes};
-ghost use Rattle.ft_embed.specs.Verdicts.{Tells, judged, verdict_on};
+ghost use Rattle.ft_embed.specs.Outputs.{Ends, IsOnce, RunsFile, RunsInto, Takes, not_begun};
+ghost use Rattle.ft_embed.specs.Verdicts.{Tells, judged, nothing as nothing_told, verdict_on};
 
 use crate::answer::{RunAnswer, has_run, not_run};
 use crate::checking::{check, refuse};
@@ -98,6 +98,7 @@ pub(crate) fn end_of(status: Status, taken: u64, steps: u64) -> u32
     ensures malformed { result ≢ 7 }
     ensures refused { result ≢ 8 }
     ensures planned { result ≢ 2 }
+    ensures memory { result ≢ 5 }
 {
     match status {
         Status::Done => 0,
@@ -120,6 +121,9 @@ fn run_program<P: Program>(
     ensures refused { result.status ≡ 8 → Tells result.status result.why (judged (refusal (P.object program.now))) }
     ensures other { result.status ≢ 7 }
     ensures planned { result.status ≢ 2 }
+    ensures once { IsOnce result.ran }
+    ensures unrefused { result.status ≢ 8 → result.why ≡ nothing_told }
+    ensures unrun { (result.status ≡ 5) ⊎ (result.status ≡ 8) → result.ran ≡ not_begun }
 {
     match check(alloc, program) {
         Ok(_) => {}
@@ -149,6 +153,9 @@ fn run_bytes(
     ensures malformed { result.status ≡ 7 → Tells result.status result.why (verdict_on bytes.now) }
     ensures refused { result.status ≡ 8 → Tells result.status result.why (verdict_on bytes.now) }
     ensures planned { result.status ≢ 2 }
+    ensures once { IsOnce result.ran }
+    ensures unrefused { result.status ≢ 7 → result.status ≢ 8 → result.why ≡ nothing_told }
+    ensures unrun { (result.status ≡ 5) ⊎ (result.status ≡ 7) ⊎ (result.status ≡ 8) → result.ran ≡ not_begun }
 {
     match View::over(bytes) {
         Ok(view) => run_program(alloc, &view, plan, steps, out),
@@ -161,7 +168,10 @@ fn run_bytes(
 
 /// A run that was not begun: two texts say no plan, or memory ran out.
 pub(crate) fn no_run(status: u32) -> RunAnswer
-    ensures { result.status ≡ status }
+    ensures status { result.status ≡ status }
+    ensures once { IsOnce result.ran }
+    ensures unrefused { result.why ≡ nothing_told }
+    ensures unrun { result.ran ≡ not_begun }
 {
     not_run(Verdict {
         status,
@@ -186,6 +196,9 @@ pub fn run(
     ensures no_plan { result.status ≡ 2 → (strike : Option Fault) (answers : List Answer) → IsFault fault.now strike → AreAnswers wild.now answers → ⊥ }
     ensures malformed { result.status ≡ 7 → Tells result.status result.why (verdict_on bytes.now) }
     ensures refused { result.status ≡ 8 → Tells result.status result.why (verdict_on bytes.now) }
+    ensures once { IsOnce result.ran }
+    ensures unrefused { result.status ≢ 7 → result.status ≢ 8 → result.why ≡ nothing_told }
+    ensures unrun { (result.status ≡ 2) ⊎ (result.status ≡ 5) ⊎ (result.status ≡ 7) ⊎ (result.status ≡ 8) → result.ran ≡ not_begun }
 {
     let Ok(strike) = read_fault(fault) else {
         return no_run(2);

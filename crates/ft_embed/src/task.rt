@@ -5,6 +5,7 @@ ghost use Rattle.ft_typing.specs.Accepted.{IsAccepted, refusal};
 ghost use Rattle.ft_format.specs.Broken.{object_of};
 ghost use Rattle.ft_semantics.specs.Strike.{is_there};
 ghost use Rattle.ft_semantics.specs.Run.{state_after};
+ghost use Rattle.ft_embed.specs.Outputs.{IsOnce};
 ghost use Rattle.ft_embed.specs.Tasks.{IsLimit, WentOn};
 ghost use Rattle.ft_embed.specs.Verdicts.{IsAcceptedFile, Tells, judged, verdict_on};
 
@@ -109,7 +110,8 @@ impl Task {
     /// their outputs into the array. The status is 0 for a run that is done, 1 for one that is detected, 9
     /// where all steps were taken, or 2^64 - 1 in all, and 14 where the array is full.
     pub fn advance(&mut self, steps: u64, out: &mut [CellOutput]) -> RunAnswer
-        ensures { WentOn self.old self.new result.status steps result.ran.steps result.ran.count out.new }
+        ensures went { WentOn self.old self.new result.status steps result.ran.steps result.ran.count out.new }
+        ensures once { IsOnce result.ran }
     {
         let most = limit(steps, self.taken);
         let mut wild = WildLeft::new(&[]);

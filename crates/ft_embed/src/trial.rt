@@ -1,6 +1,6 @@
 //! The verdicts of a campaign, as C sees them.
 ghost use Rattle.std.specs.Prelude.{◌≡◌, ◌<◌, ◌≤◌, ◌+◌, ◌++◌, ◌∷◌, [], length, map, take};
-ghost use Rattle.ft_embed.specs.Trials.{detected_at, fault_totals, fault_verdict, verdict_number};
+ghost use Rattle.ft_embed.specs.Trials.{detected_at, fault_totals, fault_verdict, untried, verdict_number};
 
 use ft_campaign::{Totals, Verdict};
 
@@ -91,7 +91,7 @@ pub(crate) fn fault_totals(count: usize, totals: Totals) -> FaultTotals
 
 /// No totals: so many faults are wanted, or none is.
 pub(crate) fn no_totals(count: usize) -> FaultTotals
-    ensures { result.count ≡ count }
+    ensures { result ≡ untried count }
 {
     FaultTotals {
         count: count as u64,

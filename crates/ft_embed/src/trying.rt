@@ -6,8 +6,8 @@ ghost use Rattle.ft_typing.specs.Accepted.{IsAccepted, refusal};
 ghost use Rattle.ft_campaign.specs.FaultList.{IsFaultList, IsListError};
 ghost use Rattle.ft_campaign.specs.Verdicts.{AreVerdicts};
 ghost use Rattle.ft_embed.specs.Plans.{AreAnswers};
-ghost use Rattle.ft_embed.specs.Trials.{IsListRefused, Tries, TriesFile, TriesList, WantsRoom, told_list};
-ghost use Rattle.ft_embed.specs.Verdicts.{IsAcceptedFile, Tells, judged, verdict_on};
+ghost use Rattle.ft_embed.specs.Trials.{IsListRefused, Tries, TriesFile, TriesList, WantsRoom, told_list, untried};
+ghost use Rattle.ft_embed.specs.Verdicts.{IsAcceptedFile, Tells, judged, nothing as nothing_told, verdict_on};
 
 use crate::checking::{check, refuse};
 use crate::plan_text::read_answers;
@@ -50,6 +50,7 @@ fn not_tried(status: u32, why: Refused, count: usize) -> TrialAnswer
     ensures status { result.status ≡ status }
     ensures why { result.why ≡ why }
     ensures count { result.totals.count ≡ count }
+    ensures totals { result.totals ≡ untried count }
 {
     TrialAnswer {
         status,
@@ -74,6 +75,8 @@ fn told_list(number: u32, place: u64) -> Refused
 fn refuse_list(error: ListError) -> TrialAnswer
     ensures told { (list : List ℕ) (steps : ℕ) → IsListError list error → result.status ≡ 11 → IsListRefused list steps result.why }
     ensures status { (result.status ≡ 5) ⊎ (result.status ≡ 11) }
+    ensures unrefused { result.status ≢ 11 → result.why ≡ nothing_told }
+    ensures untried { result.totals ≡ untried 0 }
 {
     match error {
         ListError::Line { number } => not_tried(11, told_list(1, number as u64), 0),
@@ -117,6 +120,8 @@ fn try_faults<P: Program>(
     requires room { length faults.now ≤ length out.old }
     ensures tries { result.status ≡ 0 → Tries (P.object program.now) faults.now trial.entry.wild.now trial.entry.steps result.totals out.new }
     ensures status { (result.status ≡ 0) ⊎ (result.status ≡ 5) }
+    ensures unrefused { result.why ≡ nothing_told }
+    ensures untried { result.status ≢ 0 → result.totals ≡ untried 0 }
 {
     let found = find_counted::<P, Brand>(
         alloc,
@@ -152,7 +157,10 @@ fn try_list<P: Program>(
     ensures wants { result.status ≡ 15 → WantsRoom trial.entry.list.now result.totals out.old out.new }
     ensures bad_list { result.status ≡ 11 → IsListRefused trial.entry.list.now trial.entry.steps result.why }
     ensures kept { result.status ≡ 11 → out.new ≡ out.old }
+    ensures status { result.status ≢ 5 → result.status ≢ 11 → result.status ≢ 15 → result.status ≡ 0 }
     ensures other { (result.status ≢ 2) × (result.status ≢ 7) × (result.status ≢ 8) }
+    ensures unrefused { result.status ≢ 11 → result.why ≡ nothing_told }
+    ensures untried { result.status ≢ 0 → result.status ≢ 15 → result.totals ≡ untried 0 }
 {
     let faults = match read_faults(alloc, trial.list) {
         Ok(faults) => faults,
@@ -183,7 +191,10 @@ fn try_program<P: Program>(
     ensures wants { result.status ≡ 15 → WantsRoom trial.entry.list.now result.totals out.old out.new }
     ensures bad_list { result.status ≡ 11 → IsListRefused trial.entry.list.now trial.entry.steps result.why }
     ensures refused { result.status ≡ 8 → Tells result.status result.why (judged (refusal (P.object program.now))) }
+    ensures status { result.status ≢ 5 → result.status ≢ 8 → result.status ≢ 11 → result.status ≢ 15 → result.status ≡ 0 }
     ensures other { (result.status ≢ 2) × (result.status ≢ 7) }
+    ensures unrefused { result.status ≢ 8 → result.status ≢ 11 → result.why ≡ nothing_told }
+    ensures untried { result.status ≢ 0 → result.status ≢ 15 → result.totals ≡ untried 0 }
 {
     match check(alloc, program) {
         Ok(_) => try_list(alloc, program, trial, out),
@@ -203,7 +214,10 @@ fn try_bytes(alloc: Global, bytes: &[u8], trial: Trial, out: &mut [FaultVerdict]
     ensures bad_list { result.status ≡ 11 → IsListRefused trial.entry.list.now trial.entry.steps result.why }
     ensures malformed { result.status ≡ 7 → Tells result.status result.why (verdict_on bytes.now) }
     ensures refused { result.status ≡ 8 → Tells result.status result.why (verdict_on bytes.now) }
+    ensures status { result.status ≢ 5 → result.status ≢ 7 → result.status ≢ 8 → result.status ≢ 11 → result.status ≢ 15 → result.status ≡ 0 }
     ensures planned { result.status ≢ 2 }
+    ensures unrefused { result.status ≢ 7 → result.status ≢ 8 → result.status ≢ 11 → result.why ≡ nothing_told }
+    ensures untried { result.status ≢ 0 → result.status ≢ 15 → result.totals ≡ untried 0 }
 {
     match View::over(bytes) {
         Ok(view) => try_program(alloc, &view, trial, out),
@@ -231,6 +245,9 @@ pub fn campaign(
     ensures malformed { result.status ≡ 7 → Tells result.status result.why (verdict_on bytes.now) }
     ensures refused { result.status ≡ 8 → Tells result.status result.why (verdict_on bytes.now) }
     ensures no_plan { result.status ≡ 2 → (answers : List Answer) → AreAnswers wild.now answers → steps ≤ 1000000 → ⊥ }
+    ensures status { result.status ≢ 2 → result.status ≢ 5 → result.status ≢ 7 → result.status ≢ 8 → result.status ≢ 11 → result.status ≢ 15 → result.status ≡ 0 }
+    ensures unrefused { result.status ≢ 7 → result.status ≢ 8 → result.status ≢ 11 → result.why ≡ nothing_told }
+    ensures untried { result.status ≢ 0 → result.status ≢ 15 → result.totals ≡ untried 0 }
 {
     if steps > MOST_STEPS {
         return not_tried(2, nothing(), 0);

@@ -6,6 +6,7 @@ ghost use Rattle.ft_link_map.specs.MapAnswers.{Answer, IsRefusal};
 ghost use Rattle.ft_modules.specs.LinkRefusals.{LinkRefusal};
 ghost use Rattle.ft_linker.specs.LinkErrors.{IsRefusalOf};
 ghost use Rattle.ft_embed.specs.Links.{IsUnaccepted, IsUnlinkedBy, SaidUnlinked, bad_map, told_link};
+ghost use Rattle.ft_embed.specs.Verdicts.{nothing as nothing_told};
 
 use crate::checking::refuse;
 use crate::refused::{Refused, nothing};
@@ -44,7 +45,8 @@ fn told_link(number: u32, place: u64) -> Refused
 
 /// Out of memory.
 pub(crate) fn no_room() -> Unlinked
-    ensures { result.status ≡ 5 }
+    ensures status { result.status ≡ 5 }
+    ensures unrefused { result.why ≡ nothing_told }
 {
     Unlinked {
         status: 5,
@@ -68,6 +70,7 @@ pub(crate) fn bad_map(number: u32, place: u64) -> Unlinked
 pub(crate) fn refuse_map(error: MapError) -> Unlinked
     ensures told { (said : Answer) → IsRefusal error said → result.status ≢ 5 → SaidUnlinked said result }
     ensures some { (result.status ≢ 0) × (result.status ≢ 15) }
+    ensures unrefused { result.status ≡ 5 → result.why ≡ nothing_told }
 {
     match error {
         MapError::Line { line } => bad_map(1, line as u64),
@@ -91,6 +94,7 @@ fn link_refused(module: u32, why: Refused) -> Unlinked
 pub(crate) fn refuse_modules(error: LinkError) -> Unlinked
     ensures told { (x : Option LinkRefusal) → IsRefusalOf x error → result.status ≢ 5 → IsUnlinkedBy x result }
     ensures some { (result.status ≢ 0) × (result.status ≢ 15) }
+    ensures unrefused { result.status ≡ 5 → result.why ≡ nothing_told }
 {
     match error {
         LinkError::Cells { module } => link_refused(module, told_link(3, module as u64)),
@@ -122,6 +126,7 @@ pub(crate) fn refuse_modules(error: LinkError) -> Unlinked
 pub(crate) fn refuse_module(error: CheckError, module: u32) -> Unlinked
     ensures told { (x : Option Refusal) → IsCheckRefusalOf x error → result.status ≢ 5 → IsUnaccepted x «module» result }
     ensures some { (result.status ≢ 0) × (result.status ≢ 15) }
+    ensures unrefused { result.status ≡ 5 → result.why ≡ nothing_told }
 {
     let verdict = refuse(error);
     Unlinked {

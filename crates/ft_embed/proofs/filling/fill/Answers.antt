@@ -7,6 +7,8 @@ loop-left-init g c = record {
   few = omega arith;
   within = c.requires.within;
   same = refl;
+  further = omega arith;
+  no_room = λ _. refl;
   fills = fills_first (g.P.Program.object c.args.program.now) c.args.machine.now c.args.wild.now c.args.most c.args.from c.args.out.now;
 }
 
@@ -20,10 +22,13 @@ put_told-count-requires-clause-cell g c =
 pub loop-left-preserved : goal.loop-left-preserved
 loop-left-preserved g c =
     let o = g.P.Program.object c.args.program.now in
+    let i = c.loop-left.invariant in
     record {
       few = omega (arith, c.loop-left.invariant.few);
       within = subst (λ n. c.put_told-count.result ≤ n) (sym c.put_told-count.ensures.same) c.put_told-count.ensures.within;
       same = c.put_told-count.ensures.same ∙ c.loop-left.invariant.same;
+      further = omega (arith, i.further, c.put_told-count.ensures.further);
+      no_room = λ none. absurd (omega (arith, none, i.same, i.further, c.if-count-out.false));
       fills = fills_on o c.args.machine.now c.loop-left.machine c.advance-advance.new.self c.args.wild.now c.loop-left.wild c.advance-advance.new.wild
           c.args.most c.loop-left.left c.advance-advance.result.taken c.args.from c.loop-left.count c.put_told-count.result c.advance-advance.result.last c.args.out.now c.loop-left.out c.put_told-count.new.out
           c.loop-left.invariant.few c.loop-left.invariant.fills c.advance-advance.ensures.advances c.put_told-count.ensures.written;

@@ -7,6 +7,8 @@ invariant-loop-left g l = record {
   few : l.left ≤ l.most;
   within : l.count ≤ length l.out;
   same : length l.out ≡ length l.fn.out;
+  further : l.from ≤ l.count;
+  no_room : length l.fn.out ≤ l.from → l.left ≡ l.most;
   fills : Fills (g.P.Program.object l.program) l.fn.machine l.fn.wild (l.most - l.left) l.machine l.wild l.from l.count l.fn.out l.out;
 }
 
