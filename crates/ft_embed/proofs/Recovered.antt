@@ -1,5 +1,5 @@
 -- Runs that are begun again where a fault is detected.
-use Rattle.std.proofs.Common.{◌≡◌, ◌≢◌, inl, inr, ℕ, ◌<◌, ◌≤◌, List, length, Option, None, refl, ap, sym, subst, ◌∙◌}
+use Rattle.std.proofs.Common.{◌≡◌, ◌≢◌, ℕ, ◌<◌, ◌≤◌, List, length, Option, None, refl, ap, sym, subst, ◌∙◌}
 use Rattle.std.specs.Prelude.{map}
 use Rattle.std.proofs.lemmas.List.{length-map, length-take-le}
 use Rattle.ft_isa.specs.declared.plan.Strike.{Strike}
@@ -17,7 +17,7 @@ use Rattle.ft_tolerance.proofs.Masking.{tolerant}
 use Rattle.ft_tolerance.proofs.Whole.{never_detected}
 use Rattle.ft_format.specs.Format.{Spells}
 use Rattle.ft_format.specs.Broken.{object_of, version_at}
-use Rattle.ft_recover.specs.Recovery.{count_at, restart_output}
+use Rattle.ft_recover.specs.Recovery.{count_at}
 use Rattle.ft_embed.specs.declared.filling.CellOutput.{CellOutput}
 use Rattle.ft_embed.specs.Outputs.{cell_output, Ends, Takes}
 use Rattle.ft_embed.specs.Plans.{IsFault, AreAnswers}
@@ -59,26 +59,37 @@ module _ (o : Object) (strike : Option Strike) (w : List Wild) (steps : ℕ) (sp
         all = all_of o None w steps status taken count (length new) a.few whole;
         restart = λ full. no_count (status_after o strike w steps) (outputs_after o strike w steps)
             (λ e. other (a.status_is ∙ (all_of o strike w steps status taken count (length new) a.few struck full).status ∙ e));
-        full = inl (refl, refl);
+        first = record {
+          taken = taken;
+          few = a.few;
+          within = subst (λ n. n ≤ length new) (outputs_count o strike w steps taken s count new a) a.within;
+          all = λ running room. a.all (a.status_is ∙ running) (subst (λ n. n < length new) (sym (outputs_count o strike w steps taken s count new a)) room);
+          told = no_count (status_after o strike w taken) (outputs_after o strike w taken) (λ e. other (a.status_is ∙ e));
+        };
       }
 
-  pub recovers_second : (status taken count : ℕ) (s : Status) (new : List CellOutput) (taken' count' : ℕ) (s' : Status) (new' : List CellOutput) → Takes o strike w steps taken' s' count' new' → s' ≡ Detected → Takes o None w steps taken s count new
+  pub recovers_second : (status taken count : ℕ) (s : Status) (new : List CellOutput) (taken' count' : ℕ) (s' : Status) (new' : List CellOutput) → Takes o strike w steps taken' s' count' new' → s' ≡ Detected → length new ≡ length new' → Takes o None w steps taken s count new
       → ((n room : ℕ) → n ≤ room → (s ≡ Running → n < room → taken ≡ steps) → Ends status steps taken n room s) → RecoversInto o strike w steps status taken count 1 count' new
-  recovers_second status taken count s new taken' count' s' new' b is a ends =
+  recovers_second status taken count s new taken' count' s' new' b is long a ends =
       let whole : Ends status steps taken count (length new) (status_after o None w taken) = subst (Ends status steps taken count (length new)) a.status_is (ends count (length new) a.within a.all) in
       let stopped' = sym b.status_is ∙ is in
-      let same = stopped_all o strike w taken' steps b.few (subst HasStopped (sym stopped') tt) in
-      let told : IsRestart (restart_output o strike w steps) 1 count'
-      = some_count (status_after o strike w steps) (outputs_after o strike w steps) count' (sym same.status ∙ stopped')
-      (outputs_count o strike w steps taken' s' count' new' b ∙ ap length same.outputs) in
+      let halted : HasStopped (status_after o strike w taken') = subst HasStopped (sym stopped') tt in
+      let same = stopped_all o strike w taken' steps b.few halted in
+      let held = outputs_count o strike w steps taken' s' count' new' b in
       record {
         few = a.few;
         within = a.within;
         outputs = a.outputs;
         ends = whole;
         all = all_of o None w steps status taken count (length new) a.few whole;
-        restart = λ full. told;
-        full = inr told;
+        restart = λ full. some_count (status_after o strike w steps) (outputs_after o strike w steps) count' (sym same.status ∙ stopped') (held ∙ ap length same.outputs);
+        first = record {
+          taken = taken';
+          few = b.few;
+          within = subst (λ n. n ≤ length new) held (subst (λ n. count' ≤ n) (sym long) b.within);
+          all = λ running _. absurd (subst HasStopped running halted);
+          told = some_count (status_after o strike w taken') (outputs_after o strike w taken') count' stopped' held;
+        };
       }
 
 -- bytes that were recovered

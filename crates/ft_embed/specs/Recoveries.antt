@@ -1,8 +1,9 @@
 -- Recoveries, whose outputs go into an array of the caller.
-use Rattle.std.specs.Prelude.{◌≡◌, ◌≢◌, ◌⊎◌, ℕ, ◌≤◌, List, length, take, map, Option, Some, None}
+use Rattle.std.specs.Prelude.{◌≡◌, ◌≢◌, ℕ, ◌<◌, ◌≤◌, List, length, take, map, Option, Some, None}
 use Rattle.ft_isa.specs.declared.plan.Strike.{Strike}
 use Rattle.ft_isa.specs.declared.plan.Wild.{Wild}
 use Rattle.ft_types.specs.declared.object.Object.{Object}
+use Rattle.ft_semantics.specs.declared.status.Status.TheVariants.{Running}
 use Rattle.ft_semantics.specs.Run.{outputs_after, status_after}
 use Rattle.ft_tolerance.specs.Soundness.{IsNeverDetected}
 use Rattle.ft_format.specs.Broken.{object_of}
@@ -17,6 +18,15 @@ abbrev pub IsRestart : Option ℕ → ℕ → ℕ → Type 0
 IsRestart None restarts again = (restarts ≡ 0) × (again ≡ 0)
 IsRestart (Some n) restarts again = (restarts ≡ 1) × (again ≡ n)
 
+-- a run under a plan took all steps, or as many as it could before it stopped or its outputs filled the room; where it was
+-- detected, it is begun again
+pub record FirstRun (o : Object) (strike : Option Strike) (w : List Wild) (steps room restarts again : ℕ) : Type 0 where
+  pub taken : ℕ
+  pub few : taken ≤ steps
+  pub within : length (outputs_after o strike w taken) ≤ room
+  pub all : status_after o strike w taken ≡ Running → length (outputs_after o strike w taken) < room → taken ≡ steps
+  pub told : IsRestart (restart_output o strike w taken) restarts again
+
 -- a program was run under a plan, and begun again without the strike where it was detected: what is in the array, and how it
 -- ended, is the run without the strike
 pub record RecoversInto (o : Object) (strike : Option Strike) (w : List Wild) (steps status taken count restarts again : ℕ) (new : List CellOutput) : Type 0 where
@@ -26,7 +36,7 @@ pub record RecoversInto (o : Object) (strike : Option Strike) (w : List Wild) (s
   pub ends : Ends status steps taken count (length new) (status_after o None w taken)
   pub all : status ≢ 14 → SameAfter o None w taken steps
   pub restart : status ≢ 14 → IsRestart (restart_output o strike w steps) restarts again
-  pub full : IsRestart None restarts again ⊎ IsRestart (restart_output o strike w steps) restarts again
+  pub first : FirstRun o strike w steps (length new) restarts again
 
 -- bytes whose object is accepted were recovered under the plan that two texts say
 pub record RecoversFile (bytes fault wild : List ℕ) (steps status taken count restarts again : ℕ) (new : List CellOutput) : Type 0 where
