@@ -158,8 +158,8 @@ class Site:
         talft, env = os.path.join(TOP, "talft"), {**os.environ, "TALFT_EXPLAIN": "0"}
 
         def run(to, *words):
-            with open(os.path.join(work, to), "wb") as out:
-                subprocess.run(words, cwd=work, stdout=out, check=True, env=env)
+            with open(os.path.join(work, to), "wb") as out, open(os.path.join(work, "said"), "wb") as said:
+                subprocess.run(words, cwd=work, stdout=out, stderr=said, check=True, env=env)
         run("fibonacci.obj", talft, "compile", source)
         run("faults", os.path.join(TOP, "tools/faults"), "fibonacci.obj", "--sample", "1000")
         run("lines", talft, "campaign", "fibonacci.obj", "--faults", "faults")

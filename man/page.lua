@@ -205,9 +205,13 @@ function Table(whole)
   return is_empty and {} or pandoc.DefinitionList(entries)
 end
 
--- A page begins with its synopsis, if the document begins with text that stands as it is.
+-- A page begins with its synopsis, if the document begins with a list of calls, or has it after one paragraph.
 function Pandoc(page)
   local blocks, at = page.blocks, 1
+  local second = blocks[2]
+  if blocks[1].t == "Para" and second and second.t == "RawBlock" and second.text:find("\ntalft ") then
+    blocks[1], blocks[2] = second, blocks[1]
+  end
   if blocks[1].t == "RawBlock" then
     blocks:insert(1, pandoc.Header(1, "SYNOPSIS"))
     at = 3
