@@ -140,3 +140,5 @@ done
 
 
 ENGINES = {"local": local, "parallel": parallel, "slurm": slurm}
+# What an engine calls.
+CALLS = {"local": "sh", "parallel": "parallel", "slurm": "sbatch"}

@@ -148,6 +148,7 @@ refuses 'a missing list' 'campaign: missing: no such file' campaign fibonacci.ob
 refuses 'an object that is not accepted' \
   "campaign: $top/examples/mixed.obj: not accepted: check block 0 index 3 premise 2; --survey runs the faults unchecked" \
   campaign "$top/examples/mixed.obj" --faults "$top/examples/mixed.faults" --steps 14
+report 'what is kept of an object that is not accepted' '' "$(ls -d mixed.obj.campaign 2>/dev/null)"
 tool 'a survey with a corrupt fault' 10 '4:r1:6 corrupt\nfaults 1 masked 0 detected 0 idle 0 corrupt 1\n' \
   campaign "$top/examples/mixed.obj" --survey --faults "$top/examples/mixed.faults" --steps 14
 : >empty.list

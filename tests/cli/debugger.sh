@@ -103,7 +103,7 @@ says() {
   report "$name" "$said" "$(printf '%b\n' "$commands" | "$top/tools/debugger" "$program" 2>&1 | tail -n 1)"
 }
 program=$five_text
-says 'no number' 'goto abc' 'invalid number `abc`'
+says 'no number' 'goto abc' 'invalid number `abc`: expected decimal digits, or hex as 0x10'
 says 'a position before the start' 'goto -1' 'invalid number `-1`: expected at least 0'
 says 'a count below 0' 'step -3' 'invalid number `-3`: expected at least 0'
 says 'a word too many' 'step 1 2' 'unexpected argument `2`'

@@ -100,6 +100,7 @@ done <<END
 1|ending five.obj --text other.obj|ending: other.obj: error: this is an object, not an assembly text: \`talft dis FILE\` writes its assembly text
 1|set five.obj --from lines -o lines|set: lines: is an input; give the output another name
 2|set|set: missing OBJECT
+2|set five.obj|set: missing NAME=WORD, \`--from FILE\` or \`--list\`
 1|set five.obj out|set: invalid argument \`out\`: expected NAME=WORD
 1|set five.obj =3|set: invalid argument \`=3\`: expected NAME=WORD
 1|set five.obj ou=1|set: five.obj: unknown cell \`ou\`; did you mean \`out\`?; --list lists the cells

@@ -15,7 +15,7 @@ def number(words, default=None, least=0):
     try:
         found = int(words[0], 0)
     except ValueError:
-        raise Refused(f"invalid number {quoted(words[0])}") from None
+        raise Refused(f"invalid number {quoted(words[0])}: expected decimal digits, or hex as 0x10") from None
     if found < least:
         raise Refused(f"invalid number {quoted(words[0])}: expected at least {least}")
     return found

@@ -36,8 +36,8 @@ class Translation:
         self.text, self.cells, self.result, self.traps, self.notes = text, cells, result, traps, notes
 
 
-def counted(found, what):
-    return f"{len(found)} {what}{'' if len(found) == 1 else 's'}"
+def counted(count, what):
+    return f"{count} {what}{'' if count == 1 else 's'}"
 
 
 def choose_entry(module, name):
@@ -54,12 +54,12 @@ def choose_entry(module, name):
         raise Refused(f"exports no function `{plain(name)}`", "link with -Wl,--export=" + plain(name))
     func = exported[name]
     if func.params:
-        raise Refused(f"the entry takes {counted(func.params, 'parameter')}", "nothing passes arguments: give a function without "
-                      "parameters, as `int main(void)`",
+        raise Refused(f"the entry takes {counted(len(func.params), 'parameter')}",
+                      "nothing passes arguments: give a function without parameters, as `int main(void)`",
                       func.name, func.at)
     if len(func.results) > 1:
-        raise Refused(f"the entry has {counted(func.results, 'result')}", "name a function with one result or none",
-                      func.name, func.at)
+        raise Refused(f"the entry has {counted(len(func.results), 'result')}",
+                      "name a function with one result or none", func.name, func.at)
     if func.results and func.results[0] in FLOATS:
         raise Refused("the entry's result is a floating-point number", "return an integer", func.name, func.at)
     return func
@@ -205,8 +205,9 @@ def translated(path, data, options):
 def notes_of(text, emitter):
     """How large the text is, and a warning where words are spilled."""
     counts, cells = text.counts, emitter.program.cells
-    notes = [f"{counts['instructions']} instructions, {len(emitter.heads)} blocks, {counts['code types']} code types, "
-             f"{counts['nodes']} nodes, {counts['cells']} cells"]
+    sizes = [(counts["instructions"], "instruction"), (len(emitter.heads), "block"),
+             (counts["code types"], "code type"), (counts["nodes"], "node"), (counts["cells"], "cell")]
+    notes = [", ".join(counted(*size) for size in sizes)]
     if emitter.spills:
         notes.append(f"warning: {emitter.spills} stores of {cells} spill cells, each of which writes a line")
     return notes

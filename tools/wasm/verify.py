@@ -3,6 +3,7 @@ import collections
 import re
 
 from common import Refused
+from debugging.explaining import counted
 from debugging.sessions import ask, path
 from wasm.decoder import Invalid, Module
 from wasm.interpreter import Interpreter
@@ -79,8 +80,9 @@ def verify(data, entry, translation, run):
     if how is None:
         raise Refused(f"the object is {run.how} after {len(stores)} stores, and the module {module.how} after "
                       f"{len(module.stores)}: {WRONG}")
-    return (f"{how}: {len(stores)} stores in {run.steps} steps are those of the module, which ran "
-            f"{module.program.count} instructions")
+    verb = "is that" if len(stores) == 1 else "are those"
+    return (f"{how}: {counted(len(stores), 'store')} in {counted(run.steps, 'step')} {verb} of the module, which ran "
+            f"{counted(module.program.count, 'instruction')}")
 
 
 def agreement(run, module, count, traps):
