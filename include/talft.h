@@ -29,7 +29,9 @@
  *            others used up to 17 KiB. This is measured, not proved.
  *
  * NOT PROVED  No clause says how much memory a call takes, that it is given back, or that NO_MEMORY comes only when memory is
- *             short.
+ *             short. With OK and DETECTED, clauses say that the run had ended or was detected after ran->steps steps, and not
+ *             that it was still running before the last of them. No clause says that talft_compile gives one text the same
+ *             object each time, or that talft_open leaves *why as it was where nothing is refused.
  */
 #ifndef TALFT_H
 #define TALFT_H
@@ -64,8 +66,8 @@ enum {
 };
 
 /*
- * Why something is refused. Its part is 0 where the answer is none of 6, 7, 8, 11, 12 and 13; but talft_open may leave it
- * as it was then.
+ * Why something is refused. Its part is 0 where the answer is none of 6, 7, 8, 11, 12 and 13; but talft_open writes it only
+ * with 7 and 8.
  */
 typedef struct talft_refusal {
     uint32_t part;   /* 0 nothing, 1 the bytes, 2 the entry, 3 a cell, 4 an instruction, 5 a source, 6 an assembly text,
@@ -124,11 +126,11 @@ uint32_t talft_recover(const uint8_t *bytes, size_t len, const uint8_t *fault, s
                        talft_refusal *why);
 
 /*
- * Each of the next calls writes bytes at the start of `out`, and their number into *made. NO_ROOM: *made is the number that
- * is wanted, and `out` is as it was.
+ * With OK, each of the next calls has written bytes at the start of `out`, and their number into *made. NO_ROOM: *made is the
+ * number that is wanted, and `out` is as it was.
  */
 
-/* The object of a source, in version 2 of the format. OK, NO_ROOM, BAD_SOURCE or NO_MEMORY. */
+/* An object that stands for a source, in version 2 of the format. OK, NO_ROOM, BAD_SOURCE or NO_MEMORY. */
 uint32_t talft_compile(const uint8_t *text, size_t len, uint8_t *out, size_t room, size_t *made, talft_refusal *why);
 
 /*
@@ -203,9 +205,9 @@ typedef struct talft_totals {
  * Checks an object, and runs it without a fault and under each fault of a list, each for at most `steps` steps, which are at
  * most 1,000,000. The list is a text of at most 65,536 lines such as `4:r1:6`; `wild` is as in talft_run. OK: the array has
  * the verdict of each fault, in the list's order, and the totals count them. NO_ROOM: totals->count is how many faults there
- * are, and the array is as it was. BAD_LIST, part 8: number 1, a line is no fault; 2, there are too many, or the text has more
- * than 4,194,304 bytes; 3, the number of faults times that of the steps is above 1,000,000,000. Or BAD_PLAN, MALFORMED,
- * REFUSED or NO_MEMORY.
+ * are, the other totals mean nothing, and the array is as it was. BAD_LIST, part 8: number 1, a line is no fault; 2, there
+ * are too many, or the text has more than 4,194,304 bytes; 3, the number of faults times that of the steps is above
+ * 1,000,000,000. Or BAD_PLAN, MALFORMED, REFUSED or NO_MEMORY.
  */
 uint32_t talft_campaign(const uint8_t *bytes, size_t len, const uint8_t *list, size_t list_len, const uint8_t *wild,
                         size_t wild_len, uint64_t steps, talft_verdict *verdicts, size_t room, talft_totals *totals,
@@ -230,9 +232,10 @@ uint32_t talft_open(const uint8_t *bytes, size_t len, talft_machine *machine, ta
 
 /*
  * Takes at most `steps` further steps, and writes the outputs of these steps, in order. OK where the run is done, DETECTED,
- * CUT where all steps were taken (or 2^64 - 1 in all), FULL where the array is full, NOT_NOW where the machine is not
- * open. ran->steps is how many steps this call took. With no room for outputs it takes no step. DETECTED comes only after
- * a strike: then the outputs so far begin those of the run without the strike. A wild load stops the machine.
+ * CUT where all steps were taken (or 2^64 - 1 in all), FULL where the array is full, NOT_NOW where the machine is not open,
+ * and then *ran is as it was. ran->steps is how many steps this call took. With no room for outputs it takes no step.
+ * DETECTED comes only after a strike: then the outputs so far begin those of the run without the strike. A wild load stops
+ * the machine.
  */
 uint32_t talft_advance(talft_machine *machine, uint64_t steps, talft_output *outputs, size_t room, talft_ran *ran);
 
