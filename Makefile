@@ -11,7 +11,7 @@ to_vim = $(share)/vim/vimfiles
 scripts = tools/faults tools/campaign tools/plot tools/report tools/cc tools/wasm2asm tools/set tools/ending \
   tools/debugger tools/dap tools/explain tools/lines tools/build
 
-# The program that is installed, where it is not the one that `make` builds here.
+# The program to install, if it is not the one that `make` builds here.
 PROGRAM =
 # The log of a gate run, for the counts in a release and for the evidence.
 GATE_LOG =
@@ -19,7 +19,7 @@ GATE_LOG =
 .PHONY: all program program-aarch64 check wrong-bodies library install install-program install-library uninstall dist deb evidence \
   same-bytes site clean
 
-# Proves the crates that the program stands on, and builds it. With ARCH=aarch64 the program and the C library are made for
+# Proves the crates that the program depends on, and builds it. With ARCH=aarch64 the program and the C library are made for
 # that processor, as crates/talft/out/talft-aarch64 and crates/ft_c/out/library-aarch64.
 ARCH = x86_64
 all: $(if $(filter x86_64,$(ARCH)),program,program-$(ARCH) library)
@@ -34,7 +34,7 @@ program-aarch64:
 check:
 	@bash .ci/run
 
-# The wrong bodies that the gate does not try: before a release, and when a contract that they are about changes.
+# The wrong bodies that the gate does not try: run before a release, and when a contract that they test changes.
 wrong-bodies:
 	@bash tests/wrong-bodies.sh
 
@@ -45,7 +45,7 @@ library:
 
 install: install-program install-library
 
-# The program with its manual, tools and examples, and what it is a build of.
+# The program with its manual, tools and examples, and the identity of its build.
 install-program: $(if $(PROGRAM),,all)
 	install -d $(bin) $(share)/man/man1 $(share)/man/man5 $(share)/man/man7 $(to_bash) $(to_vim)/syntax $(to_vim)/ftdetect \
 	  $(share)/talft/editors/vscode $(share)/talft/editors/debugging $(share)/talft/examples/c $(share)/talft/examples/rust \
@@ -100,11 +100,11 @@ dist: all library
 deb: all library
 	@bash build/dist.sh deb out "" $(GATE_LOG)
 
-# What was proved, tried and measured, in one folder in out/. It runs the gate where GATE_LOG names no log of it.
+# What was proved, tried and measured, in one folder in out/. Runs the gate unless GATE_LOG names its log.
 evidence: all library
 	@bash build/evidence.sh out $(GATE_LOG)
 
-# The documents, the manual pages and the trace as a site in out/site, with a search.
+# The documents, the manual pages and the trace as a searchable site in out/site.
 site:
 	rm -rf out/site
 	@python3 build/site.py out/site

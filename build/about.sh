@@ -1,4 +1,4 @@
-# What a build is of: version, commit, kit, and the time that its files get. The caller sets `top`, and `program`.
+# Identifies a build: version, commit, kit, and the time that its files get. The caller sets `top` and `program`.
 
 version=$(cat "$top/VERSION")
 
@@ -14,12 +14,12 @@ commit_of_sources() {
   echo "$commit"
 }
 
-# The second that files of a release have: $SOURCE_DATE_EPOCH, or that of the commit.
+# The time of a release's files, in seconds: $SOURCE_DATE_EPOCH, or that of the commit.
 time_of_sources() {
   echo "${SOURCE_DATE_EPOCH:-$(git -C "$top" log -1 --format=%ct 2>/dev/null || echo 0)}"
 }
 
-# The kit that built the program, as build/prove.sh noted it; else the one that is on PATH.
+# The kit that built the program, as build/prove.sh recorded it; otherwise the one on PATH.
 kit_of_program() { cat "${program-}.kit" 2>/dev/null || rt version 2>/dev/null || echo 'unknown kit'; }
 
 # Version, commit and kit in one line.

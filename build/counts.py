@@ -1,7 +1,7 @@
 #!/usr/bin/env python3
 """Writes what was proved and tried, by crate, as a table: `counts.py [LOG]`.
 
-With the log of a gate run the numbers are those that it says. Without one they are counted in the sources: functions with
+With the log of a gate run, the numbers come from it. Without one, they are counted in the sources: functions with
 a body, wrong bodies of the gate, and tests.
 """
 import collections

@@ -1,4 +1,4 @@
-# What is compiled by rattle itself, over the libraries that a proof leaves. The caller sets `top`, and sources sources.sh and
+# Compiles crates with rattle itself, over the libraries that a proof leaves. The caller sets `top`, and sources sources.sh and
 # kit.sh. A crate that links code is compiled from its own proof, so it is proved once more, for its target.
 
 kit_folder() { dirname "$(dirname "$(readlink -f "$(command -v rt)")")"; }
@@ -12,7 +12,7 @@ is_newer_than_sources() {
     -newer "$file" -print -quit 2>/dev/null)" ]
 }
 
-# Copies the crates that a crate stands on to a folder. The file `begun` there is as old as the copy.
+# Copies the crates that a crate depends on to a folder. The file `begun` there is as old as the copy.
 copy_to() {
   local tree=$1 crates
   crates=$(needed "$2")
@@ -55,8 +55,8 @@ compile_over() {
   (cd "$tree/crates/$name" && "$kit/bin/rattle" build "${words[@]}" --backend llvm -o "$out") </dev/null
 }
 
-# Compiles a crate for a processor in a folder, over the libraries that the gate or a check left. Where there are none, or those of
-# different runs do not fit one another, they are proved there first: `make_in TREE CRATE ARCH OUT ROOT WORDS..`.
+# Compiles a crate for a processor in a folder, over the libraries that the gate or a check left. If there are none, or they
+# come from runs that do not match, they are proved there first: `make_in TREE CRATE ARCH OUT ROOT WORDS..`.
 make_in() {
   local tree=$1 name=$2
   copy_to "$tree" "$name" || return

@@ -1,4 +1,4 @@
-# Writes the help that the program writes, from crates/ft_explain/src/forms.rt: `of` names a command, or is empty. `version`
+# Writes the program's help, from crates/ft_explain/src/forms.rt: `of` names a command, or is empty. `version`
 # is the program's.
 /^pub\(crate\) const COMMANDS/ { kind = "command"; next }
 /^pub\(crate\) const OPTIONS/ { kind = "option"; next }
@@ -12,7 +12,7 @@ kind == "" { next }
   lines[kind, count[kind]] = at
 }
 function first(words, parts) { split(words, parts, " "); return parts[1] }
-# Writes the options whose name stands in a form, or all of them.
+# Writes the options named in a form, or all of them.
 function options(written, i, j, begun) {
   for (i = 1; i <= count["option"]; i++) {
     if (written != "" && !index(written " ", first(text["option", i, 1]) " ")) continue

@@ -1,13 +1,13 @@
-# What is said where the Rattle kit is missing, or is not that of the proofs. The caller sets `top`.
+# Reports that the Rattle kit is missing or is not the one of the proofs. The caller sets `top`.
 
 # The kit that the proofs were made with, as `rt version` names it.
 kit_of_proofs() { sed -n 's/.*`rt version`: \([^)]*\)).*/\1/p' "$top/docs/PROMISES.md"; }
 
 # Whether the kit keeps what `rt ci` proved, by checksum. `rt ci` then takes names of crates, and --anew. Kits differ in this:
-# one that keeps nothing proves every crate from nothing.
+# one that keeps nothing proves every crate from scratch.
 keeps_proofs() { rt help 2>&1 | grep -q -e --anew; }
 
-# Fails where there is no kit.
+# Fails if there is no kit.
 need_kit() {
   local found
   if ! command -v rt >/dev/null; then

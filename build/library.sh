@@ -1,7 +1,7 @@
 #!/usr/bin/env bash
-# Proves the crates that the C library stands on, and makes it: libtalft.a, libtalft.so, talft.pc and talft.py, in
-# crates/ft_c/out/library, or for another processor in crates/ft_c/out/library-ARCH. It takes the libraries that the gate or a check
-# left, or what the kit has kept. A static library is compiled from its crate's proof, so the exports are proved once more.
+# Proves the crates that the C library depends on, and makes it: libtalft.a, libtalft.so, talft.pc and talft.py, in
+# crates/ft_c/out/library, or for another processor in crates/ft_c/out/library-ARCH. It uses the libraries that the gate or a
+# check left, or that the kit has kept. A static library is compiled from its crate's proof, so the exports are proved once more.
 #
 #     build/library.sh [ARCH]        x86_64, or aarch64; CC and AR name the C compiler and the archiver
 set -u
@@ -18,7 +18,7 @@ case $arch in
   *) echo "talft: error: no processor \`$arch\`: x86_64 or aarch64" >&2; exit 2 ;;
 esac
 
-# Links what was compiled with the C code of embed/.
+# Links the compiled library with the C code of embed/.
 link() {
   make -s -C "$top" -f build/library.mk ARCHIVE="$out/libft_c.a" OUT="$out" CC="$cc" AR="$ar" HEAP="${HEAP-heap}"
 }

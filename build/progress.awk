@@ -1,5 +1,5 @@
-# Tells how far a proof is, in one line. It reads docs/PROVING.md (the minutes of each crate), crates.txt, what the prover
-# said, and the crates that have begun with the second in which they did. `now` and `start` are seconds, too.
+# Shows the progress of a proof in one line. It reads docs/PROVING.md (the minutes of each crate), crates.txt, the prover's
+# output, and the crates that have begun, with the second of their start. `now` and `start` are also seconds.
 FILENAME ~ /PROVING.md$/ {
   if (split($0, cell, "|") > 3 && match(cell[2], /`[a-z_]+`/)) minutes[substr(cell[2], RSTART + 1, RLENGTH - 2)] = cell[3] + 0
   next
@@ -17,14 +17,14 @@ FILENAME != "-" {
 }
 { begun[$1] = $2 }
 
-# The seconds that a crate takes, by the minutes of its proof in the table.
+# The seconds that a crate takes, from the minutes of its proof in the table.
 function whole(name) { return 60 * (name in minutes ? minutes[name] : 1.5) }
 function left(name, seconds) {
   if (name in done) return 0
   seconds = whole(name) - (name in begun ? now - begun[name] : 0)
   return seconds > 10 ? seconds : 10
 }
-# The seconds until a crate and those that stand on each other below it are done.
+# The seconds until a crate and the chain of crates below it are done.
 function chain(name, parts, number, i, most, below) {
   if (!(name in uses)) return 0
   if (name in chains) return chains[name]
@@ -38,7 +38,7 @@ END {
     rest += left(name)
     if (chain(name) > longest) longest = chain(name)
     if ((name in begun) && !(name in done)) running = running (running ? ", " : "") name
-    # What was proved in this run tells how the table compares with this machine.
+    # What was proved in this run shows how this machine compares with the table.
     if ((name in done) && !(name in kept)) expected += whole(name)
   }
   seconds = rest / processors

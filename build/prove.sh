@@ -1,7 +1,7 @@
 #!/usr/bin/env bash
-# Proves the crates that the program stands on, lowest first and with all processors, and builds it: `rt ci` over a copy of
-# these crates alone, without the wrong bodies that the gate tries as well. A kit that keeps what is proved, by checksum, goes
-# on where an earlier run, or the gate, ended. With --anew it takes nothing from them.
+# Proves the crates that the program depends on, lowest first and on all processors, and builds it: `rt ci` over a copy of
+# only these crates, without the gate's wrong bodies. A kit that keeps proofs, by checksum, continues where an earlier run,
+# or the gate, ended. With --anew it reuses nothing from them.
 set -u
 top=$(cd "$(dirname "${BASH_SOURCE[0]}")/.." && pwd) || exit 2
 . "$top/build/sources.sh" || exit 2
@@ -12,7 +12,7 @@ fi
 . "$top/build/kit.sh" || exit 2
 need_kit || exit 2
 
-# Copies that killed runs left.
+# Copies left by killed runs.
 for left in "${TMPDIR:-/tmp}"/talft-prove-*; do
   of=${left#*/talft-prove-}
   [ ! -d "$left" ] || kill -0 "${of%-*}" 2>/dev/null || rm -rf "$left"
@@ -30,7 +30,7 @@ cp "$top/HANDLES" "$tree" &&
   tar -C "$top/crates" --exclude=out --exclude=must-fail -cf - "${crates[@]}" | tar -C "$tree/crates" -xf - || exit 2
 
 cd "$tree" || exit 2
-# A kit that keeps nothing proves all from nothing, and knows no --anew.
+# A kit that keeps nothing proves everything from scratch, and does not know --anew.
 keeps_proofs || set --
 PYTHONUNBUFFERED=1 rt ci "$@" </dev/null >"$log" 2>&1 &
 proof=$!
@@ -48,7 +48,7 @@ trap 'stopped 129' HUP
 trap 'stopped 130' INT
 trap 'stopped 143' TERM
 
-# Shows a line for good, or, on a terminal, until the next one.
+# Prints a line, which on a terminal the next one replaces.
 show() {
   if [ -t 1 ]; then printf '\r\033[K%s\n' "$1"; else printf '%s\n' "$1"; fi
 }
@@ -68,7 +68,7 @@ start=$(date +%s) last=
 echo "talft: proving ${#crates[@]} crates on $(nproc) processors"
 while kill -0 "$proof" 2>/dev/null; do
   line=$(told)
-  # Not on a terminal, a line appears when a crate begins or is proved.
+  # Without a terminal, a line appears when a crate begins or is proved.
   if [ ! -t 1 ] && [ "${line%; *}" != "$last" ]; then show "$line"; fi
   show_for_now "$line"
   last=${line%; *}

@@ -1,5 +1,5 @@
 #!/usr/bin/env python3
-"""Writes what program and C library were made from, as an SPDX 2.3 document.
+"""Writes an SPDX 2.3 document that lists the parts of the program and the C library.
 
     sbom.py VERSION COMMIT SECONDS KIT_FOLDER KIT PROGRAM LIBRARY..
 
@@ -54,7 +54,7 @@ def identifier(name):
 
 
 def released_files(program, library_files):
-    """What is released: of each file its path, what it is, and the crates that it stands on."""
+    """The released files: for each its path, its description, and the crates that it depends on."""
     released = {"program-talft": (program, "The program bin/talft", needed())}
     for path in library_files:
         name = os.path.basename(path)
@@ -63,7 +63,7 @@ def released_files(program, library_files):
 
 
 def of_crates(released, version, commit):
-    """The packages and the links of what is released and of its crates."""
+    """The packages and links of the released files and their crates."""
     packages = [package(name, version, sum_of_file(path), f"{what}, of commit {commit}.")
                 for name, (path, what, _) in released.items()]
     links = [("SPDXRef-DOCUMENT", "DESCRIBES", identifier(name)) for name in released]

@@ -1,7 +1,7 @@
 #!/usr/bin/env python3
-"""Makes a site of the documents, the manual pages, the trace and an example's report: `build/site.py FOLDER`.
+"""Makes a site from the documents, the manual pages, the trace and an example's report: `build/site.py FOLDER`.
 
-Each page stands alone: one style sheet and one script of its own, nothing from elsewhere. It needs pandoc; the report of an
+Each page is self-contained: one style sheet and one script, nothing from elsewhere. It needs pandoc; the report of an
 example needs the built program and gnuplot, and is left out without them.
 """
 import html
@@ -61,7 +61,7 @@ def title_of(text):
 
 
 class Site:
-    """The pages that are made, by their names, with what is searched of them."""
+    """The pages, by name, with their searchable text."""
 
     def __init__(self, folder):
         self.folder, self.index = folder, []
@@ -124,7 +124,7 @@ class Site:
                    f'<script src="{root}index.js"></script><script src="{root}search.js"></script></html>\n')
 
     def note(self, to, title, body):
-        """Adds each chapter of a page to what is searched."""
+        """Adds each chapter of a page to the search index."""
         parts = re.split(r'<h([1-4])(?: id="([^"]*)")?[^>]*>(.*?)</h\1>', body, flags=re.S)
         plain = lambda text: re.sub(r"\s+", " ", html.unescape(re.sub(r"<[^>]*>", " ", re.sub(INLINE, "", text)))).strip()
         for at in range(1, len(parts), 4):
@@ -149,7 +149,7 @@ class Site:
         self.write("index.js", f"const INDEX={json.dumps(self.index, ensure_ascii=False)};\n")
 
     def report(self):
-        """The report of a campaign on an example, if the program is built and gnuplot is there."""
+        """The report of a campaign on an example, if the program is built and gnuplot is installed."""
         program = os.path.join(TOP, "crates/talft/out/talft")
         if not os.access(program, os.X_OK) or not shutil.which("gnuplot"):
             return

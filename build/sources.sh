@@ -1,4 +1,4 @@
-# What the program and the C library are made from. The caller sets `top`, the folder of the repository.
+# Lists the sources of the program and the C library. The caller sets `top`, the folder of the repository.
 
 program=$top/crates/talft/out/talft
 
@@ -14,8 +14,8 @@ needed() {
     END { visit(root) }' "$top/crates.txt"
 }
 
-# Whether the program is there, and nothing that it is made from changed, came or went since. Where that cannot be told,
-# it is not built.
+# Whether the program exists, and no source has changed, appeared or disappeared since. If that is uncertain, it counts as
+# not built.
 is_built() {
   local crate crates part newer places=(crates.txt HANDLES)
   [ -x "$program" ] && crates=$(cd "$top" && needed) && [ -n "$crates" ] || return 1

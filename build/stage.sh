@@ -1,6 +1,6 @@
 #!/usr/bin/env bash
-# Lays a release out in a folder: `stage.sh FOLDER PROGRAM [LOG]`. The folder gets bin/, include/, lib/ and share/, and beside
-# them what a release is checked by: PROOF.md, SBOM.spdx.json and CHECKSUMS. LOG is that of a gate run, for the counts.
+# Lays out a release in a folder: `stage.sh FOLDER PROGRAM [LOG]`. The folder gets bin/, include/, lib/ and share/, and the
+# files for checking a release: PROOF.md, SBOM.spdx.json and CHECKSUMS. LOG is that of a gate run, for the counts.
 set -eu
 export LC_ALL=C TZ=UTC
 umask 022

@@ -1,7 +1,7 @@
 #!/usr/bin/env bash
 # Answers a call of talft before the program is proved: `rt try` compiles its sources and runs them with checks, which
-# takes most of a minute. Words, files, standard input, output and status are the program's. Where it cannot be sure of
-# that, it says what to do, and ends with status 70.
+# takes most of a minute. Words, files, standard input, output and status are the program's. If it cannot guarantee that,
+# it says what to do, and ends with status 70.
 set -u
 top=$(cd "$(dirname "${BASH_SOURCE[0]}")/.." && pwd) || exit 70
 # The longest object and script that the program reads, and one byte more, which it refuses.
@@ -38,7 +38,7 @@ case ${1-} in
     exit 2
     ;;
 esac
-# `talft COMMAND --help`: to the program this is the name of a file, and of no number of turns.
+# `talft COMMAND --help`: to the program this is the name of a file, and not a number of turns.
 case $#:${2-} in
   2:--help | 2:-h)
     [ "$1" != demo ] || help demo
@@ -59,15 +59,15 @@ words=("$@") data=() lacking=no script=/dev/null
 [ "${1-}" != asm ] || most_bytes=134217729
 declare -A names=([operand]=operand [faults]=faults)
 
-# Like the program, hands over no words where one is no text.
+# Like the program, passes no words if one is not a text.
 case $* in
   *[![:ascii:]]*)
     python3 -X utf8 -c 'import sys; "".join(sys.argv[1:]).encode()' "$@" 2>/dev/null || words=()
     ;;
 esac
 
-# Hands over the file that a word names, under the name $2: no answer depends on the name. A file that is not there
-# or may not be read is not there for the program, either.
+# Passes the file that a word names, under the name $2: no answer depends on the name. A file that is missing or
+# unreadable is also missing for the program.
 hand_over() {
   local file=${words[$1]}
   words[$1]=$2 names[$2]=$file
@@ -103,7 +103,7 @@ if [ "${#words[@]}" -gt 1 ] && [ "${words[0]}" != demo ]; then
 fi
 
 cd "$top/crates/talft" || exit 70
-# In a process group of its own, so that a signal ends what it starts, too.
+# In a separate process group, so that a signal also ends what it starts.
 set -m
 rt try --steps 1 --seconds "$most_seconds" ${data[@]+"${data[@]}"} -- ${words[@]+"${words[@]}"} \
   <"$script" >"$work/out" 2>"$work/said" &
@@ -127,8 +127,8 @@ trap 'stopped 143' TERM
 
 status=$(sed -n '$s/^run=ended status=\([0-9]*\) .*$/\1/p' "$work/said")
 
-# A line that the program said of a file that was handed over under the name $2, with its own name. To the program, a folder
-# and a file that may not be read are missing.
+# A line that the program wrote about a file passed under the name $2, with the file's own name. To the program, folders and
+# unreadable files are missing.
 said_of() {
   local said=${1#"$2"} file=${names[$2]}
   if [ "$said" = ': error: no such file' ] && [ -d "$file" ]; then
@@ -139,7 +139,7 @@ said_of() {
   printf '%s%s\n' "$file" "$said"
 }
 
-# What the program itself said.
+# The program's own messages.
 say() {
   local line
   while IFS= read -r line; do

@@ -4,8 +4,17 @@
     python3 docs/changing.py            writes the document
     python3 docs/changing.py --counts   writes how many files each kind of change touches
 
-A list stands between `<!-- files: CASE.. -->` and `<!-- end -->`: the files of crates/ whose code, definitions or proofs name
-one of these cases outside comments, lowest crate first. A file that goes by cases of all others names the new one, too.
+Two kinds of list end at `<!-- end -->`. Both name files of crates/, lowest crate first, and look at code, definitions
+and proofs outside comments.
+
+`<!-- files: CASE.. ; FILE.. -->` begins the files that name one of these cases.
+
+`<!-- cases: CASE.. | CASE.. ; FILE.. -->` begins the files that go by cases: they name at least three quarters of the
+cases of one of the sets between the bars. A new case changes them, as a rule: the prover refuses a match without it,
+and a table lacks its row. A file that names fewer, one as an example or two apart from all others, stays as it is.
+The sets are the same cases as different layers call them.
+
+FILE.. are files that must change and name no case, but its number or a limit on numbers.
 """
 import os
 import re
@@ -15,9 +24,10 @@ sys.dont_write_bytecode = True
 from contracts import TOP, crates, read
 
 DOCUMENT = "docs/CHANGING.md"
-LIST = re.compile(r"<!-- files: (?P<cases>[\w ]+) -->\n.*?<!-- end -->", re.DOTALL)
+LIST = re.compile(r"<!-- (?P<kind>files|cases): (?P<names>[^>]+?) -->\n.*?<!-- end -->", re.DOTALL)
 FOLDERS = ("src", "specs", "proofs")
 COMMENT = re.compile(r"//.*|--.*")
+SHARE = 0.75
 
 
 def sources(crate):
@@ -29,42 +39,68 @@ def sources(crate):
                 yield os.path.relpath(os.path.join(at, name), os.path.join(TOP, "crates", crate))
 
 
-def naming(cases):
-    """The files that name one of the cases, by crate, lowest first."""
-    word = re.compile(rf"\b({'|'.join(cases)})\b")
-    found = {}
-    for crate in crates():
-        here = [path for path in sources(crate) if word.search(COMMENT.sub("", read(f"crates/{crate}/{path}")))]
-        if here:
-            found[crate] = here
-    return found
+def named(text, cases):
+    """How many of the cases a text names."""
+    return sum(bool(re.search(rf"\b{case}\b", text)) for case in cases)
 
 
-def table(cases):
-    """The files that name one of the cases, as lines of the document."""
-    found = naming(cases)
-    count = sum(map(len, found.values()))
-    named = " or ".join(f"`{case}`" for case in cases)
-    yield f"{count} files in {len(found)} crates name {named}:"
-    yield ""
-    yield "| crate | files |"
-    yield "|---|---|"
-    for crate, here in found.items():
-        yield f"| `{crate}` | {', '.join(f'`{path}`' for path in here)} |"
+class Touched:
+    """What a kind of change touches: the sets of cases, the files added by hand, and how many cases a file names."""
+
+    def __init__(self, kind, names):
+        sets, _, added = names.partition(";")
+        self.sets = [words.split() for words in sets.split("|")]
+        self.added = added.split()
+        self.by_cases = kind == "cases"
+
+    def is_touched(self, path):
+        text = COMMENT.sub("", read(f"crates/{path}"))
+        return path in self.added or any(named(text, cases) >= self.least(cases) for cases in self.sets)
+
+    def least(self, cases):
+        """How many of a set of cases a touched file names."""
+        return SHARE * len(cases) if self.by_cases else 1
+
+    def files(self):
+        """The files by crate, lowest first."""
+        found = {}
+        for crate in crates():
+            here = [path for path in sources(crate) if self.is_touched(f"{crate}/{path}")]
+            if here:
+                found[crate] = here
+        missing = [path for path in self.added if not os.path.exists(os.path.join(TOP, "crates", path))]
+        if missing:
+            sys.exit(f"changing.py: no such files: {' '.join(missing)}")
+        return found
+
+    def table(self):
+        """The files as lines of the document."""
+        found = self.files()
+        count = f"{sum(map(len, found.values()))} files in {len(found)} crates"
+        cases = self.sets[0]
+        if self.by_cases:
+            yield f"{count} go by the cases `{cases[0]}` to `{cases[-1]}`:"
+        else:
+            yield f"{count} name {' or '.join(f'`{case}`' for case in cases)}:"
+        yield ""
+        yield "| crate | files |"
+        yield "|---|---|"
+        for crate, here in found.items():
+            yield f"| `{crate}` | {', '.join(f'`{path}`' for path in here)} |"
 
 
 def made(match):
-    cases = match["cases"].split()
-    return "\n".join([f"<!-- files: {match['cases']} -->", *table(cases), "<!-- end -->"])
+    lines = Touched(match["kind"], match["names"]).table()
+    return "\n".join([f"<!-- {match['kind']}: {match['names']} -->", *lines, "<!-- end -->"])
 
 
 def main(words):
     text = read(DOCUMENT)
     if words == ["--counts"]:
         for match in LIST.finditer(text):
-            cases = match["cases"].split()
-            found = naming(cases)
-            print(f"{' '.join(cases)}: {sum(map(len, found.values()))} files in {len(found)} crates")
+            touched = Touched(match["kind"], match["names"])
+            found = touched.files()
+            print(f"{' '.join(touched.sets[0])}: {sum(map(len, found.values()))} files in {len(found)} crates")
     elif words:
         sys.exit(__doc__)
     else:

@@ -1,7 +1,7 @@
 """What the crates promise: the clauses of their public calls, laws and types, and the definitions of their specs/.
 
 A public call is a function that its crate exports, a public function of a type that it exports, or a function of a
-trait that it exports. A law is such a function that takes nothing and does nothing.
+trait that it exports. A law is a public function without parameters and with an empty body.
 """
 import collections
 import functools
@@ -27,7 +27,7 @@ def crates():
 
 @functools.cache
 def needed(*roots):
-    """The crates that the program, or another crate, stands on, lowest first."""
+    """The crates that the program, or another crate, depends on, lowest first."""
     found, waiting = set(), list(roots or ["talft"])
     while waiting:
         name = waiting.pop()
@@ -38,7 +38,7 @@ def needed(*roots):
 
 
 def promising():
-    """The crates that the program and the C library stand on. The others hold tests."""
+    """The crates that the program and the C library depend on. The others hold tests."""
     return needed("talft", "ft_c")
 
 
@@ -102,7 +102,7 @@ def clauses_of(crate):
 
 @functools.cache
 def clauses():
-    """Every clause of every function and type of the crates that the program and the C library stand on."""
+    """Every clause of every function and type of the crates that the program and the C library depend on."""
     return [clause for crate in promising() for clause in clauses_of(crate)]
 
 
@@ -134,7 +134,7 @@ ITEM = re.compile(r"^\s*(?:(?:abbrev|unfoldable|inline|pub|record|data) )*([^\s(
 
 @functools.cache
 def definitions():
-    """Each name that a file of specs/ defines, fields and cases too, with the files that define it."""
+    """Each name that a file of specs/ defines, including fields and cases, with the files that define it."""
     found = collections.defaultdict(list)
     for crate in promising():
         for path in sorted(glob.glob(f"crates/{crate}/specs/*.antt", root_dir=TOP)):

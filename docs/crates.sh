@@ -4,7 +4,7 @@ set -eu
 cd "$(dirname "$0")/.."
 
 printf '%s\n' '# Crates' '' \
-  'Each crate, lowest first: what it is for, what its contract promises, and which crates of this repository it stands' \
+  'Each crate, lowest first: its purpose, what its contract promises, and the crates of this repository that it depends' \
   'on. `docs/crates.sh` makes this list from `crates.txt` and the head comments of the crates.'
 while IFS=: read -r crate libraries; do
   crate=${crate% staticlib}
@@ -17,5 +17,5 @@ while IFS=: read -r crate libraries; do
   for library in $libraries; do
     if [ -d "crates/$library" ]; then below="$below, \`$library\`"; fi
   done
-  if [ -n "$below" ]; then printf '\nIt stands on %s.\n' "${below#, }"; fi
+  if [ -n "$below" ]; then printf '\nIt depends on %s.\n' "${below#, }"; fi
 done <crates.txt

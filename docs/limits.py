@@ -1,5 +1,5 @@
 #!/usr/bin/env python3
-"""Writes docs/LIMITS.md with its table made anew from tests/limits.tsv. `tests/cli.sh` checks that the file is so.
+"""Writes docs/LIMITS.md with its table regenerated from tests/limits.tsv. `tests/cli.sh` checks that it is up to date.
 
     python3 docs/limits.py                  writes the document
     python3 docs/limits.py OLD.tsv NEW.tsv  lists the rows that became slower or larger by more than a tenth

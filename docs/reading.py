@@ -1,8 +1,8 @@
 #!/usr/bin/env python3
 """Writes docs/READING.md: the definitions that the clause `headline` of `tool` reaches, in reading order.
 
-A definition is reached where a reached definition or the clause names it. What the kit's library defines is not listed. The
-list is exactly what is reached: `tests/cli.sh` checks that the file is so.
+A definition is reached if a reached definition or the clause names it. The kit's library is not listed. `tests/cli.sh`
+checks that the file is up to date.
 """
 import os
 import re
@@ -27,12 +27,12 @@ def crates():
 def imports(text):
     """The names that `use` lines bring in, each with its module and its name there, and the modules by their aliases."""
     names, modules = {}, {}
-    for path, rest in re.findall(r"^\s*(?:ghost )?use ([\w.◌+-]+?)(?:\.\{([^}]*)\})?(?: as [\w-]+)?;?$", text, re.M):
+    for path, rest in re.findall(r"^\s*(?:ghost |pub )?use ([\w.◌+-]+?)(?:\.\{([^}]*)\})?(?: as [\w-]+)?;?$", text, re.M):
         if rest:
             for item in rest.split(","):
                 there, _, here = item.strip().partition(" as ")
                 names[here or there] = (path, there)
-    for path, here in re.findall(r"^\s*(?:ghost )?use ([\w.]+) as ([\w-]+);?$", text, re.M):
+    for path, here in re.findall(r"^\s*(?:ghost |pub )?use ([\w.]+) as ([\w-]+);?$", text, re.M):
         modules[here] = path
     return names, modules
 
@@ -46,7 +46,7 @@ class Module:
         self.names, self.modules = imports(text)
         self.parts, self.place = [], {}
         body = [line for line in text.split("\n")]
-        start = next((i for i, line in enumerate(body) if line and not re.match(r"--|use |\s|$", line)), len(body))
+        start = next((i for i, line in enumerate(body) if line and not re.match(r"--|(?:pub )?use |\s|$", line)), len(body))
         while start > 0 and body[start - 1].startswith("--"):
             start -= 1
         part = []
@@ -163,14 +163,14 @@ def main():
         total, count = total + lines, count + sum(1 + name.count("`, `") for name, _ in parts)
         rows.append((here.crate, f"| `{here.path[7:]}` | {lines} | {', '.join('`' + name + '`' for name, _ in parts)} |"))
     print("# What the headline reaches\n")
-    print("The clause `headline` of `tool` (`crates/ft_tool/src/top.rt`) says what the program does where its status is none of 3, 4 and 5.")
+    print("The clause `headline` of `tool` (`crates/ft_tool/src/top.rt`) states what the program does unless its status is 3, 4 or 5.")
     print("These are the definitions that it reaches, in reading order: lowest crate first, and each file in the order of its crate's")
-    print("`specs/Lib.antt`. Whoever believes this clause believes that they say what they should, and that the traits `Shelf`, `Source` and")
-    print("`Sink` of `ft_edge` say what a call does to files, script and output. The other clauses of `tool` and the laws that")
-    print("`PROMISES.md` names beside it reach about a sixth more. Lines are counted with their comments. What the kit's library defines")
-    print("(numbers, big-endian too, lists, options, orders, finite maps, bytes of text and bytes that are known) is believed too, and")
-    print("not listed. `docs/reading.py` makes this list.\n")
-    print(f"In all {count} definitions, {total} lines.\n")
+    print("`specs/Lib.antt`. To believe this clause is to believe that they say what they should, and that the traits `Shelf`, `Source`")
+    print("and `Sink` of `ft_edge` say what a call does to files, script and output. The other clauses of `tool`, and the laws that")
+    print("`PROMISES.md` lists with it, reach about a sixth more. Line counts include comments. The definitions of the kit's library")
+    print("(numbers, including big-endian ones, lists, options, orders, finite maps, bytes of text, known bytes) must be believed as well")
+    print("and are not listed. `docs/reading.py` makes this list.\n")
+    print(f"In all, there are {count} definitions in {total} lines.\n")
     done = None
     for crate in crates():
         mine = [row for c, row in rows if c == crate]

@@ -1,10 +1,10 @@
 #!/usr/bin/env python3
-"""Traces requirements to clauses, wrong bodies, tests and documents, and back, by docs/trace.toml.
+"""Traces requirements to clauses, wrong bodies, tests and documents, and back, using docs/trace.toml.
 
     docs/trace.py               writes docs/TRACE.md and the tables of docs/PROMISES.md
     docs/trace.py --check       writes what is missing or stale, and ends with status 1 if anything is
     docs/trace.py --csv FILE    writes one line for each requirement
-    docs/trace.py --page FILE   writes a page with all requirements, to be searched
+    docs/trace.py --page FILE   writes a searchable page with all requirements
 """
 import collections
 import csv
@@ -40,7 +40,7 @@ def edits():
 
 
 def tests():
-    """The files of tests: those of tests/ that are no wrong bodies, and those of crates that have a test."""
+    """The test files: those of tests/ that are not wrong bodies, and those of crates that contain a test."""
     scripts = [path for path in files("tests/**/*") if not path.startswith("tests/wrong-bodies/")]
     return scripts + [path for path in files("crates/*/src/**/*.rt") if re.search(r"^\s*#\[test\]", read(path), re.M)]
 
@@ -76,7 +76,7 @@ def matches(clause, name):
 
 
 class Trace:
-    """All groups, and what is wrong with them."""
+    """All groups, and the errors in them."""
 
     def __init__(self):
         with open(os.path.join(TOP, "docs/trace.toml"), "rb") as file:
@@ -157,7 +157,7 @@ class Trace:
                 self.problems.append(f"{name}: two groups have this identifier")
 
     def between(self, first, last):
-        """The requirements from one identifier to another; a group's own stands for its first and its last."""
+        """The requirements from one identifier to another; a group's identifier stands for its first or last."""
         of = {group.id: group.requirements for group in self.groups}
         first, last = (of[name][at].id if name in of else name for name, at in ((first, 0), (last, -1)))
         every = [one.id for one in self.requirements]
@@ -271,15 +271,15 @@ def document(trace):
     public = sum(clause.public for clause in clauses())
     lines = [
         "# Requirements and their evidence", "",
-        "Each requirement of the program has a number that never changes, and one sentence. Beside it are the clauses",
-        "that carry it, the wrong bodies that the prover refuses for it, its tests, and the documents that explain it.",
+        "Each requirement of the program has one sentence and a number that never changes. Its row lists the clauses that",
+        "carry it, the wrong bodies that the prover refuses for it, its tests, and the documents that explain it.",
         "A requirement without a clause is tested only. Documents and tests under a heading are about all requirements",
         "there.", "",
-        f"In all {count} requirements, {public} clauses of public calls, laws and types, {len(trace.edits)} wrong bodies",
-        f"and {len(trace.tests)} files of tests. `docs/trace.py` makes this list from `docs/trace.toml`, and the gate checks",
-        "that every name in it is there, and that each of these clauses, wrong bodies and tests has a requirement. The",
-        "same as a table for other programs: `docs/trace.py --csv FILE`; as a page to search: `docs/trace.py --page FILE`.", "",
-        "At the end are the ways back: [from clauses](#from-clauses), [from wrong bodies](#from-wrong-bodies) and",
+        f"In all, there are {count} requirements, {public} clauses of public calls, laws and types, {len(trace.edits)} wrong",
+        f"bodies and {len(trace.tests)} test files. `docs/trace.py` makes this list from `docs/trace.toml`. The gate checks that",
+        "every name in it exists, and that each of these clauses, wrong bodies and tests has a requirement.",
+        "`docs/trace.py --csv FILE` writes the list as a table for other programs, `--page FILE` as a searchable page.", "",
+        "The last chapters lead back: [from clauses](#from-clauses), [from wrong bodies](#from-wrong-bodies) and",
         "[from tests](#from-tests).",
     ]
     for group in trace.groups:

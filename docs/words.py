@@ -3,8 +3,8 @@
 
     docs/words.py [--each]      the sum, or each document with its words
 
-A word has a letter or a digit: the lines of a table are none. Left out is what a script makes: whole documents, and what stands
-between `<!-- .. -->` and `<!-- end .. -->`.
+A word has a letter or a digit, so the lines of a table do not count. Text made by scripts is left out: whole documents, and
+what is between `<!-- .. -->` and `<!-- end .. -->`.
 """
 import os
 import re

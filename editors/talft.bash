@@ -49,7 +49,7 @@ _talft() {
     debug) options=--wild ;;
     *) options= ;;
   esac
-  # Each option stands at most once.
+  # Each option occurs at most once.
   for ((at = 3; at < ${#words[@]} - 1; at += 2)); do
     options=" $options "
     options=${options/" ${words[at]} "/ }
@@ -57,7 +57,7 @@ _talft() {
   COMPREPLY=($(compgen -W "$options" -- "$word"))
 }
 
-# Files that end as they should and folders, or all files where there are none.
+# Files with the right ending, and folders; or all files if there are none.
 _talft_files() {
   local file
   COMPREPLY=()
@@ -78,14 +78,14 @@ _talft_site() {
   [[ $word == *:* && $site != *:* ]] || return
   for ((number = 0; number < 64; number++)); do sites+=" r$number"; done
   for ((number = 0; number < 8; number++)); do sites+=" qa$number qv$number"; done
-  # Where bash splits at colons, it puts the answer behind the last of them.
+  # If bash splits at colons, it puts the answer after the last one.
   if [[ $COMP_WORDBREAKS == *:* ]]; then step=; else step+=:; fi
   COMPREPLY=($(compgen -P "$step" -S : -W "$sites" -- "$site"))
   compopt -o nospace 2>/dev/null
 }
 
-# The tools: their options, as --help tells them, and files. Other programs have the names `cc` and `build`, and `set` is a word
-# of the shell: of these only what lies beside the tool `campaign` is a tool. The others keep their own completion.
+# The tools: their options, from --help, and files. Other programs are also called `cc` and `build`, and `set` is a shell
+# builtin: of these, only files next to the tool `campaign` are tools. The others keep their own completion.
 _talft_tool() {
   local word=${COMP_WORDS[COMP_CWORD]} at
   COMPREPLY=()

@@ -1,22 +1,22 @@
 /*
- * Memory from one block of the caller, for systems without a heap. This file takes the place of heap.c: `make library
- * HEAP=arena`. The first free block that is large enough is taken, and free neighbours are joined. One thread at a time
- * may call the library.
+ * Memory from one block of the caller, for systems without a heap. This file replaces heap.c: `make library HEAP=arena`.
+ * Allocation takes the first free block that is large enough; free neighbours are joined. Only one thread at a time may
+ * call the library.
  */
 #include "rattle.h"
 #include "talft.h"
 
 #include <string.h>
 
-/* Each block has a head of one unit, and is a whole number of units with it. */
+/* Each block has a head of one unit. With it, the block is a whole number of units. */
 enum { UNIT = 16 };
 
 struct head {
-    uint64_t units; /* with the head */
+    uint64_t units; /* including the head */
     uint64_t is_free;
 };
 
-/* The heads from the first on, and where they end. */
+/* The heads, from the first one to their end. */
 static struct head *first, *end;
 static struct head nothing;
 
@@ -44,7 +44,7 @@ static void join(struct head *block)
     }
 }
 
-/* Cuts a block down to so many units; the rest is free. */
+/* Cuts a block down to this many units; the rest becomes free. */
 static void cut(struct head *block, uint64_t units)
 {
     if (block->units > units) {

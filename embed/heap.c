@@ -1,12 +1,12 @@
-/* What the library asks of the C library: memory. arena.c may take its place. */
+/* The memory that the library takes from the C library. arena.c may replace this file. */
 #include "rattle.h"
 
 #include <stdlib.h>
 
-/* An address for where malloc gave none. Nothing reads or writes it. */
+/* An address for when malloc gave none. Nothing reads or writes it. */
 static char nothing[16];
 
-/* A block for so many bytes, where there is one. A size of 0 asks for a block, too. */
+/* A block of this many bytes, if there is one. A size of 0 also asks for a block. */
 static struct tried told(void *p)
 {
     struct tried tried = {p != NULL, p != NULL ? p : nothing};

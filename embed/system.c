@@ -1,5 +1,5 @@
-/* What the program talft asks of C beside the C library, where the kit's own parts are for another processor: written
- * after the declarations of its crate os. Linked with heap.c. */
+/* What the program talft needs from C besides the C library, on a processor for which the kit has no C code: written
+ * after the declarations of the kit's crate os. Linked with heap.c. */
 #include <errno.h>
 #include <stddef.h>
 #include <stdint.h>
@@ -16,14 +16,14 @@ void rattle_set_errno(int32_t error);
 static int count;
 static char **words;
 
-/* The GNU C library gives a program's words to each constructor; another one need not. */
+/* The GNU C library passes a program's arguments to each constructor; others need not. */
 __attribute__((constructor)) static void keep(int argc, char **argv)
 {
     count = argc;
     words = argv;
 }
 
-/* Puts a text into a buffer: its length; -1 where there is none; -2 where it does not fit, and the buffer is full. */
+/* Copies a text into a buffer. Returns its length; -1 if there is none; -2 if it does not fit, and the buffer is full. */
 static ptrdiff_t put(const char *text, uint8_t *buf, size_t room)
 {
     size_t at = 0;

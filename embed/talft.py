@@ -1,4 +1,4 @@
-"""talft from Python: check, compile and run objects by the proved library libtalft.so.
+"""talft from Python: check, compile and run objects with the proved library libtalft.so.
 
     >>> import talft
     >>> data = talft.compile("cell out = 0; out = 2 + 3;")
@@ -52,8 +52,8 @@
     Traceback (most recent call last):
     KeyError: 'no module 0 of the link map'
 
-The library is found by the environment's TALFT_LIBRARY, else beside this file, else where the system looks. Each
-function may be called from several threads at once; what `stream` gives stays on its thread.
+The library is the one that $TALFT_LIBRARY names, or else next to this file, or else found by the system. Each function
+may be called from several threads at once; what `stream` gives stays on its thread.
 """
 
 import ctypes
@@ -109,7 +109,7 @@ class _Machine(ctypes.Structure):
 
 class Refused(ValueError):
     """Why bytes or a text are refused: `status`, `part`, `number`, `place`, `index`, and `module` of a link, as in talft.h.
-    As a text it is the line that the command writes."""
+    Its text is the line that the command writes."""
 
     def __init__(self, status, why, module=0):
         self.status, self.part, self.number = status, why.part, why.number
@@ -186,7 +186,7 @@ def _answer(status, why, module=0):
 
 
 def _written(function, *asked):
-    """What a function writes into a buffer, which is made larger where it has to be."""
+    """What a function writes into a buffer, which grows as needed."""
     room, made, why = 65536, ctypes.c_size_t(0), _Refusal()
     while True:
         out = ctypes.create_string_buffer(room)
@@ -199,7 +199,7 @@ def _written(function, *asked):
 
 
 def check(data):
-    """Checks an object; raises Refused where it is not accepted."""
+    """Checks an object; raises Refused if it is not accepted."""
     data, why = _bytes(data), _Refusal()
     status = _LIBRARY.talft_check(data, len(data), ctypes.byref(why))
     if status != _OK:
@@ -207,7 +207,7 @@ def check(data):
 
 
 def _run(function, data, steps, fault, wild):
-    """What a function that runs an object answers, with an array that is made larger where it has to be."""
+    """What a function that runs an object returns, with an array that grows as needed."""
     data, room, steps = _bytes(data), 1024, _number(steps)
     plan = _bytes(fault), _bytes(wild)
     ran, why = _Ran(), _Refusal()
@@ -238,7 +238,7 @@ def run(data, steps=1_000_000, fault="", wild=""):
 
 
 def recover(data, steps=1_000_000, fault="", wild=""):
-    """Checks an object and runs it; where the fault is detected, runs it again without the fault. Gives how the run
+    """Checks an object and runs it; if the fault is detected, runs it again without the fault. Gives how the run
     without the fault ended ("done", "cut"), its outputs, and how many of them the first run had committed when it was
     detected, or None."""
     end, outputs, ran = _run(_LIBRARY.talft_recover, data, steps, fault, wild)
@@ -246,8 +246,8 @@ def recover(data, steps=1_000_000, fault="", wild=""):
 
 
 def stream(data, steps=1_000_000):
-    """Checks an object and runs it by a slice of steps at a time; gives the name and the word of each output when it
-    comes. How it ended ("done", "cut") is the generator's value, as `yield from` gives it."""
+    """Checks an object and runs it in slices of steps; gives the name and the word of each output as it comes. How it
+    ended ("done", "cut") is the generator's value, as `yield from` gives it."""
     data, machine, why, ran, steps = _bytes(data), _Machine(), _Refusal(), _Ran(), _number(steps)
     status = _LIBRARY.talft_open(data, len(data), ctypes.byref(machine), ctypes.byref(why))
     if status != _OK:
@@ -267,7 +267,7 @@ def stream(data, steps=1_000_000):
 
 
 def compile(text):
-    """The object of a source."""
+    """An object that stands for a source."""
     text = _bytes(text)
     return _written(_LIBRARY.talft_compile, text, len(text))
 
@@ -291,14 +291,14 @@ def upgrade(data):
 
 
 def schedule(data):
-    """The schedule of an object, which has to be accepted."""
+    """The schedule of an object, which must be accepted."""
     data = _bytes(data)
     return _written(_LIBRARY.talft_schedule, data, len(data))
 
 
 def set_cell(data, cell, word):
-    """The object with another initial word of a cell, which is given by its number and has to be of type `int`. It is
-    accepted exactly where the object is."""
+    """The object with another initial word in a cell, which is given by its number and must be of type `int`. It is
+    accepted exactly when the object is."""
     data, why = _bytes(data), _Refusal()
     out = ctypes.create_string_buffer(data)
     status = _LIBRARY.talft_set_cell(out, len(data), _number(cell, 32), _number(word), ctypes.byref(why))
@@ -312,7 +312,7 @@ def set_cell(data, cell, word):
 
 
 def link(text, modules):
-    """The object that a link map links of modules, which are given by the names of their files."""
+    """The object that a link map links from modules, which are given by the names of their files."""
     text, module = _bytes(text), ctypes.c_uint32(0)
     pairs = [(_bytes(name), _bytes(data)) for name, data in modules.items()]
     given = (_Module * len(pairs))(*((name, len(name), data, len(data)) for name, data in pairs))
@@ -333,7 +333,7 @@ def link(text, modules):
 
 def campaign(data, faults, steps=1_000_000, wild=""):
     """Checks an object and tries each fault of a list: for each, in order, its verdict ("masked", "detected", "idle"), and
-    the step that detected it, else 0. `faults` is a text of lines such as "4:r1:6"."""
+    the step that detected it, or 0. `faults` is a text of lines such as "4:r1:6"."""
     data, faults, wild, steps = _bytes(data), _bytes(faults), _bytes(wild), _number(steps)
     room, totals, why = faults.count(b"\n") + 1, _Totals(), _Refusal()
     out = (_Verdict * room)()

@@ -1,4 +1,4 @@
-# A module with the main program: it hands 5 to the imported block, and stores what comes back.
+# A module with the main program: it passes 5 to the imported block, and stores the result.
 cell out int 0
 
 node 0 memory

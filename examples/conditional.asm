@@ -1,4 +1,4 @@
-# conditional.asm: stores 1 in the cell `out` where the cell `in` is not 0, and else 2, and halts.
+# conditional.asm: stores 1 in the cell `out` if the cell `in` is not 0, and otherwise 2, and halts.
 
 cell out int 0
 cell in int 7
@@ -12,8 +12,8 @@ mov r0 G 1048577 ref:int
 mov r32 B 1048577 ref:int
 ld_G r1 r0
 ld_B r33 r32
-# To block 1, which begins at instruction 16, where it is 0. The green branch notes the place, and the blue one
-# compares it with its own, and goes there. The memory there is node 0, as nothing was stored.
+# If it is 0, to block 1, which begins at instruction 16. The green branch records the target; the blue one compares
+# it with its own, and jumps. The memory there is node 0, as nothing was stored.
 mov r2 G 16 code:0
 mov r34 B 16 code:0
 bz_G r1 r2

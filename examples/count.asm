@@ -1,8 +1,8 @@
-# count.asm: counts from 3 down to 1, and has another module show each number. It is linked with show.asm by count.map.
+# count.asm: counts from 3 down to 1, and lets another module show each number. It is linked with show.asm by count.map.
 
 cell out int 0
 
-# The nodes: the memory, the number that is left to count, the words 3 and 1, and one less than is left.
+# The nodes: the memory, the number left to count, the words 3 and 1, and one less than that number.
 node 0 memory
 node 1 var 0
 node 0 word 3
@@ -24,7 +24,7 @@ mov r34 B 18 code:1
 jmp_G r2
 jmp_B r34 0 2
 
-# Block 1 is exported as `next`: the number was shown. Count down; at 0 go to block 2, else have it shown.
+# Block 1 is exported as `next`: the number was shown. Count down; at 0 go to block 2, otherwise show the number.
 block 1
 sub r1 r1 G 1
 sub r33 r33 B 1

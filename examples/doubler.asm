@@ -1,4 +1,4 @@
-# A module with a routine: it doubles the integer that it is entered with, and goes on at the imported block.
+# A module with a routine: it doubles the integer that it receives, and continues at the imported block.
 cell out int 0
 
 node 0 memory

@@ -1,5 +1,5 @@
 # fibonacci.asm: the object of fibonacci.src, as `talft dis` writes it. The green store (st_G) and the blue one
-# (st_B) of block 2 are neighbours.
+# (st_B) of block 2 are adjacent.
 
 cell out int 0
 node 0 memory

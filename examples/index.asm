@@ -1,4 +1,4 @@
-# index.asm: stores in the cell `out` the cell of `a` whose number the cell `i` has, and halts.
+# index.asm: stores in the cell `out` the cell of `a` that the cell `i` selects, and halts.
 
 # The cells of `a` are a run of three. The address of a[0] is 1048576, that of `i` is 1048579, that of `out` 1048580.
 cell a[0] int 10
@@ -15,7 +15,7 @@ mov r0 G 1048579 ref:int
 mov r32 B 1048579 ref:int
 ld_G r1 r0
 ld_B r33 r32
-# The address of a cell of the run of 3 cells from cell 0 on: that of number 4 modulo 3, which is a[1].
+# The address of a cell among the 3 cells from cell 0 on: number 4 modulo 3, which is a[1].
 idx r2 r1 0 3
 idx r34 r33 0 3
 ld_G r3 r2

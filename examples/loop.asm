@@ -2,21 +2,21 @@
 
 cell out int 0
 
-# The nodes are what the code types and the jumps say of words. `var 0` is the one integer variable of the loop: what is
-# left to count, where its block begins.
+# The nodes are expressions for the code types and the jumps. `var 0` is the loop's only integer variable: the number
+# left to count at the start of its block.
 node 0 memory
 node 1 var 0
 node 0 word 3
 node 0 word 1
-# Node 4: one less is left.
+# Node 4: one less than that number.
 node 1 sub 1 3
-# Node 6: the memory, with what is left stored at the address of `out`.
+# Node 6: the memory, with that number stored at the address of `out`.
 node 0 word 1048576
 node 1 upd 0 5 1
 
-# Code type 0: nothing is known. The first block has it, and the last one.
+# Code type 0, of the first block and the last: nothing is known.
 type 0 0
-# Code type 1, of the loop: r1 and r33 hold what is left to count.
+# Code type 1, of the loop: r1 and r33 hold the number left to count.
 type 1 0
 reg r1 G int 1
 reg r33 B int 1
@@ -39,12 +39,12 @@ st_G r0 r1
 st_B r32 r33
 sub r1 r1 G 1
 sub r33 r33 B 1
-# Out of the loop where nothing is left. The memory there is node 6.
+# Out of the loop if nothing is left. The memory there is node 6.
 mov r2 G 21 code:0
 mov r34 B 21 code:0
 bz_G r1 r2
 bz_B r33 r34 6
-# Else once more: the memory is node 6, and node 4 stands for the variable.
+# Otherwise once more: the memory is node 6, and node 4 stands for the variable.
 mov r2 G 7 code:1
 mov r34 B 7 code:1
 jmp_G r2

@@ -1,5 +1,5 @@
 # scheduled.asm: the schedule of the object of fibonacci.src, as `talft dis` writes it. In block 2 the green
-# instructions lead: 16 instructions stand from the green store (st_G) to the blue one (st_B).
+# instructions lead: the blue store (st_B) is 16 instructions after the green one (st_G).
 
 cell out int 0
 node 0 memory

@@ -1,4 +1,4 @@
-# show.asm: stores the number in r1 and r33, and goes on in the module that it came from. It is linked with count.asm by
+# show.asm: stores the number in r1 and r33, and continues in the calling module. It is linked with count.asm by
 # count.map.
 
 cell out int 0
@@ -30,7 +30,7 @@ jmp_B r34 3 1
 block 1
 halt
 
-# A module has an entry block of its own.
+# A module has its own entry block.
 block 0
 halt
 

@@ -2,8 +2,8 @@
 #
 # A step is a fetch or an execution, so instruction n, counted from 0, is executed in step 2n + 1.
 #
-#   --fault 10:r1:7 is masked: the word of r1 was queued in step 9, and r1 is read no more.
-#   --fault 18:r3:7 is detected: the green store queues 7 in step 19, and the blue store brings 6.
+#   --fault 10:r1:7 is masked: the word of r1 was queued in step 9, and r1 is not read again.
+#   --fault 18:r3:7 is detected: the green store queues 7 in step 19, and the blue store has 6.
 #
 # `first 5` is written in both runs, as it is committed in step 11.
 

@@ -9,7 +9,7 @@ LISTS = {"positional arguments": "ARGUMENTS", "options": "OPTIONS", "optional ar
 
 
 def plain(text):
-    """Text as it stands, with what man would take for signs of its own."""
+    """Text as it is, with everything escaped that man would interpret."""
     for sign, written in (("\\", "\\e"), ("-", "\\-"), ("'", "\\(aq"), ("`", "\\(ga"), ("^", "\\(ha"), ("~", "\\(ti")):
         text = text.replace(sign, written)
     return re.sub(r"^\.", r"\\&.", text)
@@ -19,14 +19,14 @@ def prose(text):
     """A paragraph: code is bold, and a document is the page that is made from it."""
     for document, page in PAGES.items():
         text = text.replace(document, f"`{page}`")
-    # A document that is no page is not installed.
+    # A document that is not a page is not installed.
     text = " ".join(part for part in re.split(r"(?<=[.:]) (?=[A-Z`])", text) if "docs/" not in part)
     parts = text.split("`")
     return "".join(f"\\fB{plain(part)}\\fR" if at % 2 else plain(part) for at, part in enumerate(parts))
 
 
 def entries(lines):
-    """The entries of a list: a term that is indented by two, and its text beside or below it."""
+    """The entries of a list: a term indented by two, and its text next to or below it."""
     found = []
     for line in lines:
         if re.match(r"  \S", line):
@@ -38,7 +38,7 @@ def entries(lines):
 
 
 def listed(lines):
-    """The lines of man for a list; a line without a text stands as it is."""
+    """The lines of man for a list; a line without a text stays as it is."""
     return [part for term, text in entries(lines)
             for part in (".TP", f"\\fB{plain(term)}\\fR", *([prose(text)] if text else ["\\&"]))]
 

@@ -1,7 +1,7 @@
 #!/usr/bin/env bash
-# Makes the manual pages: from the documents in docs/ by pandoc, and from what the --help of each tool says. Each page says
-# the sums of what it was made from, and of itself. With --stale it makes nothing, needs no pandoc, and tells each page
-# whose sums are not what they were.
+# Makes the manual pages from the documents in docs/, with pandoc, and from the --help of each tool. Each page contains
+# checksums of its sources and of itself. With --stale it makes nothing, needs no pandoc, and names each page whose
+# checksums no longer match.
 set -u
 cd "$(dirname "$0")/.." || exit 2
 
@@ -21,11 +21,10 @@ talft-c 7 C programs in C for talft
 talft-debugging 7 DEBUGGING debugging of objects, assembly texts and sources of talft, forward and back
 PAGES
 }
-# The scripts of tools/ that have a page of their own.
+# The scripts of tools/ that have their own page.
 tools() { grep -lE '^#!' tools/* 2>/dev/null | sed 's|tools/||'; }
 
-# A document, or the chapters of it that a page has. What tells how the proof goes is not for users, and what is true of a
-# clone alone is not either.
+# A document, or the chapters of it that a page has. Chapters about the proof, or only about a clone, are not for users.
 is_of_faults='^### (Strikes|Campaigns|Sessions of the debugger)$'
 not_for_users='^## (Before the proof|Forms by number|What is proved( of them)?|What typing means for runs|How the code (meets them|does it)|How many steps a check takes|Why it holds|The code|The walk|What was tried)$'
 document() {
@@ -45,7 +44,7 @@ sum_of_sources() { cat $1 man/page.lua man/help.py man/make.sh man/*.more | sum;
 
 head_of() { printf '.TH %s %d %s talft "Manual of talft"\n' "${1^^}" "$2" "$(date -u +%F)"; }
 
-# The lines below the sums, of a page that is made from a document.
+# The lines below the checksums of a page that is made from a document.
 lines() {
   local name=$1 section=$2 document=$3 about=$4
   head_of "$name" "$section"
@@ -57,7 +56,7 @@ lines() {
   pages | awk -v page="$name.$section" '$1 "." $2 != page { printf "%s.BR %s (%d)", n++ ? " ,\n" : "", $1, $2 } END { print "" }'
 }
 
-# The same of the C library: its document, and the header as it is.
+# The same for the C library: its document, and the header verbatim.
 lines_of_library() {
   lines talft 3 EMBEDDING 'the checker, the machine and the compiler of talft as a C library' | sed '/^\.SH SEE ALSO$/,$d'
   printf '.SH THE HEADER\n.nf\n'
@@ -66,7 +65,7 @@ lines_of_library() {
   pages | awk '{ printf "%s.BR %s (%d)", n++ ? " ,\n" : "", $1, $2 } END { print "" }'
 }
 
-# The same of a tool's page.
+# The same for a tool's page.
 lines_of_tool() {
   head_of "talft-$1" 1
   COLUMNS=100 "tools/$1" --help | python3 man/help.py "$1" || return
@@ -74,7 +73,7 @@ lines_of_tool() {
 }
 
 stale=0
-# `page FILE SOURCE COMMAND WORDS..` makes the page of what the command writes, or says that it is stale.
+# `page FILE SOURCE COMMAND WORDS..` makes the page from the command's output, or says that it is stale.
 page() {
   local file=$1 source=$2 text
   shift 2

@@ -1,7 +1,7 @@
 #!/usr/bin/env python3
-"""An assembler and a disassembler of objects that obey the rules, written from the tables of the format and of the
-forms alone. `python3 tests/assembly.py asm TXT` writes the object of a text, and `dis OBJ` the text of an object.
-tests/cli/assembly.sh compares what the program writes with what these write."""
+"""An assembler and a disassembler of objects that obey the rules, written only from the tables of the format and of
+the forms. `python3 tests/assembly.py asm TXT` writes the object of a text, and `dis OBJ` the text of an object.
+tests/cli/assembly.sh compares the program's output with theirs."""
 
 import struct
 import sys

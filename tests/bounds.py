@@ -1,5 +1,5 @@
 #!/usr/bin/env python3
-"""Compares the bounds of tools/bounds.py with tables, closed forms and sums of exact fractions, and prints what differs."""
+"""Compares the bounds of tools/bounds.py with tables, closed forms and sums of exact fractions, and prints the differences."""
 import fractions
 import math
 import os

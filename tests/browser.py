@@ -1,11 +1,10 @@
 #!/usr/bin/env python3
-"""Opens a page in headless Chromium, does what lines of standard input say, and writes what each gives.
+"""Opens a page in headless Chromium, evaluates the lines of standard input, and writes each result.
 
     python3 tests/browser.py PAGE [PICTURE] <SCRIPT
 
-Each line is a JavaScript expression; its value is written as text. Last is the number of errors in the console, each of
-them on standard error. PICTURE gets a PNG of the page.
-"""
+Each line is a JavaScript expression; its value is written as text. Last is the number of errors in the console; each
+is on standard error. PICTURE gets a PNG of the page."""
 import base64
 import json
 import os
@@ -44,7 +43,7 @@ class Browser:
         return json.loads(text)
 
     def ask(self, method, **words):
-        """Sends a question and waits for its answer; what else comes is kept."""
+        """Sends a question and waits for its answer; other messages are kept."""
         self.count += 1
         question = {"id": self.count, "method": method, "params": words}
         self.give.write(json.dumps(question | ({"sessionId": self.page} if self.page else {})).encode() + b"\0")

@@ -1,7 +1,7 @@
 #!/usr/bin/env bash
-# The proved program over real files, real standard input and output: what no proof speaks of. Each
-# line of the form `expect NAME STATUS TEXT WORDS..` runs it and compares what it wrote. At the end are
-# programs over the libraries, of which some must not compile.
+# Runs the proved program over real files and real standard input and output, which no proof covers. Each line
+# `expect NAME STATUS TEXT WORDS..` runs it and compares what it wrote. At the end are programs that use the
+# libraries, some of which must not compile.
 set -u
 top=$(cd "$(dirname "$0")/.." && pwd)
 . "$top/tests/report.sh"
@@ -14,7 +14,7 @@ expect() {
   report "$name" "$(printf '%b/%d' "$text" "$status")" "$got"
 }
 
-# The same of a script of tools/. What it said is kept in the file `said`.
+# The same for a script of tools/. Its standard error is kept in the file `said`.
 tool() {
   local name=$1 status=$2 text=$3 script=$4 got
   shift 4
@@ -22,7 +22,7 @@ tool() {
   report "$name" "$(printf '%b/%d' "$text" "$status")" "$got"
 }
 
-# `refuses NAME SAID SCRIPT WORDS..`: it writes nothing, says this in its last line, and ends with status 1.
+# `refuses NAME SAID SCRIPT WORDS..`: the script writes nothing, says SAID in its last line, and ends with status 1.
 refuses() {
   local name=$1 said=$2
   shift 2
@@ -38,7 +38,7 @@ within() {
 }
 
 # `least_memory TEXT WORDS..` is the least limit, in steps of 512 KB, under which the words write the text and end with the
-# status after it, or `none` where there is no such limit up to 256 MB.
+# status after it, or `none` if there is no such limit up to 256 MB.
 least_memory() {
   local text=$1 limit
   shift

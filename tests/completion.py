@@ -1,6 +1,6 @@
 #!/usr/bin/env python3
-"""Completes words in bash under a terminal: python3 tests/completion.py COMPLETION_FILE FOLDER. Each line is typed with
-a tab at its end, and then what bash makes of it is printed by the shell itself. The status is 1 if a line is not as wanted."""
+"""Completes words in bash under a terminal: python3 tests/completion.py COMPLETION_FILE FOLDER. Each line is typed
+with a tab at its end, and the shell prints the completed line. The status is 1 if a line is not as expected."""
 import os
 import pty
 import select
@@ -37,7 +37,7 @@ def main(completions, folder):
     def send(text):
         os.write(terminal, text.encode())
 
-    # `talft` tells its line as it came: the words, each in brackets.
+    # `talft` prints its words, each in brackets.
     send(f". '{completions}'; talft() {{ printf '[%s]' \"$@\"; echo; }}; bind 'set bell-style none'; echo read''y\n")
     read(b"ready")
     wrong = 0

@@ -1,5 +1,5 @@
 #!/usr/bin/env python3
-"""Shows the syntax files on sources: each byte is of the class that the rules of tokens give it.
+"""Tests the syntax files on sources: each byte has the class that the token rules give it.
 
     python3 tests/editors.py textmate|vim|bat FILE..
 
@@ -170,7 +170,7 @@ def main(way, *files):
             wrong += len(wanted)
             continue
         for at, (one, other) in enumerate(zip(wanted, got)):
-            # No editor colours what is blank.
+            # No editor colours blanks.
             if one != other and one != "blank":
                 wrong += 1
                 print(f"{name}: byte {at}, {text[at]!r}: {one}, and not {other}")

@@ -1,5 +1,5 @@
 #!/usr/bin/env python3
-"""Shows the syntax files of assembly texts: each byte is of the class that the rules of words give it.
+"""Tests the syntax files of assembly texts: each byte has the class that the word rules give it.
 
     python3 -B tests/editors_assembly.py textmate|vim FILE..
 
@@ -60,7 +60,7 @@ def classes(line):
 
 
 def shown(way, text):
-    """What an editor calls each byte, an end of a line too."""
+    """An editor's class of each byte, including line ends."""
     if way == "textmate":
         return scopes_of(text, "talft-asm")
     with tempfile.TemporaryDirectory() as folder:

@@ -1,9 +1,9 @@
 """Runs a guide as a reader would: `guide.py GUIDE TOP` runs the blocks of a Markdown file, in one shell at TOP.
 
-A chapter with the comment `<!-- needs PROGRAM .. -->` is left out where one of these is not there, and a line says so.
+A chapter with the comment `<!-- needs PROGRAM .. -->` is left out if one of these is missing, and a line says so.
 In a block of `console`, a line that begins with `$ ` is a command, lines that begin with `> ` go on with it, and the
 lines below are what it must write on standard output. A block `text NAME` is put into the file NAME. Other blocks are
-for the reader alone. A line is written for each command that writes something else, and a last one with the counts."""
+only for the reader. It prints a line for each command that writes something else, and a last one with the counts."""
 import os
 import re
 import shutil
@@ -16,7 +16,7 @@ FENCE = re.compile(r"^```(\w*)(?: (\S+))?\n(.*?)^```$", re.MULTILINE | re.DOTALL
 
 
 def chapters(text):
-    """The chapters whose programs are there."""
+    """The chapters whose programs are installed."""
     for chapter in re.split(r"^(?=## )", text, flags=re.MULTILINE):
         needs = NEEDS.search(chapter)
         if missing := [name for name in needs[1].split() if not shutil.which(name)] if needs else []:
@@ -26,7 +26,7 @@ def chapters(text):
 
 
 def calls(text):
-    """The shell's words of each block in turn, with what they must write."""
+    """The shell commands of each block in turn, with their expected output."""
     for kind, name, block in FENCE.findall(text):
         if kind == "text" and name:
             yield f"cat >{name} <<'END OF {name}'\n{block}END OF {name}", ""

@@ -1,10 +1,10 @@
 #!/usr/bin/env bash
-# The proved program at every limit: lawful and unlawful inputs for each command, each at its greatest size and at half of
-# that, under a native stack of 1 MB. It writes what it measured, a row a line, as tests/limits.tsv has it:
+# Measures the proved program at every limit: valid and invalid inputs for each command, at their greatest size and at half
+# of it, under a native stack of 1 MB. Writes one row for each, as in tests/limits.tsv:
 #     bash tests/limits.sh >tests/limits.tsv
-# Words are patterns for the names of rows (limits.py list). A row fails where the status or the last line is another one,
-# where there is a message of a crash, where the program takes more than 1.5 GB, or where time or memory grow faster than
-# the work. It takes ten minutes, needs Python 3 and GNU time, and is no part of the gate.
+# Words are patterns for the names of rows (limits.py list). A row fails if the status or the last line is wrong, if there is a
+# crash message, if the program takes more than 1.5 GB, or if time or memory grow faster than the work. It takes ten minutes,
+# needs Python 3 and GNU time, and is not part of the gate.
 set -u
 top=$(cd "$(dirname "$0")/.." && pwd)
 work=$(mktemp -d)

@@ -17,7 +17,7 @@ def put_map(text, data=None):
 
 
 def stubs(n, code_before):
-    """A block of this code and a `halt`, and n stubs behind it."""
+    """A block with this code and a `halt`, followed by n stubs."""
     length = len(code_before) // 16 + 1
     return spell(memory(), code_before + HALT * (n + 1), blocks=b"".join(pair(k and length + k - 1, 0) for k in range(n + 1)))
 
@@ -26,7 +26,7 @@ def imports(n):
     return "module object\n" + "".join(f"import go {k}\n" for k in range(1, n + 1)) + OTHER
 
 
-link_row("beyond", "bytes of a map, one more than may be, and half of that", MOST + 1, "bytes", lambda n: put_map("x" * n),
+link_row("beyond", "bytes of a map, one over the limit, and half of that", MOST + 1, "bytes", lambda n: put_map("x" * n),
          lambda n: (13, f"link 11 {MOST}" if n > MOST else "link 1 1"))
 link_row("lines", "lines of one export", 4096, "lines", lambda n: put_map("module object\n" + "export go 0\n" * n), same(13, "link 2 3"))
 link_row("exports", "names of one block", 4096, "names",

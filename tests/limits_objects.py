@@ -1,4 +1,4 @@
-"""Writes objects of both versions of the format, each section as the bytes of its records. It knows no rule."""
+"""Writes objects of both versions of the format, each section as the bytes of its records. It checks no rules."""
 import struct
 
 GREEN, BLUE = 0, 1
@@ -102,7 +102,7 @@ HALT = struct.pack(">BBBBIQ", 7, 0, 0, 0, 0, 0)
 
 def spell(nodes, instrs, types=None, blocks=None, cells=None, names=b"out", regs=b"", queues=b"", substs=b"",
           version=1):
-    """The object of these sections. One cell, one type and one block are there where no others are given."""
+    """The object with these sections, by default with one cell, one type and one block."""
     types = code_type() if types is None else types
     blocks = pair(0, 0) if blocks is None else blocks
     cells = cell(len(names)) if cells is None else cells

@@ -1,4 +1,4 @@
-"""The rows of limits.py, and what each command says of an object."""
+"""The rows of limits.py, and what each command says about an object."""
 ROWS = {}
 OBJECT_COMMANDS = ["check", "run", "trial", "campaign", "survey", "debug", "upgrade", "dis", "schedule", "recover", "link"]
 SOURCE_COMMANDS = ["compile", "exec", "mean"]
@@ -60,7 +60,7 @@ def refused(line):
 RUNNING = "at 0 running pcg 1 pcb 1 block 0 index 0"
 MASKED = "faults 1 masked 1 detected 0 idle 0 corrupt 0"
 IDLE = "faults 1 masked 0 detected 0 idle 1 corrupt 0"
-# What each command says of an object that is accepted, puts out nothing and halts.
+# What each command says about an object that is accepted, outputs nothing and halts.
 HALTS = {"check": same(0, "accepted"), "run": same(0), "trial": same(0), "campaign": same(0, MASKED),
          "survey": same(0, MASKED), "debug": same(0, RUNNING), "upgrade": same(0, None), "dis": same(0, "entry 0"),
          "schedule": same(0, None), "recover": same(0), "link": same(0, None)}

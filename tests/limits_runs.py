@@ -9,7 +9,7 @@ LOOP = spell(memory(), mov(1, GREEN, 1, code(0)) + mov(33, BLUE, 1, code(0)) + j
 
 
 def storing(cells=1):
-    """A loop of eight instructions that stores once a turn."""
+    """A loop of eight instructions that stores once per turn."""
     nodes = memory() + word(OUT) + word(1) + upd(0, 1, 2, 0)
     code_of = (mov(0, GREEN, OUT, REF_INT) + mov(32, BLUE, OUT, REF_INT) + mov(2, GREEN, 1) + mov(34, BLUE, 1)
                + store(GREEN, 0, 2) + store(BLUE, 32, 34)
@@ -45,7 +45,7 @@ def wild_loads(n):
 for command, want in [("trial", same(0)), ("survey", same(0, MASKED)), ("debug", same(0, RUNNING))]:
     add(f"wild-{command}", "wild answers of 20 digits", object_words(command) + ["--wild", "ANSWERS"], 4096, "answers",
         wild_loads, want)
-add("wild-more", "wild answers, one more than may be", ["trial", "object", "--wild", "ANSWERS"], 4097, "answers", wild_loads,
+add("wild-more", "wild answers, one over the limit", ["trial", "object", "--wild", "ANSWERS"], 4097, "answers", wild_loads,
     lambda n: (2, "usage") if n > 4096 else (0, ""))
 add("word", "a word of digits", ["trial", "object", "--steps", "DIGITS"], 131000, "bytes", lambda n: put_object(LOOP),
     same(2, "usage"))
@@ -79,13 +79,13 @@ list_row("thousand", "faults before the first of 1,000,000 steps with 1,024 cell
          lambda n: end(masked=n), 10 ** 6, storing(1024))
 list_row("dense", "faults before the first of 1,000,000 steps, every fourth of which stores", 1000, "faults",
          lambda n: "0:r60:6\n" * n, lambda n: end(masked=n), 10 ** 6, dense())
-list_row("bad-last", "lines, of which the last is no strike", 65536, "lines", lambda n: "0:r1:6\n" * (n - 1) + "0:r64:6\n",
+list_row("bad-last", "lines, the last not a strike", 65536, "lines", lambda n: "0:r1:6\n" * (n - 1) + "0:r64:6\n",
          lambda n: (11, f"list 1 {n}"))
-list_row("too-many", "lines, one more than may be, and half of that", 65537, "lines", lambda n: "0:r1:6\n" * n,
+list_row("too-many", "lines, one over the limit, and half of that", 65537, "lines", lambda n: "0:r1:6\n" * n,
          lambda n: (11, "list 2 65536") if n > 65536 else end(masked=n), 1)
 list_row("too-much", "faults with 1,000,000 steps each", 65536, "faults", lambda n: "0:r1:6\n" * n,
          lambda n: (11, f"list 3 {n * 10 ** 6}"), 10 ** 6)
-list_row("long-list", "bytes, one more than may be, and half of that", 4 * MIB + 1, "bytes", lambda n: to_length("\n", n),
+list_row("long-list", "bytes, one over the limit, and half of that", 4 * MIB + 1, "bytes", lambda n: to_length("\n", n),
          lambda n: (11, "list 2 65536" if n > 4 * MIB else "list 1 1"))
 for name, what, text, line in [("empty-lines", "empty lines", "\n", "list 1 1"), ("one-line", "a line of digits", "1", "list 1 1"),
                                ("zeros-list", "zero bytes", "\0", "list 1 1")]:
@@ -126,7 +126,7 @@ repeated("empty", "\n", same(0, "bad command"))
 script_row("zeros", "zero bytes", "\0", same(0, "bad command"))
 script_row("digits", "a line of digits", "1", same(0, "bad command"))
 script_row("spaces", "spaces", " ", same(0, "bad command"))
-script_row("long", "bytes, one more than may be, and half of that", "\n",
+script_row("long", "bytes, one over the limit, and half of that", "\n",
            lambda n: (11, "list 4 1048576") if n > MIB else (0, "bad command"), full=MIB + 1)
 script_row("far", "lines `step 1000000`", "", lambda n: (0, f"at {n * 10 ** 6} running"), full=20, unit="lines",
            make=lambda n: "step 1000000\n" * n)
@@ -135,7 +135,7 @@ script_row("far-cells", "lines `step 1000000` over a loop that stores, with 1,02
            make=lambda n: "step 1000000\n" * n)
 script_row("dense", "lines `step 1000000`, every fourth step stores", "", lambda n: (0, f"at {n * 10 ** 6} running"), data=dense(),
            full=10, unit="lines", make=lambda n: "step 1000000\n" * n)
-script_row("history", "times 4,096 steps forth and back, with 1,024 cells", "", same(0, "at 0 running"), data=storing(1024),
+script_row("history", "times 4,096 steps forward and back, with 1,024 cells", "", same(0, "at 0 running"), data=storing(1024),
            full=100, unit="turns", make=lambda n: "step 4096\nback 4096\n" * n)
 MANY = spell(memory(), b"".join(mov(k % 32, GREEN, k) for k in range(65535)) + HALT)
 script_row("breaks", "times `go 4000` and back, with 64 breakpoints", "", same(0, "at 0 running"), data=MANY, full=1000,

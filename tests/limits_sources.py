@@ -29,7 +29,7 @@ for name, text, line in [
 for name, what, text in [("spaces", "spaces", " "), ("lines", "line feeds", "\n"), ("comment", "one comment", "#"),
                          ("comments", "comments", "#\n")]:
     source_row(name, what, MIB, "bytes", lambda n, text=text: to_length(text, n), DONE)
-source_row("long", "bytes, one more than may be, and half of that", MIB + 1, "bytes", lambda n: " " * n,
+source_row("long", "bytes, one over the limit, and half of that", MIB + 1, "bytes", lambda n: " " * n,
            {c: (lambda n, c=c: (6, "source 1 1048576") if n > MIB else DONE[c](n)) for c in SOURCE_COMMANDS})
 source_row("zeros-number", "a number of zeros", MIB, "bytes", lambda n: "var x;x=" + "0" * (n - 9) + ";", DONE)
 
@@ -72,7 +72,7 @@ for name, digits in [("", 6), ("long-", 31)]:
     source_row(f"{name}cells", "declarations of cells" + (" of 32 bytes" if digits == 31 else ""), MIB, "bytes", make,
                not_a_source(lambda n, w=width: (6, f"source 8 {n // w}")))
 make_variables, _ = declared("var ", ";")
-source_row("twice", "declarations, the last of them again", MIB, "bytes",
+source_row("twice", "declarations, the last repeated", MIB, "bytes",
            lambda n: make_variables(n - 12) + "var n000000;", not_a_source(lambda n: (6, f"source 6 {(n - 12) // 12 * 12 + 4}")))
 source_row("once-more", "declarations of one name", MIB, "bytes", lambda n: "var a;" * (n // 6), not_a_source("source 6 10"))
 source_row("unknown", "assignments, the last to a name that is not declared", MIB, "bytes",
@@ -91,14 +91,14 @@ source_row("operators", "operators in one assignment", 201, "operators", lambda 
 source_row("weight", "weight of assignments of `1` to a cell", 65535, "weight",
            lambda n: "cell out=0;var a;var b;" + "out=1;" * ((n - 9) // 6),
            {"compile": same(0, None), "exec": same(0, "out 1"), "mean": same(0, "out 1")})
-source_row("over-weight", "weight, more than may be, and half of that", 65537, "weight",
+source_row("over-weight", "weight over the limit, and half of that", 65537, "weight",
            lambda n: "cell out=0;" + "out=1;" * ((n - 5) // 6),
            {c: (lambda n, c=c: (6, "source 10 65537") if n > 65536 else
                 {"compile": (0, None), "exec": (0, "out 1"), "mean": (0, "out 1")}[c]) for c in SOURCE_COMMANDS})
 
 # Arrays.
 for depth in (100, 101):
-    source_row(f"indices-{depth}", "indices in one another", depth, "levels", lambda n: "cell a[2]=0;var x;x=" + deep("a[", "1", "]", n) + ";",
+    source_row(f"indices-{depth}", "nested indices", depth, "levels", lambda n: "cell a[2]=0;var x;x=" + deep("a[", "1", "]", n) + ";",
                {c: (lambda n, c=c: (6, f"source 5 {20 + 2 * 100 + 1}") if n > 100 else DONE[c](n)) for c in SOURCE_COMMANDS})
 for name, what, length, wants in [
         ("arrays", "declarations of arrays of 1,024 cells", "1024", lambda w: not_a_source(lambda n: (6, f"source 8 {n // w * 1024}"))),
@@ -116,7 +116,7 @@ ARRAY = "cell a[1024]=0;var i;"
 source_row("stores-at", "weight of assignments of `1` to a cell of 1,024", 65535, "weight", lambda n: ARRAY + "a[1]=1;" * ((n - 7) // 8),
            {"compile": same(0, None), "exec": same(0, "a[1] 1"), "mean": same(0, "a[1] 1")})
 source_row("loads-at", "weight of loads from a cell of 1,024", 65530, "weight", lambda n: ARRAY + "i=a[i];" * ((n - 7) // 8), DONE)
-source_row("nested-loads", "weight of loads 99 in one another", 65530, "weight",
+source_row("nested-loads", "weight of loads nested 99 deep", 65530, "weight",
            lambda n: ARRAY + ("i=" + deep("a[", "i", "]", 99) + ";") * ((n - 7) // 400), DONE)
 
 VARIABLES = "".join(f"var v{k};" for k in range(29))
@@ -134,7 +134,7 @@ source_row("doubled", "weight of assignments of sums in a loop", 65530, "weight"
 
 for name, what, text, line, turns in [
         ("turns", "turns of a loop", "var i;while(1){i=i+1;}", "", 5 * 10 ** 7),
-        ("puts", "turns that put out a line", "cell out=0;while(1){out=1;}", "out 1", 2 * 10 ** 6),
+        ("puts", "turns that write a line", "cell out=0;while(1){out=1;}", "out 1", 2 * 10 ** 6),
         ("loads", "turns that load a cell of 1,024", ARRAY + "while(1){i=a[i]+i+1;}", "", 10 ** 7),
         ("terms", "turns over an expression of 200 operators", "var x;while(1){x=" + "x+" * 200 + "x;}", "", 10 ** 6)]:
     source_row(name, what, turns, "turns", lambda n, text=text: text, {"mean": same(9, line)}, extra={"mean": ["--turns", "N"]})

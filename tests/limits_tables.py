@@ -1,10 +1,10 @@
-"""Bytes that are no object, and lawful objects with tables that are as large as may be."""
+"""Bytes that are not an object, and lawful objects with every table at its limit."""
 from limits_objects import *
 from limits_rows import *
 
-# Bytes that are no object.
+# Bytes that are not an object.
 over_objects("zeros", "zero bytes", 64 * MIB, "bytes", bytes, refused("object 1 0"))
-over_objects("beyond", "a byte more than may be, and half of that", 64 * MIB + 1, "bytes", bytes,
+over_objects("beyond", "a byte over the limit, and half of that", 64 * MIB + 1, "bytes", bytes,
              {c: (lambda n: (7, "object 2 67108864" if n > 64 * MIB else "object 1 0")) for c in OBJECT_COMMANDS})
 FIVE = spell(memory(), mov(0, GREEN, OUT, REF_INT) + mov(1, GREEN, 5) + mov(32, BLUE, OUT, REF_INT) + mov(33, BLUE, 5)
              + store(GREEN, 0, 1) + store(BLUE, 32, 33) + HALT)
@@ -16,12 +16,12 @@ over_objects("greatest", "a header with the greatest counts, and zero bytes", 64
 GREATEST_SECOND = b"TALFT\0\0\2" + rows([1024, 1048576, 4096, 262144, 32768, 65536, 65536, 1048576, 40960, 0])
 over_objects("greatest-second", "a header of version 2 with the greatest counts, and zero bytes", 64 * MIB, "bytes",
              lambda n: GREATEST_SECOND + bytes(n - 48), refused("object 2 26075184"))
-over_objects("kinds", "nodes, of which the last is of no kind", 1048576, "nodes",
+over_objects("kinds", "nodes, the last of an unknown kind", 1048576, "nodes",
              lambda n: spell(memory() * (n - 1) + b"\6" + bytes(15), HALT),
              {c: (lambda n: (7, f"object 5 {64 + 16 * (n - 1)}")) for c in OBJECT_COMMANDS})
 
 
-# Lawful objects that are as large as may be.
+# Lawful objects at the limits.
 def names_of(count, length=32):
     return b"".join(b"n%0*d" % (length - 1, number) for number in range(count))
 
@@ -31,7 +31,7 @@ def cells_of(count, length=32, word=0):
 
 
 def many_types(count, registers, queue):
-    """Types of which all but the first have rows for so many registers and pairs, of nodes from 1 on."""
+    """Types, all but the first with rows for this many registers and pairs, of nodes from 1 on."""
     types, regs, queues, node = [code_type()], [], [], 1
     for number in range(1, count):
         for register in range(registers):
@@ -55,9 +55,9 @@ def largest(n, version=1, length=32):
 # The check refuses the first of the blocks that jump.
 LARGEST = {c: (lambda n, a=a: (a(n)[0], f"check block {n - n // 8} index 0 premise 1" if a(n)[0] == 8 else a(n)[1]))
            for c, a in unaccepted("").items()}
-over_objects("largest", "every table as large as may be, by instructions", 65536, "instructions", largest,
+over_objects("largest", "every table at its limit, scaled by instructions", 65536, "instructions", largest,
              LARGEST)
-over_objects("largest-second", "every table of version 2 as large as may be, by instructions", 65536, "instructions",
+over_objects("largest-second", "every table of version 2 at its limit, scaled by instructions", 65536, "instructions",
              lambda n: largest(n, 2, 40), {c: LARGEST[c] for c in ("check", "upgrade", "dis")})
 over_objects("halts", "blocks of one instruction", 65536, "blocks",
              lambda n: spell(memory(), HALT * n, None, b"".join(pair(k, 0) for k in range(n))), HALTS)
@@ -77,7 +77,7 @@ over_objects("stores", "stores to 1,024 cells, each green and then blue", 65536,
                        + store(BLUE, 32, 32) for k in range((n - 1) // 4)) + HALT, cells=cells_of(1024), names=names_of(1024)),
     {"check": HALTS["check"], "run": lambda n: (0, "n%031d %d" % (((n - 1) // 4 - 1) % 1024, OUT + ((n - 1) // 4 - 1) % 1024)),
      "debug": HALTS["debug"]})
-over_objects("names", "cells of which the names differ in their last bytes", 1024, "cells",
+over_objects("names", "cells whose names differ in their last bytes", 1024, "cells",
              lambda n: spell(memory(), HALT, cells=cells_of(n), names=names_of(n)), HALTS, power=2)
 over_objects("indexes", "an `idx` over 1,024 cells per instruction", 65536, "instructions",
              lambda n: spell(memory(), mov(0, GREEN, 4) + b"".join(idx(1 + k % 31, 0, 0, 1024) for k in range(n - 2)) + HALT,

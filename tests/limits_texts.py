@@ -14,14 +14,14 @@ def missing(number):
     return lambda n: (12, f"asm 2 {number(n)}")
 
 
-text_row("largest", "the text of every table of version 2 as large as may be, by instructions", 65536, "instructions",
+text_row("largest", "the text of every table of version 2 at its limit, scaled by instructions", 65536, "instructions",
          lambda n: "".join(f"{line}\n" for line in disassemble(largest(n, 2, 40))), same(0, None))
 text_row("lines", "empty lines", MOST, "bytes", lambda n: "\n" * n, missing(lambda n: n + 1))
 text_row("comment", "one comment", MOST, "bytes", lambda n: "#" * n, missing(lambda n: 2))
 text_row("blanks", "one line of spaces", MOST, "bytes", lambda n: " " * n, missing(lambda n: 2))
 text_row("word", "one word", MOST, "bytes", lambda n: "x" * n, same(12, "asm 1 1"))
 text_row("words", "words of one byte in a line", MOST, "bytes", lambda n: to_length("# ", n), missing(lambda n: 2))
-text_row("beyond", "bytes, one more than may be, and half of that", MOST + 1, "bytes", lambda n: "#" * n,
+text_row("beyond", "bytes, one over the limit, and half of that", MOST + 1, "bytes", lambda n: "#" * n,
          lambda n: (12, f"asm 3 {MOST}" if n > MOST else "asm 2 2"))
 text_row("digits", "digits of a number", MOST, "bytes", lambda n: to_length("entry 1" + "0" * n, n), same(12, "asm 1 1"))
 text_row("name", "bytes of a name", MOST, "bytes", lambda n: "cell " + "a" * (n - 20) + " int 0\nentry 0\n", same(7, f"object 2 {64 * MIB}"))

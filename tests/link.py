@@ -1,10 +1,11 @@
-"""Links modules as texts: `link.py MAP` writes the assembly text of what a map links of the modules whose texts lie beside their
-objects, MODULE.asm beside MODULE.obj, as `talft dis` writes them. It is written from the rules alone, and refuses nothing."""
+"""Links modules as texts: `link.py MAP` writes the assembly text of the object that a map links. The modules' texts
+are next to their objects, MODULE.asm next to MODULE.obj, as `talft dis` writes them. It is written only from the
+rules, and refuses nothing."""
 import sys
 
 
 class Module:
-    """A module's lines, by their tables, and how many things of each kind stand before it."""
+    """A module's lines, by their tables, and how many of each kind come before it."""
 
     def __init__(self, path, before):
         self.cells, self.nodes, self.types, self.blocks, self.entry = [], [], [], [], 0
@@ -33,7 +34,7 @@ class Module:
             self.blocks[-1][1].append(words)
 
     def after(self):
-        """What stands before the next module."""
+        """The counts before the next module."""
         counts = {"nodes": len(self.nodes), "types": len(self.types), "blocks": len(self.blocks),
                   "instrs": sum(len(lines) for _, lines in self.blocks)}
         return {kind: self.before[kind] + count for kind, count in counts.items()}

@@ -1,7 +1,7 @@
 #!/usr/bin/env bash
-# Every command over its example, with each allocation failing in turn; and every command over a large input, under limits on
-# its memory that rise until it has enough. Each such run ends with status 5 and nothing written, or as without a failure.
-# It needs a C compiler and Python 3, and is no part of the gate.
+# Runs every command over its example with each allocation failing in turn, and over a large input under memory limits that
+# rise until they suffice. Each run must end with status 5 and write nothing, or end as it does without a failure.
+# It needs a C compiler and Python 3, and is not part of the gate.
 set -u
 top=$(cd "$(dirname "$0")/.." && pwd)
 work=$(mktemp -d)
@@ -60,7 +60,7 @@ each 'link' /dev/null link caller.map
 cd "$top/examples" || exit
 each 'a missing file' /dev/null trial missing
 
-# What is on standard error is then not the program's.
+# Standard error is then not the program's.
 export TALFT_EXPLAIN=0
 # The least memory in KB under which the program says `usage`.
 least=2048
@@ -110,7 +110,7 @@ rising 'survey of many faults' /dev/null survey five.obj --faults "$work/many.fa
 rising 'debug with a long script' "$work/long.script" debug "$work/heavy.obj"
 rising 'a large demonstration' /dev/null demo 10921
 rising 'upgrade of a large object' /dev/null upgrade "$work/heavy.obj"
-# Objects whose check wants much memory.
+# Objects whose check needs much memory.
 cd "$work" || exit
 for row in 'fibonacci-check 20000' 'levels-check 40000' 'turned-check 2' 'updates-check 100000' 'largest-check 8192'; do
   python3 "$top/tests/limits.py" ${row} >lines || failed=$((failed + 1))

@@ -20,7 +20,7 @@ def chunks(data):
 
 
 def unfiltered(kind, row, above, size):
-    """A row of dots, each of so many bytes; its bytes are differences from others, as the kind of filter says."""
+    """A row of dots, each of this many bytes; its bytes are differences from others, depending on the filter."""
     out = bytearray(row)
     for at, byte in enumerate(row):
         left = out[at - size] if at >= size else 0

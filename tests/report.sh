@@ -1,4 +1,4 @@
-# Counts what passed, what failed and what was skipped, in a folder that goes at the end. Scripts of this folder begin with it.
+# Counts what passed, failed and was skipped, in a temporary folder. The scripts of this folder begin with it.
 work=$(mktemp -d)
 trap 'rm -rf "$work"' EXIT
 passed=0 failed=0 skipped=0
@@ -19,7 +19,7 @@ skip() {
   printf 'SKIPPED %s: %s\n' "$1" "$2"
 }
 
-# `has COMMAND NAME` says whether the command is there. If not, what needs it is skipped.
+# `has COMMAND NAME` tests whether the command exists. If not, what needs it is skipped.
 has() {
   command -v "$1" >/dev/null && return
   skip "$2" "$1 is not installed"

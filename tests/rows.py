@@ -1,13 +1,13 @@
 #!/usr/bin/env python3
-"""Compares the program with worked rows: words, the text that is written and the status.
+"""Compares the program with worked rows: words, output and status.
 
     tests/rows.py PROGRAM
 
 Each file of tests/rows/ is a table. A row is the status, the words, the text and what the words are over, with `|`
 between them. A line feed is written `\\n`. The head of a table says what the last part is: standard input, or a file by
-its name. The worked objects lie beside it under the names of crates/ft_worked_objects. Rows whose files are made are in
+its name. The worked objects are next to it, named as in crates/ft_worked_objects. Rows whose files are generated are in
 rows_made.py. Values come from the definitions and from another implementation. Writes a line for each row that fails,
-and last how many passed and failed.
+and finally how many passed and failed.
 """
 import os
 import re

@@ -1,4 +1,4 @@
-"""Rows of tests/rows.py whose files are made: altered objects, long texts, and answers compared with each other."""
+"""Rows of tests/rows.py whose files are generated: altered objects, long texts, and outputs compared with each other."""
 import struct
 
 # The object that stores 5, as an assembly text.
@@ -45,7 +45,7 @@ MODULES = {
     "r": "node 0 memory|node 0 word 1|type 0 0|reg r2 G code:0 1|type 0 0|block 1|halt",
 }
 
-# Maps that are refused, with what is written and the status.
+# Refused maps, with output and status.
 MAPS = [
     (b"module m\nimport go 1\nmodule A\n", b"link 9 2\n", 13),
     (b"module m\nimport go 0\nmodule A\nexport go 0\n", b"link 8 2\n", 13),
@@ -69,7 +69,7 @@ MAPS = [
     (b"module A\n" * 7282, b"link 11 65536\n", 13),
 ]
 
-# Bytes of `A` that are altered: the place, the byte that is put there and what is written.
+# Altered bytes of `A`: the place, the new byte and the output.
 ALTERED = [
     (0, 0x55, b"object 1 0\n"),
     (7, 0x03, b"object 1 0\n"),
@@ -82,7 +82,7 @@ ALTERED = [
     (47, 0x01, b"object 9 44\n"),
 ]
 
-# Objects that the checker refuses, by the premise that they break: the object, its changes and what is written.
+# Objects that the checker refuses, by the premise that they break: the object, its changes and the output.
 REFUSED = [
     ("A", [(53, 1)], b"check cell 0\n"),
     ("A", [(92, 1)], b"check entry\n"),
@@ -213,7 +213,7 @@ def campaigns(calls):
 
 
 def ends(calls, faults, words, end):
-    """Compares the end of what is written over a list of faults."""
+    """Compares the end of the output over a list of faults."""
     calls.add("list", faults)
     written, status = calls.answer(words.split())
     calls.count(status == 0 and written.endswith(end), f"{words} answers {status} and ends {written[-80:]!r}")

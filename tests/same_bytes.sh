@@ -1,9 +1,9 @@
 #!/usr/bin/env bash
 # Builds program, C library, tarball and package twice, and compares the bytes: in other folders, one after the other, under
-# another user, umask, locale, time zone and number of processors. Without --packages program and library are compiled in each
-# copy, from proofs that the kit has kept; with --anew, or where the kit keeps nothing, each copy is proved from nothing, too. With
-# `--packages PROGRAM` the library is linked twice of the archive that is built here, and the tarball and the package are made
-# twice of it and of this program. That takes seconds: the gate does so. It prints a line for each file.
+# another user, umask, locale, time zone and number of processors. Without --packages, program and library are compiled in
+# each copy, from proofs that the kit has kept; with --anew, or if the kit keeps nothing, each copy is proved from scratch.
+# With `--packages PROGRAM` the library is linked twice from the archive that is built here, and the tarball and the package
+# are made twice from it and from this program. That takes seconds, so the gate does it. It prints a line for each file.
 set -u
 from=$(cd "$(dirname "$0")/.." && pwd)
 way=${1-} given=${2-}
@@ -23,7 +23,7 @@ for copy in "$one" "$two"; do
 done
 find "$two" -exec touch -d '2001-02-03 04:05:06' {} +
 
-# `built FOLDER` builds what was asked for in a copy.
+# `built FOLDER` builds the requested parts in a copy.
 built() {
   cd "$1" || exit 2
   [ "$way" = --packages ] || bash build/prove.sh ${way:+"$way"} >log 2>&1 || { tail -n 5 log; exit 1; }
@@ -36,10 +36,10 @@ export -f built
 as=
 if [ "$(id -u)" = 0 ]; then
   chown -R nobody "$two" "$room/another"
-  # The kit keeps its proofs for its own user. What only that user can run is not on the path of another one.
+  # The kit keeps its proofs for its own user. What only that user can run is not on another user's path.
   [ "$way" != --packages ] || as='env PATH=/usr/local/bin:/usr/bin:/bin setpriv --reuid=nobody --clear-groups'
 fi
-# The kit runs the tests of crates as nobody, who has to be able to read them.
+# The kit runs the tests of crates as nobody, who must be able to read them.
 if [ "$way" = --packages ]; then umask 077; else umask 002; fi
 $as taskset -c 0 bash -c 'export HOME=$two TMPDIR=$two; built "$two"' >"$room/said" || { cat "$room/said" >&2; exit 1; }
 same=0

@@ -26,7 +26,7 @@ def leads(words):
 
 
 def permitted(first, second, queued):
-    """Returns whether two neighbours may be exchanged, where so many pairs are queued before the first."""
+    """Returns whether two neighbours may be exchanged, given the number of pairs queued before the first."""
     if first[0].startswith(FIXED) or second[0].startswith(FIXED) or leads(first) or not leads(second):
         return False
     (writes, reads), (writes_2, reads_2) = registers(first), registers(second)
@@ -36,7 +36,7 @@ def permitted(first, second, queued):
 
 
 def scheduled(block, rows):
-    """Returns the instructions of a block whose code type has so many queue rows, in an order with no exchange left."""
+    """Returns the instructions of a block, given the number of queue rows of its code type, in an order with no exchange left."""
     block, at = list(block), 0
     while at + 1 < len(block):
         queued = rows + sum((words[0] == "st_G") - (words[0] == "st_B") for words in block[:at])

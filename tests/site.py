@@ -1,5 +1,5 @@
 #!/usr/bin/env python3
-"""Checks a site that `make site` made: `tests/site.py FOLDER` writes each link that leads nowhere, each page without a title, and
+"""Checks a site made by `make site`: `tests/site.py FOLDER` writes each link that leads nowhere, each page without a title, and
 each script, style sheet or picture from elsewhere. The last line counts the pages and the links.
 """
 import html.parser

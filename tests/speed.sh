@@ -1,17 +1,17 @@
 #!/usr/bin/env bash
-# Counts the machine instructions of each command by valgrind's callgrind. No other work on the machine changes a
-# count. A row fails where its count is more than 2 in 100 above the one in tests/speed.counts. It is a part of the
-# gate. The C library chooses how it copies by the processor: here it takes what all processors have. Counts with
-# another version of it are not compared.
+# Counts the machine instructions of each command with valgrind's callgrind; load on the machine does not affect them.
+# A row fails if its count is more than 2 % above the one in tests/speed.counts. It is part of the gate. The C library
+# selects its copying functions by processor: here it uses those that every processor has. Counts with another version
+# of that library are not compared.
 #
 #     bash tests/speed.sh [--write] [ROW..]
 #     PLAIN=.. bash tests/speed.sh --times
 #
-# Calls are counted without explanations: to tell what a run met, it is run again, which no other program does.
+# Calls are counted without explanations: to explain a run, talft repeats it, and no other program does.
 #
-# PLAIN names another program, with words that come before those of a row. Then its counts are taken, too; else those
-# that are kept are shown. With --write the counts become those that are kept, and docs/SPEED.md shows them. With --times
-# both programs run each row twenty times in turn, and docs/SPEED.md shows the medians of their times: let nothing else run.
+# PLAIN names another program, with words that precede those of a row. Its counts are then taken as well; otherwise the
+# recorded ones are shown. With --write the new counts are recorded and put into docs/SPEED.md. With --times both
+# programs run each row twenty times in turn, and docs/SPEED.md gets the medians of their times: run nothing else.
 set -u
 top=$(cd "$(dirname "$0")/.." && pwd)
 . "$top/tests/report.sh"

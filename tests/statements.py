@@ -1,11 +1,11 @@
 #!/usr/bin/env python3
-"""Lists lemmas and definitions of proofs that stand in more than one file.
+"""Lists lemmas and definitions that occur in more than one proof file.
 
     tests/statements.py
 
-A lemma of crates/*/proofs/ is read up to its first equation, an `abbrev` with its equations. Two are one where they
-differ by bound names alone and speak of the same definitions: a name of this repository is known by the module that it
-comes from. Writes a line for each group, with its places; writes nothing where each statement stands once.
+A lemma of crates/*/proofs/ is read up to its first equation, an `abbrev` with its equations. Two are the same if
+they differ only in bound names and refer to the same definitions: a name of this repository is identified by its module.
+Writes a line for each group, with its places, and nothing if each statement occurs once.
 """
 import collections
 import glob

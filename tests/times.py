@@ -1,10 +1,10 @@
 #!/usr/bin/env python3
-"""Runs a command, and tells the processor minutes that the prover took for each crate, as a table.
+"""Runs a command, and writes a table of the processor minutes that the prover took for each crate.
 
     tests/times.py OUT COMMAND..
 
-as in `tests/times.py times.md rt ci`, with --anew after it where the kit keeps proofs. It looks at all processes of the prover
-twice a second, so what another run proves in the meantime counts, too: run it alone. The table OUT has each crate's minutes in
+as in `tests/times.py times.md rt ci`, followed by --anew if the kit keeps proofs. It looks at all processes of the prover
+twice a second, so proofs of another run at the same time are counted too: run it alone. The table OUT has each crate's minutes in
 the order of crates.txt, by proof, tests and wrong bodies, their sum, and how long the command took. The status is the
 command's.
 """

@@ -1,11 +1,11 @@
 #!/usr/bin/env bash
-# The tools as a user has them at large: 1,000,000 faults of two programs, with their pictures and pages; machines over
-# ssh, of which one goes away; Slurm; programs in C; long walks of the debugger, and Emacs as its client; the C library. It starts
-# servers of its own, for this test alone. It is no part of the gate.
+# Tests the tools at full scale: 1,000,000 faults of two programs, with their pictures and pages; machines over ssh, one of
+# which disappears; Slurm; programs in C; long walks of the debugger, and Emacs as its client; the C library. It starts
+# its own servers, for this test only. It is not part of the gate.
 #
 #     bash tests/tools.sh [large | ssh | slurm | c | debugger | editor | embed ..]
 #
-# What is not installed is named, and what needs it is skipped. With KEEP=FOLDER the pictures and pages are kept there.
+# Missing programs are named, and what needs them is skipped. With KEEP=FOLDER the pictures and pages are kept there.
 set -u
 top=$(cd "$(dirname "$0")/.." && pwd)
 . "$top/tests/report.sh"
@@ -64,7 +64,7 @@ large() {
   done
 }
 
-# Ten parts, and a program that takes its time for each.
+# Ten parts, and a program that is slow for each.
 ten_parts() {
   unset TALFT
   rm -rf here
@@ -104,7 +104,7 @@ goes_on() {
   report "the lines of $1" '' "$(cmp written wanted 2>&1)"
 }
 
-# Two machines over ssh: two servers on this one, for this user's key alone.
+# Two machines over ssh: two servers on this one, only for this user's key.
 machine() {
   cat >"$1.conf" <<END
 Port $2
@@ -255,7 +255,7 @@ in_c() {
   report 'programs of csmith' '' "$(grep 'failed [1-9]\|wrong [1-9]' said)"
 }
 
-# The debugger: walks over many programs, random sources, what it knows of the machine, and how long its commands take.
+# The debugger: walks over many programs, random sources, what it knows about the machine, and how long its commands take.
 debugger() {
   local tests=$top/tests/debugging program
   unset TALFT
@@ -284,7 +284,7 @@ asm talft launch \${file}|asm talft launch \${file}|<F6> is mapped|<S-F5> is map
     --eval "$load" --eval "(princ (plist-get (cdr (assq 'talft dape-configs)) 'command))" 2>&1 | tail -n 1)"
 }
 
-# Emacs with dap-mode, both of Debian, as a client of tools/dap: it steps on and back, and meets what was detected.
+# Emacs with dap-mode, both from Debian, as a client of tools/dap: it steps forward and back, and sees a detection.
 editor() {
   local n
   unset TALFT
@@ -308,7 +308,7 @@ END
 )" "$(cat told 2>&1)"
 }
 
-# The C library: sanitizers, valgrind, turned bits, a million damages, allocations that fail, and ARM.
+# The C library: sanitizers, valgrind, flipped bits, a million damaged inputs, failing allocations, and ARM.
 embed() {
   local library=$top/crates/ft_c/out/library of words
   bash "$top/build/library.sh" >said 2>&1 || { report 'the C library' 0 1; return; }
@@ -327,7 +327,7 @@ embed() {
   if has valgrind 'the library under valgrind'; then
     report 'the library under valgrind' 0 "$(valgrind -q --error-exitcode=9 --leak-check=full ./tries 30 3 "$@" >tried 2>&1; echo $?)"
   fi
-  # The library whose memory is one block of the caller.
+  # The library that takes its memory from one block of the caller.
   cc "${words[@]}" -O2 "$top/tests/embed/arena.c" "$top/embed/arena.c" "$library/libft_c.a" -o in_arena
   report 'the library in one block' 0 "$(./in_arena "$@" >tried 2>&1; echo $?)"
   if has aarch64-linux-gnu-gcc 'the library for ARM' && has qemu-aarch64 'the library for ARM'; then

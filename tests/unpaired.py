@@ -1,5 +1,5 @@
 #!/usr/bin/env python3
-"""Makes of a compiled object one that is not accepted: its blue stores read the registers of the green ones.
+"""Turns a compiled object into one that is not accepted: its blue stores read the registers of the green ones.
 
     python3 tests/unpaired.py OBJECT >OTHER
 """

@@ -12,7 +12,7 @@ TOP = os.path.dirname(os.path.dirname(os.path.abspath(__file__)))
 
 
 def change(old, new):
-    """A change that puts one text in place of another, which has to be there."""
+    """A change that replaces a text, which must be there."""
     def changed(text):
         assert old in text, old
         return text.replace(old, new, 1)
@@ -21,7 +21,7 @@ def change(old, new):
 
 # How a clause of `check` begins.
 CHECK = "ensures program"
-# What is taken away: its file, the change, or None where the file goes, and a part of what has to be said.
+# What is removed: its file, the change, or None to remove the file, and a part of the expected message.
 CASES = [
     ("a clause", "crates/ft_checker/src/judge.rt", change(CHECK, "ensures it"), "has no clause check.program"),
     ("a clause without a requirement", "crates/ft_checker/src/judge.rt",
@@ -51,7 +51,7 @@ CASES = [
     ("a row of the trace", "docs/TRACE.md", lambda text: re.sub(r"\| CHK-01 \|.*\n", "", text),
      "docs/TRACE.md is stale"),
 ]
-# What is put there without a requirement.
+# What is added without a requirement.
 MORE = [
     ("a wrong body without a requirement", "tests/wrong-bodies/ft_isa/more.edit",
      "no requirement names the wrong body ft_isa/more"),

@@ -1,11 +1,11 @@
 #!/usr/bin/env bash
-# What a new user does, in a clean clone: the first answer, `make`, an installed program with its manual, completion and
-# syntax files, and all of it taken away again. It prints what it measured. It is no part of the gate.
+# Does what a new user does in a clean clone: the first answer, `make`, and an installed program with its manual, completion
+# and syntax files, which is then removed. It prints what it measured. It is not part of the gate.
 #
 #     bash tests/users.sh [--quick | --anew]
 #
-# With --quick nothing is proved, and the installed program and library are stand-ins. With --anew nothing is taken from what a kit has
-# kept of earlier proofs. Tools that are missing are named, and what needs them is left out.
+# With --quick nothing is proved, and the installed program and library are stand-ins. With --anew nothing is reused from
+# earlier proofs. Missing programs are named, and what needs them is skipped.
 set -u
 from=$(cd "$(dirname "$0")/.." && pwd)
 . "$from/tests/report.sh"
@@ -28,7 +28,7 @@ report 'the first answer within a minute' yes "$([ "$took" -lt 60 ] && echo yes 
 echo "seconds to the first answer: $took"
 
 # Calls before the proof, two at a time: `tried NAME STATUS TEXT COMMAND` has the status and the text of the proved program,
-# or status 70 where the sources cannot be tried so.
+# or status 70 if the sources cannot be run in this way.
 tried() {
   local name=$1 status=$2 text=$3 of
   shift 3
@@ -90,7 +90,7 @@ start=$(date +%s%N)
 report 'make again' "talft: $top/crates/talft/out/talft is proved and built" "$(make)"
 echo "milliseconds of make again: $((($(date +%s%N) - start) / 1000000))"
 
-# What is installed.
+# The installed files.
 here=$(mktemp -d "$work/here.XXX")
 make -s install DESTDIR="$here" PREFIX=/usr >"$work/said" 2>&1
 report 'make install' 0 $?

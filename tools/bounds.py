@@ -1,10 +1,10 @@
-"""What a campaign over a list says of all faults that the list was drawn from: counts by class of site, and bounds."""
+"""What a campaign over a sample says about all faults that it was drawn from: counts by class of site, and bounds."""
 import json
 import math
 
 from common import SITES, VERDICTS, Refused
 
-# The probability with which the true share lies above its bound is at most this.
+# The probability that the true share lies above its bound is at most this.
 DOUBT = 0.05
 CLASSES = ("registers", "d", "counters", "queue")
 
@@ -15,7 +15,7 @@ def class_of(site):
 
 
 def tail(count, drawn, share):
-    """The probability that at most `count` of `drawn` have what this share of all have: a binomial tail."""
+    """The probability that at most `count` of `drawn` have a property that this share of all have: a binomial tail."""
     if share >= 1:
         return float(count >= drawn)
     if share <= 0:
@@ -23,7 +23,7 @@ def tail(count, drawn, share):
     mode = min(count, int((drawn + 1) * share))
     log = (math.lgamma(drawn + 1) - math.lgamma(mode + 1) - math.lgamma(drawn - mode + 1)
            + mode * math.log(share) + (drawn - mode) * math.log1p(-share))
-    # From the largest term in both directions, until terms no longer count.
+    # From the largest term in both directions, until terms become negligible.
     odds, total = share / (1 - share), 1.0
     term, at = 1.0, mode
     while at > 0 and term > 1e-18:
@@ -52,13 +52,13 @@ def upper(count, drawn, doubt=DOUBT):
 
 
 def about(places_of, each, drawn, words):
-    """What tools/faults says of a list: how many faults of each class it is drawn from, how many there are, and its words."""
+    """What tools/faults records about a list: how many faults of each class it is drawn from, how many it has, and its words."""
     of = {name: places * each for name, places in places_of.items()}
     return json.dumps({"of": of, "drawn": drawn, "words": words}) + "\n"
 
 
 def read_about(path):
-    """What is said of a list, of which the counts are whole numbers."""
+    """What is recorded about a list, with counts as whole numbers."""
     try:
         with open(path, encoding="utf-8") as file:
             told = json.load(file)
@@ -69,12 +69,12 @@ def read_about(path):
 
 
 def share(value):
-    """A share in percent, with three digits that count."""
+    """A share in percent, with three significant digits."""
     return f"{float(f'{100 * value:.3g}'):g} %"
 
 
 def summary(counts, told):
-    """Lines with the counts by class, and what they say of all faults. `told` is what `read_about` gives."""
+    """Lines with the counts by class, and what they say about all faults. `told` is what `read_about` gives."""
     of, drawn, words = told
     by_class = {name: dict.fromkeys(VERDICTS, 0) for name in CLASSES}
     for (site, verdict), count in counts.items():

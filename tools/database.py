@@ -32,7 +32,7 @@ CREATE TABLE IF NOT EXISTS verdict (
 
 
 def check_database(path):
-    """Refuses a file that is no database, before a campaign is run whose verdicts it is to keep."""
+    """Refuses a file that is not a database, before the campaign is run."""
     if not os.path.exists(path):
         return
     with open(path, "rb") as file:
@@ -42,7 +42,7 @@ def check_database(path):
 
 
 def keep(path, told, told_about, verdicts):
-    """Puts a campaign with its verdicts into the file, in place of the same one from before, or changes nothing."""
+    """Stores a campaign with its verdicts, replacing an earlier run of the same campaign, or changes nothing."""
     of, drawn, words = told_about or (None, None, None)
     sampled = None if of is None else int(drawn < sum(of.values()))
     key = (told["object"], told["faults"], " ".join(told["words"]))

@@ -1,4 +1,4 @@
-"""What runs the parts of a campaign: this machine, GNU parallel or Slurm; and how far they are."""
+"""Runs the parts of a campaign on this machine, with GNU parallel or with Slurm, and reports progress."""
 import os
 import re
 import signal
@@ -12,7 +12,7 @@ MOST_TASKS = 1_000
 
 
 class Progress:
-    """Tells how far the campaign is: on a terminal at once, else every ten seconds."""
+    """Reports the progress of the campaign: on a terminal at once, otherwise every ten seconds."""
 
     def __init__(self, campaign):
         self.campaign, self.all = campaign, sum(campaign.counts)
@@ -33,7 +33,7 @@ class Progress:
         print(f"\r\033[K{line}" if terminal else line, end=end, file=sys.stderr, flush=True)
 
     def clear(self):
-        """Takes the line off a terminal: what is told next begins a line."""
+        """Clears the line on a terminal, so that the next message starts a line."""
         if sys.stderr.isatty():
             print("\r\033[K", end="", file=sys.stderr, flush=True)
 
@@ -46,22 +46,37 @@ def end(process):
         pass
 
 
+def built(name):
+    """The proved program, where a repository's script `talft` would run it: the script looks at all sources at each call.
+    Else the name as it is."""
+    top = os.path.dirname(name)
+    if os.path.basename(name) != "talft" or not os.path.isfile(os.path.join(top, "build", "sources.sh")):
+        return name
+    words = ["bash", "-c", '. "$top/build/sources.sh" && is_built && echo "$program"']
+    found = subprocess.run(words, env={**os.environ, "top": top}, stdin=subprocess.DEVNULL, stdout=subprocess.PIPE,
+                           check=False)
+    return os.fsdecode(found.stdout).rstrip("\n") or name
+
+
 def local(campaign, asked, progress):
-    """So many parts at once on this machine."""
-    waiting, running, jobs = campaign.left(), {}, asked.jobs or os.cpu_count()
+    """So many parts at once on this machine. The next part begins before an answer is taken."""
+    waiting, running, ended, jobs = campaign.left(), {}, [], asked.jobs or os.cpu_count()
+    campaign.called = built(campaign.called)
     try:
-        while waiting or running:
+        while waiting or running or ended:
+            for part in [part for part, process in running.items() if process.poll() is not None]:
+                ended.append((part, running.pop(part).returncode))
             while waiting and len(running) < jobs:
                 part = waiting.pop(0)
                 running[part] = subprocess.Popen(["sh", "-c", campaign.job(f"{part:06}")], cwd=campaign.folder,
                                                  start_new_session=True)
-            for part, process in list(running.items()):
-                if process.poll() is not None:
-                    del running[part]
-                    campaign.failures[part] = f"no answer (status {process.returncode} of the shell)"
-                    campaign.take(part)
+            if ended:
+                part, status = ended.pop(0)
+                campaign.failures[part] = f"no answer (status {status} of the shell)"
+                campaign.take(part)
+            else:
+                time.sleep(0.002)
             progress.tell()
-            time.sleep(0.02)
     finally:
         for process in running.values():
             end(process)
@@ -69,7 +84,7 @@ def local(campaign, asked, progress):
 
 
 def spread(campaign, progress, command, stop, grace=0):
-    """Runs an engine's command, and takes the answers as they come; after its end it waits for those on their way."""
+    """Runs an engine's command, and takes the answers as they arrive; after its end it waits for outstanding ones."""
     waiting, ended = campaign.left(), None
     out = os.path.join(campaign.folder, f"{campaign.run}.engine")
     with open(out, "wb") as told:
@@ -105,7 +120,7 @@ def parallel(campaign, asked, progress):
     write(os.path.join(campaign.folder, "jobs"), "".join(f"{part:06}\n" for part in campaign.left()).encode())
 
     def stop(engine, _):
-        # At the first signal it begins no further job, at the second it ends those that run.
+        # At the first signal it starts no further job, at the second it ends the running ones.
         end(engine)
         time.sleep(0.1)
         end(engine)

@@ -1,4 +1,4 @@
-"""What a campaign leaves beside its lines: the object, the steps of its runs, and whether they were cut."""
+"""What a campaign keeps besides its lines: the object, the steps of its runs, and whether they were cut."""
 import collections
 import itertools
 import json
@@ -11,7 +11,7 @@ from common import SITES, VERDICT, Refused, check_object, in_this_process, not_r
 from debugging.sessions import length_of_run
 from messages import named
 
-# How many faults of each verdict are tried again to see whether lines are an object's, and among how many they are looked for.
+# How many faults of each verdict are retried to test whether lines belong to an object, and among how many they are sought.
 MOST_TRIED, MOST_LOOKED_AT = 16, 100_000
 Kept = collections.namedtuple("Kept", "object words wild command faults version began is_cut steps")
 
@@ -36,7 +36,7 @@ def kept_in(folder):
 
 
 def some_of(path):
-    """The first faults of each verdict but idle: number of the line, fault, verdict, and a step of which its run is known."""
+    """The first faults of each verdict but idle: number of the line, fault, verdict, and a step up to which its run is known."""
     found = collections.defaultdict(list)
     for number, line in enumerate(itertools.islice(verdicts(path), MOST_LOOKED_AT), 1):
         step, site, word, verdict, at = line
@@ -52,7 +52,7 @@ def is_possible(told, again):
 
 
 def check_lines(path, object_file, wild=None):
-    """Refuses lines that are another object's, as far as it shows where some of their faults are tried again."""
+    """Refuses lines from another object, as far as retrying some of their faults shows it."""
     some = some_of(path)
     if not some:
         return
@@ -74,18 +74,23 @@ def check_lines(path, object_file, wild=None):
 
 
 def is_cut(object_file, steps, wild=None):
-    """Whether the run without a fault goes on after so many steps."""
+    """Whether the run without a fault continues after this many steps."""
     return not length_of_run(object_file, steps, wild)[1]
 
 
-def version():
-    """What `talft --version` says, or None where it does not say it."""
+def asked_version():
+    """A running `talft --version`, whose output `version` reads, or None if there is no such program."""
     try:
-        said = subprocess.run([program(), "--version"], stdin=subprocess.DEVNULL, capture_output=True, text=True,
-                              errors="replace", check=False)
+        return subprocess.Popen([program(), "--version"], stdin=subprocess.DEVNULL, stdout=subprocess.DEVNULL,
+                                stderr=subprocess.PIPE, text=True, errors="replace")
     except OSError:
         return None
-    found = re.search(r"\b\d+\.\d+\.\d+\S*", said.stderr)
+
+
+def version(asked=None):
+    """What `talft --version` says, or None."""
+    asked = asked or asked_version()
+    found = asked and re.search(r"\b\d+\.\d+\.\d+\S*", asked.communicate()[1])
     return found[0] if found else None
 
 
@@ -106,7 +111,7 @@ def used_registers(object_file):
     registers, found = set(SITES[:64]), set()
     for line in said.decode("utf-8", "replace").splitlines():
         words = line.split()
-        # Other lines have types of registers, and names that may look like a register.
+        # Other lines have register types, and names that may look like registers.
         if words and words[0] not in ("cell", "node", "type", "block", "entry", "reg"):
             found.update(registers.intersection(words[1:]))
     return found

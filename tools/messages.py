@@ -1,31 +1,34 @@
-"""How messages quote words, name files, and say what the system refused."""
+"""How messages quote words, name files, and report system errors."""
 import errno
 import os
 import re
 
 MOST_QUOTED, MOST_NAMED = 60, 200
 REASONS = {errno.ENOENT: "no such file", errno.EISDIR: "is a folder", errno.EACCES: "permission denied",
-           errno.EPERM: "permission denied", errno.ENOTDIR: "a part of its path is not a folder",
+           errno.EPERM: "permission denied", errno.ENOTDIR: "is not a folder",
            errno.EEXIST: "exists already", errno.ENOSPC: "no space left on the device",
            errno.ENAMETOOLONG: "the name is too long", errno.ENOEXEC: "cannot be executed"}
 
+# What people leave out at the end of a name.
+ENDS = ".obj", ".src", ".asm", ".map", ".faults", ".c"
+
 
 def escaped(letter):
-    """A letter that would not be seen, or that would move the cursor, as Python writes it."""
+    """An invisible letter, or one that would move the cursor, as Python writes it."""
     byte = ord(letter) - 0xDC00
     return f"\\x{byte:02x}" if 0x80 <= byte <= 0xFF else letter.encode("unicode_escape").decode()
 
 
 def printable(text, kept=""):
-    """The text with everything escaped that a terminal does not print, but for these letters."""
+    """The text with everything escaped that a terminal does not print, except these letters."""
     return "".join(letter if letter.isprintable() or letter in kept else escaped(letter) for letter in text)
 
 
 def quoted(text):
-    """What somebody wrote, as a part of a message: printable, and not long."""
+    """User input as part of a message: printable, and not long."""
     shown = printable(text[:MOST_QUOTED + 1])
     if len(shown) > MOST_QUOTED:
-        # No escape is cut.
+        # Escapes are not cut.
         shown = re.sub(r"\\(x[0-9a-f]?)?$", "", shown[:MOST_QUOTED - 2]) + ".."
     return f"`{shown}`"
 
@@ -37,11 +40,24 @@ def named(path):
     return printable(cut) or "the empty name"
 
 
+def wrong_folder(path):
+    """What is wrong with the folder of a path; nothing where it is there."""
+    folder = os.path.dirname(path)
+    if not folder or os.path.isdir(folder):
+        return ""
+    # What has no folder either is not the part to name.
+    while os.path.dirname(folder) and not os.path.exists(folder) and not os.path.isdir(os.path.dirname(folder)):
+        folder = os.path.dirname(folder)
+    return f"{quoted(folder)} is not a folder" if os.path.exists(folder) else f"there is no folder {quoted(folder)}"
+
+
 def reason(error):
     """What went wrong with a file, in the same words for each tool."""
-    folder = os.path.dirname(error.filename) if isinstance(error.filename, str) else ""
-    if error.errno == errno.ENOENT and folder and not os.path.isdir(folder):
-        return f"there is no folder {quoted(folder)}"
+    is_path = isinstance(error.filename, str) and error.errno in (errno.ENOENT, errno.ENOTDIR)
+    if is_path and (told := wrong_folder(error.filename)):
+        return told
+    if is_path and (longer := [error.filename + end for end in ENDS if os.path.isfile(error.filename + end)]):
+        return f"{REASONS[errno.ENOENT]}; did you mean {listed(longer)}?"
     said = REASONS.get(error.errno) or error.strerror or str(error)
     return said[:1].lower() + said[1:]
 
@@ -53,8 +69,8 @@ def listed(words, last="or"):
 
 
 def near(word, known):
-    """What somebody may have meant who wrote an unknown word, to be put behind the message; or nothing."""
-    # Only a mistake takes the time to load it.
+    """What the author of an unknown word may have meant, to be appended to the message; or nothing."""
+    # Loaded only for a mistake, since it takes time.
     from difflib import SequenceMatcher
     likeness = {other: SequenceMatcher(None, word.lower(), other.lower()).ratio() for other in known}
     best = max(likeness.values(), default=0)

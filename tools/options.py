@@ -7,16 +7,18 @@ from messages import listed, near, quoted
 
 MOST_ANSWERS = 4_096
 
-# What argparse says, and how it is told here.
+# Messages of argparse, and their wording here.
 TOLD = ((r"argument (?P<name>.*?): expected one argument", "{name} needs a value, {value}"),
         (r"argument (?P<name>.*?): expected at least one argument", "missing {name}"),
         (r"argument (?P<name>.*?): ignored explicit argument .*", "{name} takes no value"),
         (r"argument (?P<name>.*?): (?P<rest>.*)", "{name}: {rest}"))
+# How other programs call the file that they write.
+OUTPUT = "-o", "--out", "--output"
 DASHES = "\u2010\u2011\u2012\u2013\u2014\u2212"
 
 
 class Once(argparse.Action):
-    """Keeps a value. An option is given once."""
+    """Stores a value, and refuses a second one."""
 
     def __call__(self, parser, namespace, values, option_string=None):
         if option_string and self.dest in parser.given:
@@ -26,12 +28,14 @@ class Once(argparse.Action):
 
 
 class Parser(argparse.ArgumentParser):
-    """Reads the words of a tool. `others` are beginnings of words that another program takes."""
+    """Reads the words of a tool.
 
-    def __init__(self, name, about, more, others=(), **rest):
+    `others` are beginnings of words for another program. `instead` says what to do about one word too many."""
+
+    def __init__(self, name, about, more, others=(), instead=None, **rest):
         super().__init__(prog=name, description=about, epilog=more,
                          formatter_class=argparse.RawDescriptionHelpFormatter, **rest)
-        self.others, self.given, self.spare = tuple(others), set(), set()
+        self.others, self.given, self.spare, self.instead = tuple(others), set(), set(), instead
         for action in (None, "store"):
             self.register("action", action, Once)
 
@@ -50,9 +54,9 @@ class Parser(argparse.ArgumentParser):
         return self.none_more(*self.parse_known_args(args, namespace))
 
     def none_more(self, asked, more):
-        """What was asked, if no word is left."""
+        """The options, if no word is left."""
         if more:
-            self.error(f"unexpected argument {quoted(more[0])}")
+            self.error(f"unexpected argument {quoted(more[0])}" + (f": {self.instead}" if self.instead else ""))
         return asked
 
     def options(self):
@@ -60,19 +64,27 @@ class Parser(argparse.ArgumentParser):
         return [name for action in self._actions for name in action.option_strings]
 
     def check(self, words):
-        """Refuses an option that there is not, before what is missing is told."""
+        """Refuses an unknown option, before missing ones are reported."""
         for word in words[:words.index("--")] if "--" in words else words:
             name, known = word.partition("=")[0], self.options()
-            if word[:1] in tuple(DASHES) and "--" + name.strip(DASHES) in known:
-                self.error(f"{quoted(word)} begins with a typographic dash: write `--`")
+            if word.lstrip("-")[:1] in tuple(DASHES):
+                self.no_dash(word, name.lstrip("-" + DASHES))
             if not re.match(r"-[^\d\s]", word) or " " in name or word.startswith(self.others):
                 continue
             if not any(option.startswith(name) if name.startswith("--") else name.startswith(option)
                        for option in known if option.startswith("--") == name.startswith("--")):
                 self.unknown(name)
 
+    def no_dash(self, word, name):
+        """Refuses an option that begins with a typographic dash, where its name is one of an option."""
+        for option in "--" + name, "-" + name:
+            if name and (option in self.options() or option.startswith(self.others)):
+                self.error(f"{quoted(word)} begins with a typographic dash: write {quoted(option)}")
+
     def unknown(self, name):
         """Refuses an option, and names those that may be meant."""
+        if name in OUTPUT and not set(OUTPUT).intersection(self.options()):
+            self.error(f"unknown option {quoted(name)}: {self.prog} writes to standard output: add `>FILE`")
         passed = f"; only {listed(self.others, 'and')} are passed on" if self.others else ""
         self.error(f"unknown option {quoted(name)}{near('--' + name.strip('-'), self.options()) or passed}")
 
@@ -85,7 +97,7 @@ class Parser(argparse.ArgumentParser):
         return name, "VALUE"
 
     def told(self, message):
-        """A message of argparse in other words."""
+        """A message of argparse, reworded."""
         if match := re.fullmatch(r"the following arguments are required: (.*)", message):
             told = [self.told_name(name) for name in match[1].split(", ") if name not in self.spare]
             return "missing " + " and ".join(f"`{name[1:-1]} {value}`" if name[0] == "`" else name

@@ -7,7 +7,7 @@ from messages import named
 
 # From the top of a cell to its bottom.
 ORDER = ("corrupt", "detected", "masked", "idle")
-# A picture this wide is not made smaller on the page of a repository.
+# A picture of this width is not scaled down on a repository's page.
 WIDTH = 760
 # The row of the registers that no instruction names.
 FOLDED = len(SITES)
@@ -17,7 +17,7 @@ class Panel:
     """The faults of a campaign."""
 
     def __init__(self, path, title, used):
-        """Reads the lines. `used` has the registers that instructions name, or is None where that is not known."""
+        """Reads the lines. `used` has the registers that instructions name, or is None if these are unknown."""
         self.title, self.used = title, used
         self.counts, self.latencies = collections.Counter(), collections.Counter()
         self.steps, self.sites, self.kinds = array.array("L"), array.array("B"), array.array("B")
@@ -49,11 +49,11 @@ class Panel:
         """The share of a verdict among the faults at sites that are not folded, as text."""
         total = sum(self.shown.values())
         share = 100 * self.shown[verdict] / total if total else 0
-        # No fault and one of a million are not the same.
+        # No fault differs from one in a million.
         return "0%" if share == 0 else "<0.1%" if share < 0.1 else "100%" if share == 100 else f"{min(share, 99.9):.1f}%"
 
     def still_running(self, is_cut):
-        """How many struck runs were still running at the last step: the least and the most, as lines tell it."""
+        """How many struck runs were still running at the last step: bounds, judging by the lines."""
         same = self.counts["masked"] if is_cut else 0
         return same, same + self.counts["corrupt"]
 
@@ -77,19 +77,19 @@ class Grid:
             self.cells[column, at][verdict] = count
 
     def gaps(self):
-        """How many of the cells have no fault, of those at sites that are always there."""
+        """How many cells have no fault, of those at sites that always exist."""
         always = [at for at, site in enumerate(self.rows) if site == FOLDED or SITES[site][0] != "q"]
         full = sum(at in always for _, at in self.cells)
         return 1 - full / (len(always) * self.columns) if always else 0
 
     def widen(self, width):
-        """Takes so many steps a column."""
+        """Sets the number of steps per column."""
         self.width = width
         self.sort()
 
     def raster(self, colours, blank):
         """The cells as dots, from the bottom row to the top one: as many high as the picture has, and one across."""
-        # Gnuplot draws no image of one column.
+        # Gnuplot draws no image with a single column.
         twice = 2 if self.columns == 1 else 1
         out = bytearray()
         for at in reversed(range(len(self.rows))):
@@ -109,7 +109,7 @@ def stack(counts, high):
     shares = [count * high / sum(counts) for count in counts]
     dots = [int(share) for share in shares]
     if counts[0]:
-        # One fault among many has to be seen in a narrow column.
+        # One fault among many must be visible in a narrow column.
         dots[0] = max(dots[0], high // 3)
     while sum(dots) < high:
         dots[max(range(4), key=lambda kind: shares[kind] - dots[kind])] += 1

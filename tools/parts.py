@@ -1,29 +1,57 @@
-"""The parts of a fault list, and whether an answer is that of its part. Lists are long: no line is looked at alone."""
+"""The parts of a fault list, and whether an answer belongs to its part. Lists are long, so no line is handled by itself."""
+import collections
 import hashlib
 import os
 import re
+from concurrent.futures import ThreadPoolExecutor
 
 from common import SITES, VERDICTS, WORDS, Refused, wrong_fault
 from messages import named, reason
 
 MOST_FAULTS, MOST_PRODUCT = 65_536, 1_000_000_000
-# So many faults are worth a call of the program.
+# This many faults are worth a call of the program.
 WORTH = 4_096
 FAULT = re.compile(r"(0|[1-9]\d{0,19}):(?:%s):(0|[1-9]\d{0,19})" % "|".join(SITES))
 VERDICT_OF_LINE = re.compile(rb" (?:masked|idle|corrupt|detected \d{1,20})$", re.MULTILINE)
+# So many files are written at once: a disk takes them together.
+AT_ONCE = 8
+
+
+def keep_file(path, name):
+    """Gives a file the name under which it is kept, once all of it is on the disk."""
+    try:
+        with open(path, "rb") as data:
+            os.fsync(data.fileno())
+        os.replace(path, name)
+    except OSError as error:
+        raise not_kept(name, error) from error
 
 
 def write(path, data):
-    """Writes a file whole or not at all."""
+    """Writes a file completely or not at all."""
     try:
         with open(path + ".new", "wb") as out:
             out.write(data)
-            out.flush()
-            os.fsync(out.fileno())
-        os.replace(path + ".new", path)
     except OSError as error:
-        raise Refused(f"{named(path)}: {reason(error)}; finished parts are kept: run the same command again to "
-                      "continue") from error
+        raise not_kept(path, error) from error
+    keep_file(path + ".new", path)
+
+
+def write_all(files):
+    """Writes files, of which each comes with its name: whole or not at all. Few of them are held in memory."""
+    with ThreadPoolExecutor(AT_ONCE) as pool:
+        begun = collections.deque()
+        for path, data in files:
+            begun.append(pool.submit(write, path, data))
+            if len(begun) == AT_ONCE:
+                begun.popleft().result()
+        for done in begun:
+            done.result()
+
+
+def not_kept(path, error):
+    """What is told where a file of the campaign cannot be written."""
+    return Refused(f"{named(path)}: {reason(error)}; finished parts are kept: run the same command again to continue")
 
 
 def remove(path):
@@ -44,7 +72,7 @@ def digest(path):
 
 
 def parts_of(path, size, lines, steps, jobs):
-    """The parts of a list of this size: each within one call of the program, and as many for one job as for another."""
+    """The parts of a list of this size: each within one call of the program, and spread evenly over jobs."""
     most = min(MOST_FAULTS, MOST_PRODUCT // steps)
     # Parts are cut by their bytes, so some have more lines than others.
     count = max(1, -(-lines * 8 // (most * 7)))
@@ -56,7 +84,7 @@ def parts_of(path, size, lines, steps, jobs):
 
 
 def within(part, most):
-    """The part, or parts of it where it has more lines than may be."""
+    """The part, split if it has too many lines."""
     if part.count(b"\n") <= most:
         yield part
         return
@@ -66,7 +94,7 @@ def within(part, most):
 
 
 def bad_line(part):
-    """The first line of a part that is no fault: its place, counted from 0, its text and what is wrong; or nothing."""
+    """The first line of a part that is not a fault: its place, counted from 0, its text and what is wrong; or nothing."""
     for place, line in enumerate(part.decode("ascii", "replace").split("\n")[:-1]):
         match = FAULT.fullmatch(line)
         if not match or any(len(text) == 20 and int(text) >= WORDS for text in match.groups()):

@@ -1,9 +1,9 @@
-"""The words that the run without a fault has at places that are struck."""
+"""The words that the run without a fault has at the struck places."""
 import itertools
 
 from debugging.sessions import ask
 
-# How many words to ask for go into one session: its script has at most 1,048,576 bytes.
+# How many words one session asks for: its script has at most 1,048,576 bytes.
 WORDS_AT_ONCE = 30_000
 
 
@@ -16,7 +16,7 @@ def words_there(object_file, wild, places):
 
 
 def some_words(object_file, wild, places):
-    """The same for as many places as one session takes. A place that is not there has no word."""
+    """The same for as many places as fit into one session. A site that does not exist has no word."""
     lines, here, found = [], 0, {}
     groups = [(step, [site for _, site in group]) for step, group in itertools.groupby(places, lambda place: place[0])]
     for step, sites in groups:

@@ -1,4 +1,4 @@
-// Counts and turns of bits, and numbers of 1 to 8 bytes at places that are not aligned.
+// Bit counts, rotations, and unaligned numbers of 1 to 8 bytes.
 #include "cells.h"
 
 CELL(counts);

@@ -1,4 +1,4 @@
-// The block function of ChaCha20 (RFC 8439, section 2.3.2). Each line `stream` has 8 bytes, the first lowest.
+// The block function of ChaCha20 (RFC 8439, section 2.3.2). Each `stream` line holds 8 bytes, least significant first.
 #include "cells.h"
 
 CELL(stream);

@@ -1,4 +1,4 @@
-// Quotients and remainders of words of 32 and 64 bits, with and without signs, and greatest common divisors.
+// Quotients and remainders of signed and unsigned words of 32 and 64 bits, and greatest common divisors.
 #include "cells.h"
 
 CELL(quotient);

@@ -1,4 +1,4 @@
-// A machine of seven states that reads a text: the state after each letter, and how many words and signs there were.
+// A seven-state machine that reads a text: the state after each character, and the numbers of words and signs.
 #include "cells.h"
 
 CELL(state);

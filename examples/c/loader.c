@@ -1,8 +1,8 @@
-/* An on-board loader: it reads an object, checks it and runs it, or says why it is refused. It prints what the commands
- * `talft check` and `talft run` print, and ends with their status. docs/EMBEDDING.md says how to build it.
+/* An on-board loader: it reads, checks and runs an object, or says why it is refused. It prints what the commands
+ * `talft check` and `talft run` print, and ends with their status. docs/EMBEDDING.md explains how to build it.
  *
- *     loader FILE [STEPS [FAULT [WILD]]]    - for FILE reads standard input; FAULT and WILD are as for `talft run`
- *     loader --damaged FILE                 checks the object with each of its bits turned, one at a time
+ *     loader FILE [STEPS [FAULT [WILD]]]    - for FILE reads standard input; FAULT and WILD as in `talft run`
+ *     loader --damaged FILE                 checks the object with each of its bits flipped, one at a time
  */
 #include "talft.h"
 
@@ -78,7 +78,7 @@ static void put(const uint8_t *bytes, size_t len, const talft_output *output)
         printf("%.*s %" PRIu64 "\n", (int)made, (const char *)name, output->value);
 }
 
-/* Tries the object with each bit turned, one at a time. */
+/* Checks the object with each bit flipped, one at a time. */
 static int try_damaged(uint8_t *bytes, size_t len)
 {
     size_t accepted = 0, malformed = 0, refused = 0;
@@ -108,7 +108,7 @@ static int try_damaged(uint8_t *bytes, size_t len)
     return 0;
 }
 
-/* Runs an object with more and more room for its outputs, until they fit. */
+/* Runs an object with growing room for its outputs, until they fit. */
 static int run(const uint8_t *bytes, size_t len, const char *fault, const char *wild, uint64_t steps)
 {
     size_t room = ROOM;

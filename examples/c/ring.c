@@ -1,4 +1,4 @@
-// A ring of the last 8 samples: their mean, rounded down, and their peak after each new one.
+// A ring of the last 8 samples, with their mean, rounded down, and their peak after each new one.
 #include "cells.h"
 
 CELL(mean);

@@ -1,4 +1,4 @@
-// Looks numbers up in the squares of 1 to 32 by halves: the place from 0, or -1, which a cell holds as 2^64 - 1.
+// Binary search in the squares of 1 to 32: the index from 0, or -1, which a cell holds as 2^64 - 1.
 #include "cells.h"
 
 CELL(place);

@@ -1,4 +1,4 @@
-// SHA-256 (FIPS 180-4) of "abc". The four lines `digest` are its 32 bytes, 8 in each, the first byte highest.
+// SHA-256 (FIPS 180-4) of "abc". The four `digest` lines are its 32 bytes, 8 in each, most significant byte first.
 #include "cells.h"
 
 CELL(digest);

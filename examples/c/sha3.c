@@ -1,4 +1,4 @@
-// SHA3-256 (FIPS 202) of "abc". The four lines `digest` are its 32 bytes, 8 in each, the first byte lowest.
+// SHA3-256 (FIPS 202) of "abc". The four `digest` lines are its 32 bytes, 8 in each, least significant byte first.
 #include "cells.h"
 
 CELL(digest);

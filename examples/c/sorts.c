@@ -1,4 +1,4 @@
-// Sorts words by insertion, by exchange and by a heap, and puts what came out.
+// Insertion sort, exchange sort and heap sort of words, each with its output.
 #include "cells.h"
 
 CELL(inserted);

@@ -1,4 +1,4 @@
-// Lengths of texts, which of two comes first (1, 0, or -1 as 2^64 - 1), and a number read from digits.
+// Lengths of texts, comparisons of two (1, 0, or -1 as 2^64 - 1), and a number read from digits.
 #include "cells.h"
 
 CELL(length);

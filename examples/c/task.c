@@ -1,11 +1,11 @@
-/* A task on board. Before each cycle it sets its input, a cell of the object. It runs the object by slices, and hands out
- * the outputs as they come. In the first cycle a fault is struck; where it is detected, the task begins the run again and
- * leaves out the outputs that it handed out before. So the outputs of each cycle are those of the run without a fault.
+/* An on-board task. Before each cycle it sets its input, a cell of the object. It runs the object in slices, and hands out
+ * the outputs as they come. The first cycle is struck by a fault; if the fault is detected, the task restarts the run and
+ * skips the outputs that it has already handed out. So the outputs of each cycle are those of the run without a fault.
  *
  *     task FILE SLICE [CYCLES [STEP SITE VALUE]] [CELL=WORD,WORD,..]
  *
- * prints the lines of each cycle, and ends with the status of the last one. Cycle i begins with word i in the cell; after the
- * last word the cell keeps it.
+ * prints the lines of each cycle, and ends with the status of the last one. Cycle i starts with word i in the cell; after the
+ * last word, the cell keeps it.
  */
 #include "talft.h"
 
@@ -30,7 +30,7 @@ static void hand_out(const talft_output *output)
         printf("%.*s %" PRIu64 "\n", (int)made, (const char *)name, output->value);
 }
 
-/* Sets a cell, by its name, to the next word of a text, and gives what follows: nothing where there is no such cell. */
+/* Sets a cell, by its name, to the next word of a text, and returns the rest, or nothing if there is no such cell. */
 static const char *set_input(const char *text, size_t name_len, const char *words)
 {
     uint8_t name[40] = {0};
@@ -45,7 +45,7 @@ static const char *set_input(const char *text, size_t name_len, const char *word
     return NULL;
 }
 
-/* The run of one cycle, from its begin to its end. The fault, if there is one, strikes before a step. */
+/* Runs one cycle from start to end. The fault, if there is one, strikes before a step. */
 static uint32_t cycle(talft_machine *machine, uint64_t slice, uint64_t strike, const char *site, uint64_t value)
 {
     talft_output outputs[ROOM] = {{0, 0}};

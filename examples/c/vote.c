@@ -1,4 +1,4 @@
-// Two of three: each bit is what most of three sensors say, and `disagree` tells the words on which one was wrong.
+// Two out of three: each bit is the majority of three sensors; `disagree` marks the words on which one was wrong.
 #include "cells.h"
 
 CELL(voted);

@@ -1,4 +1,4 @@
-// XTEA with 32 rounds: the block "ABCDEFGH" under the key 00 01 .. 0f, there and back again.
+// XTEA with 32 rounds: the block "ABCDEFGH" under the key 00 01 .. 0f, encrypted and decrypted.
 #include "cells.h"
 
 CELL(block);

@@ -1,4 +1,4 @@
-// CRC-32 in Rust, without its library: that of examples/c/crc32.c, with the same lines.
+// CRC-32 in Rust without the standard library: the program of examples/c/crc32.c, with the same output.
 //
 //     rustc --target wasm32-unknown-unknown --crate-type cdylib -O -C panic=abort -C linker=wasm-ld \
 //       -C link-arg=--emit-relocs -C link-arg=-zstack-size=512 examples/rust/crc32.rs -o crc32.wasm

@@ -1,6 +1,6 @@
 #!/usr/bin/env python3
-"""Prints what a program of examples/c or tests/c must write, by Python's libraries, vectors or numbers:
-`answers.py NAME`."""
+"""Prints the output that a program of examples/c or tests/c must have, from Python's libraries, vectors or plain
+numbers: `answers.py NAME`."""
 import hashlib
 import sys
 import zlib

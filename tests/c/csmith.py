@@ -1,5 +1,5 @@
 #!/usr/bin/env python3
-"""Has csmith make C programs, and tools/cc make objects of them: `csmith.py FIRST COUNT`.
+"""Generates C programs with csmith, and compiles them with tools/cc: `csmith.py FIRST COUNT`.
 
 Each puts its variables into one at the end. gcc -m32, whose `long` is as long as for wasm32, must give the same words.
 Programs that do not end, or that gcc cannot take, are left out."""

@@ -1,8 +1,8 @@
-"""Follows what the translator emits beside the graph that it emits it from, block by block, over symbolic words.
+"""Compares the emitted code with the graph that it comes from, block by block, over symbolic words.
 
-A block begins with each value in its pair. At each jump and branch that leaves it, what the instructions have made of
-that, and their stores, must be what the graph makes of it. So copies of edges, constants that are kept in pairs, tests
-of loops that are made twice, and jumps past empty blocks are tested along every path."""
+A block begins with each value in its pair. At each jump and branch that leaves it, the values that the instructions
+computed, and their stores, must be the graph's. So copies of edges, constants that are kept in pairs, loop tests that
+are repeated, and jumps past empty blocks are tested along every path."""
 from common import Refused
 from wasm.emit import FIRST
 from wasm.words import M64

@@ -1,5 +1,5 @@
 #!/usr/bin/env python3
-"""Writes modules that do a floating-point instruction each, on random numbers: `floats.py FOLDER COUNT` of each one."""
+"""Writes modules with one floating-point instruction each, on random numbers: `floats.py FOLDER COUNT` writes COUNT of each."""
 import os
 import random
 import sys

@@ -1,5 +1,5 @@
 #!/usr/bin/env python3
-"""Has tools/cc make the examples at each level, strikes each 1,000 times, and prints a table: `kernels.py [LEVEL ..]`.
+"""Compiles the examples with tools/cc at each level, strikes each 1,000 times, and prints a table: `kernels.py [LEVEL ..]`.
 
 The lines must be those of answers.py, the object accepted and verified, and no fault corrupt. The ratio is that of the
 instructions that the object runs, in both colours, to those that the module runs. The example in Rust is among them if

@@ -1,5 +1,5 @@
 #!/usr/bin/env python3
-"""Compares the interpreter with node's WebAssembly: `like_node.py MODULE..` tells what differs, and how many."""
+"""Compares the interpreter with node's WebAssembly: `like_node.py MODULE..` prints the differences and their number."""
 import os
 import subprocess
 import sys

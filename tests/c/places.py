@@ -1,5 +1,5 @@
 #!/usr/bin/env -S python3 -B
-"""tools/cc, with a test of where values are: `places.py WORDS..`, the words of tools/cc.
+"""Runs tools/cc with a test of where values are: `places.py WORDS..`, the words of tools/cc.
 
 The graph before registers are given tells which value each use means. The graph after it tells from which place the use
 reads. This follows all values through registers, spill cells, frames and copies, along every path at once, and fails

@@ -1,8 +1,8 @@
 #!/usr/bin/env python3
 """Runs a long test in portions: `portions.py KIND FIRST COUNT [JOBS [FOLDER]]`; KIND is valid, damaged, programs or csmith.
 
-So many portions run at once. FOLDER keeps what each of them printed: a run that was stopped goes on with those that it
-lacks. At the end all lines are printed, and the sums of their counts."""
+JOBS portions run at once. FOLDER keeps the output of each: a run that was stopped continues with the missing ones. At
+the end all lines are printed, with the sums of their counts."""
 import collections
 import concurrent.futures
 import os

@@ -1,7 +1,7 @@
 #!/usr/bin/env python3
-"""Makes random C programs, and has tools/cc make objects of them: `programs.py FIRST COUNT`.
+"""Makes random C programs, and compiles them with tools/cc: `programs.py FIRST COUNT`.
 
-Each is compiled by gcc, too, and run. It must write the lines of `out` and `other` that the object's run writes. Levels
+Each is also compiled by gcc, and run. It must write the lines of `out` and `other` that the object's run writes. Levels
 of optimisation take turns. The same number gives the same program."""
 import os
 import random

@@ -1,8 +1,8 @@
 #!/usr/bin/env python3
-"""Has tools/cc make objects of gcc's own execution tests: `torture.py FOLDER [FIRST EVERY]`.
+"""Compiles gcc's own execution tests with tools/cc: `torture.py FOLDER [FIRST EVERY]`.
 
 FOLDER is gcc.c-torture/execute of gcc's source, as in Debian's package gcc-12-source. Each test ends with 0 or calls
-exit(0), and calls abort where the compiler was wrong. It passes if its object is accepted and verified, and does not
+exit(0), and calls abort if the compiler was wrong. It passes if its object is accepted and verified, and does not
 abort."""
 import collections
 import os

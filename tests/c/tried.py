@@ -1,5 +1,5 @@
 #!/usr/bin/env python3
-"""Has tools/cc make objects of many modules, and counts its answers: `tried.py valid|damaged MODULE..`.
+"""Translates many modules with tools/cc, and counts the outcomes: `tried.py valid|damaged MODULE..`.
 
 A valid one must be accepted, and its run that of the module. A damaged one may be refused, in one line. No module may
 lead to anything else, or leave a file behind."""

@@ -1,5 +1,5 @@
-"""What the tests of many programs share: a call of tools/cc with the test of places.py, the lines of an object, and the
-count of how they went."""
+"""What the tests of many programs share: a call of tools/cc with the test of places.py, the lines of an object, and
+the count of outcomes."""
 import os
 import subprocess
 import tempfile

@@ -1,4 +1,4 @@
-# The programs of examples/ over arrays: they write what ordinary Python works out, and no fault corrupts what they write.
+# The example programs with arrays: they write what ordinary Python computes, and no fault corrupts their output.
 
 # `ends_early NAME OBJECT FAULT` says whether the run with this fault is detected with a prefix of the lines in `wanted`.
 ends_early() {

@@ -1,4 +1,4 @@
-# What campaigns over samples say of all faults: bounds by class of site, and verdicts kept in SQLite.
+# What campaigns over samples say about all faults: bounds by class of site, and verdicts kept in SQLite.
 
 report 'the bounds' '' "$(python3 "$top/tests/bounds.py")"
 mkdir bounds

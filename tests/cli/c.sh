@@ -34,7 +34,7 @@ cycles=$(TALFT=$top/talft bash "$top/examples/c/ten_cycles" cycles 2>said)
 report 'ten cycles of control.wasm' "$(answers control)" "$(grep -v '^struck' <<<"$cycles")"
 report 'the cycle that is struck' 'struck: status 1 after 2 of 3 lines' "$(grep '^struck' <<<"$cycles")"
 
-# The words that cells begin with.
+# The initial words of cells.
 "$top/tools/set" control.obj goal=3 measured=-1 --list >before 2>said
 report 'cells and their words' "$(printf 'goal 3\nmeasured 18446744073709551615')" "$(head -n 2 before)"
 "$top/tools/set" control.obj --list >before 2>said

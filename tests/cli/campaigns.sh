@@ -1,5 +1,5 @@
-# Campaigns in parts, by tools/campaign: what is merged is what the program writes of each part. Nothing is lost and
-# nothing is counted twice when a run is killed, a part fails, a disk fills or a machine goes away.
+# Campaigns in parts, with tools/campaign: the merged output is what the program writes for each part. Nothing is lost or
+# counted twice when a run is killed, a part fails, a disk fills or a machine disappears.
 
 "$top/talft" compile "$top/examples/fibonacci.src" >fibonacci.obj
 "$top/tools/faults" fibonacci.obj --flip all --sample 2500 >list 2>said
@@ -25,7 +25,7 @@ campaign() {
   fi
 }
 
-# A program that writes down which parts it is given, and waits, fails, lies or dies at one of them.
+# A program that records the parts it is given, and waits, fails, lies or dies at one of them.
 cat >watched <<END
 #!/usr/bin/env bash
 if [ "\$1" != debug ] && [ "\$1" != --version ]; then
@@ -63,7 +63,7 @@ for way in fails lies dies; do
   report "only the part that $way is done again" '000000.faults 1 000001.faults 2 000002.faults 1' "$(given)"
 done
 
-# `ended SIGNAL ENGINE`: a run ends by a signal in its second part, and goes on.
+# `ended SIGNAL ENGINE`: a signal ends a run in its second part, and the run is continued.
 ended() {
   local signal=$1 engine=$2 words run n
   words=(fibonacci.obj --faults list --steps "$most" --engine "$engine" --dir "$signal.$engine")
@@ -87,7 +87,7 @@ ended() {
 ended TERM local
 ended KILL local
 
-# A disk that fills: in a file system of its own, where the system lets a user have one.
+# A disk that fills: a separate file system, if the system lets a user have one.
 "$top/tools/campaign" fibonacci.obj --faults list --steps "$most" --dir here >/dev/full 2>said
 report 'a full disk for the lines' '1 campaign: standard output: no space left on the device' "$? $(tail -n 1 said)"
 mkdir full
@@ -125,13 +125,19 @@ done <<END
 4|the site and the word are missing
 4:r1:6 |remove the spaces around it
 4:r1:6 masked|this has a verdict or other words
+4 r1 6|its parts are separated by \`:\`
+4: r1:6|remove the spaces in it
+:r1:6|the step is missing
+r1:4:6|the step comes first, then the site
+4:R1:6|sites are written in small letters, as \`r1\`
+4:r1:6:7|it has more than three parts
 4:r1:6\\r|the line ends in CR LF: expected LF alone
 # words|a fault list has no comments
 |this is an empty line
 END
 report 'nothing is kept of a list that is refused' '' "$(find . -maxdepth 1 -name fibonacci.obj.campaign)"
 
-# A long list is cut into as many parts for one job as for another, and a line is named by its place in the whole list.
+# A long list is spread evenly over the jobs, and a line is named by its place in the whole list.
 "$top/tools/faults" fibonacci.obj --flip all --sample 9000 >long.list 2>said
 "$top/tools/campaign" fibonacci.obj --faults long.list --steps 1000 --jobs 2 --dir even >written 2>said
 report 'the parts for two jobs' 2 "$(find even -name '*.faults' | wc -l)"

@@ -1,4 +1,4 @@
-# Damage of an object's bytes: each of its prefixes, and each of its bytes with the lowest bit turned.
+# Damaged objects: each prefix of an object's bytes, and each byte with its lowest bit flipped.
 
 object=$top/tests/objects/jump.obj
 size=$(wc -c <"$object")

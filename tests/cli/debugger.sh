@@ -1,11 +1,11 @@
-# The debugger for people, its screen, its adapter for editors, and the tools explain and lines. tests/tools.sh has what
-# takes longer: more walks, random sources, Emacs, and times.
+# The debugger, its screen, its adapter for editors, and the tools explain and lines. tests/tools.sh has the tests that
+# take longer: more walks, random sources, Emacs, and times.
 debugging=$top/tests/debugging fibonacci=$top/examples/fibonacci.src
 five=$top/examples/five.obj five_text=$top/examples/five.asm
 export XDG_STATE_HOME=$work/state
 python3 "$top/tests/assembly.py" asm "$debugging/endless.asm" >endless.obj
 
-# These take some seconds, and are looked at below.
+# These take some seconds; their results are tested below.
 python3 -B "$debugging/walks.py" "$top/examples/loop.asm" 1 25 2 >walks.said 2>&1 &
 walks=$!
 python3 -B "$debugging/facts.py" 1 8 60 "$top"/examples/{five,loop,stores,index}.asm >facts.said 2>&1 &
@@ -19,7 +19,7 @@ session() {
   shift
   printf '%s\n' "$@" | "$top/tools/debugger" "$program" 2>&1
 }
-# `kept PATTERN` keeps the lines that fit, as one.
+# `kept PATTERN` joins the lines that match.
 kept() { grep -E "$1" | paste -sd '|'; }
 
 commands=('step 4' 'zap r1 6' 'step 8' queue 'back 8' 'reg r1' 'back 4' 'step 14')
@@ -81,7 +81,7 @@ report 'a position that is too far' \
   "$(session "$five_text" 'goto 99999999999999999999' | tail -n 1)"
 report 'a fault that is too far ahead' 'at 14 done' \
   "$(echo c | "$top/tools/debugger" "$five_text" --fault 99999999999999999999:r1:6 | grep '^at 1')"
-# A tool that is killed takes its call with it, here one that would go on for seconds.
+# Killing a tool also ends its call, here one that would run for seconds.
 printf 'var i;\ni = 0;\nwhile (i < 1) { i = 0; }\n' >quiet.src
 mkfifo typed
 "$top/tools/debugger" quiet.src <typed >written 2>&1 &
@@ -158,7 +158,7 @@ says 'a cell behind an array' 'print composite[30]' '`composite[30]`: composite 
 report 'an array ends' 'composite[28] 0|composite[29] 0|composite has 30 cells: 0 to 29' \
   "$(session "$program" 'x/99 composite[28]' | kept '^composite')"
 # Line 11 is entered in 1:38, and tested in 2:0. The first test comes after 54 instructions, at 108. A turn has 30
-# instructions: so the fifth test is at 348.
+# instructions, so the fifth test is at 348.
 says 'a line that is said as answers say it' 'break sieve.src:12' \
   'breakpoint 1: add r3 r1 G 0  (block 2 index 10, sieve.src:12)'
 says 'a line with its entry and its test' 'break sieve.src:11' \
@@ -215,7 +215,7 @@ says 'no lines of an object alone' line \
   'no source lines are known: `next` executes an instruction; `debugger OBJECT --source SOURCE` names the source of an '\
 'object'
 program=$top/examples/sieve.src
-# What a recording states runs it again.
+# The command that a recording prints replays it.
 again=$(cd "$top/examples" && session sieve.src "record $work/recorded" 'goto 50' 'zap r1 7' |
   sed -n 's/.*; this runs it again: //p')
 report 'the command of a recording' "talft debug <(talft compile sieve.src) <$work/recorded" "$again"
@@ -231,9 +231,9 @@ report 'pairs that differ by a strike, and without one' '~ r0 G 1048576 out r32 
 refuses 'lines of an object' \
   "lines: $five: is an object, not a source; give the source, and the object with --object" lines "$five"
 
-tool 'the way of a fault, and its cause' 0 "$(cat <<END
+tool 'the path of a fault, and its cause' 0 "$(cat <<END
 done after 14 steps: 1 output, nothing was detected
-the way of the fault (what differs from the run without it):
+the path of the fault (what differs from the run without it):
   at 4        r1 6, not 5                                   the strike 4:r1:6
   at 8        r33 6, not 5                                  add r33 r1 B 0
   at 10       qv0 6, not 5                                  st_G r0 r1
@@ -264,16 +264,16 @@ refuses 'a step below 0' \
 refuses 'a word below 0' \
   'explain: invalid fault `4:r0:-1`: expected STEP:SITE:WORD; `-1` is out of range: expected 0 to 18446744073709551615' \
   explain "$five" --fault 4:r0:-1
-# The struck i is seen first where j grows by it, and j < 30 holds for one colour alone: 24 + 16 is 40, 24 + 2 is 26.
+# The struck i is seen first where j grows by it, and j < 30 holds only for one colour: 24 + 16 is 40, 24 + 2 is 26.
 report 'a branch that is not taken by both' 'r35 = 1: blue does not jump, so d must be 0; d = 85 (block 3 index 0)' \
   "$("$top/tools/explain" "$top/examples/sieve.src" --fault 700:r0:0x10 | sed -n '4s/^ *//p')"
-# r2 is written again by the next instruction that is line 14's, and nothing read it before.
+# The next instruction of line 14 overwrites r2, and nothing reads it before that.
 report 'a fault that is gone' \
   'gone at 702: from there on no word differs|at 4106: no word differs, and no output does: the fault is gone' \
   "$("$top/tools/explain" "$top/examples/sieve.src" --fault 690:r2:3 | tail -n 2 | paste -sd '|')"
 refuses 'a fault that is none' 'explain: invalid fault `4`: expected STEP:SITE:WORD, as 4:r1:6' explain "$five" --fault 4
-# What README shows of `explain` is what it writes.
-report 'the way of a fault in README' '' "$(sed -n '/^\$ tools\/explain/,/^```/p' "$top/README.md" | sed '1d; $d' |
+# `explain` writes what README shows.
+report 'the path of a fault in README' '' "$(sed -n '/^\$ tools\/explain/,/^```/p' "$top/README.md" | sed '1d; $d' |
   diff - <("$top/tools/explain" "$fibonacci" --fault 296:r32:7))"
 
 # Each example's lines; their words are compared with the object's before any is written.
@@ -315,7 +315,7 @@ if has tmux 'the screen and the prompt in a terminal'; then
 'no source lines are known: one instruction|o here  ! strike  @ both|green  blue: 75 columns' \
     "$(grep -oE -e '[0-9]+ steps$' -e '^7 instructions, .* keys' -e '^: command  \? help  q quit' -e '^no source lines .*' \
       -e '^o here  ! strike  @ both' -e 'green  blue: .*' <<<"$screen" | awk '!seen[$0]++' | paste -sd '|')"
-  # Where 80 columns are too few, the names of cells go, and columns stay apart. A move stays on the screen.
+  # If 80 columns are too few, cell names are dropped, and columns stay apart. A move stays on the screen.
   keyed="$top/tools/debugger $top/examples/sieve.src --tui"
   screen=$(on 'await lists the keys' 'size 80 24' g text:700 Enter 'await o at 700' : 'text:display prime' Enter : \
     'text:watch composite[4]' Enter 'await watch 1' shot x 'await does nothing' shot q)
@@ -329,7 +329,7 @@ if has tmux 'the screen and the prompt in a terminal'; then
     'await o at 788' q)
   report 'the page of a way has its lines' '  at 754  r3 40, not 26  add r3 r3 r4  (sieve.src:13)' \
     "$(grep 'at 754' <<<"$screen")"
-  # Where the screen is killed, the terminal is as it was.
+  # If the screen is killed, the terminal is restored.
   keyed="bash -c '$top/tools/debugger $five_text --tui; echo status \$?; stty -a; sleep 60'"
   screen=$(on 'await o at 0 running' terminate 'await status' shot)
   report 'a screen that is killed' 'status 143|icanon|echo' \
@@ -339,7 +339,7 @@ if has tmux 'the screen and the prompt in a terminal'; then
     'await at 2 running' shot)
   report 'completion of registers' 1 "$(grep '^r3 .*r39' <<<"$screen" | sort -u | wc -l)"
   report 'an empty line steps again' yes "$(grep -q '^at 2 running' <<<"$screen" && echo yes)"
-  # Ctrl-C ends a run that has no end; a terminal that is closed in the midst of one leaves nothing running.
+  # Ctrl-C ends an endless run; closing the terminal during one leaves nothing running.
   keyed="$top/tools/debugger endless.obj"
   screen=$(on 'await (talft)' text:c Enter 'pause 2' C-c 'await interrupted' text:where Enter 'await pcb' shot text:c \
     Enter kill)

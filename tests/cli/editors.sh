@@ -76,7 +76,7 @@ for kind in talft talft-asm; do
     "$(python3 "$top/editors/sublime.py" $kind | diff - "$top/editors/$kind.sublime-syntax")"
 done
 
-# No editor takes each file of a name: the first line decides, the same for VS Code, bat and Sublime Text.
+# No editor goes by the file name alone: the first line decides, in the same way for VS Code, bat and Sublime Text.
 kinds() {
   python3 - "$top/editors" <<'END'
 import json, re, sys

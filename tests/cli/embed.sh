@@ -1,4 +1,4 @@
-# The C library, from the archive of what the gate proved: the loader beside the command, the task, Python, and C++.
+# The C library, from the archive that the gate proved: the loader compared with the command, the task, Python, and C++.
 library=$top/crates/ft_c/out/library
 embed=(-std=c99 -Wall -Wextra -Werror -pedantic -O2 -I"$top/include")
 if has cc 'the C library' && has ar 'the C library'; then
@@ -21,7 +21,7 @@ if has cc 'the C library' && has ar 'the C library'; then
   done
   report 'the loader answers as the command' 'answers are the same' "$(bash "$top/tests/embed/compare.sh" \
     "$top/crates/talft/out/talft" ./embed_loader -- "$top"/examples/*.obj embed_objects/*.obj "$top"/tests/objects/*.obj 2>&1 | sed 's/^[0-9]* //')"
-  # A task, whole or by slices, and with a fault in its first cycle, hands out what the run without a fault does.
+  # A task, in one piece or in slices, and with a fault in its first cycle, hands out what the run without a fault does.
   for name in fibonacci ring; do
     [ -e "embed_objects/$name.obj" ] || continue
     whole=$("$top/talft" run "embed_objects/$name.obj" --steps 100000 2>/dev/null; echo $?)
@@ -30,13 +30,13 @@ if has cc 'the C library' && has ar 'the C library'; then
     done
     report "two cycles of $name" "$(printf '%s\n%s' "${whole%$'\n'*}" "$whole")" "$(./embed_task "embed_objects/$name.obj" 1000 2; echo $?)"
   done
-  # A task sets its input before each cycle: as many runs, each of the object that tools/set makes.
+  # A task sets its input before each cycle: each run equals that of the object that tools/set makes.
   printf 'cell in = 0; cell out = 0; out = in + 1;' >embed_step.src
   "$top/talft" compile embed_step.src >embed_step.obj 2>/dev/null
   report 'a task with inputs' "$(for word in 7 8 1; do
     TALFT=$top/talft "$top/tools/set" embed_step.obj in=$word >embed_set.obj 2>/dev/null && "$top/talft" run embed_set.obj 2>/dev/null
   done)" "$(./embed_task embed_step.obj 3 3 in=7,8,1)"
-  # From Python: a cell that is set, a campaign and a link, beside tools/set and the command.
+  # From Python: setting a cell, a campaign and a link, compared with tools/set and the command.
   beside() { TALFT_LIBRARY=$library/libtalft.so PYTHONPATH=$library python3 -B "$top/tests/embed/beside.py" "$@"; }
   TALFT=$top/talft "$top/tools/set" embed_step.obj in=41 >embed_set.obj 2>/dev/null
   report 'a cell that is set' "$(sha256sum <embed_set.obj)" "$(beside set embed_step.obj 0 41 | sha256sum)"
@@ -48,7 +48,7 @@ if has cc 'the C library' && has ar 'the C library'; then
   printf 'module a.obj\nexport x 900\n' >embed_map
   report 'a link that is refused' "$("$top/talft" link embed_map 2>/dev/null)" "$(beside link embed_map a.obj)"
   report 'Python' '' "$(cd "$library" && TALFT_LIBRARY=$library/libtalft.so python3 -m doctest talft.py 2>&1)"
-  # The tools ask the library where it is, and the program where it is not: the same answers, and fewer processes.
+  # The tools use the library if it is installed, otherwise the program: the same answers, with fewer processes.
   mkdir embed_kit && cp -r "$top/tools" embed_kit/tools && cp "$library/talft.py" embed_kit/tools
   printf '#!/bin/sh\necho "$1" >>"%s"\nexec "%s" "$@"\n' "$PWD/embed_calls" "$top/talft" >embed_kit/talft
   chmod +x embed_kit/talft

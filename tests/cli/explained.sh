@@ -1,5 +1,5 @@
-# Calls that are refused, detected or cut, explained on standard error: what is said, and that standard output and status
-# are the same without.
+# Explanations on standard error of calls that are refused, detected or cut: what they say, and that standard output and
+# status are the same without them.
 
 # `explained NAME STATUS TEXT SAID WORDS..`
 explained() {
@@ -14,8 +14,8 @@ explained() {
   report "nothing that is said of $name" '' "$(cat said)"
 }
 
-# `said_of WORDS..` tells how the output with explanations differs from the one without, and whether something is said
-# exactly of a call that was refused, detected or cut.
+# `said_of WORDS..` prints how the output with explanations differs from that without, and whether exactly the calls that
+# were refused, detected or cut are explained.
 said_of() {
   local without with is_said=no is_wanted=no
   TALFT_EXPLAIN=0 "$top/talft" "$@" >without 2>/dev/null </dev/null
@@ -73,7 +73,7 @@ explained 'a fault in no entry' 0 'out 5\n' \
 printf 'cell out = 0;\nwhile (1) { out = 1; }\n' >endless.src
 explained 'a meaning that is cut' 9 'out 1\nout 1\n' 'endless.src: still running after 2 turns: raise `--turns`\nendless.src:2:8: note: this test is never 0, so the loop never ends\n while (1) { out = 1; }\n        ^\n' mean endless.src --turns 2
 
-# Help, and the same help by the script that answers before the program is proved.
+# Help, and the same help from the script that answers before the program is proved.
 about_talft=$(. "$top/build/kit.sh"; . "$top/build/about.sh"; about)
 report 'what the version names' "talft $(cat "$top/VERSION") (commit , $(rt version))" "$(sed 's/commit [0-9a-f]*+*,/commit ,/' <<<"$about_talft")"
 explained 'the version' 2 'usage\n' "$about_talft\n" --version
@@ -105,7 +105,7 @@ done <<'END'
 3 check -h
 END
 
-# Assembly texts whose tables break a rule: the line is named, and the word.
+# Assembly texts whose tables break a rule: line and word are named.
 printf '# no such block\nnode 0 memory\ntype 0 0\nblock 0\nhalt\nentry 3\n' >entry.asm
 explained 'an entry block that is not there' 7 'object 9 44\n' \
   'entry.asm:6:7: error: there is no block 3: the text has 1 block, numbered from 0\n entry 3\n       ^\n' asm entry.asm
@@ -119,7 +119,7 @@ printf 'node 0 memory\ntype 0 0\nblock 4\nhalt\nentry 0\n' >type.asm
 explained 'a type that is not there' 7 'object 6 84\n' \
   'type.asm:3:7: error: invalid `4`: there is no type 4: the text has 1 type, numbered from 0\n block 4\n       ^\n' asm type.asm
 
-# Links: the module, its line or instruction, and what could be meant.
+# Links: the module, its line or instruction, and what may be meant.
 "$top/talft" asm "$top/examples/count.asm" >said-count.obj 2>errors
 "$top/talft" asm "$top/examples/show.asm" >said-show.obj 2>errors
 printf 'module said-count.obj\nexport next 9\n' >block.map
@@ -152,7 +152,7 @@ explained 'a text as a module' 7 'object 1 0\n' \
 printf 'module said-count.obj\nmodule nosuch.obj\n' >missing.map
 explained 'a module that is missing' 3 '' 'missing.map:2:8: error: `nosuch.obj`: no such file\n module nosuch.obj\n        ^~~~~~~~~~\n' link missing.map
 
-# What is quoted is short, and has no control characters.
+# Quotations are short, and have no control characters.
 long=$(head -c 200000 /dev/zero | tr '\0' 9)
 for way in list map script assembly source word option name; do
   case $way in
@@ -235,7 +235,7 @@ explained 'an option that is misspelled' 2 'usage\n' \
   'talft: error: unknown option `--step` for `run`; did you mean `--steps`?\nusage: talft run OBJECT [--steps N] [--fault STEP:SITE:WORD] [--wild LIST]\n' \
   run five.obj --step 5
 
-# Habits of other languages. All are rows of ft_explain_tests, too.
+# Habits from other languages. All are also rows of ft_explain_tests.
 printf 'cell a[4];\n' >array.src
 explained 'a declaration without a value' 6 'source 4 9\n' \
   'array.src:1:10: error: unexpected `;`: a cell begins with a value, as in `cell a = 0;` or `cell a[4] = 0;`\n cell a[4];\n          ^\n' \
@@ -252,7 +252,7 @@ printf 'cell a[4] = 0;\na[5] = 2;\n' >beyond.src
 explained 'a constant index beyond its array' 0 'a[1] 2\n' \
   'beyond.src:2:3: note: `a` has 4 cells: the index 5 means cell 1\n a[5] = 2;\n   ^\n' mean beyond.src
 
-# More habits, by what is said in the first line: of a source, of an instruction in a text with the cell `out`, and of words.
+# More habits, with the first line of the explanation: for a source, an instruction in a text with the cell `out`, and words.
 habit_in() {
   "$top/talft" "$@" >with 2>said </dev/null
   head -n 1 said
@@ -317,7 +317,7 @@ report 'what is said of an object that was copied as a text' \
     '  a carriage return stands before each line feed, as when a text is copied: copy the object as binary')" \
   "$("$top/talft" check text.obj 2>&1 >with)"
 
-# A script of the debugger that is a file is read once more, one that is a pipe is not.
+# A debugger script in a file is read again; one from a pipe is not.
 printf 'step 1\nstpe 2\n\nreg r64\n' >wrong.script
 said_of_script='standard input:2:1: error: unknown command `stpe`; did you mean `step`?
  stpe 2
@@ -334,7 +334,7 @@ report 'what it writes' "$(printf 'at 1 running\nbad command\nbad command\nbad c
 cat wrong.script | "$top/talft" debug five.obj >with 2>said
 report 'what is said of a script of a pipe' '0 ' "$? $(cat said)"
 
-# The kit that is missing, or is another one.
+# A kit that is missing, or is a different one.
 mkdir -p bare/docs bare/.ci another-kit && cp "$top/docs/PROMISES.md" bare/docs
 report 'the version before the proof, and without a repository' "usage/2/talft $(cat "$top/VERSION") (commit unknown, $(rt version))" \
   "$(bare/talft --version 2>without.said)/$?/$(cat without.said)"
@@ -372,7 +372,7 @@ report 'what is said of objects with a bit turned' '' "$(
     said_of check turned
   done)"
 
-# What gives its bytes once is not read again.
+# A pipe, which gives its bytes only once, is not read again.
 mkfifo once
 head -c 100 five.obj >once &
 got=$(timeout 60 "$top/talft" check once 2>said; printf '/%d' $?)
@@ -392,7 +392,7 @@ report 'standard error that is a pipe' 'missing: error: no such file' "$("$top/t
 
 explained 'an argument that is no text' 2 'usage\n' 'talft: error: an argument is not UTF-8 text\n' check $'\xff'
 
-# A file that may not be read, as a user who is not the machine's owner.
+# An unreadable file, as an ordinary user.
 cp five.obj secret.obj && chmod 000 secret.obj
 if [ -r secret.obj ]; then
   skip 'what is said of a file that may not be read' 'this user may read all'

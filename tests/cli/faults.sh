@@ -30,7 +30,7 @@ report 'the same words write the same sample' 0 $?
 "$top/tools/faults" "$five" --flip all --sample 1000 --seed 8 2>said | cmp -s - sample
 report 'another seed draws another sample' 1 $?
 
-# The run's length is found: the run has ended after so many steps, and not a step sooner.
+# The run's length is found: the run has ended after this many steps, and not a step sooner.
 for program in fibonacci sieve; do
   "$top/talft" compile "$top/examples/$program.src" >"$program.obj"
   "$top/tools/faults" "$program.obj" --sample 0 2>said

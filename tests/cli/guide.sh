@@ -1,5 +1,5 @@
-# The guide, run by what it says. A chapter that needs what is not installed is left out, and named. A program in place of
-# talft counts the calls.
+# Runs the guide as written. A chapter that needs a missing program is left out and named. A program in place of talft
+# counts the calls.
 
 mkdir guide
 ln -s "$top/tools" "$top/examples" guide
@@ -18,7 +18,7 @@ asked=$((commands + files - ${left:-0}))
 report 'the guide' "$asked of $asked commands write what the guide says" "$(grep -v '^left out' <<<"$guide")"
 if [ -z "$left" ]; then
   calls=$(wc -l <guide.calls)
-  told=$(tr '\n' ' ' <"$top/docs/GUIDE.md" | grep -o 'makes some [0-9]* calls' | tr -dc 0-9)
+  told=$(tr '\n' ' ' <"$top/docs/GUIDE.md" | grep -o 'runs the program some [0-9]* times' | tr -dc 0-9)
   report "the calls that the guide makes, some $told" yes \
     "$([ $((calls - told)) -le 10 ] && [ $((told - calls)) -le 10 ] && echo yes || echo "$calls")"
 fi

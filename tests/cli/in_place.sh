@@ -1,6 +1,6 @@
-# An object is read where it stands. `large.obj` has 1,048,576 nodes and 65,536 instructions; `zeros` has as many bytes and
-# is refused at the first. A command over the object takes no more memory than loading `zeros`, but for 8 MB; a copy of the
-# nodes alone would take more than twice that.
+# An object is read in place. `large.obj` has 1,048,576 nodes and 65,536 instructions; `zeros` has as many bytes and
+# is refused at the first. A command over the object takes no more memory than loading `zeros`, apart from 8 MB; a copy of
+# just the nodes would take more than twice that.
 {
   printf 'TALFT\0\0\1\0\0\0\0\0\20\0\0\0\0\0\1\0\0\0\0\0\0\0\0\0\0\0\1\0\1\0\0\0\0\0\0\0\0\0\0\0\0\0\0\4'
   head -c 17825815 /dev/zero

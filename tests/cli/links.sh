@@ -1,5 +1,5 @@
-# Links: two modules in assembly text that go on in each other, linked, checked, run, struck, scheduled and under a campaign;
-# modules that are compiled; and a map for each refusal.
+# Links: two modules in assembly text that continue in each other, linked, checked, run, struck, scheduled and under a
+# campaign; compiled modules; and a map for each refusal.
 
 # `module NAME LINES..` makes the object of an assembly text.
 module() {
@@ -83,7 +83,7 @@ expect 'the run of 64 modules' 0 'out 5\n' run linked.obj
 
 # COMPARED WITH ANOTHER LINKER
 
-# `compared NAME LINES` links by examples/NAME.map, and compares with what tests/link.py makes of the modules' texts.
+# `compared NAME LINES` links with examples/NAME.map, and compares with what tests/link.py makes from the modules' texts.
 compared() {
   local name=$1 lines=$2
   cp "$top/examples/$name.map" .
@@ -107,7 +107,7 @@ compared updown 'out 1\nout 2\nout 3\nout 2\nout 1\nout 0\n'
 expect 'a fault in the second turn' 1 'out 3\n' run count.linked --fault 40:r1:9
 expect 'its recovery' 0 'out 3\nout 2\nout 1\nagain 1\n' recover count.linked --fault 40:r1:9
 
-# Compiled objects never fail the walk. Alone, each is linked to itself in version 2.
+# Compiled objects never fail the walk. Linked alone, each gives itself in version 2.
 for program in "$top"/examples/*.src; do
   name=${program##*/}
   if "$top/talft" compile "$program" >alone.obj 2>errors; then

@@ -1,4 +1,4 @@
-# What the tools say of mistakes that people make: each answer says what is wrong, where, and what to do.
+# What the tools say about mistakes that people make: each message says what is wrong, where, and what to do.
 
 mkdir mistakes && cd mistakes || exit 2
 cp "$top/examples/five.obj" five.obj
@@ -19,7 +19,7 @@ mkdir folder kept
 echo '{' >kept/campaign.json
 five_sites='r0 to r63, d, pcg, pcb, qa0 to qa7 and qv0 to qv7'
 
-# Each row has the status, the words and what is said: of status 2 in the first line, of status 1 in the last one.
+# Each row has the status, the words and the message: for status 2 in the first line, for status 1 in the last one.
 while IFS='|' read -r status words message; do
   # shellcheck disable=SC2086
   tool "the status of $words" "$status" '' $words
@@ -27,10 +27,11 @@ while IFS='|' read -r status words message; do
 done <<END
 2|build|build: missing FILE
 2|build five.asm --uncheked|build: unknown option \`--uncheked\`; did you mean \`--unchecked\`?
-2|build five.asm one.src|build: unexpected argument \`one.src\`
+2|build five.asm one.src|build: unexpected argument \`one.src\`: the object's name comes after \`-o\`
+2|debugger five.obj list|debugger: unexpected argument \`list\`: commands come after \`-c\`, or from standard input
 2|build five.asm -o a.obj -o b.obj|build: \`-o\` is given twice
 2|build five.asm -o|build: \`-o\` needs a value, OBJECT
-2|build five.asm —unchecked|build: \`—unchecked\` begins with a typographic dash: write \`--\`
+2|build five.asm —unchecked|build: \`—unchecked\` begins with a typographic dash: write \`--unchecked\`
 1|build nosuch.src|build: nosuch.src: no such file
 1|build nofolder/a.src|build: nofolder/a.src: there is no folder \`nofolder\`
 1|build folder|build: folder: is a folder
@@ -61,6 +62,16 @@ done <<END
 1|faults five.obj --about five.obj|faults: five.obj: is an input; give the output another name
 1|campaign five.obj --faults list --database five.asm|campaign: --database: five.asm: is not a database of SQLite; give another file
 1|campaign five.obj --faults list --database nofolder/x|campaign: nofolder/x: there is no folder \`nofolder\`
+2|faults five.obj –sites r1|faults: \`–sites\` begins with a typographic dash: write \`--sites\`
+2|cc one.c –o x.obj|cc: \`–o\` begins with a typographic dash: write \`-o\`
+2|faults five.obj --out list|faults: unknown option \`--out\`: faults writes to standard output: add \`>FILE\`
+1|faults five.obj/x|faults: five.obj/x: \`five.obj\` is not a folder
+1|faults five|faults: five: no such file; did you mean \`five.obj\` or \`five.asm\`?
+1|build five.asm -o five.obj/x/y|build: five.obj/x/y: \`five.obj\` is not a folder
+1|build nofolder/a/b.src|build: nofolder/a/b.src: there is no folder \`nofolder\`
+1|plot lines --out x.jpg|plot: --out: x.jpg: a picture is SVG or PNG: expected a name that ends in .svg or .png
+1|report lines --object five.obj --out x.pdf|report: --out: x.pdf: the page is HTML: expected a name that ends in .html
+2|set out=5 five.obj|set: missing OBJECT before \`out=5\`
 1|plot nosuch|plot: nosuch: no such file
 1|plot folder|plot: folder: is a folder
 1|plot empty|plot: empty: is empty; expected the lines of a campaign
@@ -95,6 +106,9 @@ done <<END
 2|dap --port 70000|dap: \`--port\`: invalid number \`70000\`: expected 0 to 65535
 2|ending five.obj --steps ten|ending: \`--steps\`: invalid number \`ten\`: expected a whole number, at least 1
 1|ending five.obj --fault 40:r1:1 --steps 20|ending: --fault: the step 40 is not below the 20 steps of the run: raise --steps
+1|ending five.obj --fault 4,r1,6|ending: --fault: invalid fault \`4,r1,6\`: expected STEP:SITE:WORD; its parts are separated by \`:\`
+1|ending five.obj --fault r1:4:6|ending: --fault: invalid fault \`r1:4:6\`: expected STEP:SITE:WORD; the step comes first, then the site
+1|ending five.obj --fault 4:R1:6|ending: --fault: invalid fault \`4:R1:6\`: expected STEP:SITE:WORD; sites are written in small letters, as \`r1\`
 1|ending five.obj --text nosuch|ending: nosuch: no such file
 1|ending five.obj --text other.asm|ending: --text: other.asm: is not the text of five.obj; give the one that \`cc --text\` wrote for it
 1|ending five.obj --text other.obj|ending: other.obj: error: this is an object, not an assembly text: \`talft dis FILE\` writes its assembly text
@@ -125,7 +139,7 @@ TALFT=$PWD/folder refuses 'a folder as the program' \
   "faults: $PWD/folder: is a folder; set \$TALFT to the program \`talft\`, or add its folder to PATH" faults five.obj
 report 'no file is made' '' "$(ls x.obj ./*.new nofolder 2>/dev/null)"
 
-# What clang says stays, and is explained: a stand-in says it.
+# Clang's messages are kept, and explained; a stand-in prints them.
 cat >clang <<'END'
 #!/bin/sh
 case "$*" in *runtime.c*) exit 0 ;; esac
@@ -184,6 +198,8 @@ fi
 refuses 'a name with an escape' 'debugger: a\x1b[31mb: no such file' debugger $'a\e[31mb'
 refuses 'a name of two lines' 'plot: a\nb: no such file' plot $'a\nb'
 refuses 'a name that is not UTF-8' 'faults: a\xffb: no such file' faults $'a\xffb'
+refuses 'an empty list of words' 'faults: --values: invalid number ``: expected decimal numbers below 2^64, separated by commas' \
+  faults five.obj --values ''
 refuses 'an empty name' 'ending: the empty name: no such file' ending ''
 long=$(printf 'r%.0s' {1..5000})
 refuses 'a site that is long' "faults: --sites: unknown site \`${long:0:58}..\`: the sites are $five_sites" \
@@ -208,7 +224,7 @@ for row in 'stepp|unknown command `stepp`; did you mean `step`?; `help` lists th
   report "the command ${row%%|*}" "${row#*|}" "$(echo "${row%%|*}" | "$top/tools/debugger" five.obj 2>&1 | tail -n 1)"
 done
 
-# On a terminal: an object is not written there, and an error begins a line.
+# On a terminal, an object is not written, and an error starts a new line.
 if has script 'mistakes on a terminal'; then
   on_terminal() { timeout 60 script -qec "$1" /dev/null </dev/null | tr -d '\r'; }
   report 'an object to a terminal' \

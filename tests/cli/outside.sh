@@ -39,7 +39,7 @@ got=$("$top/talft" debug "$top/examples/five.obj" <"$work" 2>errors; printf '/%d
 report 'a folder as standard input' "$(printf '/3')" "$got"
 report 'what is said of a folder as standard input' 'standard input: error: cannot be read' "$(cat errors)"
 
-# A reader that goes away after the first line.
+# A reader that closes the pipe after the first line.
 "$top/talft" compile "$top/examples/endless.src" >endless.obj
 set -o pipefail
 "$top/talft" trial endless.obj --steps 10000000 2>errors | head -n 1 >first
@@ -48,12 +48,12 @@ set +o pipefail
 report 'the first line before it was closed' 'out 1' "$(cat first)"
 report 'no message where it was closed' '' "$(cat errors)"
 
-# A reader that is gone before the first line, which is written at the end.
+# A reader that is gone before the first line is written, which happens at the end.
 { sleep 0.3; "$top/talft" trial "$top/examples/five.obj" 2>errors; echo $? >closed.status; } | true
 report 'a pipe that is closed before the first line' 4 "$(cat closed.status)"
 report 'no message where it was closed at once' '' "$(cat errors)"
 
-# Writes that a signal interrupts go on, those that take little too, and a full disk fails: within the output and at its end.
+# Interrupted and short writes are continued, and a full disk fails: within the output and at its end.
 if has cc 'writes that are interrupted'; then
   cc -O1 -fPIC -shared -o halting_write.so "$top/tests/halting_write.c"
   "$top/talft" trial endless.obj --steps 1000000 >endless.text 2>errors
@@ -76,7 +76,7 @@ if has cc 'writes that are interrupted'; then
   halting 'a disk that is full within' 4 long.front ROOM=70000 "$halting_program" trial endless.obj --steps 1000000
 fi
 
-# A terminal ends its lines by a carriage return and a line feed.
+# A terminal ends its lines with a carriage return and a line feed.
 if command -v script >script.path; then
   got=$(script -qec "$top/talft trial $top/examples/five.obj" typescript </dev/null | tr -d '\r'; printf '/%d' "${PIPESTATUS[0]}")
   report 'a terminal as standard output' "$(printf 'out 5\n/0')" "$got"

@@ -1,4 +1,4 @@
-# Pictures and pages of campaigns, by tools/plot and tools/report. Of the pictures the dots of each colour are counted.
+# Pictures and pages of campaigns, with tools/plot and tools/report. In the pictures, the dots of each colour are counted.
 
 unset DISPLAY
 dots() { python3 "$top/tests/picture.py" "$1" 2>&1; }
@@ -11,7 +11,7 @@ dots() { python3 "$top/tests/picture.py" "$1" 2>&1; }
   echo 9:r1:1 corrupt
   echo faults 20 masked 10 detected 5 idle 4 corrupt 1
 } >few.lines
-# A hundred faults in one cell, of which one is corrupt.
+# A hundred faults in one cell, one of them corrupt.
 {
   echo 7:pcg:0 corrupt
   for ((word = 1; word < 100; word++)); do echo "7:pcg:$word masked"; done
@@ -30,7 +30,7 @@ if has gnuplot 'the pictures'; then
   report 'a ring around the only corrupt fault' 1 "$(grep -c "<path stroke='rgb(213,  94,   0)'" cell.svg)"
   python3 -c 'import sys, xml.etree.ElementTree as tree; tree.parse(sys.argv[1])' few.svg
   report 'an SVG is in the grammar of XML' 0 $?
-  # The cells are 76 dots wide in the PNG; the frame and the legend take and add some.
+  # The cells are 76 dots wide in the PNG; the frame and the legend remove and add some.
   report 'the cells of few.png' '10 4 1' \
     "$(dots few.png | awk '{ printf "%.0f %.0f %.0f", $2 / 1748, $6 / 1748, $8 / 1748 }')"
   tool 'only a PNG' 0 '' plot few.lines cell.lines --title 'one & <two>' --out pair.png
@@ -39,7 +39,7 @@ if has gnuplot 'the pictures'; then
   report 'the title' "it's one & <two>" "$(python3 -c 'import html, sys; print(html.unescape(sys.stdin.read()))' \
     < <(sed -n 's/.*<text>\(.*two.*\)<.text>/\1/p' pair.svg))"
 
-    # What a legend and the axes say, and rows that are folded. No picture is wider than the page of a repository.
+    # The texts of legend and axes, and folded rows. No picture is wider than a repository's page.
   texts() { sed -n 's/.*<text>\(.*\)<.text>.*/\1/p; s/.*<text><tspan[^>]*>\([^<]*\)<.*/\1/p' "$1"; }
   report 'no fault of the list is in the legend' 1 "$(texts few.svg | grep -c 'no fault of the list')"
   report 'the axis says what a column is' 1 "$(grep -c 'step before which the fault strikes (one column: 1 step)' few.svg)"
@@ -104,7 +104,7 @@ if command -v gnuplot >/dev/null; then
 '/mov r32 B 4 int/idx r33 r32 0 3/mov r34 B 9 int/st_G r1 r2/st_B r33 r34/halt'
 fi
 
-# With the source an instruction is told with its line; the first store of Fibonacci's loop is on line 4.
+# With the source, an instruction is shown with its line; the first store of Fibonacci's loop is on line 4.
 if command -v gnuplot >/dev/null; then
   printf '60:r4:1 detected 63\n8:r9:1 masked\nfaults 2 masked 1 detected 1 idle 0 corrupt 0\n' >lined.lines
   "$top/talft" compile "$top/examples/fibonacci.src" >fibonacci.obj
@@ -113,10 +113,10 @@ if command -v gnuplot >/dev/null; then
   report 'its lines' "mov r2 G 0 int (before its fetch, block 0 index 4, line 2)/st_G r4 r5 (before its fetch, block 1 \
 index 14, line 4)" \
     "$(grep -o '"places":\[[^]]*' lined.html | grep -o '[^"[]* (before[^"]*' | paste -sd /)"
-  report 'the way of its slow fault' 1 "$(grep -c 'the strike 60:r4:1' lined.html)"
+  report 'the path of its slow fault' 1 "$(grep -c 'the strike 60:r4:1' lined.html)"
 fi
 
-# The commands of docs/TOOLS.md, as a reader has them. They say nothing but how far they are.
+# The commands of docs/TOOLS.md, as a reader runs them. They print nothing but their progress.
 if command -v gnuplot >/dev/null; then
   mkdir reader
   ln -s "$top/talft" "$top/tools" "$top/tests" "$top/examples" reader
@@ -128,7 +128,7 @@ if command -v gnuplot >/dev/null; then
     "$(cd reader && find . -size +4k \( -name '*.??g' -o -name '*.html' \) | sed 's/..//' | sort | paste -sd ' ')"
 fi
 
-# `choose SITE VERDICT` chooses as a reader does, and gives the number of rows and what is told of them.
+# `choose SITE VERDICT` chooses as a reader does, and gives the number of rows and the page's note about them.
 choose() {
   printf '(() => { for (const [id, value] of [["site", "%s"], ["verdict", "%s"]]) {' "$1" "$2"
   printf 'const select = document.getElementById(id); select.value = value; '
@@ -136,7 +136,7 @@ choose() {
   printf 'return document.querySelectorAll("#faults tbody tr").length + " " + '
   printf 'document.getElementById("told").textContent; })()\n'
 }
-# The same by the lines of the campaign. Up to a hundred of each site and verdict are listed.
+# The same from the campaign's lines. Up to a hundred of each site and verdict are listed.
 chosen() {
   awk -F '[: ]' -v site="$1" -v verdict="$2" '/:/ && (site == "" || $2 == site) && (verdict == "" || $4 == verdict) {
       all++; if (kept[$2, $4]++ < 100) listed++

@@ -1,4 +1,4 @@
-# One object for each premise of typing, with the line that refuses it.
+# One object for each typing premise, with the line that refuses it.
 
 while read -r premise block index; do
   expect "premise $premise" 8 "check block $block index $index premise $premise\n" \

@@ -1,5 +1,5 @@
-# Programs that may compile or not. `compiles NAME WANTED CRATE` compiles the program of a crate; WANTED is what
-# the compiler says of it.
+# Programs that must compile, or must not. `compiles NAME WANTED CRATE` compiles the program of a crate; WANTED is what
+# the compiler says about it.
 mkdir house
 tar -C "$top" --exclude=out -cf - crates crates.txt HANDLES | tar -C house -xf -
 mkdir -p house/crates/one_fault/src house/crates/kept_name/src
@@ -38,7 +38,7 @@ strikes 'a second strike' 'error[unknown-method]: no method named `strike` found
   '{ struck.strike(Site::D, 2, &[]); struck.step() }'
 strikes 'a step without the strike' 'error[borrow-e0382]: borrow of moved value' 'clean.step()'
 
-# A name is a slice of an object's bytes: it may be kept when the view is gone, but not when the bytes are. The program
+# A name is a slice of an object's bytes: it may outlive the view, but not the bytes. The program
 # takes a name, then does THEN, and then reads the name.
 keeps() {
   cat >house/crates/kept_name/src/main.rt <<END

@@ -17,8 +17,8 @@ for _ in range(10):
     a, b = b, a + b')
 expect 'a recovery of a compiled object' 0 "${wanted//$'\n'/\\n}\nagain 3\n" recover numbers.obj --fault 296:r32:7
 
-# A list of 1,000 faults: the text is the same for each, but for the line of a restart, which is there for each that a
-# campaign finds detected.
+# A list of 1,000 faults: the text is the same for each, except for the line of a restart, which appears exactly for those
+# that a campaign finds detected.
 awk 'BEGIN { for (i = 0; i < 1000; i++) printf "%d:r%d:%d\n", i % 700, i * 7 % 64, i * i % 1000 }' >recovery.faults
 whole=0 again=0
 while read -r fault; do

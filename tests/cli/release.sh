@@ -1,6 +1,5 @@
-# Releases of the proved program and the C library: what they have, that they are the same bytes when made twice, that they say
-# what they are a build of, that they run the guide when installed in a clean root, that a loader in C is built and run with
-# their library, and that the package goes again.
+# Releases of the proved program and the C library: they have the right files, are the same bytes when made twice, name their
+# build, run the guide when installed in a clean root, and build and run a loader in C; and the package is removed again.
 release=$work/release
 program=$top/crates/talft/out/talft
 mkdir "$release"
@@ -9,7 +8,7 @@ report 'the bytes of a release made twice' \
   "$(printf 'same: %s\n' "talft-$(cat "$top/VERSION")-linux-$(uname -m).tar.xz" "talft_$(cat "$top/VERSION")_amd64.deb" talft \
     libft_c.a libtalft.a libtalft.so)" "$(bash "$top/tests/same_bytes.sh" --packages "$program" 2>&1)"
 
-# `runs_guide NAME FOLDER` runs the guide with the program, the tools and the examples that are installed below a folder.
+# `runs_guide NAME FOLDER` runs the guide with the program, tools and examples installed under a folder.
 runs_guide() {
   local place=$release/${1// /_} asked
   mkdir "$place"
@@ -20,7 +19,7 @@ runs_guide() {
   report "the guide, by $1" "$asked of $asked commands write what the guide says" "$(grep -v '^left out' <<<"$got")"
 }
 
-# `says_its_build NAME FOLDER` compares what the program that is installed below a folder says of itself.
+# `says_its_build NAME FOLDER` compares what the program installed under a folder says about itself.
 says_its_build() {
   report "the version by $1" "$(printf 'usage\n/2/'; cat "$2/share/doc/talft/BUILD")" \
     "$("$2/bin/talft" --version 2>"$release/said"; printf '/%d/' $?; cat "$release/said")"
@@ -28,8 +27,8 @@ says_its_build() {
     "$(TALFT_EXPLAIN=0 "$2/bin/talft" --version 2>"$release/said"; printf '/%d/' $?; cat "$release/said")"
 }
 
-# `library_runs NAME FOLDER` builds the loader with the library that is installed below a folder, as its documents say, and
-# runs it: it has to answer as the program does. Python has the same library.
+# `library_runs NAME FOLDER` builds the loader with the library installed under a folder, as its documents say, and runs
+# it: it must answer as the program does. Python uses the same library.
 library_runs() {
   local way loader=$release/loader_${1// /_} from=$2/share/talft/examples/c/loader.c five=$2/share/talft/examples/five.obj
   local wanted
@@ -93,7 +92,7 @@ if has dpkg-deb 'the Debian package'; then
   : >"$root/var/lib/dpkg/status"
   as=
   [ "$(id -u)" = 0 ] || as=fakeroot
-  # The root is empty, so the C library that the package depends on is that of the host.
+  # The root is empty, so the host's C library stands in for the one that the package depends on.
   debian() { $as dpkg --root="$root" --force-depends --force-not-root --log=/dev/null "$@" >"$release/said" 2>&1; }
   debian --install "$package"
   report 'the package is installed' 'install ok installed' "$(dpkg-query --admindir="$root/var/lib/dpkg" -W -f='${Status}' talft 2>&1)"

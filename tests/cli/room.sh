@@ -1,5 +1,5 @@
-# Memory is not said to run out where there is enough: each table at its limit, by the inputs of limits.py. No clause tells a
-# body that gives up early from one whose allocation failed; these rows do.
+# Memory is not reported as exhausted when there is enough: each table at its limit, with the inputs of limits.py. No clause
+# distinguishes a body that gives up early from one whose allocation failed; these rows do.
 mkdir room && cd room || exit
 
 # `at_limit NAME [SIZE]` runs a row of limits.py at its greatest size, or at this one. Status and last line are those it wants.

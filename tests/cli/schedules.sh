@@ -1,4 +1,4 @@
-# Schedules: of compiled objects the order is the one that tests/schedule.py finds by exchanging neighbours; the object of
+# Schedules: for compiled objects the order is the one that tests/schedule.py finds by exchanging neighbours; the object of
 # fibonacci.src before and after, as texts, run, and under a campaign.
 
 for object in five reload indexed; do
@@ -17,7 +17,7 @@ for program in fibonacci sieve sort crc32 ring filter life; do
 done
 expect 'no schedule of an object that is not accepted' 8 'check block 0 index 3 premise 2\n' schedule "$top/examples/mixed.obj"
 
-# How many instructions stand from each green store to the blue store that commits its pair.
+# How many instructions lie between each green store and the blue store that commits its pair.
 distances() {
   awk '/^block/ { at = green = blue = 0 } { at++ } /^st_G/ { placed[++green] = at } /^st_B/ { print at - placed[++blue] }' "$1"
 }

@@ -1,4 +1,4 @@
-# What a newcomer meets beside the program's answers: objects built in place, campaigns that were cut, one notation.
+# What a newcomer meets besides the program's answers: objects built in place, campaigns that were cut, one notation.
 
 cp "$top/examples/five.asm" built.asm
 tool 'an object is built' 0 '' build built.asm
@@ -16,7 +16,7 @@ cp built.src built.txt
 refuses 'a name of another kind' \
   'build: built.txt: unknown kind of file; expected a name that ends in .src, .asm or .map' build built.txt
 
-# Of five.obj, 14 steps long, a run of 12 steps is cut. Both faults strike, and the second is detected in step 11.
+# five.obj takes 14 steps, so a run of 12 steps is cut. Both faults strike, and the second is detected in step 11.
 printf '0:r9:1\n4:r1:6\n' >cut.faults
 tool 'a campaign that is cut' 0 '0:r9:1 masked\n4:r1:6 detected 11\nfaults 2 masked 1 detected 1 idle 0 corrupt 0\n' \
   campaign "$top/examples/five.obj" --faults cut.faults --steps 12 --dir cut.kept
@@ -29,7 +29,7 @@ report 'nothing is said of it' 0 "$(grep -c 'still running' said)"
 report 'one notation of strikes' '' "$(grep -rlI 'K:SITE:V\|STEP:SITE:V\b' "$top"/docs "$top/README.md" "$top/editors" "$top/examples" \
   "$top/man" $(find "$top/tools" -maxdepth 1 -type f ! -name debugger) 2>/dev/null)"
 
-# The manual stands alone: no file of the repository, no word of the proofs, and each page that it names is there.
+# The manual is self-contained: it names no file of the repository and no term of the proofs, and each page that it names exists.
 for page in "$top"/man/talft*.[157]; do
   report "what ${page##*/} cannot explain" '' \
     "$(tail -n +4 "$page" | grep -E 'crates/|tests/|\.antt|\.md\b|\b([Cc]lauses?|[Ss]hel(f|ves)|[Ss]inks?|puts?)\b')"
@@ -39,7 +39,7 @@ report 'the pages that are named' '' "$(grep -ohE 'talft(\\?-[a-z0-9]+)?(\\f[A-Z
 for script in $(grep -lE '^#!' "$top"/tools/* 2>/dev/null); do
   report "the page of ${script##*/}" 1 "$(grep -c "^.SH SYNOPSIS" "$top/man/talft-${script##*/}.1" 2>&1)"
 done
-# Each premise has an entry of what fails and of what to do.
+# Each premise has an entry that says what fails and what to do.
 report 'the premises and what to do' 18 "$(sed -n '/^.SH PREMISES/,/^.SH RULES/p' "$top/man/talft-typing.7" |
   grep -c 'what to do:')"
 for part in STRIKES CAMPAIGNS 'SESSIONS OF THE DEBUGGER'; do
@@ -49,7 +49,7 @@ for part in SYNOPSIS EXAMPLES ENVIRONMENT 'EXIT STATUS'; do
   report "$part in talft(1)" 1 "$(grep -c "^.SH $part" "$top/man/talft.1")"
 done
 
-# Vim takes a file by its text, not by its name alone.
+# Vim recognizes a file by its text, not just by its name.
 kind_in_vim() {
   timeout 60 vim -es -u NONE -N -i NONE -c "set rtp^=$top/editors/vim" -c 'filetype on' -c "edit $1" \
     -c "call writefile([&filetype], 'kind') | qall!" </dev/null >errors 2>&1
@@ -64,7 +64,7 @@ if has vim 'the kinds of files in Vim' && vim --version | grep -q '+syntax'; the
   report 'another assembly text in Vim' no "$(kind_in_vim other.asm | grep -q talft && echo yes || echo no)"
 fi
 
-# Ctrl-C before the proof, with a stand-in for the kit that starts a process of its own, as the kit starts compilers.
+# Ctrl-C before the proof, with a stand-in for the kit that starts another process, as the kit starts compilers.
 mkdir -p unproved/crates/talft/src kit left
 cp -r "$top/build" "$top/talft" "$top/crates.txt" "$top/VERSION" unproved
 mkdir unproved/docs && cp "$top/docs/PROMISES.md" unproved/docs
@@ -80,7 +80,7 @@ cat >ctrl_c.py <<'END'
 import os, signal, subprocess, sys, time
 
 def own():
-    # A shell that is not interactive has its jobs ignore Ctrl-C.
+    # Jobs of a non-interactive shell ignore Ctrl-C.
     signal.signal(signal.SIGINT, signal.SIG_DFL)
 
 call = subprocess.Popen(sys.argv[2:], start_new_session=True, preexec_fn=own, stderr=subprocess.DEVNULL)
@@ -100,7 +100,7 @@ report 'Ctrl-C before the proof' '130 nothing runs' \
   "$(TMPDIR=$work/left PATH=$work/kit:$PATH timeout 60 python3 ctrl_c.py left/one unproved/talft run "$top/examples/five.obj" 2>&1)"
 report 'the files that the call left' one "$(ls left)"
 
-# A file that is read is not written, by whatever name.
+# An input file is never overwritten, whatever its name.
 cp "$top/tests/c/control.wasm" read.wasm
 cp "$top/examples/five.asm" read.asm
 ln -s read.asm text-again.asm
@@ -118,7 +118,7 @@ refuses 'a picture over its lines' 'plot: read.svg: is an input; give the output
 report 'the module' '' "$(cmp read.wasm "$top/tests/c/control.wasm" 2>&1)"
 report 'the text' '' "$(cmp read.asm "$top/examples/five.asm" 2>&1)"
 
-# Streams that are closed.
+# Closed streams.
 for words in "explain $top/examples/five.obj --fault 4:r1:6" "debugger $top/examples/five.obj" "lines $top/examples/sieve.src" \
   "faults $top/examples/five.obj --steps 4 --sites r1 --values 6" "set $top/examples/five.obj --list"; do
   # shellcheck disable=SC2086

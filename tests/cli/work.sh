@@ -1,4 +1,4 @@
-# Nothing is done twice, and no room is taken far beyond need.
+# Nothing is computed twice, and memory use stays close to what is needed.
 
 # An operand that is evaluated twice is evaluated 2^30 or 2^100 times here. Each bracket on the right takes a register pair
 # more, so there are 30 of them.

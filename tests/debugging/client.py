@@ -1,4 +1,4 @@
-"""A client of tools/dap that keeps what it says and hears, and checks each message in both directions."""
+"""A client of tools/dap that records what it sends and receives, and checks each message in both directions."""
 import json
 import os
 import queue

@@ -1,8 +1,8 @@
-"""What the tools know of the machine, against the program: python3 facts.py SEED RUNS STEPS PROGRAM.. .
+"""Compares what the tools know about the machine with the program: python3 facts.py SEED RUNS STEPS PROGRAM.. .
 
-Each run goes step by step, with random strikes. Of each step the module debugging/machine.py has to say whether it
-fetches, which registers it reads and writes, whether it changes d, what it compares, and whether it is detected. Ends with
-`N steps: M wrong`."""
+Each run goes step by step, with random strikes. For each step the module debugging/machine.py must say whether it
+fetches, which registers it reads and writes, whether it changes d, what it compares, and whether it is detected. Ends
+with `N steps: M wrong`."""
 import os
 import random
 import sys

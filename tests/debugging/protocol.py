@@ -1,8 +1,8 @@
-"""Checks messages of the Debug Adapter Protocol. The tables are written by hand, from what Microsoft publishes at
+"""Checks messages of the Debug Adapter Protocol. The tables are written by hand from the specification at
 https://microsoft.github.io/debug-adapter-protocol/specification; they have the messages that the tests exchange.
 
 A field is `name:type`, and `name?:type` where it may be absent. A type is int, str, bool, any, a structure, or one of
-them in square brackets for a list. published.py checks against a copy of the published schema, where one is."""
+them in square brackets for a list. published.py checks against a copy of the published schema, if there is one."""
 import re
 
 PLAIN = {"int": int, "str": str, "bool": bool, "any": object}

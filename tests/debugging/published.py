@@ -1,5 +1,5 @@
 """Checks messages against a copy of the published schema of the Debug Adapter Protocol: that of Debian's
-python3-pydevd, which is generated from it. A newer field that this copy lacks is named in LATER."""
+python3-pydevd, which is generated from it. Newer fields, missing in this copy, are in LATER."""
 import ast
 import os
 

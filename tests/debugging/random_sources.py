@@ -1,8 +1,8 @@
 """Random sources against tools/lines: python3 random_sources.py COUNT [SEED]. Ends with `N sources: M wrong, K lines`.
 
-Each source that compiles has to get lines: so each instruction of its object has the mnemonic and the operands that
-docs/COMPILER.md gives. And each line has to be one that can be that of the instruction: a jump stands on the line of a
-test or of a brace, a store on one that assigns, and a constant that stands once in the source on its line."""
+Each source that compiles must get lines, so each instruction of its object has the mnemonic and the operands that
+docs/COMPILER.md gives. Each line must also be plausible for the instruction: a jump is on the line of a test or of a
+brace, a store on one that assigns, and a constant that occurs once in the source on its line."""
 import os
 import random
 import subprocess

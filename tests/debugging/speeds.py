@@ -1,6 +1,6 @@
-"""How long commands of a session take far from the start: python3 speeds.py TURNS. It writes a table in Markdown.
+"""Measures commands of a session far from the start: python3 speeds.py TURNS. It writes a table in Markdown.
 
-The run has 44 steps for each turn of its loop. Times are of this machine, with whatever else it does."""
+The run has 44 steps for each turn of its loop. Times depend on this machine and its load."""
 import os
 import sys
 import tempfile

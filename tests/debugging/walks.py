@@ -1,7 +1,7 @@
 """Random walks of a session: python3 walks.py PROGRAM [SEED [COMMANDS [WALKS]]]. Ends with `N walks: M failed`.
 
-After each walk its record, run as a plain script by the program, has to lead to the same state. Each run to a break
-place or a watched word, forward or back, has to stop where a search of all states says."""
+After each walk the program runs its record as a plain script, which must lead to the same state. Each run to a
+breakpoint or a watched word, forward or back, must stop where a search of all states says."""
 import os
 import random
 import sys

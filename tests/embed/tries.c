@@ -95,7 +95,9 @@ static uint32_t by_machine(size_t len, talft_refusal *why)
     uint32_t status = talft_open(bytes, len, &machine, why);
 
     if (status == TALFT_OK) {
-        add(talft_open(bytes, len, &machine, why));
+        *why = (talft_refusal){9, 9, 9, 9};
+        if (talft_open(bytes, len, &machine, why) != TALFT_NOT_NOW || why->part != 0)
+            wrong("an open machine is opened");
         add(talft_advance(&machine, 1 + draw() % 50, outputs, ROOM, &ran));
         add(ran.steps);
         add(talft_strike(&machine, (const uint8_t *)"r1", 2, draw()));
@@ -155,6 +157,8 @@ static void by_lists(size_t len, uint32_t verdict, const talft_refusal *refused)
         wrong("talft_campaign and talft_check differ");
     if (status != TALFT_OK && status != TALFT_NO_ROOM && (totals.count | totals.masked | totals.detected | totals.idle) != 0)
         wrong("totals are told of a refusal");
+    if (status == TALFT_NO_ROOM && (totals.masked | totals.detected | totals.idle) != 0)
+        wrong("totals are told of faults that were not tried");
     if (verdict == TALFT_OK && totals.count != 6)
         wrong("a campaign leaves out faults");
     if (status == TALFT_OK && totals.masked + totals.detected + totals.idle != 6)

@@ -1,1 +1,1 @@
-"""The debugger for people: what the tools debugger, dap, explain and lines share."""
+"""The interactive debugger: what the tools debugger, dap, explain and lines share."""

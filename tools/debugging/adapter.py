@@ -1,4 +1,4 @@
-"""A debug adapter: requests of an editor, answered by a session of the proved debugger."""
+"""A debug adapter: answers an editor's requests from a session of the proved debugger."""
 import os
 import threading
 
@@ -10,7 +10,7 @@ from debugging.person import Session
 from debugging.sessions import Interrupted
 from debugging.target import Target
 
-# Requests that end what runs.
+# Requests that interrupt a running move.
 BREAKS_OFF = ("pause", "terminate", "disconnect")
 # Requests that need no session.
 FIRST = ("initialize", "launch", "attach", "disconnect", "terminate")
@@ -35,13 +35,13 @@ class Adapter(Views, Breaks):
         self.lock, self.waiting, self.stop = threading.Lock(), 0, threading.Event()
 
     def interrupt(self):
-        """From another thread, before a request that breaks off what runs is queued."""
+        """Called from another thread, before a request that interrupts a move is queued."""
         with self.lock:
             self.waiting += 1
             self.stop.set()
 
     def taken(self):
-        """Such a request is handled now."""
+        """That request is being handled now."""
         with self.lock:
             self.waiting -= 1
             if self.waiting == 0:
@@ -115,21 +115,21 @@ class Adapter(Views, Breaks):
         self.stopped("entry", "At the start")
 
     def end(self):
-        """Tells that the run has ended, once."""
+        """Reports once that the run has ended."""
         if self.session and not self.ended:
             self.ended = True
             self.wire.event("exited", {"exitCode": 1 if self.session.state().status == "detected" else 0})
             self.wire.event("terminated", {})
 
     def close(self):
-        """Lets go of the session."""
+        """Releases the session."""
         if self.session:
             self.session.target.close()
 
     # STOPS
 
     def stopped(self, reason, description, text=None, hits=()):
-        """Tells that the run has stopped."""
+        """Reports that the run has stopped."""
         self.frame += 1
         body = {"reason": reason, "description": description, "threadId": THREAD, "allThreadsStopped": True}
         if text:
@@ -185,7 +185,7 @@ class Adapter(Views, Breaks):
         return self.stopped(reason, f"{state.status}, {at}")
 
     def broken_at(self, at):
-        """What `stopped` tells of a breakpoint."""
+        """What the event `stopped` says about a breakpoint."""
         hits = list(self.session.halting())
         only = bool(hits) and all(number in self.instruction_breaks for number in hits)
         return "instruction breakpoint" if only else "breakpoint", f"Breakpoint, {at}", None, hits

@@ -1,4 +1,4 @@
-"""Breakpoints and watches of a client: lines of the source or of the text, addresses, words."""
+"""A client's breakpoints and watches: lines of the source or of the text, addresses, words."""
 import os
 
 from common import SITES, Refused
@@ -7,7 +7,7 @@ from debugging.adapter_views import DIS
 
 
 class Breaks:
-    """Requests that set breakpoints; the session has those of all of them."""
+    """Requests that set breakpoints; the session has the breakpoints of all of them."""
 
     def is_source(self, source):
         """Whether a client's source is the source (True), the text (False), or neither (None)."""
@@ -25,7 +25,7 @@ class Breaks:
             self.session.breaks.update(made)
 
     def add(self, made, parts, why, wanted, source=None):
-        """One more breakpoint among those that are made; what the client is told."""
+        """Adds a breakpoint; gives the reply to the client."""
         session = self.session
         number = session.number()
         places = session.places() | breaks.places_of(made.values()) | {part.key() for part in parts}

@@ -1,4 +1,4 @@
-"""What a client of the adapter sees of a stopped session: frames, scopes, words, texts."""
+"""What the adapter's client sees of a stopped session: frames, scopes, words, texts."""
 import os
 
 from common import SITES, Refused
@@ -17,7 +17,7 @@ MOST_OUTPUTS = 1_000
 
 
 class Views:
-    """Requests that show, and those that strike what is shown."""
+    """Requests that show words, and those that strike them."""
 
     # WHERE IT IS
 
@@ -41,7 +41,7 @@ class Views:
         return instruction.shown_line() - self.less()
 
     def less(self):
-        """0 where the client counts lines from 1."""
+        """0 if the client counts lines from 1."""
         return 0 if self.client.get("linesStartAt1", True) else 1
 
     def column(self):
@@ -75,7 +75,7 @@ class Views:
         self.wire.answer(request, {"scopes": scopes})
 
     def value(self, word, asked):
-        """A word as the client wants it, with the cell that has this address."""
+        """A word in the client's format, with the cell at this address."""
         cell = self.session.target.cell_at(word)
         hexadecimal = (asked.get("format") or {}).get("hex")
         return (hex(word) if hexadecimal else str(word)) + (f" ({cell})" if cell else "")
@@ -121,7 +121,7 @@ class Views:
     # STRIKES
 
     def strike(self, request, name, text, asked):
-        """Puts a word where the client wants it."""
+        """Writes a word where the client asks."""
         if name in self.session.target.listing.cells:
             raise Refused(f"`{name}` is a cell, and no fault strikes a cell (docs/PROMISES.md)")
         self.session.zap(name, word_of((text.split() or [""])[0]))

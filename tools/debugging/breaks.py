@@ -1,4 +1,4 @@
-"""Breakpoints: where they are, when they halt, and how often they were come by."""
+"""Breakpoints: where they are, when they halt, and how often they were reached."""
 import operator
 import re
 
@@ -11,7 +11,7 @@ COMPARES = {"==": operator.eq, "!=": operator.ne, "<=": operator.le, ">=": opera
             ">": operator.gt}
 COMPARISON = re.compile(r"\s*([^\s=!<>()]+)\s*(==|!=|<=|>=|<|>)\s*([^\s=!<>()]+)\s*")
 SPLIT = re.compile(r"(?:^|\s+)(?:if|hit)(?:\s+|$)")
-# What other debuggers take in a condition, and what is said of it.
+# Operators that other debuggers accept in a condition, and the reply to them.
 NOT_TAKEN = ((re.compile(r"(?:^|\s)or(?:\s|$)|\|\|"), "comparisons can be joined only by `and`"),
              (re.compile(r"[()]"), "parentheses are not supported: join comparisons by `and`"),
              (re.compile(r"(?<![=!<>])=(?!=)"), "write `==` for `=`"))
@@ -20,7 +20,7 @@ TOO_MANY = f"too many breakpoints: at most {MOST} are possible"
 
 
 class Condition:
-    """Comparisons of words, all of which have to hold: `r1 == 5 and out != r33`. Words are compared without a sign."""
+    """Comparisons of words, all of which must hold: `r1 == 5 and out != r33`. Words are compared as unsigned numbers."""
 
     def __init__(self, text, target):
         self.text, self.parts = " ".join(text.split()), []
@@ -31,7 +31,7 @@ class Condition:
             self.parts.append((self.operand(match[1], target), match[2], self.operand(match[3], target)))
 
     def why_not(self, part, target):
-        """Why a part is no comparison."""
+        """Why a part is not a comparison."""
         for pattern, why in NOT_TAKEN:
             if pattern.search(self.text):
                 return f"{quoted(self.text)}: {why}"
@@ -79,7 +79,7 @@ def question_of(name, target):
 
 
 class Break:
-    """A breakpoint. It halts when its condition holds, from the hit with the number `least` on.
+    """A breakpoint. It halts when its condition holds, from hit number `least` on.
 
     A line of a source may have several parts. The first one is `instruction`."""
 
@@ -88,13 +88,13 @@ class Break:
         self.instruction, self.places = parts[0], {part.key() for part in parts}
 
     def is_as(self, other):
-        """Whether another one halts at the same times."""
+        """Whether another one halts at the same moments."""
         texts = [one.condition and one.condition.text for one in (self, other)]
         return ((self.places, self.temporary, self.least, texts[0])
                 == (other.places, other.temporary, other.least, texts[1]))
 
     def told(self):
-        """What comes behind its place."""
+        """The text after its place."""
         parts = [f"and {part.place()}" for part in self.parts[1:]] + (["temporary"] if self.temporary else [])
         parts += [f"from hit {self.least} on"] if self.least > 1 else []
         return "  ".join(parts + ([f"if {self.condition.text}"] if self.condition else []))
@@ -118,7 +118,7 @@ def read(text, target, temporary=False):
 
 
 def wanted_of(breaks):
-    """What a run asks for at each halt, and whether it stays there. Hits are counted in the order of the calls."""
+    """What a run asks at each halt, and whether it stays there. Hits are counted in the order of the calls."""
     questions = sorted({line for one in breaks for line in (one.condition.questions() if one.condition else [])})
     hits = {}
 
@@ -148,5 +148,5 @@ def are_plain(breaks):
 
 
 def are_counted(breaks):
-    """Whether hits have to be counted from the start of the run."""
+    """Whether hits must be counted from the start of the run."""
     return any(one.least > 1 for one in breaks)

@@ -1,11 +1,11 @@
-"""Where a word changes: the next or the last step that gives a register or a cell another word."""
+"""Where a word changes: the next or the last step that gives a register or a cell a new word."""
 import re
 
 from debugging.machine import may_write_d, written_register
 from debugging.runs import CHUNKS, Stop, halts, marks, place_at
 from debugging.sessions import path
 
-# Breakpoints of the program, and how many answers and pieces of a run go into one call.
+# Breakpoints of the program, and how many answers and pieces of a run one call may have.
 MOST_PLACES, MOST_ANSWERS, PIECES = 64, 60_000, 1_000
 
 
@@ -19,7 +19,7 @@ def writers(target, name):
 
 
 def every_second(timeline, start, end, strikes, question):
-    """(position, answer) from start to end, every two steps and at each strike; fewer where the machine stops."""
+    """(position, answer) from start to end, every two steps and at each strike; fewer if the machine stops."""
     found, here, struck = [], start, marks(strikes, start, end)
     while True:
         points = [here]
@@ -34,7 +34,7 @@ def every_second(timeline, start, end, strikes, question):
 
 
 def answers_at(timeline, points, strikes, question):
-    """(position, answer) at rising positions by one call, and whether the machine stopped before the last."""
+    """(position, answer) at rising positions, from one call, and whether the machine stopped before the last."""
     lead = path(strikes, 0, points[0])
     script = lead + [question]
     for last, at in zip(points, points[1:]):

@@ -1,4 +1,4 @@
-"""The commands of the prompt, in gdb's words. None of them computes what the machine would do."""
+"""The commands of the prompt, named as in gdb. None of them computes what the machine would do."""
 import re
 
 from common import Refused
@@ -8,7 +8,7 @@ from debugging.help import ALONE, ELSEWHERE, HELP, SHORT
 from debugging.reading import no_more, number, one_word, word_of
 from messages import listed, named, near, quoted, reason
 
-# How many outputs of a move are written, and how long a move is for its changes to be.
+# How many outputs of a move are printed, and the longest move whose changes are printed.
 MOST_OUTPUTS, MOST_CHANGED = 20, 64
 # How far `end` goes.
 MOST_TO_END = 1_000_000
@@ -16,11 +16,11 @@ MOST_NESTED = 8
 
 
 class Quit(Exception):
-    """The person has had enough."""
+    """The user quits."""
 
 
 class Commands(Shown):
-    """Carries out commands over a session; `out` takes lines, and `sure` asks whether a file may be overwritten.
+    """Executes commands over a session; `out` takes lines, and `sure` asks whether a file may be overwritten.
 
     Whoever shows the session on a screen is not told where a move led (`is_shown`)."""
 
@@ -67,14 +67,14 @@ class Commands(Shown):
         return name
 
     def say(self, *lines):
-        """Puts lines."""
+        """Prints lines."""
         for line in lines:
             self.out(line)
 
     # MOVES
 
     def moved(self, call, *words):
-        """Carries out a move, and says what it did."""
+        """Executes a move, and prints what it did."""
         session = self.session
         before, count, strikes = session.state(), len(session.outputs()), session.strikes
         result = call(*words)
@@ -90,14 +90,14 @@ class Commands(Shown):
         return result
 
     def new_outputs(self, outputs, new):
-        """The last so many outputs; of many, how many are left out."""
+        """The last outputs, and how many are left out."""
         if new <= MOST_OUTPUTS:
             return outputs.last(new) if new else []
         left = explaining.counted(new - MOST_OUTPUTS, "output")
         return [self.paint("dim", f".. {left} .."), *outputs.last(MOST_OUTPUTS)]
 
     def at(self):
-        """Says where it is."""
+        """Prints the place."""
         if not self.is_shown:
             self.say(self.paint("here", views.status_line(self.session)), views.doing(self.session))
             self.say(*self.display_lines())
@@ -106,7 +106,7 @@ class Commands(Shown):
             self.say(f"{named(self.session.target.path)} was replaced: this session keeps what it read at its start")
 
     def display_lines(self):
-        """The words that are displayed; one that is not there now is said so."""
+        """The displayed words, with a note if one does not exist now."""
         lines = []
         for name in self.displayed:
             try:
@@ -125,7 +125,7 @@ class Commands(Shown):
         self.forward(number(words, 1, 1), False)
 
     def forward(self, count, by_line):
-        """Instructions or lines on; a breakpoint that ends them is named."""
+        """Steps instructions or lines forward; names a breakpoint that ends them."""
         old = self.session.position
         self.moved(stepping.forward, self.session, count, by_line)
         if self.session.position > old:
@@ -135,7 +135,7 @@ class Commands(Shown):
         self.moved(stepping.back, self.session, number(words, 1, 1), False)
 
     def lines_known(self):
-        """Refuses where no lines of a source are known."""
+        """Refuses if no source lines are known."""
         if self.session.target.source is None:
             raise Refused("no source lines are known: `next` executes an instruction; "
                           "`debugger OBJECT --source SOURCE` names the source of an object")
@@ -170,14 +170,14 @@ class Commands(Shown):
             self.say(f"the run ended at {stop.position} without reaching {' or '.join(one.place() for one in parts)}")
 
     def told_breaks(self):
-        """Names the breakpoints that halt here; those for one halt are forgotten."""
+        """Names the breakpoints that halt here, and forgets temporary ones."""
         for at, one in self.session.halting().items():
             self.say(f"breakpoint {at}" + (f"  {one.told()}" if one.told() else ""))
             if one.temporary:
                 self.session.delete(at)
 
     def halted(self, stop):
-        """Says why a run stopped."""
+        """Prints why a run stopped."""
         if stop.reason == "breakpoint":
             self.told_breaks()
         elif stop.reason == "watch":
@@ -200,7 +200,7 @@ class Commands(Shown):
             self.say(f"the run ended at {self.session.position}, before {wanted}")
 
     def refuse_place(self, text):
-        """Says what goes to a place, if the text is one."""
+        """Suggests the command that goes to a place, if the text is one."""
         try:
             self.session.target.find_parts(text)
         except Refused:
@@ -273,7 +273,7 @@ class Commands(Shown):
         self.struck(words[0], self.session.flip(words[0], number(words[1:])))
 
     def struck(self, site, old):
-        """Says what a strike did."""
+        """Prints what a strike did."""
         self.say(f"zapped at {self.session.position}: {site} was {old}, is {self.session.word(site)}")
 
     def do_plan(self, words):

@@ -41,7 +41,7 @@ class Shown:
         self.say(*lines or ["no strike"])
 
     def breaks(self):
-        """All breakpoints, with how often each was come by so far, and watches."""
+        """All breakpoints, with their hits so far, and watches."""
         session = self.session
         lines = []
         for at, one in session.breaks.items():
@@ -53,13 +53,13 @@ class Shown:
         self.say(*lines or ["no breakpoint and no watch"])
 
     def names(self):
-        """What the source's names are."""
+        """The source's names and their places."""
         names = self.session.target.names
         lines = [f"  {name}  {place.told()}" for name, place in (names or {}).items()]
         self.say(*lines or ["no source names are known: `debugger OBJECT --source SOURCE` names an object's source"])
 
     def note(self, *lines):
-        """Records the lines of `talft debug` that tell what was asked."""
+        """Records the lines of `talft debug` that show the same."""
         self.session.journal.put(*lines)
 
     def do_registers(self, words):
@@ -157,7 +157,7 @@ class Shown:
     # COMPLETION
 
     def complete(self, line):
-        """What the last word of a line may become."""
+        """Completions of the last word of a line."""
         words = line.split(" ")
         start = words[-1]
         if len(words) == 1:
@@ -185,7 +185,7 @@ class Shown:
 
 
 def files(start):
-    """The files that a word may become."""
+    """Files that complete a word."""
     folder, base = os.path.split(start)
     try:
         return [os.path.join(folder, file) for file in sorted(os.listdir(folder or ".")) if file.startswith(base)]

@@ -1,12 +1,12 @@
-"""Why a run was detected, and the way of a fault: what each step changed that the run without the fault has not.
+"""Why a run was detected, and the path of a fault: what each step changed compared with the run without the fault.
 
-The words are answers of the program, for the run with its strikes and for the run without. Which instruction compares
-what is in debugging/machine.py."""
+The words come from the program, for the run with its strikes and for the run without. debugging/machine.py has what each
+instruction compares."""
 from debugging.machine import compared, detection, is_fetch, own_colour, read_registers
 
-# How many steps after the first strike are looked at, and how many lines of a way are written.
+# How many steps after the first strike are followed, and how many lines of a path are printed.
 MOST_STEPS, MOST_LINES = 1_500, 24
-# How many instructions are named where the colours meet.
+# How many instructions that mix the colours are named.
 MOST_CAUSES = 4
 # How many steps longer the run without the strikes may take for its outputs.
 MOST_LATER = 1_000_000
@@ -18,14 +18,14 @@ def counted(count, noun):
 
 
 def differences(state, other):
-    """(name, word, other word) of each word that differs; None is where there is none."""
+    """(name, word, other word) of each word that differs; None for a missing one."""
     left, right = state.all_words(), other.all_words()
     return [(name, left.get(name), right.get(name)) for name in dict.fromkeys([*left, *right])
             if left.get(name) != right.get(name)]
 
 
 def reason(session):
-    """The instruction that was detected, or None for a fetch, and why: of a machine that has stopped itself."""
+    """For a machine that has stopped itself: the instruction, or None for a fetch, and why."""
     before = session.state_at(session.state().position - 1)
     instruction = session.fetched(before.position)
     told = detection(before, instruction, session.target.named, session.target.named_target)
@@ -46,7 +46,7 @@ def table(rows):
 
 
 class Change:
-    """A position of the way: what changed there, by which instruction or strikes, and what is right again.
+    """A position on the path: what changed there, by which instruction or strikes, and what is correct again.
 
     `left` is how many words differ then, `passed` has what the instruction compared, where it was not as without the
     strike, and `meets` has the colours of the words that it took."""
@@ -56,7 +56,7 @@ class Change:
         self.left, self.passed, self.meets = left, [], []
 
     def lines(self, target):
-        """As lines: one for each comparison that passed, too."""
+        """As lines, including one for each comparison that passed."""
         who = f"{self.instruction.words[0]}" if self.instruction else "the fetch"
         return [self.told(target)] + [f"    {who} compared {row.left} with {row.right}: equal, so it passed" if row.what
                                       else f"    {who} passed: {row.left}" for row in self.passed]
@@ -78,7 +78,7 @@ class Change:
 
     @staticmethod
     def difference(target, name, word, other):
-        """A word that differs, with the source's name of it."""
+        """A word that differs, with its name in the source."""
         return (f"{name}{target.names_of(name)} {'gone' if word is None else word}"
                 + ("" if other is None else f", not {other}"))
 
@@ -116,7 +116,7 @@ def way(session, runs):
     for i, state in enumerate(runs.struck):
         if state.status == "detected":
             break
-        # Where the run without the strikes has stopped, it stays as it is.
+        # Once the run without the strikes has stopped, it no longer changes.
         now = {name: (word, other) for name, word, other in differences(state, clean[min(i, len(clean) - 1)])}
         new = [(name,) + pair for name, pair in now.items() if known.get(name) != pair]
         gone = [name for name in known if name not in now]
@@ -143,7 +143,7 @@ def passed(target, fetched, state, other):
 
 
 def meeting(words, state, known):
-    """(name, colour) of what an instruction takes, if the colours are not one and a word of it differs."""
+    """(name, colour) of an instruction's operands, if they mix colours and one of the words differs."""
     taken, own = [(name, state.colour(name)) for name in read_registers(words)], own_colour(words)
     if not any(name in known for name, _ in taken):
         return []
@@ -155,7 +155,7 @@ def meeting(words, state, known):
 
 
 def cause_lines(target, changes):
-    """Where the colours of a program meet, so that one fault is on both sides; nothing where they never do."""
+    """Where a program mixes its colours, so that one fault is on both sides; or nothing."""
     lines = []
     for change in changes:
         if change.meets:
@@ -169,7 +169,7 @@ def cause_lines(target, changes):
 
 
 def way_lines(session, last):
-    """The way as lines with the first wrong output, and the lines of the cause."""
+    """The path as lines, with the first wrong output, and the lines of the cause."""
     runs, target = Runs(session, last), session.target
     changes = way(session, runs)
     lines = [line for change in changes for line in change.lines(target)]
@@ -182,15 +182,15 @@ def way_lines(session, last):
         lines.append(f"the first wrong output: {line}, {'not ' + right if right else 'where none comes'}; "
                      f"committed at {position}: {instruction.short()}  ({target.place_of(instruction)})")
     if changes and changes[-1].left == 0 and all(s.step <= runs.end for s in runs.made):
-        # The runs are the same from there on.
+        # From here on the runs are equal.
         lines.append(f"gone at {changes[-1].position}: from there on no word differs")
     elif runs.is_cut:
-        lines.append(f"(the way is told for its first {MOST_STEPS:,} steps, up to {runs.end})")
+        lines.append(f"(only the first {MOST_STEPS:,} steps of the path are shown, up to {runs.end})")
     return lines, cause_lines(target, changes)
 
 
 def stop_lines(session):
-    """How the run stands: running, done, or detected and why."""
+    """The state of the run: running, done, or detected and why."""
     state = session.state()
     if state.status == "done":
         return [f"done after {state.position} steps: {counted(len(session.outputs()), 'output')}, nothing was detected"]
@@ -206,7 +206,7 @@ def stop_lines(session):
 
 
 def end_line(session):
-    """What the fault came to. Outputs are compared in their order: a run may be later than the other."""
+    """The fault's result. Outputs are compared in order: one run may be later than the other."""
     state, outputs = session.state(), session.outputs()
     text, clean = outputs.text(), session.timeline.outputs(state.position + MOST_LATER, ()).text()
     if state.status == "detected":
@@ -223,7 +223,7 @@ def end_line(session):
 
 
 def explain(session):
-    """What stopped the run, and what a strike has changed up to there, as lines."""
+    """What stopped the run, and what strikes have changed up to there, as lines."""
     state = session.state()
     lines = stop_lines(session)
     if not any(s.step <= state.position for s in session.strikes):
@@ -234,5 +234,5 @@ def explain(session):
             return lines + ["no strike was made: the object itself does this"] + session.target.refusal()
         return lines + [f"no strike was made: {ahead} is not before the end" if ahead else "no strike was made"]
     told, cause = way_lines(session, state.position)
-    lines += ["the way of the fault (what differs from the run without it):"] + told + [end_line(session)]
+    lines += ["the path of the fault (what differs from the run without it):"] + told + [end_line(session)]
     return lines + cause + session.target.refusal()

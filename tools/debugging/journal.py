@@ -1,4 +1,4 @@
-"""The record of a session: a script of `talft debug` that leads to the same place by the same answers."""
+"""The record of a session: a script of `talft debug` that leads to the same place with the same answers."""
 import os
 
 from common import Refused
@@ -10,13 +10,13 @@ MOST_BACK = 4_096
 
 
 class Journal:
-    """The lines so far, and the file that has them."""
+    """The lines so far, and their file."""
 
     def __init__(self):
         self.lines, self.low, self.file = [], 0, None
 
     def record(self, path, sure):
-        """Keeps the lines in a file; one that is there is overwritten only if `sure` says so."""
+        """Keeps the lines in a file; an existing one is overwritten only if `sure` says so."""
         path = os.path.abspath(path)
         if os.path.isdir(path):
             raise Refused(f"{named(path)}: is a folder; give a file")
@@ -42,10 +42,10 @@ class Journal:
             raise Refused(f"{named(path)}: {reason(error)}; recording ends") from error
 
     def move(self, old, new, strikes):
-        """From a position to another; what is too far back is gone to from the start, in place of all lines before."""
+        """From a position to another; one too far back is reached from the start, replacing all earlier lines."""
         if new > old:
             self.low = max(self.low, new - MOST_BACK)
-            # Those that are made here have their lines already.
+            # Strikes made here already have their lines.
             self.put(*path([s for s in strikes if s.step > old], old, new))
         elif self.low <= new < old:
             self.put(f"back {old - new}")
@@ -53,6 +53,6 @@ class Journal:
             self.again(new, strikes)
 
     def again(self, position, strikes):
-        """To a position from the start, in place of all lines before."""
+        """To a position from the start, replacing all earlier lines."""
         self.lines, self.low = [], max(0, position - MOST_BACK)
         self.put(*path(made_by(strikes, position), 0, position))

@@ -1,9 +1,9 @@
-"""How the tools end when they are told to: in order, as at their own end. Nothing is left running."""
+"""Ends the tools cleanly when a signal asks them to: nothing is left running."""
 import ctypes
 import signal
 import sys
 
-# The calls that run now, for whoever ends the tool.
+# The running calls, to be ended with the tool.
 RUNNING = set()
 # prctl(2): which signal a process gets when its parent ends.
 PARENT_DEATH_SIGNAL = 1
@@ -16,13 +16,13 @@ def end_with_parent():
 
 
 def leave_on_signals():
-    """A closed terminal and `kill` end the tool as an exit does: calls are ended, and the terminal is put in order."""
+    """A closed terminal and `kill` end the tool as an exit does: calls are ended, and the terminal is restored."""
     def leave(number, _):
-        # A second one must not break off what the first one does.
+        # A second signal must not interrupt the work of the first.
         for other in (signal.SIGTERM, signal.SIGHUP):
             signal.signal(other, signal.SIG_IGN)
         for run in list(RUNNING):
-            # Those of other threads, too.
+            # Including those of other threads.
             run.kill()
         sys.exit(128 + number)
     for number in (signal.SIGTERM, signal.SIGHUP):

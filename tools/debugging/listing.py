@@ -28,12 +28,12 @@ class Instruction:
         return " ".join(self.words[:WORDS_OF_TRANSFER.get(self.words[0])])
 
     def shown_line(self):
-        """The line of the source where it is known, or else of the text."""
+        """The line of the source if known, otherwise of the text."""
         return self.source_line or self.line
 
 
 class Listing:
-    """A text as `dis` writes it, or the user's own, whose words are the same.
+    """A text as `dis` writes it, or the user's own with the same words.
 
     A comment `# NAME:` labels the next block."""
 
@@ -59,13 +59,13 @@ class Listing:
             label = None
 
     def add(self, words, number):
-        """One more instruction."""
+        """Adds an instruction."""
         block = len(self.blocks) - 1
         index = len(self.code) - self.blocks[block]
         self.code.append(Instruction(" ".join(words), len(self.code) + 1, block, index, number))
 
     def said(self):
-        """The lines that say something, with single spaces."""
+        """The lines with words, with single spaces."""
         return [" ".join(line.split()) for line in self.lines if line.split() and line.split()[0][0] != "#"]
 
     def at(self, address):
@@ -102,7 +102,7 @@ class Listing:
         return self.at(min(there)[1]) if there else None
 
     def parts_of_line(self, line, source=False):
-        """Where the code of this line or of the next that has some begins: a `while` begins before its loop and in it."""
+        """Where the code of this line, or of the next one with code, begins: a `while` begins before its loop and in it."""
         first = self.first_of_line(line, source)
         if not first or not source:
             return [first] if first else []
@@ -110,7 +110,7 @@ class Listing:
                 and (i.index == 0 or self.at(i.address - 1).source_line != i.source_line)]
 
     def find(self, text):
-        """The instruction that a person names: B I, B:I, bB, *ADDRESS, LABEL or LABEL+I; None where none is."""
+        """The instruction that a user names: B I, B:I, bB, *ADDRESS, LABEL or LABEL+I; or None."""
         if match := re.fullmatch(r"\*\s*(0[xX][0-9a-fA-F]+|\d+)", text):
             return self.at(int(match[1], 0))
         if match := re.fullmatch(r"([A-Za-z_]\w*)(?:\+(\d+))?", text):

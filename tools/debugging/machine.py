@@ -1,4 +1,4 @@
-"""All that the debugger for people itself knows of the machine. Everything else it asks the program.
+"""Everything that the interactive debugger itself knows about the machine. It asks the program for all else.
 
 Each fact names the part of docs/MACHINE.md that states it. tests/debugging/facts.py compares them with the program,
 step by step, over random runs with strikes."""
@@ -6,9 +6,9 @@ import collections
 
 # "Words and addresses": cell k has the address FIRST_CELL + k, instruction i the code address 1 + i.
 FIRST_CELL = 1_048_576
-# "State" and docs/COMMANDS.md, "Sessions of the debugger": what `reg` tells, but for the counters.
+# "State" and docs/COMMANDS.md, "Sessions of the debugger": what `reg` shows, except the counters.
 REGISTERS = [f"r{i}" for i in range(64)] + ["d"]
-# "Stores": a green store wants fewer pairs than this.
+# "Stores": a green store requires fewer pairs than this.
 QUEUE_LENGTH = 8
 OPERATIONS = ("add", "sub", "mul", "ltu", "eq", "and", "or", "xor", "shl", "shr")
 
@@ -29,7 +29,7 @@ def written_register(words):
 
 
 def read_registers(words):
-    """The registers whose words an instruction takes. "Steps": the name of a register is its word."""
+    """The registers whose words an instruction reads. "Steps": the name of a register is its word."""
     if words[0] in OPERATIONS:
         return [word for word in words[2:4] if word in REGISTERS]
     if words[0] in ("idx", "ld_G", "ld_B"):
@@ -53,12 +53,12 @@ def may_write_d(words):
 
 
 def cell_number(word, count):
-    """The number of the cell that has this address among so many, or None."""
+    """The number of the cell with this address among `count` cells, or None."""
     return word - FIRST_CELL if FIRST_CELL <= word < FIRST_CELL + count else None
 
 
 def detection(state, instruction, named=str, target=str):
-    """Why the step from a state is detected, or None where it is not. The instruction is the one that is fetched.
+    """Why the step from a state is detected, or None if it is not. The instruction is the fetched one.
 
     `named` and `target` write a word that is an address of a cell, or of an instruction. Of a wild load this says what
     happens when no answer is left, as only the program knows its answers."""

@@ -5,13 +5,13 @@ from debugging import explaining, views
 
 KEYS = (": command  ? help  q quit  n/p step  i/I instruction  c/r run  e explain  b break  z zap  f flip  u undo"
         "  g goto  l/L line")
-# What the signs of the time line and the marks of pairs mean.
+# What the signs of the timeline and the marks of pairs mean.
 LEGEND = "  ".join(["o here", "! strike", "@ both", *views.MARKS.values()])
-# How many columns the green half of a pair of registers takes at most, with the blank behind it.
+# How many columns the green half of a register pair takes at most, with the space after it.
 HALF = 27
-# How many of the last outputs say which cells have changed last.
+# How many of the last outputs determine the cells that changed last.
 LAST_CHANGED = 200
-# From how many columns on a short blue word has room.
+# The least number of columns with room for a short blue word.
 WIDE = 75
 
 
@@ -19,9 +19,9 @@ class Panes:
     """Draws the screen; the window, the session and the choices are those of Screen."""
 
     def put(self, row, column, text, style=None, width=None):
-        """Puts a text at a place, cut or filled to the width."""
+        """Writes a text at a place, cut or padded to the width."""
         height, wide = self.window.getmaxyx()
-        # A character in the last cell of all would scroll.
+        # A character in the last cell of the screen would scroll it.
         room = wide - column - (1 if row == height - 1 else 0)
         width = room if width is None else min(width, room)
         if len(text) > width > 0:
@@ -30,7 +30,7 @@ class Panes:
             try:
                 self.window.addnstr(row, column, text.ljust(width), width, self.style[style])
             except curses.error:
-                # The window became smaller meanwhile: its next key is that of its new size.
+                # The window has become smaller: its next key reports the new size.
                 pass
 
     def draw(self):
@@ -48,7 +48,7 @@ class Panes:
         self.time(height - 4, wide)
         if self.message:
             self.put(height - 2, 0, self.message, "changed")
-        # As many keys as have room; `?` has all. The last cell of the screen stays empty.
+        # As many keys as fit; `?` shows all. The last cell of the screen stays empty.
         self.put(height - 1, 0, KEYS if len(KEYS) < wide else KEYS[:wide].rpartition("  ")[0], "dim")
         self.window.refresh()
 
@@ -84,14 +84,14 @@ class Panes:
             self.put(top + i, 0, text, style, width)
 
     def registers(self, top, column, height):
-        """Both colours side by side; the row behind them."""
+        """Both colours side by side; gives the next row."""
         state = self.session.state()
         shown = [pair for pair in views.pairs(self.session, self.before) if self.every or not pair.is_unset]
         cut = max(0, len(shown) - max(3, height - 3))
         more = f"   ({cut} more)" if cut else ""
         wide = self.window.getmaxyx()[1]
         is_wide, room = wide >= WIDE, max(1, wide - column - 2)
-        # A green word may have a name of the source behind it.
+        # A green word may have a name of the source after it.
         half = min(HALF, (room + 3) // 2) if is_wide else room
         self.put(top, column, (f"  {'green':<{half}}blue" if is_wide else f"  green  blue: {WIDE} columns") + more, "title")
         row = top + 1
@@ -99,7 +99,7 @@ class Panes:
             styles = ["differs" if pair.mark == "*" else "changed" if changed else colour
                       for changed, colour in zip(pair.changed, ("green", "blue"))]
             self.put(row, column, pair.mark + " ", "differs" if pair.mark == "*" else "dim", 2)
-            # A blank stays between the columns.
+            # A space stays between the columns.
             green, blue = pair.within(half - 1, room - half)
             self.put(row, column + 2, green, styles[0], half - 1)
             if is_wide:
@@ -114,9 +114,9 @@ class Panes:
         return row + 3
 
     def cells_shown(self, most):
-        """(name, word) of so many cells: those that are displayed or watched, those that changed last, and the first.
+        """(name, word) of `most` cells: the displayed and watched ones, those that changed last, and the first.
 
-        What a cell was given last is an output. So where there are many, not all of them are asked for each screen."""
+        The last word stored in a cell is an output, so not every cell of many is read for each screen."""
         session, known = self.session, self.session.target.listing.cells
         watched = [site for _, site in session.watched()]
         wanted = [name for name in self.commands.displayed + watched if name in known][:most]
@@ -127,7 +127,7 @@ class Panes:
         return list(words.items())[:most]
 
     def rest(self, row, column, height):
-        """What is displayed, the queue, cells and outputs, as far as there is room."""
+        """Displayed words, the queue, cells and outputs, as far as there is room."""
         session = self.session
         state, outputs = session.state(), session.outputs()
         total = len(session.target.listing.cells)
@@ -146,7 +146,7 @@ class Panes:
             self.put(row + i, column, text, style)
 
     def time(self, row, wide):
-        """The time line, and the strikes."""
+        """The timeline, and the strikes."""
         session = self.session
         end = max(self.length, session.position)
         note = f" {end} steps" if self.ends else f" {end} steps and more"

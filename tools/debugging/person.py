@@ -1,6 +1,6 @@
 """A person's session: where it is, its strikes, breakpoints and watches, and what can be undone.
 
-The prompt, the screen and the adapter of editors all stand on it."""
+The prompt, the screen and the adapter for editors all use it."""
 from common import ALL_SITES, SITES, WORDS, Refused, invalid_fault
 from debugging import breaks, changes, runs
 from debugging.journal import Journal
@@ -38,7 +38,7 @@ class Session:
         return self.timeline.state_at(self.position, ())
 
     def fetched(self, position):
-        """The instruction that the step from a position executes, or None: the counters were at it one step before."""
+        """The instruction that the step from a position executes, or None: the counters pointed to it one step before."""
         if is_fetch(position):
             return None
         before = self.state_at(position - 1)
@@ -75,7 +75,7 @@ class Session:
         return word
 
     def unknown(self, name):
-        """What is told of a name that nothing has."""
+        """What to say about an unknown name."""
         variable = ", a cell or a variable" if self.target.names is not None else " or a cell"
         known = list(self.target.listing.cells) + list(self.target.names or {})
         return Refused(f"unknown name {quoted(name)}: expected a register (r0 to r63, d, pcg, pcb), a part of the "
@@ -90,12 +90,12 @@ class Session:
     # MOVES
 
     def keep(self):
-        """Notes what `undo` comes back to."""
+        """Records what `undo` returns to."""
         self.past.append((self.position, self.strikes))
         del self.past[:-MOST_UNDONE]
 
     def go_to(self, position, again=False):
-        """To a position. Strikes that were made later are forgotten, as `back` does; planned ones stay."""
+        """Goes to a position. Later strikes are forgotten, as with `back`; planned ones stay."""
         position = max(0, position)
         old, strikes = self.position, self.strikes
         if position < old:
@@ -110,17 +110,17 @@ class Session:
         return state
 
     def step(self, count):
-        """So many steps on."""
+        """Steps forward."""
         return self.go_to(self.position + count)
 
     def back(self, count):
-        """So many steps back."""
+        """Steps back."""
         if count > self.position:
             raise Refused(f"cannot go {count} steps back: the start is {self.position} steps back")
         return self.go_to(self.position - count)
 
     def undo(self):
-        """To where the last command that moved or struck began."""
+        """Returns to where the last command that moved or struck began."""
         if not self.past:
             raise Refused("nothing to undo")
         self.position, self.strikes = self.past.pop()
@@ -156,7 +156,7 @@ class Session:
         here = self.position
         try:
             for end in runs.stretches(self.position):
-                # What stands at the end of the stretch before is met by this one.
+                # What is at the end of the previous stretch is met by this one.
                 stop = self.first_stop(max(self.position, here - 1), end, every)
                 if stop.reason != "limit":
                     return self.arrive(stop)
@@ -204,7 +204,7 @@ class Session:
         return self.arrive(stop)
 
     def until(self, parts):
-        """Forward to one of these instructions, or as `go`."""
+        """Forward to one of these instructions, or like `go`."""
         return self.go([breaks.Break(parts)])
 
     def following(self):
@@ -216,7 +216,7 @@ class Session:
         return None
 
     def finish(self):
-        """Forward out of the block, to the start of the next one that the run comes to; or as `go`."""
+        """Forward out of the block, to the start of the next one that the run reaches; or like `go`."""
         starts = [self.target.listing.at_place(block, 0) for block in range(len(self.target.listing.blocks))]
         return self.go([breaks.Break([instruction]) for instruction in starts if instruction])
 
@@ -228,7 +228,7 @@ class Session:
     # STRIKES
 
     def zap(self, site, word, planned=False):
-        """Strikes now; the word that was there. The program says whether the site is there."""
+        """Strikes now; gives the old word. The program says whether the site exists."""
         self.check_strike(site, word)
         said = self.timeline.ask_at(self.position, self.strikes, [f"zap {site} {word}"]).line()
         if said != "zapped":
@@ -248,7 +248,7 @@ class Session:
                                                              else "is empty")
 
     def flip(self, site, bit):
-        """Strikes now, with the word that is there but for one bit."""
+        """Strikes now, with the current word and one bit flipped."""
         if not 0 <= bit < 64:
             raise Refused(f"invalid bit {bit}: expected 0 to 63")
         self.check_strike(site, 0)
@@ -256,7 +256,7 @@ class Session:
         return self.zap(site, 0 if old is None else old ^ 1 << bit)
 
     def check_strike(self, site, word):
-        """Refuses what cannot be struck, or put there."""
+        """Refuses what cannot be struck, or written there."""
         registers = self.registers_of(site)
         if len(registers) == 2:
             raise Refused(f"`{site}` is a variable: strike its green word in {registers[0]}, or its blue one in "
@@ -269,11 +269,11 @@ class Session:
             raise Refused(f"`{word}` is {NO_WORD}")
 
     def add_strike(self, strike):
-        """One more strike, in the order of the steps."""
+        """Adds a strike, in the order of the steps."""
         self.strikes = tuple(sorted(self.strikes + (strike,), key=lambda s: s.step))
 
     def plan(self, text):
-        """A strike STEP:SITE:WORD that is made whenever the session comes by."""
+        """A strike STEP:SITE:WORD that is made each time the session passes the step."""
         strike = self.read_strike(text)
         if strike in self.strikes:
             raise Refused(f"{quoted(text)} is planned already")
@@ -296,7 +296,7 @@ class Session:
         return strike
 
     def unplan(self, text=None):
-        """Forgets planned strikes, or the one that is named."""
+        """Forgets planned strikes, or the given one."""
         planned = {s for s in self.strikes if s.planned}
         gone = planned if text is None else {self.read_strike(text)}
         if not gone <= planned:
@@ -306,7 +306,7 @@ class Session:
         self.take_new_past()
 
     def take_new_past(self):
-        """The strikes before this position are others now: the machine may have stopped sooner."""
+        """The strikes before this position have changed: the machine may have stopped sooner."""
         self.position = self.state().position
         self.journal.again(self.position, self.strikes)
 

@@ -22,13 +22,13 @@ def number(words, default=None, least=0):
 
 
 def no_more(words, command=None):
-    """Refuses words that nothing wants."""
+    """Refuses superfluous words."""
     if words:
         raise Refused(f"unexpected argument {quoted(words[0])}" + (f": `{command}` takes none" if command else ""))
 
 
 def fault_joined(words):
-    """The words of a command line, so that a fault that begins with a dash is not taken for an option."""
+    """The words of a command line, so that a fault that begins with a dash is not mistaken for an option."""
     joined = []
     for word in words:
         if joined and joined[-1] == "--fault":

@@ -1,17 +1,17 @@
-"""Long runs of a session: forward and back to breakpoints, and what is told at many of them in one call."""
+"""Long runs of a session: forward and back to breakpoints, and the state at many of them from one call."""
 import collections
 
 from debugging.machine import is_fetch
 from debugging.sessions import MOST_STEPS, path
 
-# How many questions go into one call, and how far each call of a search looks.
+# How many questions one call may have, and how far each call of a search looks.
 MOST_LINES = 40_000
 CHUNKS = (4_096, 262_144, 16_777_216, 1_073_741_824)
 FIRST_STRETCH = 65_536
 
-# Where a run came to, and why it stopped there: `what` is the place, or the words before and after a change.
+# Where a run stopped, and why: `what` is the place, or the words before and after a change.
 Stop = collections.namedtuple("Stop", "position status reason what")
-# A breakpoint where one of these is wanted: what is asked at each halt, and whether the answers fulfil it.
+# A breakpoint with its conditions: what is asked at each halt, and whether the answers fulfil it.
 Wanted = collections.namedtuple("Wanted", "questions holds")
 
 
@@ -26,7 +26,7 @@ def break_lines(places):
 
 
 def stretches(position):
-    """Where a run forward is looked at: what is told up to there is kept if it is broken off.
+    """Where a run forward is inspected: what is known up to there is kept if it is interrupted.
 
     Each call goes from the start, so each stretch is longer than the one before."""
     count = FIRST_STRETCH
@@ -52,7 +52,7 @@ def going(here, ahead, times):
     asked = []
     for strike in ahead:
         if strike.step - here > times * MOST_STEPS:
-            # It comes after this call.
+            # It happens after this call.
             break
         while here < strike.step:
             asked.append((min(strike.step - here, MOST_STEPS), None))
@@ -62,7 +62,7 @@ def going(here, ahead, times):
 
 
 def follow(timeline, position, here, strikes, places, limit, plan):
-    """Carries out `going`: why the run stops, or None and how far it came."""
+    """Runs `going`: why the run stops, or None and how far it got."""
     lead = break_lines(places) + path(strikes, 0, here)
     script = list(lead)
     for count, strike in plan:
@@ -78,7 +78,7 @@ def follow(timeline, position, here, strikes, places, limit, plan):
             return Stop(limit, "running", "limit", None), at
         if where.status != "running":
             return Stop(where.position, where.status, where.status, None), at
-        # All strikes of a position are made before it is looked at.
+        # All strikes at a position are made before it is inspected.
         waits = coming is not None and coming.step == where.position
         if where.position > position and not waits and is_break(where, places):
             return Stop(where.position, where.status, "breakpoint", (where.block, where.index)), at
@@ -88,7 +88,7 @@ def follow(timeline, position, here, strikes, places, limit, plan):
 
 
 def marks(strikes, start, end):
-    """Where strikes are made, and right before: so an instruction's change and a strike's are told apart."""
+    """The positions of strikes and right before them, to distinguish an instruction's change from a strike's."""
     return {at for s in strikes for at in (s.step - 1, s.step) if start < at <= end}
 
 
@@ -107,7 +107,7 @@ def halts(timeline, start, end, strikes, places, questions=()):
 
 
 def halts_up_to(timeline, here, stop, strikes, places, questions):
-    """One call of `halts`: what it told, how far it came, and whether the machine stopped.
+    """One call of `halts`: its answers, how far it got, and whether the machine stopped.
 
     It has so many `go` that the whole way is gone even if none of them halts, and at most twice as far."""
     count = min(MOST_LINES // (len(questions) + 1), (stop - here) // 2 + 1)
@@ -131,14 +131,14 @@ def halts_up_to(timeline, here, stop, strikes, places, questions):
 
 
 def hits(timeline, start, end, strikes, places, wanted=None):
-    """The halts from start to before end that are breakpoints, and fulfil what is wanted there."""
+    """The halts from start to before end that are breakpoints and fulfil their conditions."""
     questions = wanted.questions if wanted else []
     return [where for where, told in halts(timeline, start, end, strikes, places, questions)
             if is_break(where, places) and (not wanted or wanted.holds((where.block, where.index), told))]
 
 
 def forward_if(timeline, position, strikes, places, wanted, counted, limit):
-    """As `forward`, to the first breakpoint that fulfils what is wanted. Hits are counted from the start on."""
+    """Like `forward`, to the first breakpoint that fulfils its conditions. Hits are counted from the start."""
     here = 0 if counted else position
     for chunk in CHUNKS + (CHUNKS[-1],) * 1_000_000:
         end = min(here + chunk, limit)
@@ -155,7 +155,7 @@ def forward_if(timeline, position, strikes, places, wanted, counted, limit):
 
 
 def backward(timeline, position, strikes, places, wanted=None, counted=False):
-    """The last breakpoint before a position that fulfils what is wanted, or the start."""
+    """The last breakpoint before a position that fulfils its conditions, or the start."""
     end = position
     for chunk in (position,) if counted else CHUNKS:
         start = max(0, end - chunk)
@@ -169,12 +169,12 @@ def backward(timeline, position, strikes, places, wanted=None, counted=False):
 
 
 def place_at(timeline, position, strikes):
-    """Where the run is at a position, or at its stop before."""
+    """Where the run is at a position, or at an earlier stop."""
     return timeline.ask_at(position, strikes, ["where"]).where()
 
 
 def places_between(timeline, start, end, strikes):
-    """(position, block, index) every two steps of a run; fewer where the machine stops."""
+    """(position, block, index) every two steps of a run; fewer if the machine stops."""
     found, lead = [], path(strikes, 0, start)
     points = list(range(start, end + 1, 2))
     script, last = lead + ["where"], start

@@ -30,20 +30,20 @@ HELP = ["n p        one machine step forward, back (arrows right and left, too)"
         *(f"registers: {text}" for text in views.MARKS.values())]
 ENDS = {"start": "this is the start", "done": "the machine is done", "detected": "detected: e says why",
         "breakpoint": "a breakpoint", "interrupted": "interrupted: the run stays where it got to"}
-# Commands whose answers go on one line, as the screen shows the rest.
+# Commands whose answers fit on one line, as the screen shows the rest.
 BRIEF = AGAIN | {"until", "finish", "goto", "run", "end", "undo", "zap", "flip", "plan", "unplan", "watch"}
 COLOURS = (("green", "COLOR_GREEN"), ("blue", "COLOR_CYAN"), ("differs", "COLOR_RED"), ("changed", "COLOR_YELLOW"),
            ("break", "COLOR_RED"))
 
 
 class Screen(Panes):
-    """What keys do; what is shown is in Panes."""
+    """What keys do; Panes draws the screen."""
 
     def __init__(self, window, session):
         self.window, self.session = window, session
         self.lines, self.message, self.cursor, self.every, self.before = [], "", None, False, None
         self.commands = Commands(session, views.plain, self.lines.append, self.is_sure, True)
-        # What stands where a text is cut.
+        # The mark of a cut text.
         self.cut = "…" if window.encoding.lower() in ("utf-8", "utf8") else ">"
         end = runs.place_at(session.timeline, 1_000_000, ())
         self.length, self.ends = end.position, end.status != "running"
@@ -52,7 +52,7 @@ class Screen(Panes):
         self.styles()
 
     def styles(self):
-        """Attributes by name; colours where the terminal has them and NO_COLOR is not set."""
+        """Attributes by name; colours if the terminal has them and NO_COLOR is not set."""
         bold = curses.A_BOLD
         self.style = {"here": curses.A_REVERSE, "title": bold, "dim": curses.A_DIM, "green": 0, "blue": 0,
                       "differs": bold | curses.A_UNDERLINE, "changed": bold, "break": bold, None: 0}
@@ -67,7 +67,7 @@ class Screen(Panes):
     # WHAT IS TYPED
 
     def ask(self, prompt):
-        """A line that is typed at the bottom; None if it is given up."""
+        """A line typed at the bottom; None if it is cancelled."""
         typed = ""
         while True:
             self.put(self.window.getmaxyx()[0] - 2, 0, f"{prompt} {typed}_", "title")
@@ -87,11 +87,11 @@ class Screen(Panes):
                 typed += key
 
     def is_sure(self, question):
-        """Asks the person."""
+        """Asks the user."""
         return (self.ask(question) or "").strip().lower() in ("y", "yes")
 
     def page(self, lines):
-        """Lines over the whole screen, up to a key. Long ones are wrapped."""
+        """Shows lines on the whole screen until a key is pressed. Long ones are wrapped."""
         width = max(20, self.window.getmaxyx()[1] - 1)
         lines = [part for line in lines for part in wrapped(line, width)]
         while lines:
@@ -191,7 +191,7 @@ class Screen(Panes):
             self.message = f"{views.key_name(key)}: this key does nothing; ? lists the keys"
 
     def loop(self):
-        """Draws, and takes keys, up to the end."""
+        """Draws and handles keys until the end."""
         while True:
             try:
                 self.draw()
@@ -205,7 +205,7 @@ class Screen(Panes):
             except Interrupted:
                 self.message = "interrupted: the session stays where it was"
             except curses.error:
-                # The window changed its size, or is too small for what was put.
+                # The window changed its size, or is too small for what was written.
                 pass
             except KeyboardInterrupt:
                 self.message = "q quits"
@@ -214,7 +214,7 @@ class Screen(Panes):
 
 
 def wrapped(line, width):
-    """A line in parts of this width, cut at blanks where there are some; the later ones are indented.
+    """A line in parts of this width, cut at spaces if possible; later ones are indented.
 
     What would only be in a column is put nearer first."""
     start = line[:len(line) - len(line.lstrip())]
@@ -226,7 +226,7 @@ def wrapped(line, width):
 
 
 def show(session):
-    """Shows the full screen up to its end."""
+    """Runs the full screen."""
     if not (sys.stdin.isatty() and sys.stdout.isatty()):
         raise Refused("--tui needs a terminal for standard input and output")
     os.environ.setdefault("ESCDELAY", "25")

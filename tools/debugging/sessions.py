@@ -1,8 +1,8 @@
-"""Sessions of the proved debugger: calls of `talft debug`, their answers, and windows of states that were told.
+"""Sessions of the proved debugger: calls of `talft debug`, their answers, and windows of known states.
 
-A session depends on nothing but its strikes and its position (docs/COMMANDS.md). So nothing else is kept: each
-question is a script of its own, which goes from the start to the position by `step` and `zap` and then asks. One call
-tells a whole window of neighbouring states, so that the next steps, forward and back, need no call."""
+A session depends only on its strikes and its position (docs/COMMANDS.md), so nothing else is kept: each question is a
+separate script, which goes from the start to the position by `step` and `zap` and then asks. One call gives a whole
+window of neighbouring states, so that the next steps, forward and back, need no call."""
 import collections
 import contextlib
 import re
@@ -18,13 +18,13 @@ from debugging.machine import REGISTERS, cell_number
 WHERE = re.compile(r"at (\d+) (running|done|detected)(?: pcg (\d+) pcb (\d+))?(?: block (\d+) index (\d+))?")
 REACHED = re.compile(r"^at (\d+) (running|done|detected)\n", re.M)
 MOST_STEPS, MOST_SCRIPT = 1_000_000, 1_000_000
-# How far a script of the program's length can go and still ask for a window.
+# How far a script of maximum length can go and still ask for a window.
 MOST_POSITION = 3_000_000_000
 # How many windows are kept, and how many bytes of outputs in all of them.
 KEPT, MOST_KEPT = 24, 64_000_000
-# How many states a window has before and after a position: more where the way there takes longer than they do.
+# How many states a window has before and after a position: more if getting there takes longer than they do.
 AROUND = ((200_000, 48, 80), (3_000_000, 240, 400), (None, 600, 1_200))
-# A state tells its cells unasked if there are at most so many.
+# A state includes its cells if there are at most this many.
 FEW_CELLS = 32
 
 Strike = collections.namedtuple("Strike", "step site word planned", defaults=(False,))
@@ -32,16 +32,16 @@ Where = collections.namedtuple("Where", "position status pcg pcb block index")
 
 
 class Interrupted(Exception):
-    """The person stopped a run; the session is where it was."""
+    """The user stopped a run; the session is where it was."""
 
 
 def steps(count):
-    """The lines that take so many steps."""
+    """The lines that take this many steps."""
     return ["step 1000000"] * (count // MOST_STEPS) + ([f"step {count % MOST_STEPS}"] if count % MOST_STEPS else [])
 
 
 def made_by(strikes, position):
-    """The strikes that are made at a position or before it."""
+    """The strikes made at a position or before it."""
     return tuple(s for s in strikes if s.step <= position)
 
 
@@ -63,7 +63,7 @@ def path(strikes, start, end):
 
 
 def ask(object_file, lines, wild=None):
-    """The answers of one session, for tools that ask a single time."""
+    """The answers of one session, for tools that ask only once."""
     words = [program(), "debug", object_file] + (["--wild", wild] if wild else [])
     script = "".join(line + "\n" for line in lines)
     try:
@@ -76,7 +76,7 @@ def ask(object_file, lines, wild=None):
 
 
 def length_of_run(object_file, most=MOST_STEPS, wild=None):
-    """How many steps the run without a fault takes, at most so many, and whether it is over then."""
+    """How many steps the run without a fault takes, up to a limit, and whether it has ended by then."""
     _, position, status = ask(object_file, [f"step {most}"], wild).step()
     return position, status != "running"
 
@@ -86,12 +86,12 @@ class Calls:
 
     def __init__(self, target):
         self.target, self.count = target, 0
-        # Whoever sets `stop` ends what runs, if `may_stop`: a run of many calls looks at it before each of them, too.
+        # Setting `stop` ends the running call, if `may_stop`; a run of many calls also tests it before each of them.
         self.stop, self.may_stop = threading.Event(), False
 
     @contextlib.contextmanager
     def unstoppable(self):
-        """Within, nobody sets `stop`: where a run that was broken off has come to is still looked at."""
+        """A context in which nobody sets `stop`, to inspect where an interrupted run has got to."""
         stop, self.stop = self.stop, threading.Event()
         try:
             yield
@@ -105,12 +105,12 @@ class Calls:
         self.count += 1
         target = self.target
         words = [target.program, "debug", target.object_file] + (["--wild", target.wild] if target.wild else [])
-        # A file, not a pipe: `communicate` forgets what is left of its input when it is called again after a timeout.
+        # A file, not a pipe: `communicate` forgets its remaining input when it is called again after a timeout.
         with tempfile.TemporaryFile("w+") as script:
             script.write("".join(line + "\n" for line in lines))
             script.seek(0)
             try:
-                # In a session of its own: Ctrl-C is for the person's side, which then ends the call.
+                # In a separate process session: Ctrl-C goes to the tool, which then ends the call.
                 run = subprocess.Popen(words, stdin=script, stdout=subprocess.PIPE, universal_newlines=True,
                                        start_new_session=True, pass_fds=[target.file], preexec_fn=end_with_parent)
             except OSError as error:
@@ -148,7 +148,7 @@ class Answers:
         self.text, self.at = text, 0
 
     def line(self):
-        """The next line, whatever it is."""
+        """The next line."""
         end = self.text.find("\n", self.at)
         if end < 0:
             raise Refused("`talft debug` ended too soon: its answers are incomplete")
@@ -197,7 +197,7 @@ class Answers:
         return None if line == "no cell" else int(line.split(" ")[1])
 
     def queue(self):
-        """The answer of `queue`, if an answer of `step`, `reg` or `where`, or nothing, comes behind it."""
+        """The answer of `queue`, if an answer of `step`, `reg` or `where`, or nothing, follows."""
         pairs = []
         while self.at < len(self.text) and (self.text[self.at].isdigit() or self.text.startswith("empty\n", self.at)):
             line = self.line()
@@ -208,7 +208,7 @@ class Answers:
 
 
 class State:
-    """What the program told of one position."""
+    """What the program said about one position."""
 
     __slots__ = ("position", "status", "pcg", "pcb", "block", "index", "words", "queue", "cells", "commits", "count")
 
@@ -221,7 +221,7 @@ class State:
         self.position, self.status, self.pcg, self.pcb, self.block, self.index = answers.where()
 
     def word(self, name):
-        """The word of a register, a counter or a part of the queue; None if it is not there."""
+        """The word of a register, a counter or a part of the queue; None if it does not exist."""
         if name in ("pcg", "pcb"):
             return getattr(self, name)
         if name in self.words:
@@ -239,7 +239,7 @@ class State:
         return cell_number(word, self.count) is not None
 
     def all_words(self):
-        """Each word that can be struck, and each cell that was told, by name."""
+        """Each word that can be struck, and each known cell, by name."""
         found = {name: word for name, (_, word) in self.words.items()}
         found.update(pcg=self.pcg, pcb=self.pcb)
         for i, (address, value) in enumerate(self.queue):
@@ -249,7 +249,7 @@ class State:
 
 
 class Window:
-    """States that follow one another, and the outputs before them."""
+    """Consecutive states, and the outputs before them."""
 
     def __init__(self, strikes, first, before):
         self.strikes, self.first, self.before, self.states = strikes, first, before, []
@@ -261,7 +261,7 @@ class Window:
         return self.first + len(self.states) - 1
 
     def has(self, position, strikes):
-        """Whether a run with these strikes is told at a position."""
+        """Whether the state of a run with these strikes is known at a position."""
         return self.first <= position <= self.last and made_by(self.strikes, position) == made_by(strikes, position)
 
 
@@ -290,11 +290,11 @@ class Outputs:
 
 
 class Timeline:
-    """The states of runs with strikes, by windows that are kept."""
+    """The states of runs with strikes, in cached windows."""
 
     def __init__(self, target):
         self.target, self.calls = target, Calls(target)
-        # Whether a strike found nothing when it was made last: a planned one may.
+        # Whether a strike found nothing when it was last made: a planned one may.
         self.windows, self.idle = [], {}
         names = target.listing.cells
         self.told_cells = names if len(names) <= FEW_CELLS else []
@@ -321,7 +321,7 @@ class Timeline:
         return made
 
     def read(self, first, count, strikes):
-        """A window of so many states from a position on, by one call."""
+        """A window of states from a position on, from one call."""
         lead = path(strikes, 0, first)
         script = lead + self.questions
         for at in range(first + 1, first + count):
@@ -356,7 +356,7 @@ class Timeline:
         return window.states[min(position, window.last) - window.first]
 
     def span(self, first, last, strikes):
-        """The states from a position to another, by a call for as many as one script takes."""
+        """The states from a position to another, with one call for as many as fit into a script."""
         found, at = [], first
         while at <= last:
             window = self.read(at, min(last - at + 1, self.most_states), strikes)

@@ -14,17 +14,17 @@ OPERATIONS = {"==": "eq", "<": "ltu", "&": "and", "|": "or", "^": "xor", "<<": "
 
 
 class Unknown(Exception):
-    """The source is not as this module thinks; then no lines are known."""
+    """The source is not as this module expects; then no lines are known."""
 
 
 class Block:
-    """A block that code jumps to; where it begins is known when all of it is lowered."""
+    """A block that code jumps to; its start is known once everything is lowered."""
 
     address = None
 
 
 class Name:
-    """Where a name is kept: a pair of registers, or so many cells from an address on."""
+    """Where a name is kept: a register pair, or a number of cells from an address on."""
 
     def __init__(self, pair=None, address=None, length=None):
         self.pair, self.address, self.length = pair, address, length
@@ -60,7 +60,7 @@ class Tokens:
         return self.tokens[min(self.at, len(self.tokens) - 1)][1] if self.tokens else 1
 
     def take(self, wanted=None):
-        """The next token, which has to be this one."""
+        """The next token, which must be this one."""
         if self.at >= len(self.tokens) or wanted is not None and self.peek() != wanted:
             raise Unknown
         self.at += 1
@@ -68,7 +68,7 @@ class Tokens:
 
 
 class Lowering:
-    """Goes over a source, and writes down the words and the line of each instruction."""
+    """Walks over a source, and records the words and the line of each instruction."""
 
     def __init__(self, text):
         self.tokens, self.made, self.names, self.count = Tokens(text), [], {}, 0
@@ -237,7 +237,7 @@ class Lowering:
 
 
 def lowered(text):
-    """The words and line of each instruction, and the names, of a source; raises Unknown where they are not known."""
+    """The words and line of each instruction, and the names, of a source; raises Unknown if they are not known."""
     lowering = Lowering(text)
     try:
         return lowering.program(), lowering.names
@@ -246,7 +246,7 @@ def lowered(text):
 
 
 def lines_of(text, code):
-    """The line of each instruction, and each name's place; both None where the code is not what is wanted."""
+    """The line of each instruction, and each name's place; both None if the code is not the expected one."""
     try:
         made, names = lowered(text)
     except Unknown:

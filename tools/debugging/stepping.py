@@ -7,7 +7,7 @@ CHUNKS = (512, 8_192) + (100_000,) * 1_000_000
 
 
 def forward(session, count=1, by_line=True):
-    """So many instructions on, or source lines where they are known; a breakpoint or a stop ends it."""
+    """Instructions forward, or source lines if known; a breakpoint or a stop ends it."""
     for turn in range(count):
         if session.state().status != "running":
             break
@@ -23,7 +23,7 @@ def forward(session, count=1, by_line=True):
 
 
 def back(session, count=1, by_line=True):
-    """So many instructions back, or to where so many runs of source lines began."""
+    """Instructions back, or to where that many runs of source lines began."""
     for turn in range(count):
         if session.position == 0:
             break
@@ -39,7 +39,7 @@ def line_of(instruction):
 
 
 def end_of_line(session, line):
-    """Where the run leaves a line, or comes to a breakpoint: at a block's start, or behind another line's code."""
+    """Where the run leaves a line, or reaches a breakpoint: at a block's start, or after another line's code."""
     code = session.target.code
     starts = [i for before, i in zip([None] + code, code)
               if i.source_line != line and (i.index == 0 or before.source_line != i.source_line)]
@@ -61,10 +61,10 @@ def end_of_line(session, line):
 
 
 def end_by_breaks(session, every):
-    """Where the run comes to one of these breakpoints, or stops."""
+    """Where the run reaches one of these breakpoints, or stops."""
     here = session.position
     for end in runs.stretches(here):
-        # What stands at the end of the stretch before is met by this one.
+        # What is at the end of the previous stretch is met by this one.
         stop = session.first_break(max(session.position, here - 1), end, every)
         if stop.reason != "limit":
             return stop.position

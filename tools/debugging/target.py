@@ -1,4 +1,4 @@
-"""What is debugged: an object, an assembly text or a source, as an object with its listing, its lines and its names."""
+"""The debugged program: an object, an assembly text or a source, as an object with its listing, lines and names."""
 import os
 import re
 import shlex
@@ -15,7 +15,7 @@ NOT_BUILT = "the program is not proved yet, and unproved each answer takes most 
 
 
 def built_program():
-    """The program itself where the repository's script would run it: the script looks for changed sources each time."""
+    """The program itself, if the repository's script would run it: the script looks for changed sources each time."""
     script = program()
     sources = os.path.join(os.path.dirname(os.path.realpath(script)), "build", "sources.sh")
     if not os.path.isfile(sources):
@@ -29,7 +29,7 @@ def built_program():
 
 
 def asked_of(words, files=()):
-    """The bytes that one call writes, by the library where it is; a refusal is told in the program's own words."""
+    """The bytes that one call writes, from the library if present; a refusal is reported in the program's own words."""
     if len(words) == 3 and (found := in_this_process(*words[1:])) is not None:
         return found
     environment = dict(os.environ, TALFT_EXPLAIN="1")
@@ -98,13 +98,13 @@ class Target:
             raise
 
     def refusal(self):
-        """What the checker says where it refuses the object, as lines; nothing where it accepts it."""
+        """What the checker says if it refuses the object, as lines; nothing if it accepts it."""
         if self.refused is None:
             self.refused = self.asked_refusal()
         return self.refused
 
     def asked_refusal(self):
-        """The same by a call of the program."""
+        """The same from a call of the program."""
         environment = dict(os.environ, TALFT_EXPLAIN="1")
         run = subprocess.run([self.program, "check", self.object_file], stdout=subprocess.PIPE, stderr=subprocess.PIPE,
                              env=environment, pass_fds=[self.file], stdin=subprocess.DEVNULL, check=False)
@@ -116,19 +116,19 @@ class Target:
             "  " + line for line in told]
 
     def ask(self, command):
-        """What a command writes of the object."""
+        """What a command writes about the object."""
         try:
             return asked_of([self.program, command, self.object_file], [self.file])
         except Refused as error:
             raise Refused(str(error).replace(self.object_file, self.path)) from error
 
     def stamp_now(self):
-        """What tells one state of the file from another."""
+        """What distinguishes one state of the file from another."""
         there = os.stat(self.path)
         return there.st_mtime_ns, there.st_size, there.st_ino
 
     def is_replaced(self):
-        """Whether the file is another than the one that was read."""
+        """Whether the file has changed since it was read."""
         try:
             return self.stamp_now() != self.stamp
         except OSError:
@@ -146,7 +146,7 @@ class Target:
         self.listing, self.text_file = listing, os.path.abspath(own)
 
     def take_source(self, own):
-        """The lines and names of a source, where the instructions are those that docs/COMPILER.md says."""
+        """The lines and names of a source, if the instructions are those that docs/COMPILER.md gives."""
         try:
             with open(own, encoding="utf-8", errors="replace") as file:
                 text = file.read()
@@ -162,7 +162,7 @@ class Target:
         self.source, self.source_file, self.names = text.splitlines(), os.path.abspath(own), names
 
     def close(self):
-        """Lets go of the object."""
+        """Releases the object."""
         if self.file is not None:
             os.close(self.file)
             self.file = None
@@ -177,7 +177,7 @@ class Target:
         return self.listing.at(address)
 
     def line_named(self, text):
-        """(line, whether it is one of the source) where a person says LINE, line LINE or FILE:LINE; else None."""
+        """(line, whether it is one of the source) if a user says LINE, line LINE or FILE:LINE; else None."""
         match = re.fullmatch(r"(?:line\s+|(?P<file>\S.*):)?(?P<line>\d+)", text)
         if not match:
             return None
@@ -189,7 +189,7 @@ class Target:
         return None
 
     def find_parts(self, text):
-        """The instruction that a person names; of a line, where each part of it begins."""
+        """The instruction that a user names; for a line, the start of each of its parts."""
         if named := self.line_named(text):
             found = self.listing.parts_of_line(*named)
             lines = [i.source_line if named[1] else i.line for i in self.code]
@@ -204,7 +204,7 @@ class Target:
         return found
 
     def find(self, text):
-        """The instruction that a person names: of a line, the first."""
+        """The instruction that a user names; for a line, the first."""
         return self.find_parts(text)[0]
 
     def line_of(self, instruction, before=""):
@@ -217,7 +217,7 @@ class Target:
         return f"block {instruction.block} index {instruction.index}{self.line_of(instruction, ', ')}"
 
     def check_array(self, name):
-        """Refuses an array, which is no word: its cells are."""
+        """Refuses an array: only its cells are words."""
         array, _, rest = name.partition("[")
         count = sum(cell.startswith(array + "[") for cell in self.listing.cells)
         if rest[:-1].isdigit() and count and name not in self.listing.cells:
@@ -233,7 +233,7 @@ class Target:
         return f"{name} has {count} cell{'' if count == 1 else 's'}: 0 to {count - 1}"
 
     def command_of(self, script):
-        """The command that carries out a script of `talft debug` over this program, as a shell (bash) reads it."""
+        """The bash command that runs a script of `talft debug` over this program."""
         path, made = shlex.quote(self.path), {"text": "asm", "source": "compile"}.get(self.kind)
         words = f"talft debug <(talft {made} {path})" if made else f"talft debug {path}"
         return words + (f" --wild {shlex.quote(self.wild)}" if self.wild else "") + f" <{shlex.quote(script)}"

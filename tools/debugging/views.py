@@ -1,4 +1,4 @@
-"""Lines for people: registers in both colours, the queue, cells, instructions, and the time line."""
+"""Lines to read: registers in both colours, the queue, cells, instructions, and the timeline."""
 import os
 
 from debugging.explaining import counted
@@ -23,7 +23,7 @@ class Paint:
 
 
 def plain(style, text):
-    """In place of Paint, where lines have no colours."""
+    """Replaces Paint for lines without colours."""
     return text
 
 
@@ -57,7 +57,7 @@ class Pair:
         self.is_unset = words == [("G", 0), ("G", 0)]
 
     def within(self, *widths):
-        """The green and the blue text; what doesn't fit goes without the cell's name, or without any name."""
+        """The green and the blue text; if it doesn't fit, without the cell's name, or without any name."""
         return [next((text for text in texts if len(text) <= width), texts[-1])
                 for width, *texts in zip(widths, (self.green, self.blue), self.named, self.bare)]
 
@@ -65,7 +65,7 @@ class Pair:
 def pairs(session, before=None):
     """Each pair of registers; what changed since the state before is marked."""
     state = session.state()
-    # Where the runs have parted, the other one says nothing of this place.
+    # After the runs have diverged, the other one says nothing about this place.
     clean = session.unstruck() if session.strikes else state
     clean = clean if (clean.position, clean.pcg) == (state.position, state.pcg) else None
     return [Pair(session, i, state, before, clean) for i in range(32)]
@@ -153,7 +153,7 @@ def code_lines(session, paint, around=5, at=None):
 
 
 def key_name(key):
-    """How a key of the screen is called."""
+    """The name of a key of the screen."""
     return key if isinstance(key, str) and key.isprintable() else "this key"
 
 
@@ -177,7 +177,7 @@ def size_of(target):
 
 
 def strike_lines(session, old, strikes):
-    """What a move from a position has to do with the strikes that there were: made here, ahead again, forgotten."""
+    """What a move does to the earlier strikes: made here, ahead again, forgotten."""
     lines = []
     for strike in strikes:
         name = f"{strike.step}:{strike.site}:{strike.word}"
@@ -193,13 +193,13 @@ def strike_lines(session, old, strikes):
 
 
 def status_line(session):
-    """Where it is."""
+    """The place."""
     state = session.state()
     return f"at {state.position} {state.status}"
 
 
 def change_lines(session, before, after, paint):
-    """The words that differ between two states, but for the counters."""
+    """The words that differ between two states, except the counters."""
     left, right = before.all_words(), after.all_words()
     lines = []
     for name in sorted(set(left) | set(right), key=lambda name: (name[0] == "c", name)):

@@ -6,7 +6,7 @@ MOST_BYTES, MOST_HEADER = 16_777_216, 4_096
 
 
 class Broken(Exception):
-    """The other side wrote what is no message."""
+    """The other side wrote something that is not a message."""
 
 
 def read_length(stream):
@@ -65,7 +65,7 @@ class Wire:
             self.stream.flush()
 
     def event(self, name, body=None):
-        """Tells an event."""
+        """Sends an event."""
         message = {"type": "event", "event": name}
         self.put(message if body is None else dict(message, body=body))
 
@@ -75,7 +75,7 @@ class Wire:
         self.put(message if body is None else dict(message, body=body))
 
     def refuse(self, request, text):
-        """Answers a request that cannot be carried out."""
+        """Answers a request that cannot be executed."""
         error = {"id": 1, "format": "{text}", "variables": {"text": text}, "showUser": True}
         self.put({"type": "response", "request_seq": request["seq"], "success": False, "command": request["command"],
                   "message": text, "body": {"error": error}})

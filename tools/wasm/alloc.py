@@ -1,4 +1,4 @@
-"""Pass 5: values to 31 pairs of registers, by colouring. What does not fit is spilled."""
+"""Pass 5: assigns values to 31 register pairs by graph colouring. What does not fit is spilled."""
 from .ir import Value
 from .spill import Spiller, cells_of
 
@@ -10,7 +10,7 @@ def has_register(v):
 
 
 def last_uses(b):
-    """What the end of a block uses itself. Before the blocks are split the end of a function tells no values."""
+    """What the end of a block itself uses. Before the blocks are split, the end of a function has no values."""
     op = b.term[0]
     if op == "bz":
         return [b.term[1]] if isinstance(b.term[1], Value) else []
@@ -24,7 +24,7 @@ def used(v):
 
 
 def needs_of(b):
-    """What a block uses that was there before, and what it makes."""
+    """The earlier values that a block uses, and the values that it makes."""
     needs = set(last_uses(b))
     for v in reversed(b.insts):
         needs.discard(v)
@@ -133,7 +133,7 @@ class Colouring:
         return v
 
     def coalesce(self):
-        """Puts values that move into one another into one group, where the group still finds a register."""
+        """Joins values that are copied to one another in one group, if the group still finds a register."""
         left, self.high = self.moves, {v for v, near in self.adj.items() if len(near) >= self.count}
         while True:
             kept = []
@@ -150,7 +150,7 @@ class Colouring:
             left = kept
 
     def fits(self, a, b):
-        """Whether two groups as one still find a register: by the rule of Briggs, or that of George."""
+        """Whether two groups, joined, still find a register: by the rule of Briggs, or that of George."""
         adj, high, count = self.adj, self.high, self.count
         near_a, near_b = adj[a], adj[b]
         taken = len(self.taken[a] | self.taken[b])

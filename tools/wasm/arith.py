@@ -26,7 +26,7 @@ class Arith(Divide):
         return self.low(self.mk("sub", self.mk("xor", low, top), top), bits)
 
     def choose(self, cond, x, y):
-        """x where cond is not 0, and else y."""
+        """x if cond is not 0, otherwise y."""
         if isinstance(cond, int):
             return x if cond else y
         if x is y or (isinstance(x, int) and x == y):
@@ -37,7 +37,7 @@ class Arith(Divide):
             bit = self.mk("eq", cond, 0)
             x, y = y, x
         if isinstance(x, int) and x == 0 and not isinstance(y, int):
-            # y where bit is 0: y and (bit - 1)
+            # y if bit is 0: y and (bit - 1)
             found = self.mk("and", y, self.mk("add", bit, M64))
         else:
             found = self.mk("add", y, self.mk("mul", bit, self.mk("sub", x, y)))
@@ -126,7 +126,7 @@ class Arith(Divide):
         """The 32-bit word a in both halves: then each rotation of it is a shift."""
         return self.mk("mul", a, (1 << 32) + 1)
 
-    # Division: by a constant in products, else with a reciprocal, or by a loop of shifts and subtractions.
+    # Division: by a constant with products, otherwise with a reciprocal, or with a loop of shifts and subtractions.
     def _divide(self, name, bits, a, b, at):
         mk, top = self.mk, 1 << (bits - 1)
         full = (top << 1) - 1
@@ -168,7 +168,7 @@ class Arith(Divide):
         return quotient if kind == "div" else self.low(mk("sub", a, mk("shl", quotient, k)), bits)
 
     def _absolute(self, a, sign, bits):
-        """-a where sign is 1, and else a."""
+        """-a if sign is 1, otherwise a."""
         mask = self.mk("sub", 0, sign)
         return self.low(self.mk("sub", self.mk("xor", a, mask), mask), bits)
 
@@ -197,7 +197,7 @@ class Arith(Divide):
         return self.newton32(a, b) if small else self.newton64(a, b)
 
     def _turns(self, note, starts, turns, step):
-        """A loop that does `step` on the words of `starts` so many times; the words afterwards."""
+        """A loop that applies `step` to the words of `starts` a number of times; the words afterwards."""
         g = self.g
         head = g.block(self.depth + 1, note)
         g.at.term = ("jmp", Edge(head, [turns] + starts))

@@ -1,4 +1,4 @@
-"""The bytes of a module, read from left to right. What ends too early or is spelled too long is refused."""
+"""Reads the bytes of a module from left to right. Truncated parts and overlong encodings are refused."""
 from .refused import Refused
 
 DAMAGED = "link it again: the file is damaged"
@@ -18,7 +18,7 @@ class Bytes:
         return self.data[self.at - 1]
 
     def u(self, bits=32):
-        """A number of so many bits in LEB128."""
+        """A number of this many bits in LEB128."""
         shift, result, at = 0, 0, self.at
         while True:
             b = self.byte()
@@ -59,7 +59,7 @@ class Bytes:
             return self.refuse("a name that is not UTF-8", at)
 
     def part(self, size):
-        """The next bytes, as bytes to be read by themselves."""
+        """The next bytes, to be read separately."""
         if self.at + size > self.end:
             self.refuse("a part is longer than the section that it is in")
         self.at += size

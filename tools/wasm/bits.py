@@ -1,4 +1,4 @@
-"""Pass 3b: the bits that may be 1 and the bits that matter; masks that no one needs go."""
+"""Pass 3b: the bits that may be 1 and the bits that matter; removes unneeded masks."""
 from .ir import Value
 from .narrow import use_ranges
 from .opt import clean, find, resolve
@@ -24,7 +24,7 @@ def readers_of(blocks):
 
 
 def grown(p, i, ways, turn):
-    """The bits of a parameter that may be 1. Where they grow for long, all that may come are taken at once."""
+    """The bits of a parameter that may be 1. If they keep growing, all possible ones are taken at once."""
     ones = p.ones
     for _, e in ways:
         ones |= ones_of(e.args[i])
@@ -69,7 +69,7 @@ def known_ones(blocks, preds):
 
 
 def asked(v, bits, length):
-    """Which bits of the two operands matter where these bits of a value do."""
+    """Which bits of the two operands matter if these bits of a value do."""
     op, word = v.op, v.b if isinstance(v.b, int) else None
     if op in ("add", "sub", "mul"):
         return smear(bits), smear(bits)
@@ -161,7 +161,7 @@ def drop_masks(blocks, preds, length):
 
 
 def share_sums(blocks, preds, length):
-    """Sums of a value with two constants that differ where it does not matter become one."""
+    """Merges sums of a value with two constants that differ only in bits that do not matter."""
     need = demanded(blocks, preds, length)
     changed = False
     for b in blocks:

@@ -1,4 +1,4 @@
-"""Pass 2: functions to graphs. Structured control becomes blocks with parameters."""
+"""Pass 2: turns functions into graphs. Structured control becomes blocks with parameters."""
 from .arith import Arith
 from .bulk import Bulk
 from .called import Calls
@@ -14,7 +14,7 @@ UNARY = {"eqz", "clz", "ctz", "popcnt", "wrap", "extend_s", "extend_u", "ext8", 
 
 
 class Label:
-    """A block that can be left: for a loop its head, else the edges that leave it, each with what is known there."""
+    """A block that can be left: for a loop its head, otherwise the edges that leave it, each with what is known there."""
     __slots__ = ("kind", "height", "results", "edges", "head", "assigned", "ins", "saved", "params")
 
     def __init__(self, kind, height, params, results, ins=None):
@@ -241,7 +241,7 @@ class Builder(Calls, Arith, Access, Bulk, Floats):
         self.g.at = None
 
     def leave(self, label):
-        """To the end of the construct (for a loop too: there its own end is meant, not its head)."""
+        """To the end of the construct (also for a loop: its end, not its head)."""
         n = len(label.results)
         edge = Edge(None)
         label.edges.append((edge, list(self.locals), list(self.globals), self.stack[len(self.stack) - n:] if n else []))

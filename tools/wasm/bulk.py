@@ -19,7 +19,7 @@ class Bulk:
         self.each(count, "memory.fill", lambda i: self.put_byte(self.mk("add", to, i), byte))
 
     def memory_copy(self, ins):
-        """Upwards where the bytes go down or stay, and else downwards: so none is lost."""
+        """Upwards if the bytes move down or stay, otherwise downwards, so that none is lost."""
         count, start, to = self.stack.pop(), self.stack.pop(), self.stack.pop()
         self.test_span(to, count, ins.at)
         self.test_span(start, count, ins.at)
@@ -53,7 +53,7 @@ class Bulk:
         g.at = on
 
     def test_span(self, first, count, at):
-        """Traps where the bytes do not all lie in the memory."""
+        """Traps if the bytes are not all within the memory."""
         if not self.checked:
             return
         mk, memory, what = self.mk, self.memory, OUTSIDE

@@ -1,5 +1,5 @@
-"""Pass 2d: calls. Short functions, and those that are called once, are put in their caller's place; long ones are
-shared; an indirect call is a tree of comparisons with the table's numbers, and then a direct call."""
+"""Pass 2d: calls. Functions that are short or called once are inlined; long ones are shared; an indirect call is a
+tree of comparisons with the table's numbers, followed by a direct call."""
 from .floats import builtin
 from .ir import Edge, Graph
 from .opcodes import FUNCREF
@@ -9,7 +9,7 @@ LONG = 400      # a function is shared where all its copies after the first woul
 
 
 class Shared:
-    """A function that is compiled once: its graph, and the globals that it takes and gives beside its own values."""
+    """A function that is compiled once: its graph, and the globals that it takes and gives besides its own values."""
 
     def __init__(self, func, taken, given):
         self.func, self.taken, self.given, self.graph = func, taken, given, None
@@ -44,7 +44,7 @@ def fits(func, kind):
 
 
 def reached(module, roots):
-    """The functions that are reached, each after those that it calls where that can be."""
+    """The reachable functions, each after those that it calls if possible."""
     order, seen, todo = [], set(), [(f, iter(callees(module, f))) for f in roots[:1]]
     rest = list(roots[1:])
     seen.update(f for f, _ in todo)
@@ -87,7 +87,7 @@ class Calls:
                 self.shared[func].circle = circles.get(func, ())
 
     def find_effects(self, order):
-        """The globals that each function reads, and those that it writes, itself or by calls."""
+        """The globals that each function reads, and those that it writes, directly or through calls."""
         effects = {f: ({i.a for i in f.body if i.op == "global.get"}, {i.a for i in f.body if i.op == "global.set"})
                    for f in order}
         changed = True
@@ -180,7 +180,7 @@ class Calls:
         return results
 
     def call_indirect(self, ins):
-        """The function of a table: each that may be meant is called by itself; else it is a trap."""
+        """The function of a table: each possible one is called separately; otherwise it is a trap."""
         index, stack = self.stack.pop(), self.stack
         table, (params, results) = table_of(self.module, ins.b), ins.a
         label = self.label("call", params, results)
@@ -192,7 +192,7 @@ class Calls:
         def leaf(func):
             self.globals, self.stack = list(saved[0]), list(saved[1])
             if func is None:
-                self.g.at.term = ("jmp", self.trap_edge(ins.at, "an indirect call to what is no such function"))
+                self.g.at.term = ("jmp", self.trap_edge(ins.at, "an invalid indirect call"))
                 self.g.at = None
             else:
                 self.do_call(func, ins.at)

@@ -1,4 +1,4 @@
-"""The body of a function: decoded and validated in one pass, by the algorithm of the appendix of the standard."""
+"""The body of a function: decoded and validated in one pass, by the algorithm in the standard's appendix."""
 from .opcodes import BULK, CONSTANTS, FUNCREF, I32, LOADS, NUMBERS, NUMERIC, STORES, TYPE_NAMES, V128
 
 MOST_LOCALS = 50_000

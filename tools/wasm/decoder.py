@@ -1,4 +1,4 @@
-"""Reads a WebAssembly module for the interpreter. The translator has a reader of its own: a mistake in one shows."""
+"""Reads a WebAssembly module for the interpreter. The translator has its own reader, so a mistake in one of them shows."""
 import collections
 
 PAGE = 65536
@@ -134,7 +134,7 @@ class Module:
             self.functions.append(Function(self, len(self.functions), self.types[part.unsigned()]))
 
     def least(self, part):
-        """The least size of a table or a memory. The most is read, too: nothing grows here."""
+        """The minimum size of a table or a memory. The maximum is also read, but nothing grows here."""
         bounded = part.byte() & 1
         size = part.unsigned()
         if bounded:
@@ -251,7 +251,7 @@ def operands(part, op, module):
 
 
 def decode(function):
-    """The instructions of a function. A block knows where it ends, and an `if` where its other part begins."""
+    """The instructions of a function. A block records where it ends, and an `if` where its other part begins."""
     part = Bytes(function.body.data, function.body.at, function.body.end)
     for _ in range(part.unsigned()):
         function.zeros += part.unsigned()

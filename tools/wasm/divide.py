@@ -1,5 +1,4 @@
-"""Division without an instruction for it: a reciprocal of 32 bits by Newton's method, and estimates from below with
-it."""
+"""Division without a divide instruction: a 32-bit reciprocal by Newton's method, and estimates from below with it."""
 from .words import M64
 
 
@@ -19,7 +18,7 @@ class Divide:
         return self.mk("add", self.mk("mul", x, M64), constant)
 
     def _reciprocal(self, d):
-        """At most 2^63 / d, and less by few: d is from 2^31 to 2^32."""
+        """At most 2^63 / d, and only slightly less: d is from 2^31 to 2^32."""
         mk = self.mk
         r = self._minus(6063465472, mk("shr", mk("mul", d, 4042322161), 32))     # 48/17 - 32/17 x
         for _ in range(3):
@@ -27,7 +26,7 @@ class Divide:
         return mk("add", r, -4 & M64)
 
     def _once_more(self, q, r, d):
-        """One more where r is not below d."""
+        """One more if r is not below d."""
         mk = self.mk
         mask = mk("add", mk("ltu", r, d), M64)
         return mk("sub", q, mask), mk("sub", r, mk("and", mask, d))

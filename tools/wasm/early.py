@@ -1,5 +1,5 @@
-"""Pass 4c: what a turn of a loop hands on to the next one is copied before the branch back, so that the branch leads to
-the loop's head itself, and not to a block of copies that jumps there."""
+"""Pass 4c: copies what one iteration passes to the next before the branch back, so that the branch leads directly to the
+loop's head, and not to a block of copies that jumps there."""
 from .alloc import liveness
 from .ir import Value
 from .words import ones_of
@@ -20,7 +20,7 @@ def ordered(pairs):
 
 
 def meet(p, x, b, start):
-    """Whether a parameter is still needed when its next word is there, so that they have two registers."""
+    """Whether a parameter is still needed when its next word exists, so that they have two registers."""
     if isinstance(x, int):
         return True
     if x not in b.insts:
@@ -46,7 +46,7 @@ def copied(b, mid, start, other):
 
 
 def copy_early(blocks):
-    """Does it for each branch that ends a turn."""
+    """Does so for each branch that ends an iteration."""
     start, _ = liveness(blocks)
     number = {b: i for i, b in enumerate(blocks)}
     for b in blocks:

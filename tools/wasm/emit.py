@@ -1,4 +1,4 @@
-"""Pass 6: pairs to instructions in two colours, with code types and substitutions. Green is pair i, blue is pair 32 +
+"""Pass 6: turns pairs into instructions in two colours, with code types and substitutions. Green is pair i, blue is pair 32 +
 i; both do the same, and share nothing. Nodes mirror the instructions, so that each form that is compared is compared
 with itself."""
 from .alloc import K
@@ -36,7 +36,7 @@ class Emitter:
         self.wanted = set(self.rotated.values())
 
     def again(self, head):
-        """The test of a loop again, with a branch back to its inside where that is to go on."""
+        """Repeats the test of a loop, with a branch back into it if it continues."""
         _, cond, zero, other = head.term
         inside = self.rotated[head]
         turn = inside is other.to
@@ -69,7 +69,7 @@ class Emitter:
         return tuple(sorted(rows, key=lambda r: r[0]))
 
     def return_key(self, shared):
-        """What is there where a shared function comes back: its results, and what its callers keep."""
+        """The values after a shared function returns: its results, and what its callers keep."""
         return tuple(sorted((pair, "int") for pair in [*shared.results, *shared.kept]))
 
     def type_of(self, block):
@@ -122,7 +122,7 @@ class Emitter:
             self.move_word(pair, FIRST + pin[1] if pin[0] == "ref" else pin[1], "ref:int" if pin[0] == "ref" else "int")
 
     def count(self, pin):
-        """A use of a constant that has no pair of its own."""
+        """A use of a constant without its own pair."""
         key = self.block, pin
         self.uses[key] = self.uses.get(key, 0) + 10 ** min(self.depth, 6)
 
@@ -148,7 +148,7 @@ class Emitter:
         return self.pairs[v]
 
     def put_return(self, pair, shared, tail):
-        """The address to which a function is to come back."""
+        """The return address of a function."""
         self.both("mov", pair, ("code", tail), self.return_code(shared))
         self.at[pair] = self.nodes.make("code", tail)
 
@@ -317,7 +317,7 @@ class Emitter:
             self.move_word(to, w)
 
     def skip(self, block):
-        """Where a branch to a block may go at once: past blocks that do nothing but jump."""
+        """The direct target of a branch to a block: past blocks that only jump."""
         seen = set()
         while block not in seen and not block.insts and block.term[0] == "jmp" and block is not self.entry:
             seen.add(block)
@@ -328,7 +328,7 @@ class Emitter:
         return block
 
     def chain(self, block):
-        """A block and those that go on from it without a jump."""
+        """A block and those that follow it without a jump."""
         self.place[block] = len(self.code)
         kind = self.type_of(block)
         self.heads.append((block, len(self.code), kind))
@@ -360,7 +360,7 @@ class Emitter:
                 self.put(pin, pair)
 
     def end(self, block):
-        """The end of a block; the block that goes on from it without a jump, or None."""
+        """The end of a block; gives the block that follows it without a jump, or None."""
         op = block.term[0]
         if op == "halt":
             self.code.append(("halt", "G"))

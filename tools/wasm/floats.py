@@ -74,7 +74,7 @@ class Floats:
             self.stack.append(self.mk("xor", self.stack.pop(), top))
 
     def truncate(self, ins, kind, op, func):
-        """A number that does not fit traps, or gives the nearest that does, and 0 for what is no number."""
+        """A number that does not fit traps, or gives the nearest one that does, and 0 for NaN."""
         mk, x = self.mk, self.stack[-1]
         form, bits, unsigned = op.split("_")[-2], INTEGERS[kind][1], op.endswith("_u")
         width = FORMS[form][1]

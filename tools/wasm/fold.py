@@ -1,4 +1,4 @@
-"""The rules that fold an operation when it is made: by constants, masks, comparisons and the bits that may be 1."""
+"""The rules that fold an operation when it is created: constants, masks, comparisons and the bits that may be 1."""
 from .words import COMMUTE, M32, M64, apply, ones_after, ones_of, smear
 
 TOP32, TOP64 = 1 << 31, 1 << 63
@@ -13,7 +13,7 @@ class Folding:
     """Mixed into the graph: `mk` gives the value of an operation. `keyed` makes one that no rule folds."""
 
     def mk(self, op, a, b):
-        """The value of an operation, folded where a rule says so."""
+        """The value of an operation, folded if a rule applies."""
         if isinstance(a, int) and isinstance(b, int):
             return apply(op, a, b)
         if isinstance(a, int) and op in COMMUTE:

@@ -1,4 +1,4 @@
-"""Runs a WebAssembly module by the book, and notes each store: what translations are compared with."""
+"""Runs a WebAssembly module as the standard says, and records each store, for comparison with translations."""
 from wasm.decoder import PAGE, Invalid
 from wasm.numbers import conversions, of_form
 
@@ -10,7 +10,7 @@ class Trap(Exception):
 
 
 class Cut(Exception):
-    """The program has run as many instructions as it may."""
+    """The program has run as many instructions as allowed."""
 
 
 def signed(word, bits):
@@ -18,7 +18,7 @@ def signed(word, bits):
 
 
 def extended(word, low, bits):
-    """The low bits of a word, as a signed number, in so many bits."""
+    """The low bits of a word as a signed number of this many bits."""
     return signed(word & ((1 << low) - 1), low) & ((1 << bits) - 1)
 
 
@@ -59,7 +59,7 @@ def rotl(a, b, bits):
 
 
 def of_one_word(bits, first_test, first_count):
-    """The instructions that take one word of so many bits, from the opcodes of `eqz` and `clz`."""
+    """The instructions on one word of this many bits, from the opcodes of `eqz` and `clz`."""
     return {first_test: lambda a: int(a == 0),
             first_count: lambda a: bits - a.bit_length(),
             first_count + 1: lambda a: (a & -a).bit_length() - 1 if a else bits,
@@ -179,7 +179,7 @@ class Interpreter:
             data = self.part(b"" if a in self.dropped else self.module.data[a].items, second, count)
         if to + count > len(self.memory):
             raise Trap("an access outside the memory")
-        # Byte by byte, each a store, and downwards where a copy goes up: so an object does it.
+        # Byte by byte, each a store, and downwards if a copy goes up, as an object does it.
         downwards = op == 0xFC0A and to > second
         for at in range(count - 1, -1, -1) if downwards else range(count):
             self.memory[to + at] = data[at]
@@ -240,7 +240,7 @@ class Interpreter:
         return target
 
     def control(self, ins, pc, stack, labels):
-        """The place where a block, a branch or an end goes on."""
+        """The place where execution continues after a block, a branch or an end."""
         op, a, b, _ = ins
         if op == 0x0D:
             return self.branch(a, stack, labels) if stack.pop() else pc

@@ -1,4 +1,4 @@
-"""Pass 4a: operations whose operands do not change in a loop are done before it, where registers are left for them."""
+"""Pass 4a: moves operations whose operands do not change in a loop ahead of it, if registers are left for them."""
 from .alloc import liveness, used
 from .ir import Value
 from .loops import find_loops

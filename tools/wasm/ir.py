@@ -48,7 +48,7 @@ class Block:
 
 
 class Graph(Folding):
-    """Blocks are made by `block`, and values by `mk`, which folds; `at` is the block that grows."""
+    """`block` makes blocks, and `mk` values, which it folds; `at` is the current block."""
 
     def __init__(self):
         self.at = None

@@ -6,7 +6,7 @@ from .opt import dominators, order, preds_of, sweep
 
 
 def turned(block, cond):
-    """A value that is 0 exactly where cond is not 0."""
+    """A value that is 0 exactly if cond is not 0."""
     if cond.op == "eq":
         new = Value("xor", cond.a, cond.b, block=block)
     elif cond.op in ("xor", "sub"):

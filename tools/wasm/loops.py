@@ -1,4 +1,4 @@
-"""Loops: their counters, and how often they turn back at most."""
+"""Loops: their counters, and how often they iterate at most."""
 from .ir import Value
 from .words import M32, M64, ones_of
 
@@ -58,7 +58,7 @@ def dominates(a, b, idom):
 
 
 def describe(loop, idom):
-    """Finds the counters of a loop, and the tests that each turn passes before it turns back."""
+    """Finds the counters of a loop, and the tests that each iteration passes before it jumps back."""
     for i, p in enumerate(loop.head.params):
         steps = {step_of(p, e.args[i]) for _, e in loop.latches}
         if len(steps) == 1 and None not in steps:
@@ -80,18 +80,18 @@ class Counters:
     """Mixed into the ranges: `of` gives the range of a value, `at_edge` those of the arguments of an edge."""
 
     def start_of(self, loop, i):
-        """The range with which parameter i comes into a loop."""
+        """The range of parameter i on entry to a loop."""
         ranges = [self.at_edge[e][i] for b, e in self.preds[loop.head] if b not in loop.body and e in self.at_edge]
         return (min(r[0] for r in ranges), max(r[1] for r in ranges)) if ranges else FULL
 
     def turns(self, loop):
-        """How often a loop turns back at most, or None."""
+        """The maximum number of iterations of a loop, or None."""
         loop.own = {}
         found = [self.turns_by(loop, cond, leaves) for cond, leaves in loop.tests.values()]
         return min((n for n in found if n is not None), default=None)
 
     def turns_by(self, loop, cond, leaves_at_zero):
-        """The same by one test, which leaves the loop where its word is 0, or where it is not."""
+        """The same from one test, which leaves the loop if its word is 0, or if it is not."""
         if isinstance(cond, int):
             return None
         while cond.op == "eq" and cond.b == 0 and ones_of(cond.a) == 1:
@@ -107,7 +107,7 @@ class Counters:
         return None
 
     def counter(self, loop, x):
-        """x as a counter at a turn: (its range at the first, step, the greatest word it may be without going round)."""
+        """x as a counter at a turn: (its range at the first, step, the greatest word it may be without wrapping around)."""
         if isinstance(x, int):
             return None
         ahead = 0
@@ -124,7 +124,7 @@ class Counters:
         return low + ahead, high + ahead, step, width, x, ahead
 
     def turns_equal(self, loop, x, goal):
-        """The loop is left where x is the goal. It must meet it, not pass it; it may go round once on its way."""
+        """The loop is left when x is the goal. It must reach it, not pass it; it may wrap around once on its way."""
         low_goal, goal = self.of(goal)
         counted = self.counter(loop, x)
         if counted is None or low_goal != goal or goal > counted[3]:
@@ -141,7 +141,7 @@ class Counters:
         return (goal - low) // step
 
     def turns_less(self, loop, a, b, while_less):
-        """The loop goes on while a < b, or while it is not so: one of the two counts up or down to the other."""
+        """The loop continues while a < b, or while not: one of the two counts up or down to the other."""
         top = next((x.b for x in (a, b) if not isinstance(x, int) and x.op == "xor" and x.b in TOPS), 0)
         if top:
             a, b = (x ^ top if isinstance(x, int) else x.a if x.op == "xor" and x.b == top else None for x in (a, b))
@@ -164,7 +164,7 @@ class Counters:
         return None
 
     def counts(self, loop, p, n):
-        """The range of a counter for so many turns at most, or None."""
+        """The range of a counter for at most this many iterations, or None."""
         low, high = self.start_of(loop, loop.head.params.index(p))
         step, width = loop.steps[p]
         if n is None or high > width:

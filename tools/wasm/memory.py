@@ -27,7 +27,7 @@ class Memory:
                     self.words[self.cell(at + i)] |= byte << 8 * ((at + i) & 7)
 
     def test_size(self):
-        """Asked when the code is known to be one that can be translated: so what is wrong there is said first."""
+        """Asked once the code is known to be translatable, so that its errors are reported first."""
         if self.need > MOST_CELLS:
             raise Refused(f"the memory from 0x{self.low:x} to 0x{self.high:x} takes {self.need} cells, more than "
                           f"{MOST_CELLS}", "use less data, a smaller -Wl,-z,stack-size=, or use --memory LO:HI")
@@ -104,7 +104,7 @@ class Access:
                 inside = self.mk("ltu", self.mk("sub", address, memory.low), memory.high - memory.low - size // 8 + 1)
                 self.trap_if_zero(inside, at, OUTSIDE)
             aligned = self.mk("eq", self.mk("and", address, (1 << align) - 1), 0)
-            self.trap_if_zero(aligned, at, "an access that is not aligned as it says")
+            self.trap_if_zero(aligned, at, "a misaligned access")
         return address
 
     def is_inside(self, address, size):
@@ -113,7 +113,7 @@ class Access:
 
     @staticmethod
     def is_word(address, size, align):
-        """Whether an access takes a whole cell."""
+        """Whether an access covers a whole cell."""
         return size == 64 and (not address & 7 if isinstance(address, int) else align == 3)
 
     def at_word(self, address, ahead=0):
@@ -145,7 +145,7 @@ class Access:
         return self.extended(value, size, bits) if is_signed else value
 
     def get_byte(self, address):
-        """A byte of which it is known that it is there."""
+        """A byte that is known to exist."""
         place = self.mk("shl", self.mk("and", address, 7), 3)
         return self.mk("and", self.mk("shr", self.g.load(self.at_word(address)), place), 255)
 

@@ -26,7 +26,7 @@ class Func:
 
 
 class Segment:
-    """Data: where it goes (None: it waits for memory.init), and its bytes."""
+    """Data: its place (None: it waits for memory.init), and its bytes."""
 
     def __init__(self, at, data, offset):
         self.at, self.data, self.offset = at, data, offset
@@ -195,7 +195,7 @@ class Module:
         return value
 
     def finish(self, reader):
-        """What can be said when all is there: the number of bodies, the start function, and each body."""
+        """The checks that need everything: the number of bodies, the start function, and each body."""
         if len(self.bodies) != len(self.funcs):
             reader.refuse(f"{len(self.funcs)} functions and {len(self.bodies)} bodies")
         if self.data_count not in (None, len(self.segments)):

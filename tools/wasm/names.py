@@ -23,7 +23,7 @@ def read_map(path):
 
 
 def linked_symbols(module, first, stack_top):
-    """The symbols of data that the section `linking` tells of (-Wl,--emit-relocs), with their sizes, static ones too.
+    """The symbols of data in the section `linking` (-Wl,--emit-relocs), with their sizes, including static ones.
     Segments of zeros have no place in the module: they come after those that have one. `first` is the lowest address
     that code names."""
     try:
@@ -76,7 +76,7 @@ def read_symbol(part, found):
 
 
 def exported_symbols(module, known):
-    """Exported addresses (-Wl,--export=NAME) are symbols, too; the next one ends each."""
+    """Exported addresses (-Wl,--export=NAME) are also symbols; the next one ends each."""
     have = {s.name for s in known}
     places = sorted((module.globals[i][2], n) for n, (what, i) in module.exports.items()
                     if what == 3 and module.globals[i][0] == I32 and not module.globals[i][1])

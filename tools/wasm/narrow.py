@@ -1,5 +1,4 @@
-"""Pass 3d: uses of ranges: tests that cannot fail, masks that clear nothing, signed tests that may as well be
-unsigned."""
+"""Pass 3d: uses of ranges: tests that cannot fail, masks that clear nothing, signed tests that can be unsigned."""
 from .loops import TOPS
 from .opt import find, resolve
 from .ranges import Ranges
@@ -7,7 +6,7 @@ from .words import M64, PURE, smear
 
 
 def turned_down(v, of):
-    """v, a test of signed words, as one of unsigned words where both have the same sign; or a number; or None."""
+    """v, a test of signed words, as one of unsigned words if both have the same sign; or a number; or None."""
     a, b = v.a, v.b
     sides = []
     top = next((x.b for x in (a, b) if not isinstance(x, int) and x.op == "xor" and x.b in TOPS), None)
@@ -29,7 +28,7 @@ def turned_down(v, of):
 
 
 def less_round(v, of):
-    """A sum that always goes round its width once, as that of a number and -1 does, is one that does not."""
+    """Replaces a sum that always wraps around its width once, like that of a number and -1, by one that does not."""
     s, mask = v.a, v.b
     if isinstance(s, int) or s.op != "add" or not isinstance(s.b, int):
         return False

@@ -1,4 +1,4 @@
-"""The expressions of an object, each once."""
+"""The expressions of an object, without duplicates."""
 
 
 class Nodes:

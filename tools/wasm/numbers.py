@@ -38,7 +38,7 @@ def product(a, b):
 
 
 def arithmetic(bits, apply):
-    """An instruction on two numbers. One that is none of them comes through, as quiet."""
+    """An instruction on two numbers. A NaN passes through, as a quiet one."""
     def run(a, b):
         for word in (a, b):
             if is_nan(word, bits):
@@ -62,7 +62,7 @@ def rounded(bits, apply):
             return a | FORMS[bits][3]
         if math.isinf(value) or value == 0:
             return a
-        # The sign stays where the result is 0.
+        # The sign stays if the result is 0.
         return word_of(math.copysign(apply(value), value), bits)
     return run
 
@@ -103,7 +103,7 @@ def signed(word, bits):
 
 
 def of_form(bits, first_test, first_one, first_two):
-    """The instructions on numbers of so many bits, by opcode: those that take one, and those that take two."""
+    """The instructions on numbers of this many bits, by opcode: those with one operand, and those with two."""
     top = 1 << bits - 1
     tests = [lambda a, b: a == b, lambda a, b: a != b, lambda a, b: a < b, lambda a, b: a > b, lambda a, b: a <= b,
              lambda a, b: a >= b]

@@ -1,4 +1,4 @@
-"""The instructions of WebAssembly: for each code its name, the types that it takes and gives, and what follows it."""
+"""The instructions of WebAssembly: for each opcode its name, the types that it takes and gives, and its immediates."""
 
 I32, I64, F32, F64, V128, FUNCREF, EXTERNREF = 0x7F, 0x7E, 0x7D, 0x7C, 0x7B, 0x70, 0x6F
 TYPE_NAMES = {I32: "i32", I64: "i64", F32: "f32", F64: "f64", V128: "v128", FUNCREF: "funcref", EXTERNREF: "externref"}

@@ -1,5 +1,5 @@
-"""Pass 3a: the graph is folded again until nothing changes: parameters that are one value, dead values, blocks that
-only jump."""
+"""Pass 3a: folds the graph until nothing changes: parameters with a single value, dead values, blocks that only
+jump."""
 from .ir import Value
 from .words import PURE
 
@@ -110,7 +110,7 @@ def simple_params(blocks, preds):
 
 
 def merge_blocks(blocks, preds):
-    """A block with one way in, by a jump, goes on in the block before it; a block that only jumps is left out."""
+    """Merges a block with one entry, by a jump, into the block before it; removes blocks that only jump."""
     gone = set()
     for b in blocks:
         while b not in gone and b.term[0] == "jmp":
@@ -146,7 +146,7 @@ def used_elsewhere(blocks):
 
 
 def pass_by(e, uses):
-    """Lets an edge to a block that only jumps go where that goes."""
+    """Redirects an edge to a block that only jumps to that block's target."""
     seen = set()
     while True:
         mid = e.to
@@ -187,7 +187,7 @@ def dominators(blocks, preds):
 
 
 def rebuild(g, blocks, preds):
-    """Each operation is made again, with what dominates it known: one table, along the tree of dominators."""
+    """Remakes each operation, knowing what dominates it: one table, along the tree of dominators."""
     idom = dominators(blocks, preds)
     under = {b: [] for b in blocks}
     for b in blocks[1:]:
@@ -236,7 +236,7 @@ def rebuild_block(g, b):
 
 
 def sweep(blocks, preds):
-    """Dead values and parameters go."""
+    """Removes dead values and parameters."""
     live, todo = set(), []
 
     def use(x):

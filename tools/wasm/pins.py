@@ -1,4 +1,4 @@
-"""Pass 6b: constants that keep a register of their own where they are used often: some in the whole program, and others
+"""Pass 6b: constants that keep their own register where they are used often: some in the whole program, and others
 in a loop, which has them when it is entered."""
 from .alloc import K
 from .ir import Value

@@ -1,5 +1,5 @@
-"""Pass 3c: between which words each value lies: from counters of loops, masks and tests. Tests that cannot fail go, and
-masks that clear nothing. A range holds in the block where it was found: tests on the way to it are known there."""
+"""Pass 3c: the range of each value, from loop counters, masks and tests. Removes tests that cannot fail, and masks that
+clear nothing. A range holds in the block where it was found: tests on the way to it are known there."""
 from .loops import FULL, TOPS, Counters, describe, find_loops
 from .opt import dominators
 from .words import M32, M64, PURE, smear
@@ -64,7 +64,7 @@ class Ranges(Counters):
         return known if known is not None else (0, smear(x.ones))
 
     def learn(self, x, low, high, undo, depth=4):
-        """x lies between low and high here; so what it is made of lies somewhere, too."""
+        """x is between low and high here, which bounds what it is made from."""
         if isinstance(x, int):
             return
         l, h = self.of(x)
@@ -172,14 +172,14 @@ class Ranges(Counters):
         return changed
 
     def enter(self, b, undo):
-        """What the test on the only way into a block tells."""
+        """What follows from the test on the only way into a block."""
         if len(self.preds[b]) == 1:
             before, edge = self.preds[b][0]
             if before.term[0] == "bz":
                 self.take(edge, edge is before.term[3], before.term[1], undo)
 
     def leave(self, b):
-        """The ranges of the arguments of each edge, with what its test tells."""
+        """The ranges of the arguments of each edge, given its test."""
         for e in b.edges():
             if not e.args:
                 continue

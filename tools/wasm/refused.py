@@ -1,4 +1,4 @@
-"""What is refused: where (function, offset in the file), what, and what to do."""
+"""Refusals: where (function, offset in the file), what, and what to do."""
 
 
 def plain(name):

@@ -1,4 +1,4 @@
-"""Pass 5a: values that have no register live in cells `spill[k]`, or in the frame of a function that calls itself."""
+"""Pass 5a: keeps values without a register in cells `spill[k]`, or in the frame of a function that calls itself."""
 from .ir import Value
 from .opt import preds_of
 

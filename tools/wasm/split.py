@@ -1,5 +1,5 @@
-"""Pass 4b: calls of shared functions end their blocks. What comes after a call is a block of its own, to which the
-function comes back; what is live there stays in its registers, which the function leaves alone."""
+"""Pass 4b: calls of shared functions end their blocks. What follows a call is a separate block, to which the function
+returns; what is live there stays in its registers, which the function leaves alone."""
 from .ir import Block, Edge, Value
 from .opt import order
 

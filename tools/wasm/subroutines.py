@@ -97,11 +97,11 @@ class Program:
 
     @staticmethod
     def is_inner(s, callee):
-        """Whether a call is one by which a function may come to call itself."""
+        """Whether through this call a function may call itself."""
         return s is not None and s.func in callee.circle
 
     def test_depth(self, s):
-        """A function that calls itself begins with a test that there is a frame for it."""
+        """A recursive function begins with a test that a frame is available."""
         entry, rest, trap = s.graph.entry, Block(note=f"{s.func.name} goes on"), Block()
         trap.term, trap.trap = ("jmp", Edge(trap)), (s.func.name, s.func.at, "the stack is full")
         rest.insts, rest.term, depth = entry.insts, entry.term, Value("depth", block=entry)
@@ -114,7 +114,7 @@ class Program:
         self.blocks = [b for t in reversed(self.order) for b in self.blocks_of[t]]
 
     def describe(self, s, pairs):
-        """What callers must know of a function: where its values are, and which registers it uses."""
+        """What callers must know about a function: where its values are, and which registers it uses."""
         s.pairs = pairs
         ends = [b for b in self.blocks_of[s] if b.term[0] == "ret"]
         if ends and not s.circle:

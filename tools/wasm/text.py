@@ -1,4 +1,4 @@
-"""Pass 7: the assembly text of what was emitted."""
+"""Pass 7: writes the emitted code as assembly text."""
 from .refused import Refused
 
 MOST = {"instructions": 65536, "nodes": 1 << 20, "code types": 4096, "substitution rows": 1 << 20, "cells": 1024}
@@ -10,7 +10,7 @@ def return_name(k, i):
 
 
 class Text:
-    """`cells`: pairs of a name and the first word. `counts` tells how much there is of each kind."""
+    """`cells`: pairs of a name and the first word. `counts` has the number of each kind."""
 
     def __init__(self, emitter, cells):
         self.emitter, self.nodes, self.cells = emitter, emitter.nodes, cells
@@ -75,7 +75,7 @@ class Text:
         return out
 
     def code_lines(self):
-        """Blocks with their instructions. A comment tells what a block is for; that of a trap can be read by tools."""
+        """Blocks with their instructions. A comment says what a block is for; tools can read that of a trap."""
         out, heads = [], {at: (i, b, kind) for i, (b, at, kind) in enumerate(self.emitter.heads)}
         for at, c in enumerate(self.emitter.code):
             if at in heads:

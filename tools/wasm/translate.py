@@ -1,4 +1,4 @@
-"""From a module to an assembly text: chooses the entry and the memory, and runs the passes in their order."""
+"""From a module to an assembly text: chooses the entry and the memory, and runs the passes in order."""
 import gc
 import os
 
@@ -108,7 +108,7 @@ def extents(module, symbols, mapped, used, places):
 
 
 def symbols_of(module, path, options, places):
-    """The symbols of data, and whether a table of them was there."""
+    """The symbols of data, and whether a table of them exists."""
     tops = stack_pointers(module)
     symbols = linked_symbols(module, min((at for at, _ in places), default=None), tops[0][1] if tops else None)
     beside = (path + ".map", os.path.splitext(path)[0] + ".map")
@@ -203,7 +203,7 @@ def translated(path, data, options):
 
 
 def notes_of(text, emitter):
-    """How large the text is, and a warning where words are spilled."""
+    """The size of the text, and a warning if words are spilled."""
     counts, cells = text.counts, emitter.program.cells
     sizes = [(counts["instructions"], "instruction"), (len(emitter.heads), "block"),
              (counts["code types"], "code type"), (counts["nodes"], "node"), (counts["cells"], "cell")]

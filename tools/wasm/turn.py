@@ -1,4 +1,4 @@
-"""Pass 6a: loops whose tests are made again where they jump back, so that a turn takes no jump but its branch."""
+"""Pass 6a: repeats a loop's test where it jumps back, so that an iteration needs no jump besides its branch."""
 from .ir import Value
 
 MOST_TESTED = 10    # values of a test that is made twice
@@ -15,7 +15,7 @@ def counted_uses(blocks):
 
 
 def loops_to_turn(blocks, skip):
-    """Short heads of loops, each with the block inside after it. `skip` goes past blocks that only jump."""
+    """Short loop heads, each with the block inside after it. `skip` skips blocks that only jump."""
     number = {b: i for i, b in enumerate(blocks)}
     uses, found = counted_uses(blocks), {}
     for b in blocks:

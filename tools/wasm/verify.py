@@ -9,20 +9,20 @@ from wasm.decoder import Invalid, Module
 from wasm.interpreter import Interpreter
 
 WRONG = "the translation is wrong; report it"
-# Where an object traps and its module need not: its memory and its stack are smaller, and hints of alignment must hold.
-NARROWER = "an access outside the memory", "an access that is not aligned as it says", "the stack is full"
+# Traps of an object where its module need not trap: its memory and stack are smaller, and alignment hints must hold.
+NARROWER = "an access outside the memory", "a misaligned access", "the stack is full"
 TRAP = re.compile(r"# trap (\d+): (function .*: offset 0x[0-9a-f]+: .*)")
 # How a run ended: done, detected, running or staying; after how many steps; in which block; the lines that it wrote.
 Ending = collections.namedtuple("Ending", "how steps block lines")
 
 
 def traps_of(text):
-    """What the comments of a translated text tell of its traps, by the number of the block."""
+    """The traps named in the comments of a translated text, by block number."""
     return {int(match[1]): match[2] for match in map(TRAP.fullmatch, text.splitlines()) if match}
 
 
 def ending(object_file, most, strikes=()):
-    """Runs the object for at most so many steps. Its run stays where it is when the next jump leads to itself."""
+    """Runs the object for at most this many steps. Its run stays where it is if the next jump leads to itself."""
     script = path(strikes, 0, most)
     answers = ask(object_file, [*script, "where", "step 4", "where"])
     outputs, made = answers.path(script)
@@ -36,7 +36,7 @@ def ending(object_file, most, strikes=()):
 
 
 def told(run, text):
-    """How a run ended, in words, with the place of a trap where the text tells it."""
+    """How a run ended, in words, with the place of a trap if the text has it."""
     if run.how != "staying":
         return f"{run.how} after {run.steps} steps"
     traps = traps_of(text)
@@ -47,7 +47,7 @@ def told(run, text):
 
 
 class Expected:
-    """What the module stores, by the interpreter: each word of 8 bytes with the name of its cell."""
+    """What the module stores in the interpreter: each word of 8 bytes with the name of its cell."""
 
     def __init__(self, data, entry, translation, most, most_stores):
         names = {at: name for name, at in translation.cells if at is not None}
@@ -59,7 +59,7 @@ class Expected:
             self.stores.append((translation.result, results[0]))
 
     def place(self):
-        """Where the module trapped, and why: as the comments of a text tell it, without the function."""
+        """Where the module trapped, and why, as in the comments of a text, without the function."""
         return f"offset {self.program.place[1].at:#x}: {self.what}"
 
 
@@ -86,7 +86,7 @@ def verify(data, entry, translation, run):
 
 
 def agreement(run, module, count, traps):
-    """What two runs with the same stores, as far as both go, say of each other; nothing where they differ."""
+    """The verdict on two runs with the same stores, as far as both go; nothing if they differ."""
     more, fewer = len(module.stores) > count, len(module.stores) < count
     if run.how == "done":
         if module.how == "cut" and not more:

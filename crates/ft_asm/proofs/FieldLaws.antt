@@ -1,5 +1,6 @@
 -- Each field is read as what it was written for, and nothing else is.
-use Rattle.std.proofs.Common.{◌≡◌, ℕ, zero, suc, ◌^◌, ◌<◌, ◌≤◌, true, List, [], ◌∷◌, ◌++◌, map, take, drop, Option, Some, None, decimal, codes, nat_lt, eqb, refl, ap, sym, ◌∙◌, subst, arith, inl, inr}
+use Rattle.std.proofs.Common.{◌≡◌, ℕ, zero, suc, ◌^◌, ◌<◌, ◌≤◌, true, List, [], ◌∷◌, ◌++◌, map, take, drop, Option}
+use Rattle.std.proofs.Common.{Some, None, decimal, codes, nat_lt, eqb, refl, ap, sym, ◌∙◌, subst, arith, inl, inr}
 use Rattle.std.specs.Prelude.{if◌then◌else◌}
 use Rattle.std.specs.Option.{option_map, option_and_then}
 use Rattle.std.specs.List.{AllByRecursion}
@@ -7,14 +8,15 @@ use Rattle.std.specs.Str.{bytes_eq}
 use Rattle.std.proofs.lemmas.Bool.{ltb-true, lt-ltb, eqb-true}
 use Rattle.std.proofs.lemmas.List.{take-append-drop}
 use Rattle.std.proofs.lemmas.Option.{option_and_then_some}
-use Rattle.std.proofs.lemmas.Slice.Eq.{bytes_eq-Decides}
 use Rattle.ft_isa.specs.Words.{IsWord}
 use Rattle.ft_isa.specs.PlanText.{IsNumberText}
 use Rattle.ft_isa.specs.Registers.{reg_of}
 use Rattle.ft_isa.proofs.NumberRead.{next_number, number_told, IsNumberRead}
 use Rattle.ft_isa.proofs.NumberText.{whole_number, number_reader}
 use Rattle.ft_isa.proofs.Readers.{reads_ok}
-use Rattle.ft_isa.proofs.Branches.{if_some, of_branch, of_map}
+use Rattle.ft_isa.specs.Operations.{op_word, op_in}
+use Rattle.ft_isa.proofs.Branches.{if_some, of_branch, of_map, same_word, chosen, known, none_is}
+use Rattle.ft_isa.proofs.Operations.{op_sound, op_complete}
 use Rattle.ft_isa.proofs.Registers.{reg_of-number, number-reg_of}
 use Rattle.ft_isa.specs.Reading.{state_after}
 use Rattle.ft_isa.specs.declared.basic.Base.{Base}
@@ -23,12 +25,11 @@ use Rattle.ft_isa.specs.declared.basic.Base.TheVariants as bases
 use Rattle.ft_isa.specs.declared.basic.Basic.{Basic}
 use Rattle.ft_isa.specs.declared.colour.Colour.{Colour}
 use Rattle.ft_isa.specs.declared.colour.Colour.TheVariants.{Green, Blue}
-use Rattle.ft_isa.specs.declared.op.Op.{Op}
-use Rattle.ft_isa.specs.declared.op.Op.TheVariants.{Add, Sub, Mul, Ltu, Eq, And, Or, Xor, Shl, Shr}
 use Rattle.ft_isa.specs.declared.reg.Reg.{Reg}
-use Rattle.ft_encode.specs.Fits.{FitsBase, FitsBasic, Is32}
-use Rattle.ft_asm.specs.Lines.{reg_word, colour_word, op_word, base_word, refs_word, basic_word}
-use Rattle.ft_asm.specs.Forms.{number_of, if_below, below, reg_in, colour_in, op_in, plain_basic, base_in, one_more_ref, basic_in, rows_in}
+use Rattle.ft_format.specs.Fits.{FitsBase, FitsBasic, Is32}
+use Rattle.ft_asm.specs.Lines.{reg_word, colour_word, base_word, refs_word, basic_word}
+use Rattle.ft_asm.specs.Forms.{number_of, if_below, below, reg_in, colour_in, plain_basic, base_in, one_more_ref}
+use Rattle.ft_asm.specs.Forms.{basic_in, rows_in}
 
 -- a reader of words gives exactly the values whose word it reads
 pub record IsField {A : Type 0} (read : List ℕ → Option A) (word : A → List ℕ) (Fits : A → Type 0) : Type 0 where
@@ -37,9 +38,11 @@ pub record IsField {A : Type 0} (read : List ℕ → Option A) (word : A → Lis
 
 -- NUMBERS
 
-number_told_whole : (o : Option (Option ℕ)) (word : List ℕ) (n : ℕ) → state_after next_number None word ≡ o → option_and_then (λ number. number) o ≡ Some n → IsNumberText word n
+number_told_whole : (o : Option (Option ℕ)) (word : List ℕ) (n : ℕ) → state_after next_number None word ≡ o →
+    option_and_then (λ number. number) o ≡ Some n → IsNumberText word n
 number_told_whole None word n e f = absurd cc
-number_told_whole (Some s) word n e f = reads_ok next_number whole_number None number_told IsNumberRead IsNumberText number_reader s n word e f
+number_told_whole (Some s) word n e f = reads_ok next_number whole_number None number_told IsNumberRead IsNumberText
+    number_reader s n word e f
 
 pub number_sound : (word : List ℕ) (n : ℕ) → number_of word ≡ Some n → IsNumberText word n
 number_sound word n e = number_told_whole (state_after next_number None word) word n refl e
@@ -58,31 +61,14 @@ below_sound limit w n e =
 
 below_complete : (limit n : ℕ) → limit ≤ 2 ^ 64 → n < limit → below limit (decimal n) ≡ Some n
 unfolding below
-below_complete limit n le lt = ap (option_and_then (if_below limit)) (number_complete n (omega arith)) ∙ ap (λ t. if t then Some n else None) (lt-ltb n limit lt)
+below_complete limit n le lt = ap (option_and_then (if_below limit)) (number_complete n (omega arith))
+    ∙ ap (λ t. if t then Some n else None) (lt-ltb n limit lt)
 
 -- numbers below a limit
 pub number_field : (limit : ℕ) → limit ≤ 2 ^ 64 → IsField (below limit) decimal (λ n. n < limit)
 number_field limit le = record { sound = below_sound limit; complete = λ n h. below_complete limit n le h }
 
 -- WORDS
-
--- a word that is this one
-pub same_word : (w v : List ℕ) → bytes_eq w v ≡ true → w ≡ v
-same_word w v e = (bytes_eq-Decides w v).0 e
-
--- what came of a word, or of none of the words before
-pub chosen : {A : Type 0} (P : List ℕ → A → Type 0) (v w : List ℕ) (x y : Option A) → ((a : A) → x ≡ Some a → P v a) → ((a : A) → y ≡ Some a → P w a) → (a : A) → (if bytes_eq w v then x else y) ≡ Some a → P w a
-chosen P v w x y h i a e = elim (of_branch (bytes_eq w v) x y a e) [
-  | inl here ↦ subst (λ (u : List ℕ). P u a) (sym (same_word w v here.0)) (h a here.1)
-  | inr other ↦ i a other
-]
-
--- the value of a word that is known
-pub known : {A : Type 0} (P : List ℕ → A → Type 0) (v : List ℕ) (b : A) → P v b → (a : A) → Some b ≡ Some a → P v a
-known P v b h a e = let same : b ≡ a = cc in subst (P v) same h
-
-pub none_is : {A : Type 0} (P : A → Type 0) (a : A) → None ≡ Some a → P a
-none_is P a e = absurd cc
 
 abbrev IsColourWord : List ℕ → Colour → Type 0
 IsColourWord w c = Unit {0} × (w ≡ colour_word c)
@@ -95,43 +81,14 @@ colours Blue h = refl
 pub colour_field : IsField colour_in colour_word (λ c. Unit {0})
 unfolding colour_in
 colour_field = record {
-  sound = λ w. chosen IsColourWord (codes "G") w _ _ (known IsColourWord (codes "G") Green (tt, refl)) (chosen IsColourWord (codes "B") w _ _ (known IsColourWord (codes "B") Blue (tt, refl)) (none_is (IsColourWord w)));
+  sound = λ w. chosen IsColourWord (codes "G") w _ _ (known IsColourWord (codes "G") Green (tt, refl))
+      (chosen IsColourWord (codes "B") w _ _ (known IsColourWord (codes "B") Blue (tt, refl))
+      (none_is (IsColourWord w)));
   complete = colours;
 }
 
-abbrev IsOpWord : List ℕ → Op → Type 0
-IsOpWord w op = Unit {0} × (w ≡ op_word op)
-
-op_sound : (w : List ℕ) (op : Op) → op_in w ≡ Some op → IsOpWord w op
-unfolding op_in
-op_sound w =
-    chosen IsOpWord (codes "add") w _ _ (known IsOpWord (codes "add") Add (tt, refl))
-    (chosen IsOpWord (codes "sub") w _ _ (known IsOpWord (codes "sub") Sub (tt, refl))
-    (chosen IsOpWord (codes "mul") w _ _ (known IsOpWord (codes "mul") Mul (tt, refl))
-    (chosen IsOpWord (codes "ltu") w _ _ (known IsOpWord (codes "ltu") Ltu (tt, refl))
-    (chosen IsOpWord (codes "eq") w _ _ (known IsOpWord (codes "eq") Eq (tt, refl))
-    (chosen IsOpWord (codes "and") w _ _ (known IsOpWord (codes "and") And (tt, refl))
-    (chosen IsOpWord (codes "or") w _ _ (known IsOpWord (codes "or") Or (tt, refl))
-    (chosen IsOpWord (codes "xor") w _ _ (known IsOpWord (codes "xor") Xor (tt, refl))
-    (chosen IsOpWord (codes "shl") w _ _ (known IsOpWord (codes "shl") Shl (tt, refl))
-    (chosen IsOpWord (codes "shr") w _ _ (known IsOpWord (codes "shr") Shr (tt, refl))
-    (none_is (IsOpWord w)))))))))))
-
-op_complete : (op : Op) → Unit {0} → op_in (op_word op) ≡ Some op
-unfolding op_in
-op_complete Add h = refl
-op_complete Sub h = refl
-op_complete Mul h = refl
-op_complete Ltu h = refl
-op_complete Eq h = refl
-op_complete And h = refl
-op_complete Or h = refl
-op_complete Xor h = refl
-op_complete Shl h = refl
-op_complete Shr h = refl
-
 pub op_field : IsField op_in op_word (λ op. Unit {0})
-op_field = record { sound = op_sound; complete = op_complete }
+op_field = record { sound = λ w op e. (tt, op_sound w op e); complete = λ op h. op_complete op }
 
 -- REGISTERS
 
@@ -142,13 +99,18 @@ reg_sound (b ∷ bs) r e =
     elim (of_branch (eqb b 114) (option_and_then reg_of (number_of bs)) None r e) [
       | inl here ↦
           option_and_then_some reg_of (number_of bs) r here.1
-          (λ n f g. (tt, ap (λ x. x ∷ bs) (eqb-true b 114 here.0) ∙ ap (λ l. 114 ∷ l) ((number_sound bs n f).1 ∙ ap decimal (sym (number-reg_of n r g)))))
+          (λ n f g. (
+            tt,
+            ap (λ x. x ∷ bs) (eqb-true b 114 here.0)
+                ∙ ap (λ l. 114 ∷ l) ((number_sound bs n f).1 ∙ ap decimal (sym (number-reg_of n r g))),
+          ))
       | inr none ↦ absurd cc
     ]
 
 reg_complete : (r : Reg) → Unit {0} → reg_in (reg_word r) ≡ Some r
 unfolding reg_in
-reg_complete r h = let low = r.in_range in ap (option_and_then reg_of) (number_complete r.number (omega arith)) ∙ reg_of-number r
+reg_complete r h = let low = r.in_range in ap (option_and_then reg_of) (number_complete r.number (omega arith))
+    ∙ reg_of-number r
 
 pub reg_field : IsField reg_in reg_word (λ r. Unit {0})
 reg_field = record { sound = reg_sound; complete = reg_complete }
@@ -161,14 +123,20 @@ IsBaseWord w base = FitsBase base × (w ≡ base_word base)
 begins_with : (n : ℕ) (w v : List ℕ) → bytes_eq (take n w) v ≡ true → w ≡ v ++ drop n w
 begins_with n w v e = sym (take-append-drop n w) ∙ ap (λ l. l ++ drop n w) (same_word (take n w) v e)
 
-code_base : (w : List ℕ) (base : Base) → (if bytes_eq (take 5 w) (codes "code:") then option_map bases.Code (below (2 ^ 16) (drop 5 w)) else None) ≡ Some base → IsBaseWord w base
-code_base w base e = elim (of_branch (bytes_eq (take 5 w) (codes "code:")) (option_map bases.Code (below (2 ^ 16) (drop 5 w))) None base e) [
-  | inl here ↦
-      let made = of_map bases.Code (below (2 ^ 16) (drop 5 w)) base here.1 in
-      let read = below_sound (2 ^ 16) (drop 5 w) made.0 made.1.0 in
-      subst (IsBaseWord w) made.1.1 (read.0, begins_with 5 w (codes "code:") here.0 ∙ ap (λ l. codes "code:" ++ l) read.1)
-  | inr none ↦ absurd cc
-]
+code_base : (w : List ℕ) (base : Base) → (if bytes_eq (take 5 w) (codes "code:")
+    then option_map bases.Code (below (2 ^ 16) (drop 5 w)) else None) ≡ Some base → IsBaseWord w base
+code_base w base e = elim (of_branch (bytes_eq (take 5 w) (codes "code:"))
+    (option_map bases.Code (below (2 ^ 16) (drop 5 w))) None base e) [
+      | inl here ↦
+          let made = of_map bases.Code (below (2 ^ 16) (drop 5 w)) base here.1 in
+          let read = below_sound (2 ^ 16) (drop 5 w) made.0 made.1.0 in
+          subst (IsBaseWord w) made.1.1 (
+            read.0,
+            begins_with 5 w (codes "code:") here.0
+                ∙ ap (λ l. codes "code:" ++ l) read.1,
+          )
+      | inr none ↦ absurd cc
+    ]
 
 base_sound : (w : List ℕ) (base : Base) → base_in w ≡ Some base → IsBaseWord w base
 base_sound w = chosen IsBaseWord (codes "int") w _ _ (known IsBaseWord (codes "int") Int (tt, refl)) (code_base w)
@@ -180,7 +148,8 @@ base_complete (bases.Code t) h = ap (option_map bases.Code) (below_complete (2 ^
 abbrev IsBasicWord : ℕ → List ℕ → Basic → Type 0
 IsBasicWord n w basic = ((basic.refs ≤ n) × FitsBase basic.base) × (w ≡ basic_word basic)
 
-plain_sound : (n : ℕ) (w : List ℕ) (basic : Basic) → option_map plain_basic (base_in w) ≡ Some basic → IsBasicWord n w basic
+plain_sound : (n : ℕ) (w : List ℕ) (basic : Basic) → option_map plain_basic (base_in w) ≡ Some basic →
+    IsBasicWord n w basic
 plain_sound n w basic e =
     let made = of_map plain_basic (base_in w) basic e in
     let read = base_sound w made.0 made.1.0 in
@@ -189,14 +158,19 @@ plain_sound n w basic e =
 basic_sound : (n : ℕ) (w : List ℕ) (basic : Basic) → basic_in n w ≡ Some basic → IsBasicWord n w basic
 unfolding basic_in
 basic_sound zero w basic e = plain_sound 0 w basic e
-basic_sound (suc n) w basic e = elim (of_branch (bytes_eq (take 4 w) (codes "ref:")) (option_map one_more_ref (basic_in n (drop 4 w))) (option_map plain_basic (base_in w)) basic e) [
-  | inl here ↦
-      let made = of_map one_more_ref (basic_in n (drop 4 w)) basic here.1 in
-      let read = basic_sound n (drop 4 w) made.0 made.1.0 in
-      let few = read.0.0 in
-      subst (IsBasicWord (suc n) w) made.1.1 ((omega arith, read.0.1), begins_with 4 w (codes "ref:") here.0 ∙ ap (λ l. codes "ref:" ++ l) read.1)
-  | inr plain ↦ plain_sound (suc n) w basic plain
-]
+basic_sound (suc n) w basic e = elim (of_branch (bytes_eq (take 4 w) (codes "ref:"))
+    (option_map one_more_ref (basic_in n (drop 4 w))) (option_map plain_basic (base_in w)) basic e) [
+      | inl here ↦
+          let made = of_map one_more_ref (basic_in n (drop 4 w)) basic here.1 in
+          let read = basic_sound n (drop 4 w) made.0 made.1.0 in
+          let few = read.0.0 in
+          subst (IsBasicWord (suc n) w) made.1.1 (
+            (omega arith, read.0.1),
+            begins_with 4 w (codes "ref:") here.0
+                ∙ ap (λ l. codes "ref:" ++ l) read.1,
+          )
+      | inr plain ↦ plain_sound (suc n) w basic plain
+    ]
 
 -- a base does not begin with `ref:`
 plain_again : (n : ℕ) (base : Base) → FitsBase base → basic_in n (base_word base) ≡ Some (plain_basic base)
@@ -206,7 +180,8 @@ plain_again (suc n) Int h = refl
 plain_again zero (bases.Code t) h = ap (option_map plain_basic) (base_complete (bases.Code t) h)
 plain_again (suc n) (bases.Code t) h = ap (option_map plain_basic) (base_complete (bases.Code t) h)
 
-basic_again : (n refs : ℕ) (base : Base) → refs ≤ n → FitsBase base → basic_in n (refs_word refs base) ≡ Some (record { refs = refs; base = base })
+basic_again : (n refs : ℕ) (base : Base) → refs ≤ n → FitsBase base → basic_in n (refs_word refs base)
+    ≡ Some (record { refs = refs; base = base })
 unfolding basic_in
 basic_again n zero base le h = plain_again n base h
 basic_again zero (suc refs) base le h = absurd (omega arith)
@@ -236,5 +211,6 @@ rows_sound (w ∷ ws) rows e =
 pub rows_complete : (rows : List ℕ) → AllByRecursion Is32 rows → rows_in (map decimal rows) ≡ Some rows
 rows_complete [] h = refl
 rows_complete (n ∷ ns) h =
-    ap (option_and_then (λ m. option_map (λ ms. m ∷ ms) (rows_in (map decimal ns)))) (below_complete (2 ^ 32) n (omega arith) h.0)
+    ap (option_and_then (λ m. option_map (λ ms. m ∷ ms) (rows_in (map decimal ns))))
+    (below_complete (2 ^ 32) n (omega arith) h.0)
     ∙ ap (option_map (λ ms. n ∷ ms)) (rows_complete ns h.1)

@@ -1,5 +1,6 @@
 -- Tables that hold what the lines so far say, after one more.
-use Rattle.std.proofs.Common.{◌≡◌, ℕ, suc, ◌+◌, true, false, List, [], ◌∷◌, ◌++◌, length, Some, refl, ap, sym, ◌∙◌, append_assoc, append-nil, arith}
+use Rattle.std.proofs.Common.{◌≡◌, ℕ, suc, ◌+◌, true, false, List, [], ◌∷◌, ◌++◌, length, Some, refl, ap, sym, ◌∙◌}
+use Rattle.std.proofs.Common.{append_assoc, append-nil, arith}
 use Rattle.std.specs.List.{flat_map}
 use Rattle.std.proofs.lemmas.List.{length-append}
 use Rattle.ft_static.specs.declared.node.Node.{Node}
@@ -14,37 +15,49 @@ use Rattle.ft_asm.specs.declared.draft.Place.{Place}
 use Rattle.ft_asm.specs.declared.draft.Place.TheVariants as places
 use Rattle.ft_asm.specs.declared.draft.Draft as tables
 use Rattle.ft_asm.specs.Listings.{Part, Listing, rows_of, codes_of, instr_at, instrs_from, blocks_from}
-use Rattle.ft_asm.specs.Drafts.{Draft, Start, InType, InBlock, Done, fresh_type, with_reg, with_pend, fresh_part, with_code, more_cells, more_regs, next}
+use Rattle.ft_asm.specs.Drafts.{Draft, Start, InType, InBlock, Done, fresh_type, with_reg, with_pend, fresh_part}
+use Rattle.ft_asm.specs.Drafts.{with_code, more_cells, more_regs, next}
 use Rattle.ft_asm.specs.Held.{is_block, Holds, Adds, shut, Closes, PutsCode}
 
 flat_on : {A B : Type 0} (f : A → List B) (xs : List A) (x : A) → flat_map f (xs ++ x ∷ []) ≡ flat_map f xs ++ f x
 flat_on f [] x = append-nil (f x)
 flat_on f (y ∷ ys) x = ap (λ l. f y ++ l) (flat_on f ys x) ∙ sym (append_assoc (f y) (flat_map f ys) (f x))
 
-instrs_more : (first : ℕ) (xs : List Code) (c : Code) → instrs_from first (xs ++ c ∷ []) ≡ instrs_from first xs ++ instr_at (first + length (flat_map rows_of xs)) c ∷ []
+instrs_more : (first : ℕ) (xs : List Code) (c : Code) → instrs_from first (xs ++ c ∷ []) ≡ instrs_from first xs
+    ++ instr_at (first + length (flat_map rows_of xs)) c ∷ []
 instrs_more first [] c = let same : first ≡ first + 0 = omega arith in ap (λ n. instr_at n c ∷ []) same
 instrs_more first (x ∷ xs) c =
     let long = length-append (rows_of x) (flat_map rows_of xs) in
-    let same : first + length (rows_of x) + length (flat_map rows_of xs) ≡ first + length (rows_of x ++ flat_map rows_of xs) = omega arith in
-    ap (λ l. instr_at first x ∷ l) (instrs_more (first + length (rows_of x)) xs c ∙ ap (λ n. instrs_from (first + length (rows_of x)) xs ++ instr_at n c ∷ []) same)
+    let same : first + length (rows_of x) + length (flat_map rows_of xs)
+    ≡ first + length (rows_of x ++ flat_map rows_of xs) = omega arith in
+    ap (λ l. instr_at first x ∷ l) (instrs_more (first + length (rows_of x)) xs c
+    ∙ ap (λ n. instrs_from (first + length (rows_of x)) xs ++ instr_at n c ∷ []) same)
 
 pub instrs_length : (first : ℕ) (xs : List Code) → length (instrs_from first xs) ≡ length xs
 instrs_length first [] = refl
 instrs_length first (x ∷ xs) = ap suc (instrs_length (first + length (rows_of x)) xs)
 
-blocks_last : (start : ℕ) (ps : List Part) (p : Part) (c : Code) → blocks_from start (ps ++ p ∷ []) ≡ blocks_from start (ps ++ with_code p c ∷ [])
+blocks_last : (start : ℕ) (ps : List Part) (p : Part) (c : Code) → blocks_from start (ps ++ p ∷ [])
+    ≡ blocks_from start (ps ++ with_code p c ∷ [])
 blocks_last start [] p c = refl
-blocks_last start (q ∷ qs) p c = ap (λ l. record { start = start; code_type = q.code_type } ∷ l) (blocks_last (start + length q.codes) qs p c)
+blocks_last start (q ∷ qs) p c = ap (λ l. record { start = start; code_type = q.code_type } ∷ l)
+    (blocks_last (start + length q.codes) qs p c)
 
-blocks_more : (start : ℕ) (ps : List Part) (n : ℕ) → blocks_from start (ps ++ fresh_part n ∷ []) ≡ blocks_from start ps ++ record { start = start + length (flat_map codes_of ps); code_type = n } ∷ []
-blocks_more start [] n = let same : start ≡ start + 0 = omega arith in ap (λ m. record { start = m; code_type = n } ∷ []) same
+blocks_more : (start : ℕ) (ps : List Part) (n : ℕ) → blocks_from start (ps ++ fresh_part n ∷ []) ≡ blocks_from start ps
+    ++ record { start = start + length (flat_map codes_of ps); code_type = n } ∷ []
+blocks_more start [] n = let same : start ≡ start + 0 = omega arith in
+    ap (λ m. record { start = m; code_type = n } ∷ []) same
 blocks_more start (q ∷ qs) n =
     let long = length-append q.codes (flat_map codes_of qs) in
-    let same : start + length q.codes + length (flat_map codes_of qs) ≡ start + length (q.codes ++ flat_map codes_of qs) = omega arith in
-    ap (λ l. record { start = start; code_type = q.code_type } ∷ l) (blocks_more (start + length q.codes) qs n ∙ ap (λ m. blocks_from (start + length q.codes) qs ++ record { start = m; code_type = n } ∷ []) same)
+    let same : start + length q.codes + length (flat_map codes_of qs)
+    ≡ start + length (q.codes ++ flat_map codes_of qs) = omega arith in
+    ap (λ l. record { start = start; code_type = q.code_type } ∷ l) (blocks_more (start + length q.codes) qs n
+    ∙ ap (λ m. blocks_from (start + length q.codes) qs ++ record { start = m; code_type = n } ∷ []) same)
 
-codes_more : (ps : List Part) (p : Part) (c : Code) → flat_map codes_of (ps ++ with_code p c ∷ []) ≡ flat_map codes_of (ps ++ p ∷ []) ++ c ∷ []
-codes_more ps p c = flat_on codes_of ps (with_code p c) ∙ sym (append_assoc (flat_map codes_of ps) p.codes (c ∷ [])) ∙ ap (λ l. l ++ c ∷ []) (sym (flat_on codes_of ps p))
+codes_more : (ps : List Part) (p : Part) (c : Code) → flat_map codes_of (ps ++ with_code p c ∷ [])
+    ≡ flat_map codes_of (ps ++ p ∷ []) ++ c ∷ []
+codes_more ps p c = flat_on codes_of ps (with_code p c) ∙ sym (append_assoc (flat_map codes_of ps) p.codes (c ∷ []))
+    ∙ ap (λ l. l ++ c ∷ []) (sym (flat_on codes_of ps p))
 
 codes_fresh : (ps : List Part) (n : ℕ) → flat_map codes_of (ps ++ fresh_part n ∷ []) ≡ flat_map codes_of ps
 codes_fresh ps n = flat_on codes_of ps (fresh_part n) ∙ append-nil (flat_map codes_of ps)
@@ -71,43 +84,63 @@ block_done p b e f = let both : places.InBlock ≡ places.Done b = sym e ∙ f i
 
 -- ONE MORE LINE
 
-pub node_held : (t u : tables.Draft) (n : Node) → t.place ≡ places.Start → u.nodes.items ≡ t.nodes.items ++ n ∷ [] → (d : Draft) → Holds t d → Adds true (record t { nodes = u.nodes }) d (lines.Node n)
+pub node_held : (t u : tables.Draft) (n : Node) → t.place ≡ places.Start → u.nodes.items ≡ t.nodes.items ++ n ∷ [] →
+    (d : Draft) → Holds t d → Adds true (record t { nodes = u.nodes }) d (lines.Node n)
 node_held t u n s e (Start cs ns) h = (
   Start cs (ns ++ n ∷ []),
   refl,
   (
     h.0,
     record { regs = h.1.regs; queue = h.1.queue },
-    record { cells = h.2.cells; nodes = e ∙ ap (λ l. l ++ n ∷ []) h.2.nodes; types = h.2.types; blocks = h.2.blocks; instrs = h.2.instrs; substs = h.2.substs },
+    record {
+      cells = h.2.cells;
+      nodes = e ∙ ap (λ l. l ++ n ∷ []) h.2.nodes;
+      types = h.2.types;
+      blocks = h.2.blocks;
+      instrs = h.2.instrs;
+      substs = h.2.substs;
+    },
   ),
 )
 node_held t u n s e (InType cs ns ts v) h = absurd (start_type t.place v.ints v.memory s h.0)
 node_held t u n s e (InBlock cs ns ts ps p) h = absurd (start_block t.place s h.0)
 node_held t u n s e (Done l) h = absurd (start_done t.place l.entry s h.0)
 
-cells_step : (cs : List Cell) (ns : List Node) (c : Cell) → ns ≡ [] → more_cells cs ns c ≡ Some (Start (cs ++ c ∷ []) [])
+cells_step : (cs : List Cell) (ns : List Node) (c : Cell) → ns ≡ [] → more_cells cs ns c
+    ≡ Some (Start (cs ++ c ∷ []) [])
 cells_step cs [] c e = refl
 cells_step cs (n ∷ ns) c e = absurd cc
 
-pub cell_held : (t u : tables.Draft) (c : Cell) → t.place ≡ places.Start → t.nodes.items ≡ [] → u.cells.items ≡ t.cells.items ++ c ∷ [] → (d : Draft) → Holds t d → Adds true (record t { cells = u.cells }) d (lines.Cell c)
+pub cell_held : (t u : tables.Draft) (c : Cell) → t.place ≡ places.Start → t.nodes.items ≡ [] → u.cells.items
+    ≡ t.cells.items ++ c ∷ [] → (d : Draft) → Holds t d → Adds true (record t { cells = u.cells }) d (lines.Cell c)
 cell_held t u c s none e (Start cs ns) h = (
   Start (cs ++ c ∷ []) [],
   cells_step cs ns c (sym h.2.nodes ∙ none),
   (
     h.0,
     record { regs = h.1.regs; queue = h.1.queue },
-    record { cells = e ∙ ap (λ l. l ++ c ∷ []) h.2.cells; nodes = none; types = h.2.types; blocks = h.2.blocks; instrs = h.2.instrs; substs = h.2.substs },
+    record {
+      cells = e ∙ ap (λ l. l ++ c ∷ []) h.2.cells;
+      nodes = none;
+      types = h.2.types;
+      blocks = h.2.blocks;
+      instrs = h.2.instrs;
+      substs = h.2.substs;
+    },
   ),
 )
 cell_held t u c s none e (InType cs ns ts v) h = absurd (start_type t.place v.ints v.memory s h.0)
 cell_held t u c s none e (InBlock cs ns ts ps p) h = absurd (start_block t.place s h.0)
 cell_held t u c s none e (Done l) h = absurd (start_done t.place l.entry s h.0)
 
-regs_step : (cs : List Cell) (ns : List Node) (ts : List CodeType) (v : CodeType) (qs : List (ℕ × ℕ)) (r : RegType) → qs ≡ [] → more_regs cs ns ts v qs r ≡ Some (InType cs ns ts (with_reg v r))
+regs_step : (cs : List Cell) (ns : List Node) (ts : List CodeType) (v : CodeType) (qs : List (ℕ × ℕ)) (r : RegType) → qs
+    ≡ [] → more_regs cs ns ts v qs r ≡ Some (InType cs ns ts (with_reg v r))
 regs_step cs ns ts v [] r e = refl
 regs_step cs ns ts v (q ∷ qs) r e = absurd cc
 
-pub reg_held : (t u : tables.Draft) (r : RegType) (i m : ℕ) → t.place ≡ places.InType i m → t.queue.items ≡ [] → u.regs.items ≡ t.regs.items ++ r ∷ [] → (d : Draft) → Holds t d → Adds true (record t { regs = u.regs }) d (lines.Reg r)
+pub reg_held : (t u : tables.Draft) (r : RegType) (i m : ℕ) → t.place ≡ places.InType i m → t.queue.items ≡ [] →
+    u.regs.items ≡ t.regs.items ++ r ∷ [] → (d : Draft) → Holds t d →
+    Adds true (record t { regs = u.regs }) d (lines.Reg r)
 reg_held t u r i m s none e (Start cs ns) h = absurd (start_type t.place i m h.0 s)
 reg_held t u r i m s none e (InType cs ns ts v) h = (
   InType cs ns ts (with_reg v r),
@@ -115,13 +148,21 @@ reg_held t u r i m s none e (InType cs ns ts v) h = (
   (
     h.0,
     record { regs = e ∙ ap (λ l. l ++ r ∷ []) h.1.regs; queue = h.1.queue },
-    record { cells = h.2.cells; nodes = h.2.nodes; types = h.2.types; blocks = h.2.blocks; instrs = h.2.instrs; substs = h.2.substs },
+    record {
+      cells = h.2.cells;
+      nodes = h.2.nodes;
+      types = h.2.types;
+      blocks = h.2.blocks;
+      instrs = h.2.instrs;
+      substs = h.2.substs;
+    },
   ),
 )
 reg_held t u r i m s none e (InBlock cs ns ts ps p) h = absurd (type_block t.place i m s h.0)
 reg_held t u r i m s none e (Done l) h = absurd (type_done t.place i m l.entry s h.0)
 
-pub pend_held : (t u : tables.Draft) (a v i m : ℕ) → t.place ≡ places.InType i m → u.queue.items ≡ t.queue.items ++ (a, v) ∷ [] → (d : Draft) → Holds t d → Adds true (record t { queue = u.queue }) d (lines.Pend a v)
+pub pend_held : (t u : tables.Draft) (a v i m : ℕ) → t.place ≡ places.InType i m → u.queue.items ≡ t.queue.items
+    ++ (a, v) ∷ [] → (d : Draft) → Holds t d → Adds true (record t { queue = u.queue }) d (lines.Pend a v)
 pend_held t u a v i m s e (Start cs ns) h = absurd (start_type t.place i m h.0 s)
 pend_held t u a v i m s e (InType cs ns ts w) h = (
   InType cs ns ts (with_pend w (a, v)),
@@ -129,20 +170,31 @@ pend_held t u a v i m s e (InType cs ns ts w) h = (
   (
     h.0,
     record { regs = h.1.regs; queue = e ∙ ap (λ l. l ++ (a, v) ∷ []) h.1.queue },
-    record { cells = h.2.cells; nodes = h.2.nodes; types = h.2.types; blocks = h.2.blocks; instrs = h.2.instrs; substs = h.2.substs },
+    record {
+      cells = h.2.cells;
+      nodes = h.2.nodes;
+      types = h.2.types;
+      blocks = h.2.blocks;
+      instrs = h.2.instrs;
+      substs = h.2.substs;
+    },
   ),
 )
 pend_held t u a v i m s e (InBlock cs ns ts ps p) h = absurd (type_block t.place i m s h.0)
 pend_held t u a v i m s e (Done l) h = absurd (type_done t.place i m l.entry s h.0)
 
-pub code_held : (t u v : tables.Draft) (c : Code) (i : Instr) → t.place ≡ places.InBlock → PutsCode t u c i → v.instrs.items ≡ u.instrs.items ++ i ∷ [] → (d : Draft) → Holds t d → Adds true (record u { instrs = v.instrs }) d (lines.Code c)
+pub code_held : (t u v : tables.Draft) (c : Code) (i : Instr) → t.place ≡ places.InBlock → PutsCode t u c i →
+    v.instrs.items ≡ u.instrs.items ++ i ∷ [] → (d : Draft) → Holds t d →
+    Adds true (record u { instrs = v.instrs }) d (lines.Code c)
 code_held t u v c i s put e (Start cs ns) h = absurd (start_block t.place h.0 s)
 code_held t u v c i s put e (InType cs ns ts w) h = absurd (type_block t.place w.ints w.memory h.0 s)
 code_held t u v c i s put e (InBlock cs ns ts ps p) h =
     let rows = put.rows_kept h.1 in
     let xs = flat_map codes_of (ps ++ p ∷ []) in
     let more = codes_more ps p c in
-    let here : i ≡ instr_at (0 + length (flat_map rows_of xs)) c = (let none : length (flat_map rows_of xs) ≡ 0 + length (flat_map rows_of xs) = omega arith in put.instr ∙ ap (λ l. instr_at (length l) c) h.2.substs ∙ ap (λ n. instr_at n c) none) in (
+    let here : i ≡ instr_at (0 + length (flat_map rows_of xs)) c = (let none : length (flat_map rows_of xs)
+    ≡ 0 + length (flat_map rows_of xs) = omega arith in put.instr ∙ ap (λ l. instr_at (length l) c) h.2.substs
+    ∙ ap (λ n. instr_at n c) none) in (
       InBlock cs ns ts ps (with_code p c),
       refl,
       (
@@ -153,8 +205,10 @@ code_held t u v c i s put e (InBlock cs ns ts ps p) h =
           nodes = put.nodes ∙ h.2.nodes;
           types = put.types ∙ h.2.types;
           blocks = put.blocks ∙ h.2.blocks ∙ blocks_last 0 ps p c;
-          instrs = e ∙ ap (λ l. l ++ i ∷ []) (put.instrs ∙ h.2.instrs) ∙ ap (λ j. instrs_from 0 xs ++ j ∷ []) here ∙ sym (instrs_more 0 xs c) ∙ ap (instrs_from 0) (sym more);
-          substs = put.substs ∙ ap (λ l. l ++ rows_of c) h.2.substs ∙ sym (flat_on rows_of xs c) ∙ ap (flat_map rows_of) (sym more);
+          instrs = e ∙ ap (λ l. l ++ i ∷ []) (put.instrs ∙ h.2.instrs) ∙ ap (λ j. instrs_from 0 xs ++ j ∷ []) here
+              ∙ sym (instrs_more 0 xs c) ∙ ap (instrs_from 0) (sym more);
+          substs = put.substs ∙ ap (λ l. l ++ rows_of c) h.2.substs ∙ sym (flat_on rows_of xs c)
+              ∙ ap (flat_map rows_of) (sym more);
         },
       ),
     )
@@ -162,33 +216,78 @@ code_held t u v c i s put e (Done l) h = absurd (block_done t.place l.entry s h.
 
 -- WHAT ENDS
 
-block_next : (d : Draft) (l : Listing) (n : ℕ) → shut d ≡ Some l → next d (lines.Block n) ≡ Some (InBlock l.cells l.nodes l.types l.parts (fresh_part n))
-block_next (Start cs ns) l n e = let same : record { cells = cs; nodes = ns; types = []; parts = []; entry = 0 } ≡ l = cc in ap (λ (m : Listing). Some (InBlock m.cells m.nodes m.types m.parts (fresh_part n))) same
-block_next (InType cs ns ts v) l n e = let same : record { cells = cs; nodes = ns; types = ts ++ v ∷ []; parts = []; entry = 0 } ≡ l = cc in ap (λ (m : Listing). Some (InBlock m.cells m.nodes m.types m.parts (fresh_part n))) same
-block_next (InBlock cs ns ts ps p) l n e = let same : record { cells = cs; nodes = ns; types = ts; parts = ps ++ p ∷ []; entry = 0 } ≡ l = cc in ap (λ (m : Listing). Some (InBlock m.cells m.nodes m.types m.parts (fresh_part n))) same
+block_next : (d : Draft) (l : Listing) (n : ℕ) → shut d ≡ Some l → next d (lines.Block n)
+    ≡ Some (InBlock l.cells l.nodes l.types l.parts (fresh_part n))
+block_next (Start cs ns) l n e = let same : record { cells = cs; nodes = ns; types = []; parts = []; entry = 0 }
+    ≡ l = cc in ap (λ (m : Listing). Some (InBlock m.cells m.nodes m.types m.parts (fresh_part n))) same
+block_next (InType cs ns ts v) l n e = let same : record {
+  cells = cs;
+  nodes = ns;
+  types = ts ++ v ∷ [];
+  parts = [];
+  entry = 0;
+} ≡ l = cc in ap (λ (m : Listing). Some (InBlock m.cells m.nodes m.types m.parts (fresh_part n))) same
+block_next (InBlock cs ns ts ps p) l n e = let same : record {
+  cells = cs;
+  nodes = ns;
+  types = ts;
+  parts = ps ++ p ∷ [];
+  entry = 0;
+} ≡ l = cc in ap (λ (m : Listing). Some (InBlock m.cells m.nodes m.types m.parts (fresh_part n))) same
 block_next (Done k) l n e = absurd cc
 
 abbrev entered : Listing → ℕ → Listing
 entered l n = record { cells = l.cells; nodes = l.nodes; types = l.types; parts = l.parts; entry = n }
 
 entry_next : (d : Draft) (l : Listing) (n : ℕ) → shut d ≡ Some l → next d (lines.Entry n) ≡ Some (Done (entered l n))
-entry_next (Start cs ns) l n e = let same : record { cells = cs; nodes = ns; types = []; parts = []; entry = 0 } ≡ l = cc in ap (λ (m : Listing). Some (Done (entered m n))) same
-entry_next (InType cs ns ts v) l n e = let same : record { cells = cs; nodes = ns; types = ts ++ v ∷ []; parts = []; entry = 0 } ≡ l = cc in ap (λ (m : Listing). Some (Done (entered m n))) same
-entry_next (InBlock cs ns ts ps p) l n e = let same : record { cells = cs; nodes = ns; types = ts; parts = ps ++ p ∷ []; entry = 0 } ≡ l = cc in ap (λ (m : Listing). Some (Done (entered m n))) same
+entry_next (Start cs ns) l n e = let same : record { cells = cs; nodes = ns; types = []; parts = []; entry = 0 }
+    ≡ l = cc in ap (λ (m : Listing). Some (Done (entered m n))) same
+entry_next (InType cs ns ts v) l n e = let same : record {
+  cells = cs;
+  nodes = ns;
+  types = ts ++ v ∷ [];
+  parts = [];
+  entry = 0;
+} ≡ l = cc in ap (λ (m : Listing). Some (Done (entered m n))) same
+entry_next (InBlock cs ns ts ps p) l n e = let same : record {
+  cells = cs;
+  nodes = ns;
+  types = ts;
+  parts = ps ++ p ∷ [];
+  entry = 0;
+} ≡ l = cc in ap (λ (m : Listing). Some (Done (entered m n))) same
 entry_next (Done k) l n e = absurd cc
 
 -- a draft that is in no block
-type_next : (t : tables.Draft) (d : Draft) (l : Listing) (i m : ℕ) → is_block t.place ≡ false → Holds t d → shut d ≡ Some l → (next d (lines.Type i m) ≡ Some (InType l.cells l.nodes l.types (fresh_type i m))) × (l.parts ≡ [])
-type_next t (Start cs ns) l i m b h e = let same : record { cells = cs; nodes = ns; types = []; parts = []; entry = 0 } ≡ l = cc in (ap (λ (k : Listing). Some (InType k.cells k.nodes k.types (fresh_type i m))) same, ap (λ (k : Listing). k.parts) (sym same))
-type_next t (InType cs ns ts v) l i m b h e = let same : record { cells = cs; nodes = ns; types = ts ++ v ∷ []; parts = []; entry = 0 } ≡ l = cc in (ap (λ (k : Listing). Some (InType k.cells k.nodes k.types (fresh_type i m))) same, ap (λ (k : Listing). k.parts) (sym same))
+type_next : (t : tables.Draft) (d : Draft) (l : Listing) (i m : ℕ) → is_block t.place ≡ false → Holds t d → shut d
+    ≡ Some l → (next d (lines.Type i m) ≡ Some (InType l.cells l.nodes l.types (fresh_type i m))) × (l.parts ≡ [])
+type_next t (Start cs ns) l i m b h e = let same : record { cells = cs; nodes = ns; types = []; parts = []; entry = 0 }
+    ≡ l = cc in (
+      ap (λ (k : Listing). Some (InType k.cells k.nodes k.types (fresh_type i m))) same,
+      ap (λ (k : Listing). k.parts) (sym same),
+    )
+type_next t (InType cs ns ts v) l i m b h e = let same : record {
+  cells = cs;
+  nodes = ns;
+  types = ts ++ v ∷ [];
+  parts = [];
+  entry = 0;
+} ≡ l = cc in (
+  ap (λ (k : Listing). Some (InType k.cells k.nodes k.types (fresh_type i m)))
+      same,
+  ap (λ (k : Listing). k.parts) (sym same),
+)
 type_next t (InBlock cs ns ts ps p) l i m b h e = absurd (let both : true ≡ false = ap is_block (sym h.0) ∙ b in cc)
 type_next t (Done k) l i m b h e = absurd cc
 
-pub block_held : (t v : tables.Draft) (n : ℕ) (b : Block) (d : Draft) → Closes true t d → b ≡ record { start = length t.instrs.items; code_type = n } → v.blocks.items ≡ t.blocks.items ++ b ∷ [] → Adds true (record t { place = places.InBlock; blocks = v.blocks }) d (lines.Block n)
+pub block_held : (t v : tables.Draft) (n : ℕ) (b : Block) (d : Draft) → Closes true t d → b
+    ≡ record { start = length t.instrs.items; code_type = n } → v.blocks.items ≡ t.blocks.items ++ b ∷ [] →
+    Adds true (record t { place = places.InBlock; blocks = v.blocks }) d (lines.Block n)
 block_held t v n b d h is e =
     let l = h.0 in
     let tables_are = h.3 in
-    let long : length t.instrs.items ≡ 0 + length (flat_map codes_of l.parts) = (let n1 = ap length tables_are.instrs ∙ instrs_length 0 (flat_map codes_of l.parts) in omega arith) in
+    let long : length t.instrs.items ≡ 0 + length (flat_map codes_of l.parts) = (let n1 = ap length tables_are.instrs
+    ∙ instrs_length 0 (flat_map codes_of l.parts) in omega arith) in
     let same = codes_fresh l.parts n in (
       InBlock l.cells l.nodes l.types l.parts (fresh_part n),
       block_next d l n h.1,
@@ -199,25 +298,36 @@ block_held t v n b d h is e =
           cells = tables_are.cells;
           nodes = tables_are.nodes;
           types = tables_are.types;
-          blocks = e ∙ ap (λ k. k ++ b ∷ []) tables_are.blocks ∙ ap (λ k. blocks_from 0 l.parts ++ k ∷ []) (is ∙ ap (λ m. record { start = m; code_type = n }) long) ∙ sym (blocks_more 0 l.parts n);
+          blocks = e ∙ ap (λ k. k ++ b ∷ []) tables_are.blocks
+              ∙ ap (λ k. blocks_from 0 l.parts ++ k ∷ []) (is ∙ ap (λ m. record { start = m; code_type = n }) long)
+              ∙ sym (blocks_more 0 l.parts n);
           instrs = tables_are.instrs ∙ ap (instrs_from 0) (sym same);
           substs = tables_are.substs ∙ ap (flat_map rows_of) (sym same);
         },
       ),
     )
 
-pub entry_held : (t : tables.Draft) (n : ℕ) (d : Draft) → Closes true t d → Adds true (record t { place = places.Done n }) d (lines.Entry n)
+pub entry_held : (t : tables.Draft) (n : ℕ) (d : Draft) → Closes true t d →
+    Adds true (record t { place = places.Done n }) d (lines.Entry n)
 entry_held t n d h = (
   Done (entered h.0 n),
   entry_next d h.0 n h.1,
   (
     refl,
     record { regs = h.2.regs; queue = h.2.queue },
-    record { cells = h.3.cells; nodes = h.3.nodes; types = h.3.types; blocks = h.3.blocks; instrs = h.3.instrs; substs = h.3.substs },
+    record {
+      cells = h.3.cells;
+      nodes = h.3.nodes;
+      types = h.3.types;
+      blocks = h.3.blocks;
+      instrs = h.3.instrs;
+      substs = h.3.substs;
+    },
   ),
 )
 
-pub type_held : (o t : tables.Draft) (i m : ℕ) (d : Draft) → is_block o.place ≡ false → Holds o d → Closes true t d → Adds true (record t { place = places.InType i m }) d (lines.Type i m)
+pub type_held : (o t : tables.Draft) (i m : ℕ) (d : Draft) → is_block o.place ≡ false → Holds o d → Closes true t d →
+    Adds true (record t { place = places.InType i m }) d (lines.Type i m)
 type_held o t i m d b held h =
     let more = type_next o d h.0 i m b held h.1 in (
       InType h.0.cells h.0.nodes h.0.types (fresh_type i m),
@@ -239,7 +349,12 @@ type_held o t i m d b held h =
 -- ENDS
 
 pub closes_start : (t : tables.Draft) → t.place ≡ places.Start → (d : Draft) → Holds t d → Closes true t d
-closes_start t s (Start cs ns) h = (record { cells = cs; nodes = ns; types = []; parts = []; entry = 0 }, refl, h.1, h.2)
+closes_start t s (Start cs ns) h = (
+  record { cells = cs; nodes = ns; types = []; parts = []; entry = 0 },
+  refl,
+  h.1,
+  h.2,
+)
 closes_start t s (InType cs ns ts v) h = absurd (start_type t.place v.ints v.memory s h.0)
 closes_start t s (InBlock cs ns ts ps p) h = absurd (start_block t.place s h.0)
 closes_start t s (Done l) h = absurd (start_done t.place l.entry s h.0)
@@ -247,11 +362,23 @@ closes_start t s (Done l) h = absurd (start_done t.place l.entry s h.0)
 pub closes_block : (t : tables.Draft) → t.place ≡ places.InBlock → (d : Draft) → Holds t d → Closes true t d
 closes_block t s (Start cs ns) h = absurd (start_block t.place h.0 s)
 closes_block t s (InType cs ns ts v) h = absurd (type_block t.place v.ints v.memory h.0 s)
-closes_block t s (InBlock cs ns ts ps p) h = (record { cells = cs; nodes = ns; types = ts; parts = ps ++ p ∷ []; entry = 0 }, refl, h.1, h.2)
+closes_block t s (InBlock cs ns ts ps p) h = (
+  record {
+    cells = cs;
+    nodes = ns;
+    types = ts;
+    parts = ps ++ p ∷ [];
+    entry = 0;
+  },
+  refl,
+  h.1,
+  h.2,
+)
 closes_block t s (Done l) h = absurd (block_done t.place l.entry s h.0)
 
 -- a type by its parts
-type_is : (w v : CodeType) → places.InType w.ints w.memory ≡ places.InType v.ints v.memory → w.regs ≡ v.regs → w.queue ≡ v.queue → w ≡ v
+type_is : (w v : CodeType) → places.InType w.ints w.memory ≡ places.InType v.ints v.memory → w.regs ≡ v.regs → w.queue
+    ≡ v.queue → w ≡ v
 type_is w v e r q =
     let i : w.ints ≡ v.ints = cc in
     let m : w.memory ≡ v.memory = cc in
@@ -260,7 +387,9 @@ type_is w v e r q =
     ∙ ap (λ rs. record { ints = v.ints; regs = rs; queue = w.queue; memory = v.memory }) r
     ∙ ap (λ qs. record { ints = v.ints; regs = v.regs; queue = qs; memory = v.memory }) q
 
-pub closes_type : (t u : tables.Draft) (w : CodeType) → t.place ≡ places.InType w.ints w.memory → w.regs ≡ t.regs.items → w.queue ≡ t.queue.items → u.types.items ≡ t.types.items ++ w ∷ [] → u.regs.items ≡ [] → u.queue.items ≡ []
+pub closes_type : (t u : tables.Draft) (w : CodeType) → t.place ≡ places.InType w.ints w.memory → w.regs
+    ≡ t.regs.items → w.queue ≡ t.queue.items → u.types.items ≡ t.types.items ++ w ∷ [] → u.regs.items ≡ [] →
+    u.queue.items ≡ []
     → (d : Draft) → Holds t d → Closes true (record t { types = u.types; regs = u.regs; queue = u.queue }) d
 closes_type t u w s r q e f g (Start cs ns) h = absurd (start_type t.place w.ints w.memory h.0 s)
 closes_type t u w s r q e f g (InType cs ns ts v) h =
@@ -268,7 +397,15 @@ closes_type t u w s r q e f g (InType cs ns ts v) h =
       record { cells = cs; nodes = ns; types = ts ++ v ∷ []; parts = []; entry = 0 },
       refl,
       record { regs = f; queue = g },
-      record { cells = h.2.cells; nodes = h.2.nodes; types = e ∙ ap (λ l. l ++ w ∷ []) h.2.types ∙ ap (λ k. ts ++ k ∷ []) same; blocks = h.2.blocks; instrs = h.2.instrs; substs = h.2.substs },
+      record {
+        cells = h.2.cells;
+        nodes = h.2.nodes;
+        types = e ∙ ap (λ l. l ++ w ∷ []) h.2.types
+            ∙ ap (λ k. ts ++ k ∷ []) same;
+        blocks = h.2.blocks;
+        instrs = h.2.instrs;
+        substs = h.2.substs;
+      },
     )
 closes_type t u w s r q e f g (InBlock cs ns ts ps p) h = absurd (type_block t.place w.ints w.memory s h.0)
 closes_type t u w s r q e f g (Done l) h = absurd (type_done t.place w.ints w.memory l.entry s h.0)

@@ -18,7 +18,8 @@ refusal_is text (errors.Object e) x h a = one_answer text (Broken e) x h a
 refusal_is text errors.NoMemory x h a = tt
 
 -- an object that was given is the answer that applies, and so is a refusal
-pub exact : (text : List ℕ) (r : Result objects.Object AsmError) → IfOk r (λ o. Applies text (Is o)) → IfErr r (IsRefusal text)
+pub exact : (text : List ℕ) (r : Result objects.Object AsmError) → IfOk r (λ o. Applies text (Is o)) →
+    IfErr r (IsRefusal text)
     → (x : Answer) → Applies text x → Gives r x
 exact text (Ok o) h i x a = one_answer text (Is o) x h a
 exact text (Err e) h i x a = refusal_is text e x i a
@@ -26,10 +27,15 @@ exact text (Err e) h i x a = refusal_is text e x i a
 -- bytes that were given are those of the answer that applies, and a refusal is it
 pub exact_bytes : (text : List ℕ) (r : Result (Vec ℕ Global) AsmError) → IfOk r (λ bytes. IsAssembly text bytes.items)
     → IfErr r (IsRefusal text) → (x : Answer) → Applies text x → GivesBytes r x
-exact_bytes text (Ok bytes) h i x a = record { object = h.object; is = one_answer text (Is h.object) x h.reads a; spelled = h.spelled }
+exact_bytes text (Ok bytes) h i x a = record {
+  object = h.object;
+  is = one_answer text (Is h.object) x h.reads a;
+  spelled = h.spelled;
+}
 exact_bytes text (Err e) h i x a = refusal_is text e x i a
 
 -- the refusal of the tables refuses the text
-pub passed_on : {X : Type 0} (text : List ℕ) (r : Result X AsmError) (e : AsmError) → IsErrAnd r (λ f. f ≡ e) → IsRefusal text e → IfErr r (IsRefusal text)
+pub passed_on : {X : Type 0} (text : List ℕ) (r : Result X AsmError) (e : AsmError) → IsErrAnd r (λ f. f ≡ e) →
+    IsRefusal text e → IfErr r (IsRefusal text)
 passed_on text (Ok o) e is h = absurd is
 passed_on text (Err f) e is h = subst (IsRefusal text) (sym is) h

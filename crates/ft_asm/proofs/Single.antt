@@ -1,5 +1,6 @@
 -- At most one answer applies to a text.
-use Rattle.std.proofs.Common.{◌≡◌, ◌⊎◌, inl, inr, Option, Some, None, ℕ, suc, true, List, [], ◌∷◌, ◌++◌, length, refl, ap, sym, ◌∙◌, subst, append_assoc, append-nil, arith}
+use Rattle.std.proofs.Common.{◌≡◌, ◌⊎◌, inl, inr, Option, Some, None, ℕ, suc, true, List, [], ◌∷◌, ◌++◌, length, refl}
+use Rattle.std.proofs.Common.{ap, sym, ◌∙◌, subst, append_assoc, append-nil, arith}
 use Rattle.std.specs.Prelude.{if◌then◌else◌}
 use Rattle.std.specs.List.{AllZip}
 use Rattle.ft_types.specs.declared.object.Object.{Object}
@@ -9,7 +10,8 @@ use Rattle.ft_asm.specs.Words.{words_of, is_said, said_in}
 use Rattle.ft_asm.specs.Lines.{IsForm}
 use Rattle.ft_asm.specs.Listings.{listing_lines}
 use Rattle.ft_format.specs.declared.object_error.ObjectError.{ObjectError}
-use Rattle.ft_asm.specs.Reads.{Reads, Begin, IsTextFault, IsOrderFault, Lacks, Answer, Is, TooLong, Text, Order, Broken, rule_broken, Applies}
+use Rattle.ft_asm.specs.Reads.{Reads, Begin, IsTextFault, IsOrderFault, Lacks, Answer, Is, TooLong, Text, Order, Broken}
+use Rattle.ft_asm.specs.Reads.{rule_broken, Applies}
 use Rattle.ft_asm.proofs.Order.{one_reading}
 use Rattle.ft_asm.proofs.Faults.{said_on}
 
@@ -31,11 +33,18 @@ apart : (xs ys cs bs : List (List ℕ)) (a b : List ℕ) → xs ++ a ∷ cs ≡ 
 apart [] [] cs bs a b e = same refl (cons_parts a b cs bs e).0
 apart [] (y ∷ ys) cs bs a b e = first ys (ap (λ z. z ∷ ys) (sym (cons_parts a y cs (ys ++ b ∷ bs) e).0))
 apart (x ∷ xs) [] cs bs a b e = second xs (ap (λ z. z ∷ xs) (cons_parts x b (xs ++ a ∷ cs) bs e).0)
-apart (x ∷ xs) (y ∷ ys) cs bs a b e = let parts = cons_parts x y (xs ++ a ∷ cs) (ys ++ b ∷ bs) e in apart_on x y xs ys a b parts.0 (apart xs ys cs bs a b parts.1)
+apart (x ∷ xs) (y ∷ ys) cs bs a b e = let parts = cons_parts x y (xs ++ a ∷ cs) (ys ++ b ∷ bs) e in
+    apart_on x y xs ys a b parts.0 (apart xs ys cs bs a b parts.1)
 
 -- the front of what begins a text begins it
 begin_front : (xs ys : List (List ℕ)) → Begin (xs ++ ys) → Begin xs
-begin_front xs ys b = record { whole = b.whole; object = b.object; reads = b.reads; rest = ys ++ b.rest; so_far = b.so_far ∙ append_assoc xs ys b.rest }
+begin_front xs ys b = record {
+  whole = b.whole;
+  object = b.object;
+  reads = b.reads;
+  rest = ys ++ b.rest;
+  so_far = b.so_far ∙ append_assoc xs ys b.rest;
+}
 
 -- so does the front of a longer one
 begin_prefix : (texts xs ys : List (List ℕ)) → texts ≡ xs ++ ys → Begin texts → Begin xs
@@ -51,32 +60,54 @@ record First (text : List ℕ) (number : ℕ) : Type 0 where
   begin : Begin before
   none : ¬ (Begin (before ++ line ∷ []))
 
-zip_at : (ws : List (List (List ℕ))) (w : List (List ℕ)) (vs : List (List (List ℕ))) (ms : List Line) → AllZip IsForm (ws ++ w ∷ vs) ms → (m : Line) × IsForm w m
+zip_at : (ws : List (List (List ℕ))) (w : List (List ℕ)) (vs : List (List (List ℕ))) (ms : List Line) →
+    AllZip IsForm (ws ++ w ∷ vs) ms → (m : Line) × IsForm w m
 zip_at [] w vs [] h = absurd h
 zip_at [] w vs (m ∷ ms) h = (m, h.0)
 zip_at (u ∷ ws) w vs [] h = absurd h
 zip_at (u ∷ ws) w vs (m ∷ ms) h = zip_at ws w vs ms h.1
 
 -- a line of no form begins no text
-formless : (texts : List (List ℕ)) (line : List ℕ) → is_said (words_of line) ≡ true → ((l : Line) → ¬ (IsForm (words_of line) l)) → ¬ (Begin (texts ++ line ∷ []))
+formless : (texts : List (List ℕ)) (line : List ℕ) → is_said (words_of line) ≡ true →
+    ((l : Line) → ¬ (IsForm (words_of line) l)) → ¬ (Begin (texts ++ line ∷ []))
 formless texts line t none b =
     let words : said_in (lines_of b.whole) ≡ said_in texts ++ words_of line ∷ said_in b.rest =
-    ap said_in (b.so_far ∙ append_assoc texts (line ∷ []) b.rest) ∙ said_on texts (line ∷ b.rest) ∙ ap (λ c. said_in texts ++ (if c then words_of line ∷ said_in b.rest else said_in b.rest)) t in
-    let found = zip_at (said_in texts) (words_of line) (said_in b.rest) (listing_lines b.reads.listing) (subst (λ (ws : List (List (List ℕ))). AllZip IsForm ws (listing_lines b.reads.listing)) words b.reads.said) in
+    ap said_in (b.so_far ∙ append_assoc texts (line ∷ []) b.rest) ∙ said_on texts (line ∷ b.rest)
+    ∙ ap (λ c. said_in texts ++ (if c then words_of line ∷ said_in b.rest else said_in b.rest)) t in
+    let found = zip_at (said_in texts) (words_of line) (said_in b.rest) (listing_lines b.reads.listing)
+    (subst (λ (ws : List (List (List ℕ))). AllZip IsForm ws (listing_lines b.reads.listing)) words b.reads.said) in
     none found.0 found.1
 
 of_text : (text : List ℕ) (n : ℕ) → IsTextFault text n → First text n
-of_text text n h = record { before = h.stop.before; line = h.stop.line; after = h.stop.after; split = h.stop.split; here = h.stop.here; begin = h.stop.begin; none = formless h.stop.before h.stop.line h.stop.said h.none }
+of_text text n h = record {
+  before = h.stop.before;
+  line = h.stop.line;
+  after = h.stop.after;
+  split = h.stop.split;
+  here = h.stop.here;
+  begin = h.stop.begin;
+  none = formless h.stop.before h.stop.line h.stop.said h.none;
+}
 
 of_order : (text : List ℕ) (n : ℕ) → IsOrderFault text n → First text n
-of_order text n h = record { before = h.stop.before; line = h.stop.line; after = h.stop.after; split = h.stop.split; here = h.stop.here; begin = h.stop.begin; none = h.none }
+of_order text n h = record {
+  before = h.stop.before;
+  line = h.stop.line;
+  after = h.stop.after;
+  split = h.stop.split;
+  here = h.stop.here;
+  begin = h.stop.begin;
+  none = h.none;
+}
 
 -- there is one first line at fault
 one_first : (text : List ℕ) (n m : ℕ) (f : First text n) (g : First text m) → (f.before ≡ g.before) × (f.line ≡ g.line)
 one_first text n m f g = elim (apart f.before g.before f.after g.after f.line g.line (sym f.split ∙ g.split)) [
   | same e i ↦ (e, i)
-  | first zs e ↦ absurd (f.none (begin_prefix g.before (f.before ++ f.line ∷ []) zs (e ∙ sym (append_assoc f.before (f.line ∷ []) zs)) g.begin))
-  | second zs e ↦ absurd (g.none (begin_prefix f.before (g.before ++ g.line ∷ []) zs (e ∙ sym (append_assoc g.before (g.line ∷ []) zs)) f.begin))
+  | first zs e ↦ absurd (f.none (begin_prefix g.before (f.before ++ f.line ∷ []) zs (e
+      ∙ sym (append_assoc f.before (f.line ∷ []) zs)) g.begin))
+  | second zs e ↦ absurd (g.none (begin_prefix f.before (g.before ++ g.line ∷ []) zs (e
+      ∙ sym (append_assoc g.before (g.line ∷ []) zs)) f.begin))
 ]
 
 one_number : (text : List ℕ) (n m : ℕ) → First text n → First text m → n ≡ m
@@ -84,10 +115,17 @@ one_number text n m f g = f.here ∙ ap (λ ls. suc (length ls)) (one_first text
 
 -- and none where all lines begin a text
 no_first : (text : List ℕ) (n : ℕ) → First text n → ¬ (Begin (lines_of text))
-no_first text n f b = f.none (begin_prefix (lines_of text) (f.before ++ f.line ∷ []) f.after (f.split ∙ sym (append_assoc f.before (f.line ∷ []) f.after)) b)
+no_first text n f b = f.none (begin_prefix (lines_of text) (f.before ++ f.line ∷ []) f.after (f.split
+    ∙ sym (append_assoc f.before (f.line ∷ []) f.after)) b)
 
 reading_begins : (text : List ℕ) (o : Object) → Reads text o → Begin (lines_of text)
-reading_begins text o r = record { whole = text; object = o; reads = r; rest = []; so_far = sym (append-nil (lines_of text)) }
+reading_begins text o r = record {
+  whole = text;
+  object = o;
+  reads = r;
+  rest = [];
+  so_far = sym (append-nil (lines_of text));
+}
 
 -- a line of no form is of none
 text_or_order : (text : List ℕ) (n m : ℕ) → IsTextFault text n → IsOrderFault text m → ⊥
@@ -116,7 +154,8 @@ one_order text n m (inr lacks) (inl other) = absurd (no_first text m (of_order t
 one_order text n m (inr lacks) (inr too) = lacks.here ∙ sym too.here
 
 -- rules of the one object that a text reads as
-one_judged : (text : List ℕ) (o p : Object) (a b : Option ObjectError) → Reads text o → Reads text p → rule_broken o ≡ a → rule_broken p ≡ b → a ≡ b
+one_judged : (text : List ℕ) (o p : Object) (a b : Option ObjectError) → Reads text o → Reads text p → rule_broken o
+    ≡ a → rule_broken p ≡ b → a ≡ b
 one_judged text o p a b r s e f = sym e ∙ ap rule_broken (one_reading text o p r s) ∙ f
 
 pub one_answer : (text : List ℕ) (x y : Answer) → Applies text x → Applies text y → x ≡ y
@@ -144,4 +183,5 @@ one_answer text (Broken e) (Is p) h i = absurd (let both = one_judged text h.1 p
 one_answer text (Broken e) TooLong h i = absurd (let few = h.0 in omega arith)
 one_answer text (Broken e) (Text n) h i = absurd (no_text text h.1 n h.2 i.1)
 one_answer text (Broken e) (Order n) h i = absurd (no_order text h.1 n h.2 i.1)
-one_answer text (Broken e) (Broken f) h i = let both = one_judged text h.1 i.1 (Some e) (Some f) h.2 i.2 h.3 i.3 in let same : e ≡ f = cc in ap Broken same
+one_answer text (Broken e) (Broken f) h i = let both = one_judged text h.1 i.1 (Some e) (Some f) h.2 i.2 h.3 i.3 in
+    let same : e ≡ f = cc in ap Broken same

@@ -1,13 +1,16 @@
--- A text has at least as many bytes as its tables have rows and its names have bytes. So what it says can be counted, and
+-- A text has at least as many bytes as its tables have rows and its names have bytes. So what it says can be counted,
+-- and
 -- its numbers fit.
-use Rattle.std.proofs.Common.{◌≡◌, ℕ, suc, ◌+◌, ◌^◌, ◌<◌, ◌≤◌, ◌==◌, Bool, true, false, List, [], ◌∷◌, ◌++◌, length, map, decimal, refl, ap, sym, ◌∙◌, subst, arith}
+use Rattle.std.proofs.Common.{◌≡◌, ℕ, suc, ◌+◌, ◌^◌, ◌<◌, ◌≤◌, ◌==◌, Bool, true, false, List, [], ◌∷◌, ◌++◌, length}
+use Rattle.std.proofs.Common.{map, decimal, refl, ap, sym, ◌∙◌, subst, arith}
 use Rattle.std.specs.Prelude.{if◌then◌else◌}
 use Rattle.std.specs.List.{AllByRecursion, AllZip, flat_map}
 use Rattle.std.proofs.lemmas.Fmt.{decimal_nonempty}
 use Rattle.std.proofs.lemmas.List.{length-append}
 use Rattle.std.proofs.lemmas.List.Concat.{flat_map-append, length-flat_map}
 use Rattle.ft_isa.specs.declared.op.Op.{Op}
-use Rattle.ft_isa.specs.declared.op.Op.TheVariants.{Add, Sub, Mul, Ltu, Eq, And, Or, Xor, Shl, Shr}
+use Rattle.ft_isa.specs.Operations.{op_word}
+use Rattle.ft_isa.specs.declared.op.Op.TheVariants.{Add}
 use Rattle.ft_isa.specs.declared.colour.Colour.{Colour}
 use Rattle.ft_isa.specs.declared.colour.Colour.TheVariants.{Green, Blue}
 use Rattle.ft_isa.proofs.Lists.{all_append}
@@ -15,15 +18,17 @@ use Rattle.ft_types.specs.declared.object.Object.{Object}
 use Rattle.ft_types.specs.declared.object.Cell.{Cell}
 use Rattle.ft_types.specs.declared.object.CodeType.{CodeType}
 use Rattle.ft_types.specs.Objects.{name_of, regs_of, queue_of}
-use Rattle.ft_encode.specs.Fits.{Is32, FitsCell, FitsNode, FitsReg, FitsPair, FitsType, FitsBlock, FitsInstr, HasCounts, Fits}
+use Rattle.ft_format.specs.Fits.{Is32, FitsCell, FitsNode, FitsReg, FitsPair, FitsType, FitsBlock, FitsInstr, HasCounts}
+use Rattle.ft_format.specs.Fits.{Fits}
 use Rattle.ft_text.specs.Lines.{with_byte, lines_of}
 use Rattle.ft_asm.specs.declared.line.Code.{Code}
 use Rattle.ft_asm.specs.declared.line.Code.TheVariants.{OpReg, OpWord, Mov, Ld, St, JmpG, JmpB, BzG, BzB, Halt, Idx}
 use Rattle.ft_asm.specs.declared.line.Line.{Line}
 use Rattle.ft_asm.specs.declared.line.Line.TheVariants as lines
 use Rattle.ft_asm.specs.Words.{is_blank, pieces_of, with_bytes, words_of, is_said, said_in}
-use Rattle.ft_asm.specs.Lines.{op_word, ld_word, st_word, code_words, line_words, FitsCode, FitsLine, IsForm}
-use Rattle.ft_asm.specs.Listings.{Part, Listing, pend_line, type_lines, part_lines, listing_lines, rows_of, codes_of, instr_at, instrs_from, blocks_from, object_of}
+use Rattle.ft_asm.specs.Lines.{ld_word, st_word, code_words, line_words, FitsCode, FitsLine, IsForm}
+use Rattle.ft_asm.specs.Listings.{Part, Listing, pend_line, type_lines, part_lines, listing_lines, rows_of, codes_of}
+use Rattle.ft_asm.specs.Listings.{instr_at, instrs_from, blocks_from, object_of}
 use Rattle.ft_asm.specs.Reads.{Reads}
 use Rattle.ft_asm.proofs.HeldLaws.{instrs_length}
 
@@ -38,7 +43,8 @@ abbrev all_bytes : List (List (List ℕ)) → ℕ
 all_bytes [] = 0
 all_bytes (ws ∷ wss) = bytes_in ws + all_bytes wss
 
-cut_bytes : (t : Bool) (b : ℕ) (ps : List (List ℕ)) (n : ℕ) → bytes_in ps ≤ n → bytes_in (if t then [] ∷ ps else with_byte b ps) ≤ suc n
+cut_bytes : (t : Bool) (b : ℕ) (ps : List (List ℕ)) (n : ℕ) → bytes_in ps ≤ n →
+    bytes_in (if t then [] ∷ ps else with_byte b ps) ≤ suc n
 cut_bytes true b ps n h = omega arith
 cut_bytes false b [] n h = omega arith
 cut_bytes false b (p ∷ ps) n h = omega arith
@@ -59,13 +65,15 @@ kept_bytes ((b ∷ bs) ∷ ps) = let rest = kept_bytes ps in omega arith
 words_bytes : (line : List ℕ) → bytes_in (words_of line) ≤ length line
 words_bytes line = let kept = kept_bytes (pieces_of line) in let all = pieces_bytes line in omega arith
 
-said_step : (t : Bool) (ws : List (List ℕ)) (wss : List (List (List ℕ))) (n m : ℕ) → bytes_in ws ≤ n → all_bytes wss ≤ m → all_bytes (if t then ws ∷ wss else wss) ≤ n + m
+said_step : (t : Bool) (ws : List (List ℕ)) (wss : List (List (List ℕ))) (n m : ℕ) → bytes_in ws ≤ n →
+    all_bytes wss ≤ m → all_bytes (if t then ws ∷ wss else wss) ≤ n + m
 said_step true ws wss n m h i = omega arith
 said_step false ws wss n m h i = omega arith
 
 said_bytes : (ls : List (List ℕ)) → all_bytes (said_in ls) ≤ bytes_in ls
 said_bytes [] = omega arith
-said_bytes (l ∷ ls) = said_step (is_said (words_of l)) (words_of l) (said_in ls) (length l) (bytes_in ls) (words_bytes l) (said_bytes ls)
+said_bytes (l ∷ ls) = said_step (is_said (words_of l)) (words_of l) (said_in ls) (length l) (bytes_in ls)
+    (words_bytes l) (said_bytes ls)
 
 -- WEIGHTS OF LINES
 
@@ -86,15 +94,7 @@ all_weights (l ∷ ls) = weight l + all_weights ls
 
 op_some : (op : Op) → 1 ≤ length (op_word op)
 op_some Add = omega arith
-op_some Sub = omega arith
-op_some Mul = omega arith
-op_some Ltu = omega arith
-op_some Eq = omega arith
-op_some And = omega arith
-op_some Or = omega arith
-op_some Xor = omega arith
-op_some Shl = omega arith
-op_some Shr = omega arith
+op_some op = omega arith
 
 ld_some : (c : Colour) → 1 ≤ length (ld_word c)
 ld_some Green = omega arith
@@ -106,7 +106,8 @@ st_some Blue = omega arith
 
 rows_bytes : (rows : List ℕ) → AllByRecursion Is32 rows → length rows ≤ bytes_in (map decimal rows)
 rows_bytes [] h = omega arith
-rows_bytes (n ∷ ns) h = let some = decimal_nonempty n (omega (arith, h.0)) in let rest = rows_bytes ns h.1 in omega arith
+rows_bytes (n ∷ ns) h = let some = decimal_nonempty n (omega (arith, h.0)) in let rest = rows_bytes ns h.1 in
+    omega arith
 
 code_weight : (c : Code) → FitsCode c → suc (length (rows_of c)) ≤ bytes_in (code_words c)
 code_weight (OpReg op rd rs rt) h = let some = op_some op in omega arith
@@ -142,7 +143,8 @@ zip_weights (ws ∷ wss) (l ∷ ls) h =
     omega arith
 
 -- what a text says weighs no more than its bytes
-text_weight : (text : List ℕ) (l : Listing) → AllZip IsForm (said_in (lines_of text)) (listing_lines l) → all_weights (listing_lines l) ≤ length text
+text_weight : (text : List ℕ) (l : Listing) → AllZip IsForm (said_in (lines_of text)) (listing_lines l) →
+    all_weights (listing_lines l) ≤ length text
 text_weight text l h =
     let all = zip_weights (said_in (lines_of text)) (listing_lines l) h in
     let said = said_bytes (lines_of text) in
@@ -160,11 +162,13 @@ cells_weigh [] = omega arith
 cells_weigh (c ∷ cs) = let rest = cells_weigh cs in let long = length-append c.name (flat_map name_of cs) in omega arith
 
 -- lines that weigh 1 each
-plain_weigh : {A : Type 0} (f : A → Line) → ((x : A) → weight (f x) ≡ 1) → (xs : List A) → all_weights (map f xs) ≡ length xs
+plain_weigh : {A : Type 0} (f : A → Line) → ((x : A) → weight (f x) ≡ 1) → (xs : List A) → all_weights (map f xs)
+    ≡ length xs
 plain_weigh f one [] = omega arith
 plain_weigh f one (x ∷ xs) = let rest = plain_weigh f one xs in let here = one x in omega arith
 
-types_weigh : (ts : List CodeType) → all_weights (flat_map type_lines ts) ≡ length ts + length (flat_map regs_of ts) + length (flat_map queue_of ts)
+types_weigh : (ts : List CodeType) → all_weights (flat_map type_lines ts)
+    ≡ length ts + length (flat_map regs_of ts) + length (flat_map queue_of ts)
 types_weigh [] = omega arith
 types_weigh (t ∷ ts) =
     let rest = types_weigh ts in
@@ -178,17 +182,21 @@ types_weigh (t ∷ ts) =
 
 codes_weigh : (cs : List Code) → all_weights (map lines.Code cs) ≡ length cs + length (flat_map rows_of cs)
 codes_weigh [] = omega arith
-codes_weigh (c ∷ cs) = let rest = codes_weigh cs in let long = length-append (rows_of c) (flat_map rows_of cs) in omega arith
+codes_weigh (c ∷ cs) = let rest = codes_weigh cs in let long = length-append (rows_of c) (flat_map rows_of cs) in
+    omega arith
 
-parts_weigh : (ps : List Part) → all_weights (flat_map part_lines ps) ≡ length ps + length (flat_map codes_of ps) + length (flat_map rows_of (flat_map codes_of ps))
+parts_weigh : (ps : List Part) → all_weights (flat_map part_lines ps)
+    ≡ length ps + length (flat_map codes_of ps) + length (flat_map rows_of (flat_map codes_of ps))
 parts_weigh [] = omega arith
 parts_weigh (p ∷ ps) =
     let rest = parts_weigh ps in
     let on = weights_on (map lines.Code p.codes) (flat_map part_lines ps) in
     let own = codes_weigh p.codes in
     let long = length-append p.codes (flat_map codes_of ps) in
-    let rows : length (flat_map rows_of (p.codes ++ flat_map codes_of ps)) ≡ length (flat_map rows_of p.codes) + length (flat_map rows_of (flat_map codes_of ps)) =
-    ap length (flat_map-append rows_of p.codes (flat_map codes_of ps)) ∙ length-append (flat_map rows_of p.codes) (flat_map rows_of (flat_map codes_of ps)) in
+    let rows : length (flat_map rows_of (p.codes ++ flat_map codes_of ps))
+    ≡ length (flat_map rows_of p.codes) + length (flat_map rows_of (flat_map codes_of ps)) =
+    ap length (flat_map-append rows_of p.codes (flat_map codes_of ps))
+    ∙ length-append (flat_map rows_of p.codes) (flat_map rows_of (flat_map codes_of ps)) in
     omega arith
 
 -- the counts of a listing are at most its weight
@@ -208,8 +216,10 @@ are_counted l n few =
     let last = lines.Entry l.entry ∷ [] in
     let parts_on = weights_on (flat_map part_lines l.parts) last in
     let types_on = weights_on (flat_map type_lines l.types) (flat_map part_lines l.parts ++ last) in
-    let nodes_on = weights_on (map lines.Node l.nodes) (flat_map type_lines l.types ++ (flat_map part_lines l.parts ++ last)) in
-    let cells_on = weights_on (map lines.Cell l.cells) (map lines.Node l.nodes ++ (flat_map type_lines l.types ++ (flat_map part_lines l.parts ++ last))) in
+    let nodes_on = weights_on (map lines.Node l.nodes) (flat_map type_lines l.types
+    ++ (flat_map part_lines l.parts ++ last)) in
+    let cells_on = weights_on (map lines.Cell l.cells) (map lines.Node l.nodes
+    ++ (flat_map type_lines l.types ++ (flat_map part_lines l.parts ++ last))) in
     let cells = cells_weigh l.cells in
     let nodes = plain_weigh lines.Node (λ x. refl) l.nodes in
     let types = types_weigh l.types in
@@ -254,11 +264,13 @@ zip_fits [] (l ∷ ls) h = absurd h
 zip_fits (ws ∷ wss) [] h = absurd h
 zip_fits (ws ∷ wss) (l ∷ ls) h = (h.0.0, zip_fits wss ls h.1)
 
-all_apart : (xs ys : List Line) → AllByRecursion FitsLine (xs ++ ys) → AllByRecursion FitsLine xs × AllByRecursion FitsLine ys
+all_apart : (xs ys : List Line) → AllByRecursion FitsLine (xs ++ ys) → AllByRecursion FitsLine xs
+    × AllByRecursion FitsLine ys
 all_apart [] ys h = (tt, h)
 all_apart (x ∷ xs) ys h = let rest = all_apart xs ys h.1 in ((h.0, rest.0), rest.1)
 
-mapped : {A : Type 0} (f : A → Line) (Q : A → Type 0) → ((x : A) → FitsLine (f x) → Q x) → (xs : List A) → AllByRecursion FitsLine (map f xs) → AllByRecursion Q xs
+mapped : {A : Type 0} (f : A → Line) (Q : A → Type 0) → ((x : A) → FitsLine (f x) → Q x) → (xs : List A) →
+    AllByRecursion FitsLine (map f xs) → AllByRecursion Q xs
 mapped f Q g [] h = tt
 mapped f Q g (x ∷ xs) h = (g x h.0, mapped f Q g xs h.1)
 
@@ -276,13 +288,16 @@ types_fit (t ∷ ts) h =
       types_fit ts own.1,
     )
 
-codes_fit : (ps : List Part) → AllByRecursion FitsLine (flat_map part_lines ps) → AllByRecursion FitsCode (flat_map codes_of ps)
+codes_fit : (ps : List Part) → AllByRecursion FitsLine (flat_map part_lines ps) →
+    AllByRecursion FitsCode (flat_map codes_of ps)
 codes_fit [] h = tt
 codes_fit (p ∷ ps) h =
     let own = all_apart (map lines.Code p.codes) (flat_map part_lines ps) h.1 in
-    all_append FitsCode p.codes (flat_map codes_of ps) (mapped lines.Code FitsCode (λ c f. f) p.codes own.0) (codes_fit ps own.1)
+    all_append FitsCode p.codes (flat_map codes_of ps) (mapped lines.Code FitsCode (λ c f. f) p.codes own.0)
+    (codes_fit ps own.1)
 
-blocks_fit : (start : ℕ) (ps : List Part) → start + length (flat_map codes_of ps) < 2 ^ 32 → AllByRecursion FitsLine (flat_map part_lines ps) → AllByRecursion FitsBlock (blocks_from start ps)
+blocks_fit : (start : ℕ) (ps : List Part) → start + length (flat_map codes_of ps) < 2 ^ 32 →
+    AllByRecursion FitsLine (flat_map part_lines ps) → AllByRecursion FitsBlock (blocks_from start ps)
 blocks_fit start [] few h = tt
 blocks_fit start (p ∷ ps) few h =
     let long = length-append p.codes (flat_map codes_of ps) in
@@ -304,7 +319,8 @@ instr_fits first (BzB rz rd memory rows) few h = (omega arith, few, h.0)
 instr_fits first Halt few h = tt
 instr_fits first (Idx rd rs x m) few h = h
 
-instrs_fit : (first : ℕ) (cs : List Code) → first + length (flat_map rows_of cs) < 2 ^ 32 → AllByRecursion FitsCode cs → AllByRecursion FitsInstr (instrs_from first cs)
+instrs_fit : (first : ℕ) (cs : List Code) → first + length (flat_map rows_of cs) < 2 ^ 32 → AllByRecursion FitsCode cs →
+    AllByRecursion FitsInstr (instrs_from first cs)
 instrs_fit first [] few h = tt
 instrs_fit first (c ∷ cs) few h =
     let long = length-append (rows_of c) (flat_map rows_of cs) in
@@ -329,11 +345,14 @@ rows_fit : (cs : List Code) → AllByRecursion FitsCode cs → AllByRecursion Is
 rows_fit [] h = tt
 rows_fit (c ∷ cs) h = all_append Is32 (rows_of c) (flat_map rows_of cs) (code_rows c h.0) (rows_fit cs h.1)
 
-listing_fits : (l : Listing) (n : ℕ) → n < 2 ^ 32 → AreCounted l n → AllByRecursion FitsLine (listing_lines l) → Fits (object_of l)
+listing_fits : (l : Listing) (n : ℕ) → n < 2 ^ 32 → AreCounted l n → AllByRecursion FitsLine (listing_lines l) →
+    Fits (object_of l)
 listing_fits l n few a h =
     let last = lines.Entry l.entry ∷ [] in
-    let cells = all_apart (map lines.Cell l.cells) (map lines.Node l.nodes ++ (flat_map type_lines l.types ++ (flat_map part_lines l.parts ++ last))) h in
-    let nodes = all_apart (map lines.Node l.nodes) (flat_map type_lines l.types ++ (flat_map part_lines l.parts ++ last)) cells.1 in
+    let cells = all_apart (map lines.Cell l.cells) (map lines.Node l.nodes
+    ++ (flat_map type_lines l.types ++ (flat_map part_lines l.parts ++ last))) h in
+    let nodes = all_apart (map lines.Node l.nodes) (flat_map type_lines l.types
+    ++ (flat_map part_lines l.parts ++ last)) cells.1 in
     let types = all_apart (flat_map type_lines l.types) (flat_map part_lines l.parts ++ last) nodes.1 in
     let parts = all_apart (flat_map part_lines l.parts) last types.1 in
     let codes = codes_fit l.parts parts.0 in
@@ -353,4 +372,5 @@ pub reading_fits : (text : List ℕ) (o : Object) → length text ≤ 134217728 
 reading_fits text o few r =
     let weight = text_weight text r.listing r.said in
     let counted = are_counted r.listing 134217728 (omega arith) in
-    subst Fits (sym r.means) (listing_fits r.listing 134217728 (omega arith) counted (zip_fits (said_in (lines_of text)) (listing_lines r.listing) r.said))
+    subst Fits (sym r.means) (listing_fits r.listing 134217728 (omega arith) counted
+    (zip_fits (said_in (lines_of text)) (listing_lines r.listing) r.said))

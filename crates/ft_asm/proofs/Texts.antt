@@ -1,16 +1,18 @@
 -- What is written is read again as what it was written for.
-use Rattle.std.proofs.Common.{◌≡◌, ℕ, zero, suc, ◌+◌, ◌%◌, ◌^◌, ◌<◌, ◌≤◌, ◌==◌, Bool, true, false, ◌||◌, not, List, [], ◌∷◌, ◌++◌, length, map, decimal, codes, refl, ap, sym, ◌∙◌, subst, append_assoc, arith}
-use Rattle.std.specs.Prelude.{if◌then◌else◌}
-use Rattle.std.specs.List.{AllByRecursion, AllZip, flat_map}
-use Rattle.std.proofs.lemmas.Bool.{and_parts, and_from, not-true, ne_eqb, or_from}
+use Rattle.std.proofs.Common.{◌≡◌, ℕ, zero, suc, ◌+◌, ◌%◌, ◌^◌, ◌<◌, ◌≤◌, ◌==◌, Bool, true, false, ◌||◌, not, List, []}
+use Rattle.std.proofs.Common.{◌∷◌, ◌++◌, length, map, decimal, codes, refl, ap, sym, ◌∙◌, subst, append_assoc, arith}
+use Rattle.std.specs.Prelude.{if◌then◌else◌, ◌&&◌, nat_lt}
+use Rattle.std.specs.List.{AllByRecursion, AllZip, flat_map, list_all}
+use Rattle.std.proofs.lemmas.Bool.{and_parts, and_from, not-true, ne_eqb, or_from, ltb-true}
 use Rattle.std.proofs.lemmas.Fmt.{decimal_by_steps, decimal_nonempty}
 use Rattle.ft_isa.specs.declared.basic.Base.{Base}
 use Rattle.ft_isa.specs.declared.basic.Base.TheVariants.{Int}
 use Rattle.ft_isa.specs.declared.basic.Base.TheVariants as bases
 use Rattle.ft_isa.specs.declared.colour.Colour.{Colour}
 use Rattle.ft_isa.specs.declared.colour.Colour.TheVariants.{Green, Blue}
+use Rattle.ft_isa.specs.Operations.{op_word}
 use Rattle.ft_isa.specs.declared.op.Op.{Op}
-use Rattle.ft_isa.specs.declared.op.Op.TheVariants.{Add, Sub, Mul, Ltu, Eq, And, Or, Xor, Shl, Shr}
+use Rattle.ft_isa.specs.declared.op.Op.TheVariants.{Add}
 use Rattle.ft_isa.specs.declared.reg.Reg.{Reg}
 use Rattle.ft_static.specs.declared.node.Shape.{Shape}
 use Rattle.ft_static.specs.declared.node.Shape.TheVariants as shapes
@@ -20,8 +22,9 @@ use Rattle.ft_asm.specs.declared.line.Code.TheVariants.{OpReg, OpWord, Mov, Ld, 
 use Rattle.ft_asm.specs.declared.line.Line.{Line}
 use Rattle.ft_asm.specs.declared.line.Line.TheVariants as lines
 use Rattle.ft_asm.specs.Words.{is_blank, pieces_of, with_word, with_bytes, words_of, is_said, with_said, said_in}
-use Rattle.ft_asm.specs.Lines.{reg_word, colour_word, op_word, base_word, refs_word, shape_words, ld_word, st_word, code_words, line_words, FitsCode, FitsLine, is_part, HasParts, IsAnyWord, IsForm}
-use Rattle.ft_encode.specs.Fits.{Is32, FitsBase, FitsShape}
+use Rattle.ft_asm.specs.Lines.{reg_word, colour_word, base_word, refs_word, shape_words, ld_word, st_word, code_words}
+use Rattle.ft_asm.specs.Lines.{line_words, FitsCode, FitsLine, is_part, HasParts, IsAnyWord, IsForm}
+use Rattle.ft_format.specs.Fits.{Is32, FitsBase, FitsShape}
 use Rattle.ft_asm.specs.Reads.{spaced, line_text}
 
 -- PARTS OF WORDS
@@ -51,10 +54,15 @@ word_on : (xs ys : List ℕ) → IsAnyWord xs → HasParts ys → IsAnyWord (xs 
 word_on [] ys h i = absurd (let some = h.0 in omega arith)
 word_on (x ∷ xs) ys h i = (omega arith, parts_on (x ∷ xs) ys h.1 i)
 
+parts_pass : (w : List ℕ) → list_all is_part w ≡ true → HasParts w
+parts_pass [] e = tt
+parts_pass (b ∷ bs) e = let two = and_parts (is_part b) (list_all is_part bs) e in (two.0, parts_pass bs two.1)
+
 decimal_word : (n : ℕ) → n < 2 ^ 64 → IsAnyWord (decimal n)
 decimal_word n h = (
   decimal_nonempty n h,
-  decimal_by_steps (λ m ds. HasParts ds) (λ m low. (part_from (48 + m) (omega arith), tt)) (λ m ds ten front. parts_on ds ((48 + m % 10) ∷ []) front (part_from (48 + m % 10) (omega arith), tt)) n h,
+  decimal_by_steps (λ m ds. HasParts ds) (λ m low. (part_from (48 + m) (omega arith), tt)) (λ m ds ten front.
+      parts_on ds ((48 + m % 10) ∷ []) front (part_from (48 + m % 10) (omega arith), tt)) n h,
 )
 
 short : (n : ℕ) → n < 2 ^ 32 → IsAnyWord (decimal n)
@@ -64,31 +72,37 @@ byte_word : (n : ℕ) → n < 2 ^ 8 → IsAnyWord (decimal n)
 byte_word n h = decimal_word n (omega arith)
 
 reg_is_word : (r : Reg) → IsAnyWord (reg_word r)
-reg_is_word r = let low = r.in_range in word_on (codes "r") (decimal r.number) (omega arith, (refl, tt)) (decimal_word r.number (omega arith)).1
+reg_is_word r = let low = r.in_range in word_on (codes "r") (decimal r.number) (
+  omega arith,
+  (refl, tt),
+) (decimal_word r.number (omega arith)).1
 
 colour_is_word : (c : Colour) → IsAnyWord (colour_word c)
 colour_is_word Green = (omega arith, (refl, tt))
 colour_is_word Blue = (omega arith, (refl, tt))
 
+op_passes : (op : Op) → (nat_lt 0 (length (op_word op)) && list_all is_part (op_word op)) ≡ true
+op_passes Add = refl
+op_passes op = refl
+
 op_is_word : (op : Op) → IsAnyWord (op_word op)
-op_is_word Add = (omega arith, (refl, (refl, (refl, tt))))
-op_is_word Sub = (omega arith, (refl, (refl, (refl, tt))))
-op_is_word Mul = (omega arith, (refl, (refl, (refl, tt))))
-op_is_word Ltu = (omega arith, (refl, (refl, (refl, tt))))
-op_is_word Eq = (omega arith, (refl, (refl, tt)))
-op_is_word And = (omega arith, (refl, (refl, (refl, tt))))
-op_is_word Or = (omega arith, (refl, (refl, tt)))
-op_is_word Xor = (omega arith, (refl, (refl, (refl, tt))))
-op_is_word Shl = (omega arith, (refl, (refl, (refl, tt))))
-op_is_word Shr = (omega arith, (refl, (refl, (refl, tt))))
+op_is_word op =
+    let two = and_parts (nat_lt 0 (length (op_word op))) (list_all is_part (op_word op)) (op_passes op) in
+    (ltb-true 0 (length (op_word op)) two.0, parts_pass (op_word op) two.1)
 
 base_is_word : (base : Base) → FitsBase base → IsAnyWord (base_word base)
 base_is_word Int h = (omega arith, (refl, (refl, (refl, tt))))
-base_is_word (bases.Code t) h = word_on (codes "code:") (decimal t) (omega arith, (refl, (refl, (refl, (refl, (refl, tt)))))) (decimal_word t (omega arith)).1
+base_is_word (bases.Code t) h = word_on (codes "code:") (decimal t) (
+  omega arith,
+  (refl, (refl, (refl, (refl, (refl, tt))))),
+) (decimal_word t (omega arith)).1
 
 refs_is_word : (n : ℕ) (base : Base) → FitsBase base → IsAnyWord (refs_word n base)
 refs_is_word zero base h = base_is_word base h
-refs_is_word (suc n) base h = word_on (codes "ref:") (refs_word n base) (omega arith, (refl, (refl, (refl, (refl, tt))))) (refs_is_word n base h).1
+refs_is_word (suc n) base h = word_on (codes "ref:") (refs_word n base) (
+  omega arith,
+  (refl, (refl, (refl, (refl, tt)))),
+) (refs_is_word n base h).1
 
 -- these are words
 abbrev pub AreWords : List (List ℕ) → Type 0
@@ -104,7 +118,10 @@ shape_are_words (shapes.Var i) h = ((omega arith, (refl, (refl, (refl, tt)))), (
 shape_are_words (shapes.Op op a b) h = (op_is_word op, (short a h.0, (short b h.1, tt)))
 shape_are_words (shapes.Sel m a) h = ((omega arith, (refl, (refl, (refl, tt)))), (short m h.0, (short a h.1, tt)))
 shape_are_words shapes.Memory h = ((omega arith, (refl, (refl, (refl, (refl, (refl, (refl, tt))))))), tt)
-shape_are_words (shapes.Upd m a v) h = ((omega arith, (refl, (refl, (refl, tt)))), (short m h.0, (short a h.1, (short v h.2, tt))))
+shape_are_words (shapes.Upd m a v) h = (
+  (omega arith, (refl, (refl, (refl, tt)))),
+  (short m h.0, (short a h.1, (short v h.2, tt))),
+)
 shape_are_words (shapes.Rem a m) h = ((omega arith, (refl, (refl, (refl, tt)))), (short a h.0, (short m h.1, tt)))
 
 ld_is_word : (c : Colour) → IsAnyWord (ld_word c)
@@ -117,24 +134,72 @@ st_is_word Blue = (omega arith, (refl, (refl, (refl, (refl, tt)))))
 
 code_are_words : (code : Code) → FitsCode code → AreWords (code_words code)
 code_are_words (OpReg op rd rs rt) h = (op_is_word op, (reg_is_word rd, (reg_is_word rs, (reg_is_word rt, tt))))
-code_are_words (OpWord op rd rs value) h = (op_is_word op, (reg_is_word rd, (reg_is_word rs, (colour_is_word value.colour, (decimal_word value.word h, tt)))))
-code_are_words (Mov rd value basic) h = ((omega arith, (refl, (refl, (refl, tt)))), (reg_is_word rd, (colour_is_word value.colour, (decimal_word value.word h.0, (refs_is_word basic.refs basic.base h.1.1, tt)))))
+code_are_words (OpWord op rd rs value) h = (
+  op_is_word op,
+  (reg_is_word rd, (reg_is_word rs, (colour_is_word value.colour, (decimal_word value.word h, tt)))),
+)
+code_are_words (Mov rd value basic) h = (
+  (omega arith, (refl, (refl, (refl, tt)))),
+  (
+    reg_is_word rd,
+    (
+      colour_is_word value.colour,
+      (decimal_word value.word h.0, (refs_is_word basic.refs basic.base h.1.1, tt)),
+    ),
+  ),
+)
 code_are_words (Ld c rd rs) h = (ld_is_word c, (reg_is_word rd, (reg_is_word rs, tt)))
 code_are_words (St c rd rs) h = (st_is_word c, (reg_is_word rd, (reg_is_word rs, tt)))
 code_are_words (JmpG rd) h = ((omega arith, (refl, (refl, (refl, (refl, (refl, tt)))))), (reg_is_word rd, tt))
-code_are_words (JmpB rd m rows) h = ((omega arith, (refl, (refl, (refl, (refl, (refl, tt)))))), (reg_is_word rd, (short m h.0, rows_are_words rows h.1)))
-code_are_words (BzG rz rd) h = ((omega arith, (refl, (refl, (refl, (refl, tt))))), (reg_is_word rz, (reg_is_word rd, tt)))
-code_are_words (BzB rz rd m rows) h = ((omega arith, (refl, (refl, (refl, (refl, tt))))), (reg_is_word rz, (reg_is_word rd, (short m h.0, rows_are_words rows h.1))))
+code_are_words (JmpB rd m rows) h = (
+  (omega arith, (refl, (refl, (refl, (refl, (refl, tt)))))),
+  (reg_is_word rd, (short m h.0, rows_are_words rows h.1)),
+)
+code_are_words (BzG rz rd) h = (
+  (omega arith, (refl, (refl, (refl, (refl, tt))))),
+  (reg_is_word rz, (reg_is_word rd, tt)),
+)
+code_are_words (BzB rz rd m rows) h = (
+  (omega arith, (refl, (refl, (refl, (refl, tt))))),
+  (reg_is_word rz, (reg_is_word rd, (short m h.0, rows_are_words rows h.1))),
+)
 code_are_words Halt h = ((omega arith, (refl, (refl, (refl, (refl, tt))))), tt)
-code_are_words (Idx rd rs x m) h = ((omega arith, (refl, (refl, (refl, tt)))), (reg_is_word rd, (reg_is_word rs, (short x h.0, (short m h.1, tt)))))
+code_are_words (Idx rd rs x m) h = (
+  (omega arith, (refl, (refl, (refl, tt)))),
+  (reg_is_word rd, (reg_is_word rs, (short x h.0, (short m h.1, tt)))),
+)
 
 -- the words of a line are words
 pub line_are_words : (line : Line) → FitsLine line → AreWords (line_words line)
-line_are_words (lines.Cell c) h = ((omega arith, (refl, (refl, (refl, (refl, tt))))), (h.0, (refs_is_word c.basic.refs c.basic.base h.1.0.1, (decimal_word c.init h.1.1, tt))))
-line_are_words (lines.Node n) h = ((omega arith, (refl, (refl, (refl, (refl, tt))))), (byte_word n.scope h.0, shape_are_words n.shape h.1))
-line_are_words (lines.Type ints memory) h = ((omega arith, (refl, (refl, (refl, (refl, tt))))), (byte_word ints h.0, (short memory h.1, tt)))
-line_are_words (lines.Reg r) h = ((omega arith, (refl, (refl, (refl, tt)))), (reg_is_word r.reg, (colour_is_word r.colour, (refs_is_word r.basic.refs r.basic.base h.0.1, (short r.expr h.1, tt)))))
-line_are_words (lines.Pend a v) h = ((omega arith, (refl, (refl, (refl, (refl, tt))))), (short a h.0, (short v h.1, tt)))
+line_are_words (lines.Cell c) h = (
+  (omega arith, (refl, (refl, (refl, (refl, tt))))),
+  (h.0, (refs_is_word c.basic.refs c.basic.base h.1.0.1, (decimal_word c.init h.1.1, tt))),
+)
+line_are_words (lines.Node n) h = (
+  (omega arith, (refl, (refl, (refl, (refl, tt))))),
+  (byte_word n.scope h.0, shape_are_words n.shape h.1),
+)
+line_are_words (lines.Type ints memory) h = (
+  (omega arith, (refl, (refl, (refl, (refl, tt))))),
+  (byte_word ints h.0, (short memory h.1, tt)),
+)
+line_are_words (lines.Reg r) h = (
+  (omega arith, (refl, (refl, (refl, tt)))),
+  (
+    reg_is_word r.reg,
+    (
+      colour_is_word r.colour,
+      (
+        refs_is_word r.basic.refs r.basic.base h.0.1,
+        (short r.expr h.1, tt),
+      ),
+    ),
+  ),
+)
+line_are_words (lines.Pend a v) h = (
+  (omega arith, (refl, (refl, (refl, (refl, tt))))),
+  (short a h.0, (short v h.1, tt)),
+)
 line_are_words (lines.Block t) h = ((omega arith, (refl, (refl, (refl, (refl, (refl, tt)))))), (short t h, tt))
 line_are_words (lines.Code code) h = code_are_words code h
 line_are_words (lines.Entry b) h = ((omega arith, (refl, (refl, (refl, (refl, (refl, tt)))))), (short b h, tt))
@@ -184,7 +249,8 @@ word_no_feed (b ∷ bs) h = (no_feed b h.0, word_no_feed bs h.1)
 spaced_no_feed : (ws : List (List ℕ)) → AreWords ws → HasNoFeed (spaced ws)
 spaced_no_feed [] h = tt
 spaced_no_feed (w ∷ []) h = word_no_feed w h.0.1
-spaced_no_feed (w ∷ v ∷ ws) h = feeds_on (w ++ codes " ") (spaced (v ∷ ws)) (feeds_on w (codes " ") (word_no_feed w h.0.1) (refl, tt)) (spaced_no_feed (v ∷ ws) h.1)
+spaced_no_feed (w ∷ v ∷ ws) h = feeds_on (w ++ codes " ") (spaced (v ∷ ws))
+    (feeds_on w (codes " ") (word_no_feed w h.0.1) (refl, tt)) (spaced_no_feed (v ∷ ws) h.1)
 
 first_line : (x rest : List ℕ) → HasNoFeed x → lines_of (x ++ 10 ∷ rest) ≡ x ∷ lines_of rest
 first_line [] rest h = refl
@@ -208,15 +274,7 @@ lines_again (l ∷ ls) h =
 
 op_said : (op : Op) (ws : List (List ℕ)) → is_said (op_word op ∷ ws) ≡ true
 op_said Add ws = refl
-op_said Sub ws = refl
-op_said Mul ws = refl
-op_said Ltu ws = refl
-op_said Eq ws = refl
-op_said And ws = refl
-op_said Or ws = refl
-op_said Xor ws = refl
-op_said Shl ws = refl
-op_said Shr ws = refl
+op_said op ws = refl
 
 ld_said : (c : Colour) (ws : List (List ℕ)) → is_said (ld_word c ∷ ws) ≡ true
 ld_said Green ws = refl
@@ -228,7 +286,8 @@ st_said Blue ws = refl
 
 code_said : (code : Code) → is_said (code_words code) ≡ true
 code_said (OpReg op rd rs rt) = op_said op (reg_word rd ∷ reg_word rs ∷ reg_word rt ∷ [])
-code_said (OpWord op rd rs value) = op_said op (reg_word rd ∷ reg_word rs ∷ colour_word value.colour ∷ decimal value.word ∷ [])
+code_said (OpWord op rd rs value) = op_said op (reg_word rd ∷ reg_word rs ∷ colour_word value.colour ∷ decimal
+    value.word ∷ [])
 code_said (Mov rd value basic) = refl
 code_said (Ld c rd rs) = ld_said c (reg_word rd ∷ reg_word rs ∷ [])
 code_said (St c rd rs) = st_said c (reg_word rd ∷ reg_word rs ∷ [])
@@ -263,5 +322,7 @@ forms_again [] h = tt
 forms_again (l ∷ ls) h = ((h.0, refl), forms_again ls h.1)
 
 -- the text of lines that fit says these lines
-pub text_says : (ls : List Line) → AllByRecursion FitsLine ls → AllZip IsForm (said_in (lines_of (flat_map line_text ls))) ls
-text_says ls h = subst (λ (ws : List (List (List ℕ))). AllZip IsForm ws ls) (sym (ap said_in (lines_again ls h) ∙ said_again ls h)) (forms_again ls h)
+pub text_says : (ls : List Line) → AllByRecursion FitsLine ls →
+    AllZip IsForm (said_in (lines_of (flat_map line_text ls))) ls
+text_says ls h = subst (λ (ws : List (List (List ℕ))).
+    AllZip IsForm ws ls) (sym (ap said_in (lines_again ls h) ∙ said_again ls h)) (forms_again ls h)

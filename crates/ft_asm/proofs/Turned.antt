@@ -1,5 +1,6 @@
 -- What a line makes of the lines before it, and what is said of the text at the end.
-use Rattle.std.proofs.Common.{◌≡◌, inl, inr, ℕ, suc, ◌==◌, Bool, true, false, not, List, [], ◌∷◌, ◌++◌, length, Some, None, refl, ap, sym, ◌∙◌, subst, append-nil, arith}
+use Rattle.std.proofs.Common.{◌≡◌, inl, inr, ℕ, suc, ◌==◌, Bool, true, false, not, List, [], ◌∷◌, ◌++◌, length, Some}
+use Rattle.std.proofs.Common.{None, refl, ap, sym, ◌∙◌, subst, append-nil, arith}
 use Rattle.std.specs.Prelude.{if◌then◌else◌}
 use Rattle.std.specs.List.{AllByRecursion}
 use Rattle.std.proofs.lemmas.Bool.{and_from}
@@ -15,17 +16,21 @@ use Rattle.ft_asm.specs.Held.{Ends}
 use Rattle.ft_asm.specs.Reads.{Reads, Stops, IsTextFault, IsOrderFault, Lacks}
 use Rattle.ft_asm.specs.Turns.{Leads}
 use Rattle.ft_asm.proofs.FormLaws.{line_sound, no_line}
-use Rattle.ft_asm.proofs.Faults.{HasNoFeed, HaveNoFeed, lines_free, Lead, lead_silent, lead_more, lead_begins, done_reads, open_reads, stuck}
+use Rattle.ft_asm.proofs.Faults.{HasNoFeed, HaveNoFeed, lines_free, Lead, lead_silent, lead_more, lead_begins}
+use Rattle.ft_asm.proofs.Faults.{done_reads, open_reads, stuck}
 
 -- WORDS
 
-with_byte_parts : (b : ℕ) (ps : List (List ℕ)) → is_part b ≡ true → AllByRecursion HasParts ps → AllByRecursion HasParts (with_byte b ps)
+with_byte_parts : (b : ℕ) (ps : List (List ℕ)) → is_part b ≡ true → AllByRecursion HasParts ps →
+    AllByRecursion HasParts (with_byte b ps)
 with_byte_parts b [] e h = ((e, tt), tt)
 with_byte_parts b (p ∷ ps) e h = ((e, h.0), h.1)
 
-pieces_step : (t : Bool) (b : ℕ) (ps : List (List ℕ)) → is_blank b ≡ t → (b == 10) ≡ false → AllByRecursion HasParts ps → AllByRecursion HasParts (if t then [] ∷ ps else with_byte b ps)
+pieces_step : (t : Bool) (b : ℕ) (ps : List (List ℕ)) → is_blank b ≡ t → (b == 10) ≡ false →
+    AllByRecursion HasParts ps → AllByRecursion HasParts (if t then [] ∷ ps else with_byte b ps)
 pieces_step true b ps e f h = (tt, h)
-pieces_step false b ps e f h = with_byte_parts b ps (and_from (not (is_blank b)) (not (b == 10)) (ap not e) (ap not f)) h
+pieces_step false b ps e f h = with_byte_parts b ps (and_from (not (is_blank b)) (not (b == 10)) (ap not e) (ap not f))
+    h
 
 pieces_parts : (line : List ℕ) → HasNoFeed line → AllByRecursion HasParts (pieces_of line)
 pieces_parts [] h = (tt, tt)
@@ -45,12 +50,24 @@ free_parts : (xs ys : List (List ℕ)) → HaveNoFeed (xs ++ ys) → HaveNoFeed 
 free_parts [] ys h = (tt, h)
 free_parts (x ∷ xs) ys h = let rest = free_parts xs ys h.1 in ((h.0, rest.0), rest.1)
 
-free_line : (text : List ℕ) (before after : List (List ℕ)) (line : List ℕ) → lines_of text ≡ before ++ line ∷ after → HaveNoFeed before × HasNoFeed line
-free_line text before after line e = let parts = free_parts before (line ∷ after) (subst HaveNoFeed e (lines_free text)) in (parts.0, parts.1.0)
+free_line : (text : List ℕ) (before after : List (List ℕ)) (line : List ℕ) → lines_of text ≡ before ++ line ∷ after →
+    HaveNoFeed before × HasNoFeed line
+free_line text before after line e = let parts = free_parts before (line ∷ after) (subst HaveNoFeed e (lines_free text))
+    in (parts.0, parts.1.0)
 
-module _ (text : List ℕ) (number : ℕ) (before after : List (List ℕ)) (line : List ℕ) (split : lines_of text ≡ before ++ line ∷ after) (here : number ≡ suc (length before)) (d : Draft) (lead : Lead before d) (said : is_said (words_of line) ≡ true) where
+module _ (text : List ℕ) (number : ℕ) (before after : List (List ℕ)) (line : List ℕ) (split : lines_of text ≡ before
+    ++ line ∷ after) (here : number ≡ suc (length before)) (d : Draft) (lead : Lead before d)
+    (said : is_said (words_of line) ≡ true) where
   stops : Stops text number
-  stops = record { before = before; line = line; after = after; split = split; here = here; begin = lead_begins before d (free_line text before after line split).0 lead; said = said }
+  stops = record {
+    before = before;
+    line = line;
+    after = after;
+    split = split;
+    here = here;
+    begin = lead_begins before d (free_line text before after line split).0 lead;
+    said = said;
+  }
 
   pub bad_line : line_in (words_of line) ≡ None → IsTextFault text number
   unfolding stops
@@ -63,10 +80,13 @@ module _ (text : List ℕ) (number : ℕ) (before after : List (List ℕ)) (line
       record { stop = stops; form = l; is_form = form; none = stuck before d line l lead said form n }
 
 -- one line more
-pub lead_on : (text : List ℕ) (before after : List (List ℕ)) (line : List ℕ) (d e : Draft) → lines_of text ≡ before ++ line ∷ after → Lead before d → Leads d line e → Lead (before ++ line ∷ []) e
-lead_on text before after line d e split lead (inl silent) = subst (Lead (before ++ line ∷ [])) silent.1 (lead_silent before d line lead silent.0)
+pub lead_on : (text : List ℕ) (before after : List (List ℕ)) (line : List ℕ) (d e : Draft) → lines_of text ≡ before
+    ++ line ∷ after → Lead before d → Leads d line e → Lead (before ++ line ∷ []) e
+lead_on text before after line d e split lead (inl silent) =
+    subst (Lead (before ++ line ∷ [])) silent.1 (lead_silent before d line lead silent.0)
 lead_on text before after line d e split lead (inr more) =
-    lead_more before d e line more.0 lead more.1 (line_sound (words_of line) (words_are line (free_line text before after line split).1) more.0 more.2) more.3
+    lead_more before d e line more.0 lead more.1 (line_sound (words_of line)
+    (words_are line (free_line text before after line split).1) more.0 more.2) more.3
 
 -- at the end
 pub ends_reads : (text : List ℕ) (o : Object) (d : Draft) → Lead (lines_of text) d → Ends (Some o) d → Reads text o
@@ -81,9 +101,15 @@ not_done (InType cs ns ts t) e l f = absurd cc
 not_done (InBlock cs ns ts ps p) e l f = absurd cc
 not_done (Done k) e l f = absurd e
 
-pub ends_lacks : (text : List ℕ) (number : ℕ) (d : Draft) → number ≡ suc (length (lines_of text)) → Lead (lines_of text) d → Ends None d → Lacks text number
-ends_lacks text number d here h e = record { here = here; begin = lead_begins (lines_of text) d (lines_free text) h; none = open_reads text d h (not_done d e) }
+pub ends_lacks : (text : List ℕ) (number : ℕ) (d : Draft) → number ≡ suc (length (lines_of text)) →
+    Lead (lines_of text) d → Ends None d → Lacks text number
+ends_lacks text number d here h e = record {
+  here = here;
+  begin = lead_begins (lines_of text) d (lines_free text) h;
+  none = open_reads text d h (not_done d e);
+}
 
 -- all lines were read
-pub all_read : (text rest : List ℕ) (before : List (List ℕ)) → lines_of text ≡ before ++ lines_of rest → rest ≡ [] → lines_of text ≡ before
+pub all_read : (text rest : List ℕ) (before : List (List ℕ)) → lines_of text ≡ before ++ lines_of rest → rest ≡ [] →
+    lines_of text ≡ before
 all_read text rest before e f = e ∙ ap (λ r. before ++ lines_of r) f ∙ append-nil before

@@ -2,6 +2,7 @@
 use Rattle.std.specs.Prelude.{ℕ, zero, suc, ◌^◌, List, [], ◌∷◌, take, drop, Option, Some, None, option_map, option_and_then, nat_lt, ◌==◌, if◌then◌else◌, codes}
 use Rattle.std.specs.Str.{bytes_eq}
 use Rattle.ft_isa.specs.Reading.{state_after, with_digit}
+use Rattle.ft_isa.specs.Operations.{op_in}
 use Rattle.ft_isa.specs.Registers.{reg_of}
 use Rattle.ft_isa.specs.declared.basic.Base.{Base}
 use Rattle.ft_isa.specs.declared.basic.Base.TheVariants.{Int}
@@ -10,7 +11,6 @@ use Rattle.ft_isa.specs.declared.basic.Basic.{Basic}
 use Rattle.ft_isa.specs.declared.colour.Colour.{Colour}
 use Rattle.ft_isa.specs.declared.colour.Colour.TheVariants.{Green, Blue}
 use Rattle.ft_isa.specs.declared.op.Op.{Op}
-use Rattle.ft_isa.specs.declared.op.Op.TheVariants.{Add, Sub, Mul, Ltu, Eq, And, Or, Xor, Shl, Shr}
 use Rattle.ft_isa.specs.declared.reg.Reg.{Reg}
 use Rattle.ft_static.specs.declared.node.Shape.{Shape}
 use Rattle.ft_static.specs.declared.node.Shape.TheVariants as shapes
@@ -41,10 +41,6 @@ reg_in (byte ∷ bytes) = if byte == 114 then option_and_then reg_of (number_of 
 -- the colour of a word
 unfoldable pub colour_in : List ℕ → Option Colour
 colour_in word = if bytes_eq word (codes "G") then Some Green else (if bytes_eq word (codes "B") then Some Blue else None)
-
--- the operation of a word
-unfoldable pub op_in : List ℕ → Option Op
-op_in word = if bytes_eq word (codes "add") then Some Add else (if bytes_eq word (codes "sub") then Some Sub else (if bytes_eq word (codes "mul") then Some Mul else (if bytes_eq word (codes "ltu") then Some Ltu else (if bytes_eq word (codes "eq") then Some Eq else (if bytes_eq word (codes "and") then Some And else (if bytes_eq word (codes "or") then Some Or else (if bytes_eq word (codes "xor") then Some Xor else (if bytes_eq word (codes "shl") then Some Shl else (if bytes_eq word (codes "shr") then Some Shr else None)))))))))
 
 -- a base without refs as a basic type
 abbrev pub plain_basic : Base → Basic

@@ -1,6 +1,7 @@
 -- The lines of assembly texts, by the words that are written.
 use Rattle.std.specs.Prelude.{◌≡◌, ℕ, zero, suc, ◌<◌, Bool, true, not, ◌&&◌, ◌==◌, List, [], ◌∷◌, ◌++◌, map, decimal, codes, length}
 use Rattle.std.specs.List.{AllByRecursion}
+use Rattle.ft_isa.specs.Operations.{op_word}
 use Rattle.ft_isa.specs.Words.{IsWord}
 use Rattle.ft_isa.specs.declared.basic.Base.{Base}
 use Rattle.ft_isa.specs.declared.basic.Base.TheVariants.{Int}
@@ -8,12 +9,10 @@ use Rattle.ft_isa.specs.declared.basic.Base.TheVariants as bases
 use Rattle.ft_isa.specs.declared.basic.Basic.{Basic}
 use Rattle.ft_isa.specs.declared.colour.Colour.{Colour}
 use Rattle.ft_isa.specs.declared.colour.Colour.TheVariants.{Green, Blue}
-use Rattle.ft_isa.specs.declared.op.Op.{Op}
-use Rattle.ft_isa.specs.declared.op.Op.TheVariants.{Add, Sub, Mul, Ltu, Eq, And, Or, Xor, Shl, Shr}
 use Rattle.ft_isa.specs.declared.reg.Reg.{Reg}
 use Rattle.ft_static.specs.declared.node.Shape.{Shape}
 use Rattle.ft_static.specs.declared.node.Shape.TheVariants as shapes
-use Rattle.ft_encode.specs.Fits.{Is8, Is32, FitsBasic, FitsCell, FitsNode, FitsReg}
+use Rattle.ft_format.specs.Fits.{Is8, Is32, FitsBasic, FitsCell, FitsNode, FitsReg}
 use Rattle.ft_asm.specs.Words.{is_blank}
 use Rattle.ft_asm.specs.declared.line.Code.{Code}
 use Rattle.ft_asm.specs.declared.line.Code.TheVariants.{OpReg, OpWord, Mov, Ld, St, JmpG, JmpB, BzG, BzB, Halt, Idx}
@@ -30,19 +29,6 @@ reg_word reg = codes "r" ++ decimal reg.number
 abbrev pub colour_word : Colour → List ℕ
 colour_word Green = codes "G"
 colour_word Blue = codes "B"
-
--- the word of an operation
-abbrev pub op_word : Op → List ℕ
-op_word Add = codes "add"
-op_word Sub = codes "sub"
-op_word Mul = codes "mul"
-op_word Ltu = codes "ltu"
-op_word Eq = codes "eq"
-op_word And = codes "and"
-op_word Or = codes "or"
-op_word Xor = codes "xor"
-op_word Shl = codes "shl"
-op_word Shr = codes "shr"
 
 -- the word of a base
 abbrev pub base_word : Base → List ℕ

@@ -5,7 +5,7 @@ ghost use Rattle.ft_asm.specs.Forms.{rows_in, mov_in, idx_in, two_regs_in, jmp_g
 ghost use Rattle.ft_asm.specs.declared.line.Code.TheVariants as codes;
 
 use crate::fields::{
-    end, index_of, is_same, op_of, reg_of, take_basic, take_colour, take_index, take_reg, take_word,
+    end, index_of, is_same, reg_of, take_basic, take_colour, take_index, take_reg, take_word,
 };
 use crate::line::{Code, Line};
 use crate::words::next_word;
@@ -50,7 +50,7 @@ fn op_code_of(op: Op, text: &[u8]) -> Option<Line>
 fn op_line_of(word: &[u8], text: &[u8]) -> Option<Line>
     ensures { result ≡ op_line_in word.now (words_of text.now) }
 {
-    let op = op_of(word)?;
+    let op = Op::of_word(word)?;
     op_code_of(op, text)
 }
 

@@ -2,11 +2,11 @@
 ghost use Rattle.std.specs.Prelude.{◌≡◌, ◌≤◌, ◌^◌, option_map, IfSome};
 ghost use Rattle.std.specs.Str.{bytes_eq};
 ghost use Rattle.ft_asm.specs.Words.{words_of};
-ghost use Rattle.ft_asm.specs.Forms.{number_of, below, reg_in, colour_in, op_in, basic_in, base_in, taken, ended, any_word};
+ghost use Rattle.ft_asm.specs.Forms.{number_of, below, reg_in, colour_in, basic_in, base_in, taken, ended, any_word};
 
 use crate::line::Line;
 use crate::words::next_word;
-use ft_isa::{Base, Basic, Colour, Op, Reg, read_number};
+use ft_isa::{Base, Basic, Colour, Reg, read_number};
 
 /// The number of a number text.
 fn number_of(word: &[u8]) -> Option<u64>
@@ -103,44 +103,6 @@ pub(crate) fn colour_of(word: &[u8]) -> Option<Colour>
     }
     if is_same(word, b"B") {
         return Some(Colour::Blue);
-    }
-    None
-}
-
-/// The operation of a word.
-#[tactic(auto, unfolding(crate::specs::Forms::op_in))]
-pub(crate) fn op_of(word: &[u8]) -> Option<Op>
-    ensures { result ≡ op_in word.now }
-{
-    if is_same(word, b"add") {
-        return Some(Op::Add);
-    }
-    if is_same(word, b"sub") {
-        return Some(Op::Sub);
-    }
-    if is_same(word, b"mul") {
-        return Some(Op::Mul);
-    }
-    if is_same(word, b"ltu") {
-        return Some(Op::Ltu);
-    }
-    if is_same(word, b"eq") {
-        return Some(Op::Eq);
-    }
-    if is_same(word, b"and") {
-        return Some(Op::And);
-    }
-    if is_same(word, b"or") {
-        return Some(Op::Or);
-    }
-    if is_same(word, b"xor") {
-        return Some(Op::Xor);
-    }
-    if is_same(word, b"shl") {
-        return Some(Op::Shl);
-    }
-    if is_same(word, b"shr") {
-        return Some(Op::Shr);
     }
     None
 }

@@ -3,9 +3,10 @@ ghost use Rattle.std.specs.Prelude.{◌≡◌};
 ghost use Rattle.ft_asm.specs.Words.{words_of};
 ghost use Rattle.ft_asm.specs.Forms.{node_in, word_node_in, var_node_in, sel_node_in, memory_node_in, upd_node_in, rem_node_in, shape_in, op_shape_in};
 
-use crate::fields::{end, is_same, op_of, take_byte, take_index, take_word};
+use crate::fields::{end, is_same, take_byte, take_index, take_word};
 use crate::line::Line;
 use crate::words::next_word;
+use ft_isa::Op;
 use ft_static::{Node, Shape};
 
 /// A word node.
@@ -40,7 +41,7 @@ fn var_node(scope: u8, text: &[u8]) -> Option<Line>
 fn op_shape_of(scope: u8, word: &[u8], text: &[u8]) -> Option<Line>
     ensures { result ≡ op_shape_in scope word.now (words_of text.now) }
 {
-    let op = op_of(word)?;
+    let op = Op::of_word(word)?;
     let (a, text) = take_index(text)?;
     let (b, text) = take_index(text)?;
     end(

@@ -1,6 +1,7 @@
 //! Lines, written.
 ghost use Rattle.std.specs.Prelude.{◌≡◌, [], ◌∷◌, ◌++◌, decimal, OnOk};
-ghost use Rattle.ft_asm.specs.Lines.{reg_word, colour_word, op_word, basic_word, base_word, shape_words};
+ghost use Rattle.ft_isa.specs.Operations.{op_word};
+ghost use Rattle.ft_asm.specs.Lines.{reg_word, colour_word, basic_word, base_word, shape_words};
 ghost use Rattle.ft_asm.specs.Reads.{line_text, spaced, cell_line, reg_head};
 ghost use Rattle.ft_asm.specs.declared.line.Line.TheVariants as lines;
 
@@ -47,18 +48,7 @@ pub(crate) fn put_colour(out: &mut Vec<u8>, colour: Colour) -> Result<(), NoMemo
 pub(crate) fn put_op(out: &mut Vec<u8>, op: Op) -> Result<(), NoMemory>
     ensures { OnOk result (out.new.items ≡ out.old.items ++ op_word op) }
 {
-    match op {
-        Op::Add => put(out, b"add"),
-        Op::Sub => put(out, b"sub"),
-        Op::Mul => put(out, b"mul"),
-        Op::Ltu => put(out, b"ltu"),
-        Op::Eq => put(out, b"eq"),
-        Op::And => put(out, b"and"),
-        Op::Or => put(out, b"or"),
-        Op::Xor => put(out, b"xor"),
-        Op::Shl => put(out, b"shl"),
-        Op::Shr => put(out, b"shr"),
-    }
+    put(out, op.word())
 }
 
 /// Puts the word of a base at the end.

@@ -5,34 +5,41 @@ ghost use Rattle.ft_isa.specs.declared.plan.Site.{Site as Place};
 ghost use Rattle.ft_c.specs.Handles.{BeginsAgain, GoesOnIn, IsNotStruckIn, IsStruckIn};
 ghost use Rattle.ft_embed.specs.Outputs.{IsOnce};
 ghost use Rattle.ft_embed.specs.Tasks.{IsOpened};
-ghost use Rattle.ft_embed.specs.Verdicts.{Tells, verdict_on};
+ghost use Rattle.ft_embed.specs.Verdicts.{Tells, nothing, verdict_on};
 
 use crate::handle::{Handle, put, take};
-use ft_embed::{CellOutput, Ran, Refused, Task};
+use ft_embed::{CellOutput, Ran, Refused, Task, Verdict, unrefused};
 use ft_isa::read_site;
 use std::alloc::Global;
 
 /// Puts a new run into a handle that holds none.
-fn open_into(alloc: Global, bytes: &[u8], machine: &mut Handle, why: &mut Refused) -> u32
+fn open_into(alloc: Global, bytes: &[u8], machine: &mut Handle) -> Verdict
     requires { machine.old.task ≡ None }
-    ensures opened { result ≡ 0 → IsOpened bytes.now machine.new.task }
-    ensures refused { result ≢ 0 → result ≢ 5 → Tells result why.new (verdict_on bytes.now) }
-    ensures none { result ≢ 0 → machine.new.task ≡ None }
+    ensures opened { result.status ≡ 0 → IsOpened bytes.now machine.new.task }
+    ensures refused { result.status ≢ 0 → result.status ≢ 5 → Tells result.status result.why (verdict_on bytes.now) }
+    ensures unrefused { result.status ≢ 7 → result.status ≢ 8 → result.why ≡ nothing }
+    ensures none { result.status ≢ 0 → machine.new.task ≡ None }
 {
     let task = match Task::open(alloc, bytes) {
         Ok(task) => task,
-        Err(verdict) => {
-            *why = verdict.why;
-            return verdict.status;
-        }
+        Err(verdict) => return verdict,
     };
     match Box::new(alloc, task) {
         Ok(task) => {
             put(machine, task);
-            0
+            unrefused(0)
         }
-        Err(_) => 5,
+        Err(_) => unrefused(5),
     }
+}
+
+/// Tells a verdict: its status is the answer.
+fn tell(verdict: Verdict, why: &mut Refused) -> u32
+    ensures status { result ≡ verdict.status }
+    ensures why { why.new ≡ verdict.why }
+{
+    *why = verdict.why;
+    verdict.status
 }
 
 /// Checks the object that bytes spell, and makes the run of it before its first step, which the handle holds
@@ -50,13 +57,14 @@ pub extern "C" fn talft_open(
     ensures held { result ≡ 17 → machine.old.task ≢ None }
     ensures free { result ≢ 17 → machine.old.task ≡ None }
     ensures kept { result ≢ 0 → machine.new.task ≡ machine.old.task }
+    ensures unrefused { result ≢ 7 → result ≢ 8 → why.new ≡ nothing }
 {
     match take(alloc, machine) {
         Some(task) => {
             put(machine, task);
-            17
+            tell(unrefused(17), why)
         }
-        None => open_into(alloc, bytes, machine, why),
+        None => tell(open_into(alloc, bytes, machine), why),
     }
 }
 
@@ -76,7 +84,7 @@ pub extern "C" fn talft_advance(
     ensures none { result ≡ 17 → machine.old.task ≡ None }
     ensures kept { result ≡ 17 → machine.new.task ≡ None }
     ensures once { result ≢ 17 → IsOnce ran.new }
-    ensures same { result ≡ 17 → ran.new ≡ ran.old }
+    ensures same { result ≡ 17 → (ran.new ≡ ran.old) × (out.new ≡ out.old) }
 {
     let Some(mut task) = take(alloc, machine) else {
         return 17;

@@ -24,6 +24,7 @@ pub extern "C" fn talft_link(
     ensures linked { (result ≡ 0) ⊎ (result ≡ 15) → Given (IsLinkedOf modules.now map.now) out.old out.new made.new result }
     ensures unlinked { result ≢ 0 → result ≢ 5 → result ≢ 15 → IsUnlinked modules.now map.now (record { status = result; «module» = «module».new; why = why.new }) }
     ensures kept { result ≢ 0 → out.new ≡ out.old }
+    ensures unmade { result ≢ 0 → result ≢ 15 → made.new ≡ 0 }
     ensures unrefused { (result ≡ 0) ⊎ (result ≡ 5) ⊎ (result ≡ 15) → why.new ≡ nothing }
 {
     let answer = link_into(alloc, map, modules, out);

@@ -51,6 +51,7 @@ pub extern "C" fn talft_run(
     ensures once { IsOnce ran.new }
     ensures unrefused { result ≢ 7 → result ≢ 8 → why.new ≡ nothing }
     ensures unrun { (result ≡ 2) ⊎ (result ≡ 5) ⊎ (result ≡ 7) ⊎ (result ≡ 8) → ran.new ≡ not_begun }
+    ensures kept { (result ≡ 2) ⊎ (result ≡ 5) ⊎ (result ≡ 7) ⊎ (result ≡ 8) → out.new ≡ out.old }
 {
     let answer = run(alloc, bytes, fault, wild, steps, out);
     *ran = answer.ran;
@@ -78,6 +79,7 @@ pub extern "C" fn talft_recover(
     ensures refused { result ≡ 8 → Tells result why.new (verdict_on bytes.now) }
     ensures unrefused { result ≢ 7 → result ≢ 8 → why.new ≡ nothing }
     ensures unrun { (result ≡ 2) ⊎ (result ≡ 5) ⊎ (result ≡ 7) ⊎ (result ≡ 8) → ran.new ≡ not_begun }
+    ensures kept { (result ≡ 2) ⊎ (result ≡ 5) ⊎ (result ≡ 7) ⊎ (result ≡ 8) → out.new ≡ out.old }
 {
     let answer = recover(alloc, bytes, fault, wild, steps, out);
     *ran = answer.ran;
@@ -97,6 +99,8 @@ pub extern "C" fn talft_upgrade(
 ) -> u32
     ensures given { result ≢ 5 → result ≢ 7 → Given (IsUpgraded bytes.now) out.old out.new made.new result }
     ensures malformed { result ≡ 7 → IsMalformed bytes.now why.new }
+    ensures kept { result ≢ 0 → out.new ≡ out.old }
+    ensures unmade { result ≢ 0 → result ≢ 15 → made.new ≡ 0 }
     ensures unrefused { result ≢ 7 → why.new ≡ nothing }
 {
     let written = upgrade_into(alloc, bytes, out);
@@ -118,6 +122,8 @@ pub extern "C" fn talft_schedule(
     ensures given { result ≢ 5 → result ≢ 7 → result ≢ 8 → Given (IsScheduleOfFile bytes.now) out.old out.new made.new result }
     ensures malformed { result ≡ 7 → Tells result why.new (verdict_on bytes.now) }
     ensures refused { result ≡ 8 → Tells result why.new (verdict_on bytes.now) }
+    ensures kept { result ≢ 0 → out.new ≡ out.old }
+    ensures unmade { result ≢ 0 → result ≢ 15 → made.new ≡ 0 }
     ensures unrefused { result ≢ 7 → result ≢ 8 → why.new ≡ nothing }
 {
     let written = schedule_into(alloc, bytes, out);
@@ -139,6 +145,8 @@ pub extern "C" fn talft_name(
     ensures given { result ≢ 7 → result ≢ 16 → Given (IsNameOf bytes.now cell) out.old out.new made.new result }
     ensures malformed { result ≡ 7 → IsMalformed bytes.now why.new }
     ensures none { result ≡ 16 → HasNoCell bytes.now cell }
+    ensures kept { result ≢ 0 → out.new ≡ out.old }
+    ensures unmade { result ≢ 0 → result ≢ 15 → made.new ≡ 0 }
     ensures unrefused { result ≢ 7 → why.new ≡ nothing }
 {
     let written = name_into(bytes, cell, out);

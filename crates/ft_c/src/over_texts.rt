@@ -20,7 +20,8 @@ pub extern "C" fn talft_compile(
 ) -> u32
     ensures given { result ≢ 5 → result ≢ 6 → Given (IsCompiled text.now) out.old out.new made.new result }
     ensures refused { result ≡ 6 → IsSourceRefused text.now why.new }
-    ensures kept { result ≡ 6 → out.new ≡ out.old }
+    ensures kept { result ≢ 0 → out.new ≡ out.old }
+    ensures unmade { result ≢ 0 → result ≢ 15 → made.new ≡ 0 }
     ensures unrefused { result ≢ 6 → why.new ≡ nothing }
 {
     let written = compile_into(alloc, text, out);
@@ -43,6 +44,8 @@ pub extern "C" fn talft_assemble(
     ensures given { result ≢ 5 → result ≢ 7 → result ≢ 12 → Given (IsAssembly text.now) out.old out.new made.new result }
     ensures refused { result ≡ 12 → IsAsmRefused text.now why.new }
     ensures broken { result ≡ 7 → IsAsmBroken text.now why.new }
+    ensures kept { result ≢ 0 → out.new ≡ out.old }
+    ensures unmade { result ≢ 0 → result ≢ 15 → made.new ≡ 0 }
     ensures unrefused { result ≢ 7 → result ≢ 12 → why.new ≡ nothing }
 {
     let written = assemble_into(alloc, text, out);
@@ -63,6 +66,8 @@ pub extern "C" fn talft_disassemble(
 ) -> u32
     ensures given { result ≢ 5 → result ≢ 7 → Given (IsText bytes.now) out.old out.new made.new result }
     ensures malformed { result ≡ 7 → IsMalformed bytes.now why.new }
+    ensures kept { result ≢ 0 → out.new ≡ out.old }
+    ensures unmade { result ≢ 0 → result ≢ 15 → made.new ≡ 0 }
     ensures unrefused { result ≢ 7 → why.new ≡ nothing }
 {
     let written = disassemble_into(alloc, bytes, out);

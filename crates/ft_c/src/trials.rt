@@ -32,6 +32,7 @@ pub extern "C" fn talft_campaign(
     ensures refused { result ≡ 8 → Tells result why.new (verdict_on bytes.now) }
     ensures no_plan { result ≡ 2 → (answers : List Answer) → AreAnswers wild.now answers → steps ≤ 1000000 → ⊥ }
     ensures status { result ≢ 2 → result ≢ 5 → result ≢ 7 → result ≢ 8 → result ≢ 11 → result ≢ 15 → result ≡ 0 }
+    ensures kept { result ≢ 0 → out.new ≡ out.old }
     ensures unrefused { result ≢ 7 → result ≢ 8 → result ≢ 11 → why.new ≡ nothing }
     ensures untried { result ≢ 0 → result ≢ 15 → totals.new ≡ untried 0 }
 {

@@ -1,5 +1,6 @@
 -- Runs from a step on, and runs that meet.
-use Rattle.std.proofs.Common.{◌≡◌, ℕ, zero, suc, ◌+◌, ◌-◌, ◌<◌, ◌≤◌, List, [], Some, None, refl, ap, sym, subst, ◌∙◌, arith, add-zero}
+use Rattle.std.proofs.Common.{◌≡◌, ℕ, zero, suc, ◌+◌, ◌-◌, ◌<◌, ◌≤◌, List, [], Some, None, refl, ap, sym, subst, ◌∙◌}
+use Rattle.std.proofs.Common.{arith, add-zero}
 use Rattle.std.proofs.lemmas.List.{append-nil}
 use Rattle.ft_isa.specs.declared.plan.Wild.{Wild}
 use Rattle.ft_isa.specs.declared.plan.Strike.{Strike}
@@ -8,26 +9,19 @@ use Rattle.ft_semantics.specs.State.{State}
 use Rattle.ft_semantics.specs.Strike.{struck_before}
 use Rattle.ft_semantics.specs.Run.{Ran, run, state_after, wild_after, outputs_after}
 use Rattle.ft_machine.specs.Spans.{span, span-zero}
-use Rattle.ft_machine.proofs.Spanned.{joined, run_start, run_on, spared}
+use Rattle.ft_semantics.proofs.Struck.{spared}
+use Rattle.ft_machine.proofs.Spanned.{joined, run_on, run_second}
 use Rattle.ft_campaign.specs.Snapshots.{Meets, HasMet}
 
--- after its strike a run goes as a span from the state that was struck, also over no step, up to that state
-pub run_past : (o : Object) (x : Strike) (w : List Wild) (s t : ℕ) → x.step ≤ s → 0 < t
-    → run o (Some x) w (s + t) ≡ joined (outputs_after o (Some x) w s) (span o t (struck_before (Some x) s (state_after o (Some x) w s)) (wild_after o (Some x) w s))
-run_past o x w s zero le some = absurd (omega arith)
-run_past o x w s (suc t) le some = run_on o (Some x) w s t (λ j above. spared x j (λ e. omega arith))
-
 -- a run with no strike goes as a span from any of its states
-pub run_free : (o : Object) (w : List Wild) (m j : ℕ) → run o None w (m + j) ≡ joined (outputs_after o None w m) (span o j (state_after o None w m) (wild_after o None w m))
+pub run_free : (o : Object) (w : List Wild) (m j : ℕ) → run o None w (m + j)
+    ≡ joined (outputs_after o None w m) (span o j (state_after o None w m) (wild_after o None w m))
 run_free o w m zero =
     ap (run o None w) (add-zero m)
-    ∙ ap (λ xs. record { state = state_after o None w m; wild = wild_after o None w m; outputs = xs }) (sym (append-nil (outputs_after o None w m)))
+    ∙ ap (λ xs. record { state = state_after o None w m; wild = wild_after o None w m; outputs = xs })
+    (sym (append-nil (outputs_after o None w m)))
     ∙ ap (joined (outputs_after o None w m)) (sym (span-zero o (state_after o None w m) (wild_after o None w m)))
 run_free o w m (suc j) = run_on o None w m j (λ i above s. refl)
-
--- before its strike a run is the other one
-pub unstruck : (o : Object) (x : Strike) (w : List Wild) (m : ℕ) → m ≤ x.step → run o (Some x) w m ≡ run o None w m
-unstruck o x w m le = run_start o (Some x) w m (λ j below. spared x j (λ e. omega arith)) ∙ sym (run_start o None w m (λ j below s. refl))
 
 -- a strike at another step leaves the state
 pub spares : (x : Strike) (s : ℕ) (q : State) → x.step < s → struck_before (Some x) s q ≡ q
@@ -35,12 +29,13 @@ spares x s q above = spared x s (λ e. omega arith) q
 
 -- after a meeting both runs take the same steps
 pub past_meeting : (o : Object) (x : Strike) (w : List Wild) (m j : ℕ) → Meets o x w m → 0 < j
-    → run o (Some x) w (m + j) ≡ joined (outputs_after o (Some x) w m) (span o j (state_after o None w m) (wild_after o None w m))
+    → run o (Some x) w (m + j) ≡ joined (outputs_after o (Some x) w m)
+    (span o j (state_after o None w m) (wild_after o None w m))
 past_meeting o x w m j h some =
     let above = h.above in
-    run_past o x w m j (omega (arith, above)) some
-    ∙ ap (λ q. joined (outputs_after o (Some x) w m) (span o j q (wild_after o (Some x) w m))) (spares x m (state_after o (Some x) w m) above ∙ h.state)
-    ∙ ap (λ v. joined (outputs_after o (Some x) w m) (span o j (state_after o None w m) v)) h.wild
+    let s = state_after o (Some x) w m in
+    run_second o (Some x) w s (state_after o None w m) (wild_after o None w m) m j refl (sym h.wild)
+    (sym (spares x m s above ∙ h.state)) (λ i later. spared x i (λ e. omega (arith, above, later))) some
 
 met_by : (o : Object) (x : Strike) (w : List Wild) (m j : ℕ) → Meets o x w m → HasMet o x w m (m + j)
 met_by o x w m zero h = record {

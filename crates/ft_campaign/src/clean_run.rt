@@ -8,37 +8,42 @@ ghost use Rattle.ft_semantics.specs.Run.{state_after, wild_after, outputs_after}
 ghost use Rattle.ft_campaign.specs.Snapshots.{IsClean, IsSnapshot, AreSnapshots};
 
 use crate::clean::{KeptRun, SPACING, Snapshot};
-use ft_isa::{NoMemory, Output, Wild};
+use ft_isa::{NoMemory, Output, Steps, Wild};
 use ft_machine::{Machine, Stepped, WildLeft};
 use ft_semantics::Status;
-use ft_steps::Steps;
 use ft_types::Program;
 use std::alloc::Global;
 use std::sync::ledger::Ledger;
 
-/// A snapshot of a machine and the answers left.
+/// Where the run is: its machine, the answers left, and the number of its outputs.
+#[derive(Clone, Copy)]
+struct Moment<'a, 'w> {
+    machine: &'a Machine,
+    left: &'a WildLeft<'w>,
+    count: usize,
+}
+
+/// A snapshot of a moment.
 fn snapshot_of<'w, P: Program>(
     alloc: Global,
     program: &P,
-    machine: &Machine,
-    left: &WildLeft<'w>,
+    moment: Moment<'_, 'w>,
     wild: &'w [Wild],
-    count: usize,
 ) -> Result<Snapshot<'w>, NoMemory>
     requires spellable { IsSpellable (P.object program.now) }
-    requires cells { HasCells (length (P.object program.now).cells) machine.now }
-    ensures machine { IfOk result (λ s. s.machine ≡ machine.now) }
-    ensures wild { IfOk result (λ s. s.wild ≡ left.now) }
-    ensures count { IfOk result (λ s. s.count ≡ count) }
+    requires cells { HasCells (length (P.object program.now).cells) moment.machine.now }
+    ensures machine { IfOk result (λ s. s.machine ≡ moment.entry.machine.now) }
+    ensures wild { IfOk result (λ s. s.wild ≡ moment.entry.left.now) }
+    ensures count { IfOk result (λ s. s.count ≡ moment.entry.count) }
 {
     let mut copy = Machine::new(alloc, program)?;
-    copy.copy_from(machine);
+    copy.copy_from(moment.machine);
     let mut answers = WildLeft::new(wild);
-    answers.copy_from(left);
+    answers.copy_from(moment.left);
     Ok(Snapshot {
         machine: copy,
         wild: answers,
-        count,
+        count: moment.count,
     })
 }
 
@@ -46,17 +51,15 @@ fn snapshot_of<'w, P: Program>(
 fn keep_snapshot<'w, P: Program>(
     alloc: Global,
     program: &P,
-    machine: &Machine,
-    left: &WildLeft<'w>,
+    moment: Moment<'_, 'w>,
     wild: &'w [Wild],
-    count: usize,
     k: u64,
     snapshots: &mut Vec<Snapshot<'w>>,
 ) -> Result<(), NoMemory>
     requires spellable { IsSpellable (P.object program.now) }
-    requires machine { machine.now ≡ state_after (P.object program.now) None wild.now k }
-    requires left { left.now ≡ wild_after (P.object program.now) None wild.now k }
-    requires count { count ≡ length (outputs_after (P.object program.now) None wild.now k) }
+    requires machine { moment.machine.now ≡ state_after (P.object program.now) None wild.now k }
+    requires left { moment.left.now ≡ wild_after (P.object program.now) None wild.now k }
+    requires count { moment.count ≡ length (outputs_after (P.object program.now) None wild.now k) }
     requires snapshots { AreSnapshots (P.object program.now) wild.now k snapshots.old.items }
     requires few { k ≤ 1000000 }
     ensures { OnOk result (AreSnapshots (P.object program.now) wild.now (k + 1) snapshots.new.items) }
@@ -65,7 +68,7 @@ fn keep_snapshot<'w, P: Program>(
     if k / SPACING < kept {
         return Ok(());
     }
-    let snapshot = snapshot_of(alloc, program, machine, left, wild, count)?;
+    let snapshot = snapshot_of(alloc, program, moment, wild)?;
     snapshots.push(snapshot).map_err(|_| NoMemory)?;
     Ok(())
 }
@@ -137,16 +140,12 @@ pub(crate) fn run_clean<'w, P: Program, L: Ledger>(
     let mut snapshots = Vec::new(alloc);
     let mut k = 0;
     while k < n {
-        keep_snapshot(
-            alloc,
-            program,
-            &machine,
-            &left,
-            wild,
-            outputs.len(),
-            k,
-            &mut snapshots,
-        )?;
+        let moment = Moment {
+            machine: &machine,
+            left: &left,
+            count: outputs.len(),
+        };
+        keep_snapshot(alloc, program, moment, wild, k, &mut snapshots)?;
         let most = steps_at_once(&machine, k, n, snapshots.len());
         let entries = machine.queue().len() as u8;
         let advance = machine.advance(program, &mut left, most);

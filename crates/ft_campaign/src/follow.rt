@@ -5,10 +5,9 @@ ghost use Rattle.ft_types.specs.Spellable.{IsSpellable};
 ghost use Rattle.ft_machine.specs.Spans.{span};
 ghost use Rattle.ft_campaign.specs.Follows.{Heeds, Follows, how_of};
 
-use ft_isa::Output;
+use ft_isa::{Output, Steps};
 use ft_machine::{Machine, Outlet, Pause, WildLeft};
 use ft_semantics::Status;
-use ft_steps::Steps;
 use ft_types::Program;
 use std::sync::ledger::Ledger;
 

@@ -9,11 +9,10 @@ ghost use Rattle.ft_campaign.specs.Verdicts.{IsVerdict, AreVerdicts};
 use crate::clean::{KeptRun, SPACING};
 use crate::clean_run::run_clean;
 use crate::follow::count_outputs;
-use crate::race::race;
+use crate::struck_run::{StruckRun, Trial, judge_run};
 use crate::verdict::Verdict;
-use ft_isa::{NoMemory, Strike, Wild};
+use ft_isa::{NoMemory, Steps, Strike, Wild};
 use ft_machine::{Machine, WildLeft};
-use ft_steps::Steps;
 use ft_types::Program;
 use std::alloc::Global;
 use std::sync::ledger::Ledger;
@@ -22,21 +21,19 @@ use std::sync::ledger::Ledger;
 fn judge_fault<'w, P: Program, L: Ledger>(
     program: &P,
     clean: &KeptRun<'w>,
-    fault: Strike,
-    wild: &[Wild],
-    n: u64,
-    machine: &mut Machine,
-    left: &mut WildLeft<'w>,
+    trial: Trial<'_>,
+    run: &mut StruckRun<'w>,
     steps: &mut Steps<L>,
 ) -> Verdict
     requires spellable { IsSpellable (P.object program.now) }
-    requires n { n ≤ 1000000 }
-    requires clean { IsClean (P.object program.now) wild.now n clean.now }
-    requires cells { HasCells (length (P.object program.now).cells) machine.old }
-    ensures verdict { IsVerdict (P.object program.now) fault wild.now n result }
-    ensures cells { HasCells (length (P.object program.now).cells) machine.new }
-    ensures steps { (c : ℕ) → IsCost (P.object program.now) wild.now n fault c → steps.new ≤ steps.old + c }
+    requires n { trial.n ≤ 1000000 }
+    requires clean { IsClean (P.object program.now) trial.wild.now trial.n clean.now }
+    requires cells { HasCells (length (P.object program.now).cells) run.old.machine }
+    ensures verdict { IsVerdict (P.object program.now) trial.entry.fault trial.entry.wild.now trial.entry.n result }
+    ensures cells { HasCells (length (P.object program.now).cells) run.new.machine }
+    ensures steps { (c : ℕ) → IsCost (P.object program.now) trial.entry.wild.now trial.entry.n trial.entry.fault c → steps.new ≤ steps.old + c }
 {
+    let fault = trial.fault;
     if !clean.is_struck(fault) {
         return Verdict::Idle;
     }
@@ -44,22 +41,17 @@ fn judge_fault<'w, P: Program, L: Ledger>(
     let _limit = clean.outputs.len();
     let snapshots = clean.snapshots.as_slice();
     let snapshot = &snapshots[(fault.step / SPACING) as usize];
-    machine.copy_from(&snapshot.machine);
-    left.copy_from(&snapshot.wild);
-    let count = count_outputs(machine, program, left, fault.step % SPACING, steps);
-    let _ = machine.strike(fault.site, fault.value);
-    race(
+    run.machine.copy_from(&snapshot.machine);
+    run.left.copy_from(&snapshot.wild);
+    let count = count_outputs(
+        &mut run.machine,
         program,
-        clean,
-        fault,
-        wild,
-        n,
-        machine,
-        left,
-        fault.step,
-        snapshot.count + count,
+        &mut run.left,
+        fault.step % SPACING,
         steps,
-    )
+    );
+    let _ = run.machine.strike(fault.site, fault.value);
+    judge_run(program, clean, trial, run, snapshot.count + count, steps)
 }
 
 /// Finds the verdict of each fault, in the list's order. `steps` counts the machine's steps.
@@ -78,20 +70,17 @@ pub fn find_verdicts<P: Program, L: Ledger>(
     ensures cost { (cost : Fault → ℕ) → ((x : Fault) → IsCost (P.object program.now) wild.now n x (cost x)) → steps.new ≤ steps.old + (n + sum_by cost faults.now) }
 {
     let clean = run_clean(alloc, program, wild, n, steps)?;
-    let mut machine = Machine::new(alloc, program)?;
-    let mut left = WildLeft::new(wild);
+    let machine = Machine::new(alloc, program)?;
+    let left = WildLeft::new(wild);
+    let mut run = StruckRun { machine, left };
     let mut verdicts = Vec::new(alloc);
     for fault in faults {
-        let verdict = judge_fault(
-            program,
-            &clean,
-            *fault,
+        let trial = Trial {
+            fault: *fault,
             wild,
             n,
-            &mut machine,
-            &mut left,
-            steps,
-        );
+        };
+        let verdict = judge_fault(program, &clean, trial, &mut run, steps);
         verdicts.push(verdict).map_err(|_| NoMemory)?;
     }
     Ok(verdicts)

@@ -16,8 +16,8 @@ mod follow;
 mod judge;
 mod laws;
 mod lines;
-mod race;
 mod report;
+mod struck_run;
 mod totals;
 mod verdict;
 

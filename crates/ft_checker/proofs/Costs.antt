@@ -1,5 +1,6 @@
 -- How many steps a check takes at the most.
-use Rattle.std.proofs.Common.{ℕ, suc, zero, ◌≡◌, ◌+◌, ◌*◌, ◌≤◌, List, [], ◌∷◌, ◌++◌, length, take, slice_get, Option, Some, refl, sym, ap, ◌∙◌, subst, arith}
+use Rattle.std.proofs.Common.{ℕ, suc, zero, ◌≡◌, ◌+◌, ◌*◌, ◌≤◌, List, [], ◌∷◌, ◌++◌, length, take, slice_get, Option}
+use Rattle.std.proofs.Common.{Some, refl, sym, ap, ◌∙◌, subst, arith}
 use Rattle.std.specs.Option.{option_map, unwrap_or}
 use Rattle.std.proofs.Math.Nat.{mul-le-mul_left, mul-le-mul_right}
 use Rattle.std.proofs.lemmas.List.{take_more}
@@ -14,7 +15,8 @@ use Rattle.ft_types.specs.Objects.{block_end, start_of}
 use Rattle.ft_types.specs.Spellable.{IsSpellable, BeginAtZero}
 use Rattle.ft_contexts.specs.Costs.{tree_cost}
 use Rattle.ft_rules.specs.Answers.{rule_cost}
-use Rattle.ft_checker.specs.Costs.{transfers, transfer_count, most_updates, check_cost, visit_cost, walk_cost, instrs_cost}
+use Rattle.ft_checker.specs.Costs.{transfers, transfer_count, most_updates, check_cost, visit_cost, walk_cost}
+use Rattle.ft_checker.specs.Costs.{instrs_cost}
 
 -- trees over a memory of as many updates as there are nodes
 trees_within : (o : Object) (n u : ℕ) → n ≤ 210 → u ≤ length o.nodes → n * tree_cost o u ≤ visit_cost o
@@ -31,7 +33,8 @@ pub start_within : (o : Object) (s t : ℕ) → t ≤ s + 81 * tree_cost o 0 →
 start_within o s t h = let a = trees_within o 81 0 (omega arith) (omega arith) in omega (arith, h, a)
 
 -- those of a row
-pub rule_within : (o : Object) (k : Context) (i : Instr) → updates k.memory ≤ length o.nodes + length o.instrs → length k.queue ≤ 8 → rule_cost o k i ≤ transfers i * visit_cost o + walk_cost o
+pub rule_within : (o : Object) (k : Context) (i : Instr) → updates k.memory ≤ length o.nodes + length o.instrs →
+    length k.queue ≤ 8 → rule_cost o k i ≤ transfers i * visit_cost o + walk_cost o
 unfolding walk_cost
 rule_within o k (OpReg op rd rs rt) m q = omega arith
 rule_within o k (OpWord op rd rs value) m q = omega arith
@@ -39,23 +42,28 @@ rule_within o k (Mov rd value basic) m q = omega arith
 rule_within o k (Ld colour rd rs) m q = omega (arith, m, q)
 rule_within o k (St colour rd rs) m q = omega arith
 rule_within o k (JmpG rd) m q = omega arith
-rule_within o k (JmpB rd subst) m q = let a = trees_within o 210 (length o.nodes) (omega arith) (omega arith) in omega (arith, a)
+rule_within o k (JmpB rd subst) m q = let a = trees_within o 210 (length o.nodes) (omega arith) (omega arith) in
+    omega (arith, a)
 rule_within o k (BzG rz rd) m q = omega arith
-rule_within o k (BzB rz rd subst) m q = let a = trees_within o 210 (length o.nodes) (omega arith) (omega arith) in omega (arith, a)
+rule_within o k (BzB rz rd subst) m q = let a = trees_within o 210 (length o.nodes) (omega arith) (omega arith) in
+    omega (arith, a)
 rule_within o k Halt m q = omega arith
 rule_within o k (Idx rd rs first count) m q = omega arith
 
 -- one instruction more
-cost_push : (o : Object) (is : List Instr) (i : Instr) → instrs_cost o (is ++ i ∷ []) ≡ instrs_cost o is + (transfers i * visit_cost o + walk_cost o)
+cost_push : (o : Object) (is : List Instr) (i : Instr) → instrs_cost o (is ++ i ∷ [])
+    ≡ instrs_cost o is + (transfers i * visit_cost o + walk_cost o)
 unfolding instrs_cost
 cost_push o [] i = omega arith
 cost_push o (j ∷ is) i = let h = cost_push o is i in omega (arith, h)
 
 -- the same of the first ones
-pub cost_more : (o : Object) (is : List Instr) (k : ℕ) (i : Instr) → slice_get is k ≡ Some i → instrs_cost o (take (k + 1) is) ≡ instrs_cost o (take k is) + (transfers i * visit_cost o + walk_cost o)
+pub cost_more : (o : Object) (is : List Instr) (k : ℕ) (i : Instr) → slice_get is k ≡ Some i →
+    instrs_cost o (take (k + 1) is) ≡ instrs_cost o (take k is) + (transfers i * visit_cost o + walk_cost o)
 cost_more o is k i e =
     let t = take_more is k i (slice_get_within is k i e) in
-    ap (instrs_cost o) (t ∙ ap (λ (j : Instr). take k is ++ j ∷ []) (get_or_from_slice_get is k i i e)) ∙ cost_push o (take k is) i
+    ap (instrs_cost o) (t ∙ ap (λ (j : Instr). take k is ++ j ∷ []) (get_or_from_slice_get is k i i e))
+    ∙ cost_push o (take k is) i
 
 -- none cost nothing
 pub none_cost : (o : Object) → instrs_cost o [] ≡ 0
@@ -63,7 +71,8 @@ unfolding instrs_cost
 none_cost o = refl
 
 -- more instructions cost more
-pub cost_rises : (o : Object) (is : List Instr) (k l : ℕ) → k ≤ l → instrs_cost o (take k is) ≤ instrs_cost o (take l is)
+pub cost_rises : (o : Object) (is : List Instr) (k l : ℕ) → k ≤ l →
+    instrs_cost o (take k is) ≤ instrs_cost o (take l is)
 unfolding instrs_cost
 cost_rises o [] zero zero h = omega arith
 cost_rises o [] zero (suc l) h = omega arith
@@ -83,12 +92,14 @@ cost_all o (i ∷ is) zero = omega arith
 cost_all o (i ∷ is) (suc k) = let r = cost_all o is k in omega (arith, r)
 
 -- those of instructions by their number
-cost_counted : (o : Object) (is : List Instr) → instrs_cost o is ≡ transfer_count is * visit_cost o + length is * walk_cost o
+cost_counted : (o : Object) (is : List Instr) → instrs_cost o is
+    ≡ transfer_count is * visit_cost o + length is * walk_cost o
 unfolding instrs_cost
 cost_counted o [] = omega arith
 cost_counted o (i ∷ is) =
     let h = cost_counted o is in
-    let a : (transfers i + transfer_count is) * visit_cost o ≡ transfers i * visit_cost o + transfer_count is * visit_cost o = omega arith in
+    let a : (transfers i + transfer_count is) * visit_cost o
+    ≡ transfers i * visit_cost o + transfer_count is * visit_cost o = omega arith in
     let b : suc (length is) * walk_cost o ≡ walk_cost o + length is * walk_cost o = omega arith in
     omega (arith, h, a, b)
 
@@ -105,7 +116,8 @@ begins o zero = 0
 begins o (suc b) = block_end o b
 
 -- a block that is there begins there
-pub begins_there : (o : Object) (b : ℕ) (x : Block) → IsSpellable o → slice_get o.blocks b ≡ Some x → begins o b ≡ x.start
+pub begins_there : (o : Object) (b : ℕ) (x : Block) → IsSpellable o → slice_get o.blocks b ≡ Some x → begins o b
+    ≡ x.start
 begins_there o zero x h e = sym (first o.blocks h.first_block e)
   where
     first : (bs : List Block) → BeginAtZero bs → slice_get bs 0 ≡ Some x → x.start ≡ 0

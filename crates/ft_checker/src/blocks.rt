@@ -18,10 +18,9 @@ ghost use Rattle.ft_contexts.specs.Costs.{tree_cost};
 
 use crate::error::CheckError;
 use crate::keys::keys_of;
-use ft_isa::{Instr, NoMemory};
+use ft_isa::{Instr, NoMemory, Steps};
 use ft_norm::Interner;
 use ft_rules::{Context, Next, RuleError, Shared, Why, apply_rule_over};
-use ft_steps::Steps;
 use ft_types::Program;
 use std::alloc::Global;
 use std::sync::ledger::Ledger;

@@ -10,7 +10,7 @@ use crate::cells::check_cells;
 use crate::checked::Checked;
 use crate::entry::is_entry_type;
 use crate::error::CheckError;
-use ft_steps::Steps;
+use ft_isa::Steps;
 use ft_types::Program;
 use std::alloc::Global;
 use std::sync::ledger::Ledger;

@@ -1,10 +1,13 @@
 -- Commands by their first words.
-use Rattle.std.proofs.Common.{◌≡◌, ℕ, List, [], ◌∷◌, refl, sym, ap, ◌∙◌, subst, slice_index, slice_index_or, drop, if◌then◌else◌, ◌==◌, Option, Some, None}
+use Rattle.std.proofs.Common.{◌≡◌, ℕ, List, [], ◌∷◌, refl, sym, ap, ◌∙◌, subst, slice_index, slice_index_or, drop}
+use Rattle.std.proofs.Common.{if◌then◌else◌, ◌==◌, Option, Some, None}
 use Rattle.std.specs.Option.{option_map, unwrap_or}
 use Rattle.ft_command.specs.declared.verb.Verb.{Verb}
 use Rattle.ft_command.specs.declared.verb.Verb.TheVariants as verb
 use Rattle.ft_command.specs.Options.{Word, Given, none_given, GivesAll}
-use Rattle.ft_command.specs.Commands.{name_of, allowed_of, turns_up_to, request_of, Request, Usage, Checks, Runs, Trials, Campaigns, Surveys, Compiles, Executes, Means, Debugs, Demonstrates, Upgrades, Assembles, Disassembles, AreCommand, Asks, Schedules, Recovers, Links}
+use Rattle.ft_command.specs.Commands.{name_of, allowed_of, turns_up_to, request_of, Request, Usage, Checks, Runs}
+use Rattle.ft_command.specs.Commands.{Trials, Campaigns, Surveys, Compiles, Executes, Means, Debugs, Demonstrates}
+use Rattle.ft_command.specs.Commands.{Upgrades, Assembles, Disassembles, AreCommand, Asks, Schedules, Recovers, Links}
 
 -- the command that a name is of, by its letters
 verb_by : Word → Verb
@@ -59,17 +62,23 @@ rests : (a b x y : Word) (xs ys : List Word) → a ∷ x ∷ xs ≡ b ∷ y ∷ 
 rests a b x y xs ys e = ap (λ ws. drop 2 ws) e
 
 -- what a command that the words are asks for, once their verb and what their options give are known
-asked_for : (words options : List Word) (v : Verb) (operand : Word) (given : Given) (other : Request) → words ≡ name_of v ∷ operand ∷ options
-    → ((g : Given) → GivesAll (allowed_of v) options none_given g → g ≡ given) → AreCommand words other → request_of v operand given ≡ Some other
+asked_for : (words options : List Word) (v : Verb) (operand : Word) (given : Given) (other : Request) → words
+    ≡ name_of v ∷ operand ∷ options
+    → ((g : Given) → GivesAll (allowed_of v) options none_given g → g ≡ given) → AreCommand words other →
+    request_of v operand given ≡ Some other
 asked_for words options v operand given other split only h =
     let same = sym h.words_are ∙ split in
     let verbs : h.verb ≡ v = same_verb h.verb v (heads _ _ _ _ _ _ same) in
-    let gives : GivesAll (allowed_of v) h.options none_given h.given = subst (λ u. GivesAll (allowed_of u) h.options none_given h.given) verbs h.gives in
-    let given_is : h.given ≡ given = only h.given (subst (λ ws. GivesAll (allowed_of v) ws none_given h.given) (rests _ _ _ _ _ _ same) gives) in
-    sym (ap (λ u. request_of u h.operand h.given) verbs ∙ ap (λ x. request_of v x h.given) (seconds _ _ _ _ _ _ same) ∙ ap (request_of v operand) given_is) ∙ h.request_is
+    let gives : GivesAll (allowed_of v) h.options none_given h.given =
+    subst (λ u. GivesAll (allowed_of u) h.options none_given h.given) verbs h.gives in
+    let given_is : h.given ≡ given = only h.given (subst (λ ws. GivesAll (allowed_of v) ws none_given h.given)
+    (rests _ _ _ _ _ _ same) gives) in
+    sym (ap (λ u. request_of u h.operand h.given) verbs ∙ ap (λ x. request_of v x h.given) (seconds _ _ _ _ _ _ same)
+    ∙ ap (request_of v operand) given_is) ∙ h.request_is
 
 -- no list of faults asks for the line on usage
-no_usage_of : (f : Word → Request) (x : Option Word) → ((w : Word) → Some (f w) ≡ Some Usage → ⊥) → option_map f x ≡ Some Usage → ⊥
+no_usage_of : (f : Word → Request) (x : Option Word) → ((w : Word) → Some (f w) ≡ Some Usage → ⊥) → option_map f x
+    ≡ Some Usage → ⊥
 no_usage_of f None h e = absurd (cc)
 no_usage_of f (Some w) h e = h w e
 
@@ -118,7 +127,8 @@ asks words (Schedules object) h = h
 asks words (Links map) h = h
 
 -- what words ask for but usage, they are a command for
-pub by_command : (words : List Word) (request other : Request) → AreCommand words request → Asks words other → AreCommand words other
+pub by_command : (words : List Word) (request other : Request) → AreCommand words request → Asks words other →
+    AreCommand words other
 by_command words request Usage asked usage = absurd (usage request asked)
 by_command words request (Checks object) asked h = h
 by_command words request (Runs run) asked h = h
@@ -138,30 +148,38 @@ by_command words request (Schedules object) asked h = h
 by_command words request (Links map) asked h = h
 
 -- words that are a command ask for nothing else
-pub asks_only : (words options : List Word) (v : Verb) (operand : Word) (given : Given) (request : Request) → words ≡ name_of v ∷ operand ∷ options
-    → ((g : Given) → GivesAll (allowed_of v) options none_given g → g ≡ given) → request_of v operand given ≡ Some request → AreCommand words request
+pub asks_only : (words options : List Word) (v : Verb) (operand : Word) (given : Given) (request : Request) → words
+    ≡ name_of v ∷ operand ∷ options
+    → ((g : Given) → GivesAll (allowed_of v) options none_given g → g ≡ given) → request_of v operand given
+    ≡ Some request → AreCommand words request
     → (other : Request) → Asks words other → other ≡ request
 asks_only words options v operand given request split only is asked other h =
     let found = asked_for words options v operand given other split only (by_command words request other asked h) in
     ap (λ x. unwrap_or x request) (sym found ∙ is)
 
 -- words whose options ask for nothing are no command
-pub asks_nothing : (words options : List Word) (v : Verb) (operand : Word) (given : Given) → words ≡ name_of v ∷ operand ∷ options
-    → ((g : Given) → GivesAll (allowed_of v) options none_given g → g ≡ given) → request_of v operand given ≡ None → (request : Request) → AreCommand words request → ⊥
+pub asks_nothing : (words options : List Word) (v : Verb) (operand : Word) (given : Given) → words
+    ≡ name_of v ∷ operand ∷ options
+    → ((g : Given) → GivesAll (allowed_of v) options none_given g → g ≡ given) → request_of v operand given ≡ None →
+    (request : Request) → AreCommand words request → ⊥
 asks_nothing words options v operand given split only none request h =
     let found = asked_for words options v operand given request split only h in
     let e = sym none ∙ found in cc
 
 -- words of which the options give nothing are no command
-pub no_command : (words options : List Word) (v : Verb) (operand : Word) → words ≡ name_of v ∷ operand ∷ options → ((g : Given) → GivesAll (allowed_of v) options none_given g → ⊥) → (request : Request) → AreCommand words request → ⊥
+pub no_command : (words options : List Word) (v : Verb) (operand : Word) → words ≡ name_of v ∷ operand ∷ options →
+    ((g : Given) → GivesAll (allowed_of v) options none_given g → ⊥) → (request : Request) → AreCommand words request →
+    ⊥
 no_command words options v operand split none request h =
     let same = sym h.words_are ∙ split in
     let verbs : h.verb ≡ v = same_verb h.verb v (heads _ _ _ _ _ _ same) in
-    let gives : GivesAll (allowed_of v) h.options none_given h.given = subst (λ u. GivesAll (allowed_of u) h.options none_given h.given) verbs h.gives in
+    let gives : GivesAll (allowed_of v) h.options none_given h.given =
+    subst (λ u. GivesAll (allowed_of u) h.options none_given h.given) verbs h.gives in
     none h.given (subst (λ ws. GivesAll (allowed_of v) ws none_given h.given) (rests _ _ _ _ _ _ same) gives)
 
 -- what words that are no command ask for
-pub usage_only : (words : List Word) → ((request : Request) → AreCommand words request → ⊥) → (other : Request) → Asks words other → other ≡ Usage
+pub usage_only : (words : List Word) → ((request : Request) → AreCommand words request → ⊥) → (other : Request) →
+    Asks words other → other ≡ Usage
 usage_only words none Usage h = refl
 usage_only words none (Checks object) h = absurd (none (Checks object) h)
 usage_only words none (Runs run) h = absurd (none (Runs run) h)

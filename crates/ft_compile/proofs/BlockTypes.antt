@@ -1,5 +1,6 @@
 -- The code types of an object that was compiled say what its blocks need.
-use Rattle.std.proofs.Common.{◌≡◌, ℕ, zero, suc, ◌+◌, ◌<◌, ◌≤◌, Bool, true, false, ◌==◌, ◌&&◌, List, [], ◌∷◌, ◌++◌, length, ◌⊎◌, inl, inr, Some, refl, sym, ap, ◌∙◌, subst, arith, take, map, eq-eqb}
+use Rattle.std.proofs.Common.{◌≡◌, ℕ, zero, suc, ◌+◌, ◌<◌, ◌≤◌, Bool, true, false, ◌==◌, ◌&&◌, List, [], ◌∷◌, ◌++◌}
+use Rattle.std.proofs.Common.{length, ◌⊎◌, inl, inr, Some, refl, sym, ap, ◌∙◌, subst, arith, take, map, eq-eqb}
 use Rattle.std.specs.Prelude.{slice_index, slice_index_or, nat_le}
 use Rattle.std.specs.List.{list_all, range_with_len}
 use Rattle.std.specs.Option.{option_map, unwrap_or}
@@ -16,7 +17,8 @@ use Rattle.ft_static.proofs.Equal.{equal_updates, same_itself}
 use Rattle.ft_types.specs.declared.object.Object.{Object}
 use Rattle.ft_types.specs.declared.object.RegType.{RegType}
 use Rattle.ft_types.specs.Objects.{reg_rows, queue_rows, ints_of, memory_of, scope_of, scope_of_node}
-use Rattle.ft_typing.specs.Context.{Context, typed, rows_of, replacement, integer_form_of, memory_form_of, integer_form_after, memory_form_after, FormPair}
+use Rattle.ft_typing.specs.Context.{Context, typed, rows_of, replacement, integer_form_of, memory_form_of}
+use Rattle.ft_typing.specs.Context.{integer_form_after, memory_form_after, FormPair}
 use Rattle.ft_isa.specs.BasicTypes.{int}
 use Rattle.ft_typing.specs.TypedWord.{is_seen_as, same_basic}
 use Rattle.ft_typing.specs.TypingRow.{Outcome, same_colour, need, is_like, are_like, is_queue_like, is_annotated, leads}
@@ -56,7 +58,8 @@ blue_rows n a zero h = tt
 blue_rows n a (suc k) h = ((a, omega (arith, h), inr refl), blue_rows n (a + 1) k (omega (arith, h)))
 
 -- and the green ones before them
-green_rows : (n a k : ℕ) (rest : List RegType) → a + k ≤ n → AreRows n rest → AreRows n (map green_row (range_with_len a k) ++ rest)
+green_rows : (n a k : ℕ) (rest : List RegType) → a + k ≤ n → AreRows n rest →
+    AreRows n (map green_row (range_with_len a k) ++ rest)
 green_rows n a zero rest h r = r
 green_rows n a (suc k) rest h r = ((a, omega (arith, h), inl refl), green_rows n (a + 1) k rest (omega (arith, h)) r)
 
@@ -67,7 +70,8 @@ type_rows n = green_rows n 0 n (map blue_row (range_with_len 0 n)) (omega arith)
 -- a test of each member
 all_pass : (p : ℕ → Bool) (xs : List ℕ) → ((k : ℕ) → k < length xs → p (slice_index xs k) ≡ true) → list_all p xs ≡ true
 all_pass p [] h = refl
-all_pass p (x ∷ xs) h = and_from (p x) (list_all p xs) (h 0 (omega arith)) (all_pass p xs (λ k lt. h (suc k) (omega arith)))
+all_pass p (x ∷ xs) h = and_from (p x) (list_all p xs) (h 0 (omega arith))
+    (all_pass p xs (λ k lt. h (suc k) (omega arith)))
 
 -- LEADING TO CODE TYPE 1
 
@@ -80,7 +84,9 @@ module _ (o : Object) (vars : ℕ) (T : HasTypes o vars) (scope : ℕ) (pairs : 
 
   -- the registers have what the target wants
   abbrev HasVariables : Context → Type 0
-  HasVariables c = (q : ℕ) → q < vars → (typed c (green q).number ≡ Some (ty Green int (integer_form_of o (slice_index pairs q)))) × (typed c (blue q).number ≡ Some (ty Blue int (integer_form_of o (slice_index pairs q))))
+  HasVariables c = (q : ℕ) → q < vars → (typed c (green q).number
+      ≡ Some (ty Green int (integer_form_of o (slice_index pairs q))))
+      × (typed c (blue q).number ≡ Some (ty Blue int (integer_form_of o (slice_index pairs q))))
 
   -- the forms that are put are those of the variables' nodes
   put_rows : PutsThese → (replacement o u).integers ≡ map (integer_form_of o) (take vars pairs)
@@ -93,7 +99,8 @@ module _ (o : Object) (vars : ℕ) (T : HasTypes o vars) (scope : ℕ) (pairs : 
   put_memory P = ap (memory_form_of o) P.memory_is
 
   -- the target's variable is what is put for it
-  put_variable : PutsThese → (q : ℕ) → q < vars → integer_form_after o (replacement o u) (1 + q) ≡ integer_form_of o (slice_index pairs q)
+  put_variable : PutsThese → (q : ℕ) → q < vars → integer_form_after o (replacement o u) (1 + q)
+      ≡ integer_form_of o (slice_index pairs q)
   put_variable P q lt =
       let few = T.few in
       let many = P.many in
@@ -101,28 +108,35 @@ module _ (o : Object) (vars : ℕ) (T : HasTypes o vars) (scope : ℕ) (pairs : 
       let f = integer_form_of o in
       let z : 1 + q ≡ suc q = omega arith in
       ap (integer_form_after o (replacement o u)) z
-      ∙ variable_after o T.nodes (suc q) vars q (replacement o u) (get_starts (at_first vars).nodes o.nodes (suc q) (variable_node vars q) T.first_nodes (variable_there vars q lt))
+      ∙ variable_after o T.nodes (suc q) vars q (replacement o u)
+      (get_starts (at_first vars).nodes o.nodes (suc q) (variable_node vars q) T.first_nodes
+      (variable_there vars q lt))
       ∙ ap (λ ps. slice_index_or ps q nought) (put_rows P)
       ∙ get_or_default (map f (take vars pairs)) q nought (f 0) (let m = length-map (take vars pairs) f in omega arith)
       ∙ get_or-map f (take vars pairs) q 0
       ∙ ap f (get_or-take vars pairs q 0 lt)
 
   -- the register of each row is as the row wants it
-  row_like : PutsThese → (c : Context) (q : ℕ) (x : RegType) → q < vars → HasVariables c → (x ≡ green_row q) ⊎ (x ≡ blue_row q) → is_like o (replacement o u) (typed c x.reg.number) x ≡ true
+  row_like : PutsThese → (c : Context) (q : ℕ) (x : RegType) → q < vars → HasVariables c →
+      (x ≡ green_row q) ⊎ (x ≡ blue_row q) → is_like o (replacement o u) (typed c x.reg.number) x ≡ true
   unfolding is_like same_colour is_seen_as same_basic
   row_like P c q x lt h (inl e) =
       let y = integer_form_of o (slice_index pairs q) in
       subst (λ z. is_like o (replacement o u) (typed c z.reg.number) z ≡ true) (sym e)
-      (ap (λ t. is_like o (replacement o u) t (green_row q)) (h q lt).0 ∙ ap (same_polynomial y) (put_variable P q lt) ∙ same_itself y)
+      (ap (λ t. is_like o (replacement o u) t (green_row q)) (h q lt).0 ∙ ap (same_polynomial y) (put_variable P q lt)
+      ∙ same_itself y)
   row_like P c q x lt h (inr e) =
       let y = integer_form_of o (slice_index pairs q) in
       subst (λ z. is_like o (replacement o u) (typed c z.reg.number) z ≡ true) (sym e)
-      (ap (λ t. is_like o (replacement o u) t (blue_row q)) (h q lt).1 ∙ ap (same_polynomial y) (put_variable P q lt) ∙ same_itself y)
+      (ap (λ t. is_like o (replacement o u) t (blue_row q)) (h q lt).1 ∙ ap (same_polynomial y) (put_variable P q lt)
+      ∙ same_itself y)
 
   -- so are all
-  rows_like : PutsThese → (c : Context) (xs : List RegType) → HasVariables c → AreRows vars xs → are_like o (replacement o u) c xs ≡ true
+  rows_like : PutsThese → (c : Context) (xs : List RegType) → HasVariables c → AreRows vars xs →
+      are_like o (replacement o u) c xs ≡ true
   rows_like P c [] h r = refl
-  rows_like P c (x ∷ xs) h r = and_from (is_like o (replacement o u) (typed c x.reg.number) x) (are_like o (replacement o u) c xs) (row_like P c r.0.0 x r.0.1 h r.0.2) (rows_like P c xs h r.1)
+  rows_like P c (x ∷ xs) h r = and_from (is_like o (replacement o u) (typed c x.reg.number) x)
+      (are_like o (replacement o u) c xs) (row_like P c r.0.0 x r.0.1 h r.0.2) (rows_like P c xs h r.1)
 
   -- nothing waits, as code type 1 wants it
   queue_like : (q : List FormPair) → q ≡ [] → is_queue_like o (replacement o u) q (queue_rows o 1) ≡ true
@@ -130,35 +144,51 @@ module _ (o : Object) (vars : ℕ) (T : HasTypes o vars) (scope : ℕ) (pairs : 
   queue_like q e = rw (e, T.queue) refl
 
   -- the memory is what is put for it
-  memory_like : PutsThese → (m : Updates) → m ≡ memory_form_of o memory → same_updates m (memory_form_after o (replacement o u) (memory_of o 1)) ≡ true
+  memory_like : PutsThese → (m : Updates) → m ≡ memory_form_of o memory →
+      same_updates m (memory_form_after o (replacement o u) (memory_of o 1)) ≡ true
   memory_like P m e =
       (equal_updates m (memory_form_after o (replacement o u) (memory_of o 1))).1
-      (e ∙ sym (put_memory P) ∙ sym (memory_after o T.nodes 0 0 (replacement o u) (get_starts (at_first vars).nodes o.nodes 0 (node 0 shape.Memory) T.first_nodes refl)) ∙ ap (memory_form_after o (replacement o u)) (sym T.memory))
+      (e ∙ sym (put_memory P) ∙ sym (memory_after o T.nodes 0 0 (replacement o u)
+      (get_starts (at_first vars).nodes o.nodes 0 (node 0 shape.Memory) T.first_nodes refl))
+      ∙ ap (memory_form_after o (replacement o u)) (sym T.memory))
 
   -- the scope of a node that may be named
   named_scope : (n : ℕ) (sort : Bool) (m : ℕ) → MayName o.nodes n scope sort m → nat_le (scope_of o m) scope ≡ true
-  named_scope n sort m h = le-leb (scope_of o m) scope (let e : scope_of o m ≡ h.node.scope = ap (λ x. unwrap_or (option_map scope_of_node x) 0) h.found in let w = h.scope_within in omega arith)
+  named_scope n sort m h = le-leb (scope_of o m) scope (let e : scope_of o m
+      ≡ h.node.scope = ap (λ x. unwrap_or (option_map scope_of_node x) 0) h.found in let w = h.scope_within in
+      omega arith)
 
   -- as many as code type 1 has integer variables
   abbrev as_many : ℕ → Bool
   as_many m = m == ints_of o 1
 
   -- the substitution has a row for each variable, within the scope
-  annotated : PutsThese → (k : Known) (n : ℕ) (spare ints : ℕ) → IsNamed o.nodes scope k n pairs memory → KeepsVariables vars k spare → ints ≡ scope → is_annotated o ints u 1 ≡ true
+  annotated : PutsThese → (k : Known) (n : ℕ) (spare ints : ℕ) → IsNamed o.nodes scope k n pairs memory →
+      KeepsVariables vars k spare → ints ≡ scope → is_annotated o ints u 1 ≡ true
   unfolding is_annotated
   annotated P k n spare ints h keeps e =
       let few = T.few in
       let many = P.many in
       let l : length (take vars pairs) ≡ vars = length-take-le vars pairs (omega arith) in
-      rw (e, P.rows, P.memory_is) (and_from (as_many (length (take vars pairs)) && list_all (λ m. nat_le (scope_of o m) scope) (take vars pairs)) (nat_le (scope_of o memory) scope)
-      (and_from (as_many (length (take vars pairs))) (list_all (λ m. nat_le (scope_of o m) scope) (take vars pairs)) (eq-eqb (length (take vars pairs)) (ints_of o 1) (l ∙ sym T.ints))
+      rw (e, P.rows, P.memory_is) (and_from (as_many (length (take vars pairs))
+      && list_all (λ m. nat_le (scope_of o m) scope) (take vars pairs)) (nat_le (scope_of o memory) scope)
+      (and_from (as_many (length (take vars pairs))) (list_all (λ m. nat_le (scope_of o m) scope) (take vars pairs))
+      (eq-eqb (length (take vars pairs)) (ints_of o 1) (l ∙ sym T.ints))
       (all_pass (λ m. nat_le (scope_of o m) scope) (take vars pairs) (λ j lt. let jv : j < vars = omega arith in
-      subst (λ m. nat_le (scope_of o m) scope ≡ true) (sym (get_or-take vars pairs j 0 jv)) (named_scope n false (slice_index pairs j) (h.pair j (keeps.known j jv))))))
+      subst (λ m. nat_le (scope_of o m) scope ≡ true) (sym (get_or-take vars pairs j 0 jv))
+      (named_scope n false (slice_index pairs j) (h.pair j (keeps.known j jv))))))
       (named_scope n true memory h.memory_node))
 
   -- the premises of a transfer hold
-  pub leads_on : PutsThese → (k : Known) (n spare : ℕ) (c : Context) (next : Outcome) → IsNamed o.nodes scope k n pairs memory → KeepsVariables vars k spare → HasVariables c → c.ints ≡ scope → c.queue ≡ [] → c.memory ≡ memory_form_of o memory → leads o u 1 c next ≡ next
+  pub leads_on : PutsThese → (k : Known) (n spare : ℕ) (c : Context) (next : Outcome) →
+      IsNamed o.nodes scope k n pairs memory → KeepsVariables vars k spare → HasVariables c → c.ints ≡ scope → c.queue
+      ≡ [] → c.memory ≡ memory_form_of o memory → leads o u 1 c next ≡ next
   unfolding leads need
   leads_on P k n spare c next h keeps v ints qu mem =
       let r : AreRows vars (reg_rows o 1) = subst (AreRows vars) (sym T.rows) (type_rows vars) in
-      rw (annotated P k n spare c.ints h keeps ints, rows_like P c (reg_rows o 1) v r, queue_like c.queue qu, memory_like P c.memory mem) refl
+      rw (
+        annotated P k n spare c.ints h keeps ints,
+        rows_like P c (reg_rows o 1) v r,
+        queue_like c.queue qu,
+        memory_like P c.memory mem,
+      ) refl

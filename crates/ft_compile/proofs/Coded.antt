@@ -1,5 +1,6 @@
 -- The instructions of each block, with its substitutions in place.
-use Rattle.std.proofs.Common.{◌≡◌, ℕ, zero, suc, ◌+◌, ◌-◌, List, [], ◌∷◌, ◌++◌, length, Some, refl, sym, ap, ◌∙◌, subst, arith, slice_get, take, drop, map, append_assoc, length-append}
+use Rattle.std.proofs.Common.{◌≡◌, ℕ, zero, suc, ◌+◌, ◌-◌, List, [], ◌∷◌, ◌++◌, length, Some, refl, sym, ap, ◌∙◌, subst}
+use Rattle.std.proofs.Common.{arith, slice_get, take, drop, map, append_assoc, length-append}
 use Rattle.std.specs.Prelude.{slice_range}
 use Rattle.std.specs.Option.{unwrap_or}
 use Rattle.std.proofs.lemmas.List.{append-nil}
@@ -11,7 +12,8 @@ use Rattle.ft_lower.specs.declared.step3.Step3.TheVariants.{Put, Copy, Op, Load,
 use Rattle.ft_lower.specs.Flow.{Blocks}
 use Rattle.ft_lower.specs.Size.{size, row_size, blocks_size}
 use Rattle.ft_dup.specs.Images.{image, row_images, blocks_images, starts_from}
-use Rattle.ft_compile.specs.Emitted.{Noted, jump_subst, step_noted, row_noted, begun, scope_of_block, blocks_noted, with_subst, placed}
+use Rattle.ft_compile.specs.Emitted.{Noted, jump_subst, step_noted, row_noted, begun, scope_of_block, blocks_noted}
+use Rattle.ft_compile.specs.Emitted.{with_subst, placed}
 use Rattle.ft_compile.proofs.Walked.{block_noted}
 
 -- an instruction with a substitution, where it takes one
@@ -49,12 +51,14 @@ module _ (vars : ℕ) (start : ℕ → ℕ) where
   -- those of blocks
   abbrev pub rows_coded : ℕ → Noted → Blocks → List (List Instr)
   rows_coded b w [] = []
-  rows_coded b w (x ∷ xs) = row_coded (scope_of_block vars b) (begun w) x ∷ rows_coded (suc b) (block_noted vars b w x) xs
+  rows_coded b w (x ∷ xs) = row_coded (scope_of_block vars b) (begun w) x ∷ rows_coded (suc b) (block_noted vars b w x)
+      xs
 
   -- the substitutions that blocks add
   abbrev pub blocks_added : ℕ → Noted → Blocks → List Subst
   blocks_added b w [] = []
-  blocks_added b w (x ∷ xs) = row_added (scope_of_block vars b) (begun w) x ++ blocks_added (suc b) (block_noted vars b w x) xs
+  blocks_added b w (x ∷ xs) = row_added (scope_of_block vars b) (begun w) x
+      ++ blocks_added (suc b) (block_noted vars b w x) xs
 
   -- one after another
   abbrev pub joined : List (List Instr) → List Instr
@@ -77,24 +81,29 @@ module _ (vars : ℕ) (start : ℕ → ℕ) where
   added_step scope w Stop = sym (append-nil w.substs)
 
   -- after a row, those of its steps
-  added_row : (scope : ℕ) (w : Noted) (is : List Step3) → (row_noted vars scope w is).substs ≡ w.substs ++ row_added scope w is
+  added_row : (scope : ℕ) (w : Noted) (is : List Step3) → (row_noted vars scope w is).substs ≡ w.substs
+      ++ row_added scope w is
   added_row scope w [] = sym (append-nil w.substs)
   added_row scope w (i ∷ is) =
       let v = step_noted vars scope w i in
-      added_row scope v is ∙ ap (λ l. l ++ row_added scope v is) (added_step scope w i) ∙ append_assoc w.substs (step_added w i) (row_added scope v is)
+      added_row scope v is ∙ ap (λ l. l ++ row_added scope v is) (added_step scope w i)
+      ∙ append_assoc w.substs (step_added w i) (row_added scope v is)
 
   -- after blocks, those of their rows
-  pub added_blocks : (b : ℕ) (w : Noted) (xs : Blocks) → (blocks_noted vars b w xs).substs ≡ w.substs ++ blocks_added b w xs
+  pub added_blocks : (b : ℕ) (w : Noted) (xs : Blocks) → (blocks_noted vars b w xs).substs ≡ w.substs
+      ++ blocks_added b w xs
   added_blocks b w [] = sym (append-nil w.substs)
   added_blocks b w (x ∷ xs) =
       let v = block_noted vars b w x in
       let a = row_added (scope_of_block vars b) (begun w) x in
-      added_blocks (suc b) v xs ∙ ap (λ l. l ++ blocks_added (suc b) v xs) (added_row (scope_of_block vars b) (begun w) x) ∙ append_assoc w.substs a (blocks_added (suc b) v xs)
+      added_blocks (suc b) v xs ∙ ap (λ l. l ++ blocks_added (suc b) v xs)
+      (added_row (scope_of_block vars b) (begun w) x) ∙ append_assoc w.substs a (blocks_added (suc b) v xs)
 
   -- WHAT IS PLACED
 
   -- a step's substitution is taken by its own instructions
-  placed_step : (w : Noted) (i : Step3) (us : List Subst) (more : List Instr) → placed (step_added w i ++ us) (image start i ++ more) ≡ coded_step start (jump_subst vars w) i ++ placed us more
+  placed_step : (w : Noted) (i : Step3) (us : List Subst) (more : List Instr) →
+      placed (step_added w i ++ us) (image start i ++ more) ≡ coded_step start (jump_subst vars w) i ++ placed us more
   placed_step w (Put p v) us more = refl
   placed_step w (Copy p q) us more = refl
   placed_step w (Op o p q r) us more = refl
@@ -107,18 +116,22 @@ module _ (vars : ℕ) (start : ℕ → ℕ) where
   placed_step w Stop us more = refl
 
   -- a row's substitutions by those of the row
-  placed_row : (scope : ℕ) (w : Noted) (is : List Step3) (us : List Subst) (more : List Instr) → placed (row_added scope w is ++ us) (row_images start is ++ more) ≡ row_coded scope w is ++ placed us more
+  placed_row : (scope : ℕ) (w : Noted) (is : List Step3) (us : List Subst) (more : List Instr) →
+      placed (row_added scope w is ++ us) (row_images start is ++ more) ≡ row_coded scope w is ++ placed us more
   placed_row scope w [] us more = refl
   placed_row scope w (i ∷ is) us more =
       let v = step_noted vars scope w i in
-      ap (λ l. placed l ((image start i ++ row_images start is) ++ more)) (append_assoc (step_added w i) (row_added scope v is) us)
-      ∙ ap (placed (step_added w i ++ (row_added scope v is ++ us))) (append_assoc (image start i) (row_images start is) more)
+      ap (λ l. placed l ((image start i ++ row_images start is) ++ more))
+      (append_assoc (step_added w i) (row_added scope v is) us)
+      ∙ ap (placed (step_added w i ++ (row_added scope v is ++ us)))
+      (append_assoc (image start i) (row_images start is) more)
       ∙ placed_step w i (row_added scope v is ++ us) (row_images start is ++ more)
       ∙ ap (λ l. coded_step start (jump_subst vars w) i ++ l) (placed_row scope v is us more)
       ∙ sym (append_assoc (coded_step start (jump_subst vars w) i) (row_coded scope v is) (placed us more))
 
   -- so the instructions of all blocks have each its own
-  pub placed_blocks : (b : ℕ) (w : Noted) (xs : Blocks) → placed (blocks_added b w xs) (blocks_images start xs) ≡ joined (rows_coded b w xs)
+  pub placed_blocks : (b : ℕ) (w : Noted) (xs : Blocks) → placed (blocks_added b w xs) (blocks_images start xs)
+      ≡ joined (rows_coded b w xs)
   placed_blocks b w [] = refl
   placed_blocks b w (x ∷ xs) =
       let v = block_noted vars b w x in
@@ -183,7 +196,8 @@ module _ (vars : ℕ) (start : ℕ → ℕ) where
   row_start n rs b = unwrap_or (slice_get (offsets n rs) b) 0
 
   -- a row is cut out by its place and its length
-  cut_first : (front r rest : List Instr) (n e : ℕ) → n ≡ length front → e ≡ n + length r → slice_range (front ++ (r ++ rest)) n e ≡ r
+  cut_first : (front r rest : List Instr) (n e : ℕ) → n ≡ length front → e ≡ n + length r →
+      slice_range (front ++ (r ++ rest)) n e ≡ r
   cut_first front r rest n e p q =
       let z : e - n ≡ length r = omega arith in
       ap (λ k. take k (drop n (front ++ (r ++ rest)))) z
@@ -192,7 +206,9 @@ module _ (vars : ℕ) (start : ℕ → ℕ) where
       ∙ take-append_seam r rest
 
   -- row b is cut out, where some instructions stand before all rows
-  cut_from : (front : List Instr) (rs : List (List Instr)) (n b whole : ℕ) (r : List Instr) → n ≡ length front → whole ≡ length (front ++ joined rs) → slice_get rs b ≡ Some r → slice_range (front ++ joined rs) (row_start n rs b) (row_end n rs b whole) ≡ r
+  cut_from : (front : List Instr) (rs : List (List Instr)) (n b whole : ℕ) (r : List Instr) → n ≡ length front → whole
+      ≡ length (front ++ joined rs) → slice_get rs b ≡ Some r →
+      slice_range (front ++ joined rs) (row_start n rs b) (row_end n rs b whole) ≡ r
   cut_from front [] n b whole r p q e = cc
   cut_from front (x ∷ []) n zero whole r p q e =
       let f : x ≡ r = cc in
@@ -209,5 +225,7 @@ module _ (vars : ℕ) (start : ℕ → ℕ) where
       (cut_from (front ++ x) xs (n + length x) b whole r (omega arith) (q ∙ ap length (sym a)) e)
 
   -- row b is cut out between its place and the next one
-  pub cut_out : (rs : List (List Instr)) (b : ℕ) (r : List Instr) → slice_get rs b ≡ Some r → slice_range (joined rs) (unwrap_or (slice_get (offsets 0 rs) b) 0) (unwrap_or (slice_get (offsets 0 rs) (suc b)) (length (joined rs))) ≡ r
+  pub cut_out : (rs : List (List Instr)) (b : ℕ) (r : List Instr) → slice_get rs b ≡ Some r →
+      slice_range (joined rs) (unwrap_or (slice_get (offsets 0 rs) b) 0)
+      (unwrap_or (slice_get (offsets 0 rs) (suc b)) (length (joined rs))) ≡ r
   cut_out rs b r e = cut_from [] rs 0 b (length (joined rs)) r refl refl e

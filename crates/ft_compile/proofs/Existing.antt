@@ -16,16 +16,31 @@ use Rattle.ft_compile.proofs.Names.{program_cells}
 use Rattle.ft_compile.proofs.Stands.{stands}
 
 -- the object of the lowered program
-pub programs_have_objects : (text : List ℕ) (p : Program) → IsProgramOf text p → (o : Object) × (StandsFor p o × IsEmitted p o)
+pub programs_have_objects : (text : List ℕ) (p : Program) → IsProgramOf text p → (o : Object)
+    × (StandsFor p o × IsEmitted p o)
 programs_have_objects text p h =
     let proper = program_is_proper text p h in
-    let resolved : IsResolved p = record { names = proper.fits; need = proper.limits.need; weight = proper.limits.weight } in
+    let resolved : IsResolved p = record {
+      names = proper.fits;
+      need = proper.limits.need;
+      weight = proper.limits.weight;
+    } in
     let few : p.vars ≤ 32 = omega (arith, resolved.need) in
     let well = lowered_is_well p resolved in
     let runs = lowers p resolved in (
       emitted p.names p.inits p.vars (lowered p),
       (
-        stands p (emitted p.names p.inits p.vars (lowered p)) p.vars (length p.inits) (lowered p) (program_cells text p h) few well refl (lowered_size p) runs (runs_as p.vars (length p.inits) (lowered p) well) refl,
-        record { flow = lowered p; few = few; well = well; runs = runs; light = lowered_size p; pairs = lowered_below p proper.fits (program_need p) (omega arith); object = refl },
+        stands p (emitted p.names p.inits p.vars (lowered p)) p.vars (length p.inits) (lowered p)
+            (program_cells text p h) few well refl (lowered_size p) runs
+            (runs_as p.vars (length p.inits) (lowered p) well) refl,
+        record {
+          flow = lowered p;
+          few = few;
+          well = well;
+          runs = runs;
+          light = lowered_size p;
+          pairs = lowered_below p proper.fits (program_need p) (omega arith);
+          object = refl;
+        },
       ),
     )

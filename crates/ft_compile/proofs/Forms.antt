@@ -37,31 +37,40 @@ module _ (o : Object) (N : AreNodes o.nodes) (n scope : ℕ) where
   word_form w e = ap (λ t. norm_integer (integer_part t)) (tree_at-row o.nodes n (node scope (shape.Word w)) N e)
 
   -- that of an operation is made of the forms of its operands
-  pub operation_form : (p : Op) (a b : ℕ) → slice_get o.nodes n ≡ Some (node scope (shape.Op p a b)) → integer_form_of o n ≡ norm_op p (integer_form_of o a) (integer_form_of o b)
+  pub operation_form : (p : Op) (a b : ℕ) → slice_get o.nodes n ≡ Some (node scope (shape.Op p a b)) →
+      integer_form_of o n ≡ norm_op p (integer_form_of o a) (integer_form_of o b)
   unfolding integer_form_of
-  operation_form p a b e = ap (λ t. norm_integer (integer_part t)) (tree_at-row o.nodes n (node scope (shape.Op p a b)) N e)
+  operation_form p a b e = ap (λ t. norm_integer (integer_part t))
+      (tree_at-row o.nodes n (node scope (shape.Op p a b)) N e)
 
   -- that of a remainder is made of the form of what is divided
-  pub rem_form : (a m : ℕ) → slice_get o.nodes n ≡ Some (node scope (shape.Rem a m)) → integer_form_of o n ≡ norm_rem (integer_form_of o a) m
+  pub rem_form : (a m : ℕ) → slice_get o.nodes n ≡ Some (node scope (shape.Rem a m)) → integer_form_of o n
+      ≡ norm_rem (integer_form_of o a) m
   unfolding integer_form_of
   rem_form a m e = ap (λ t. norm_integer (integer_part t)) (tree_at-row o.nodes n (node scope (shape.Rem a m)) N e)
 
   -- that of a word of a memory is made of the forms of memory and address
-  pub sel_form : (m a : ℕ) → slice_get o.nodes n ≡ Some (node scope (shape.Sel m a)) → integer_form_of o n ≡ norm_sel (memory_form_of o m) (integer_form_of o a)
+  pub sel_form : (m a : ℕ) → slice_get o.nodes n ≡ Some (node scope (shape.Sel m a)) → integer_form_of o n
+      ≡ norm_sel (memory_form_of o m) (integer_form_of o a)
   unfolding integer_form_of memory_form_of
   sel_form m a e = ap (λ t. norm_integer (integer_part t)) (tree_at-row o.nodes n (node scope (shape.Sel m a)) N e)
 
   -- that of an update is made of the forms of its parts
-  pub upd_form : (m a v : ℕ) → slice_get o.nodes n ≡ Some (node scope (shape.Upd m a v)) → memory_form_of o n ≡ norm_upd (memory_form_of o m) (integer_form_of o a) (integer_form_of o v)
+  pub upd_form : (m a v : ℕ) → slice_get o.nodes n ≡ Some (node scope (shape.Upd m a v)) → memory_form_of o n
+      ≡ norm_upd (memory_form_of o m) (integer_form_of o a) (integer_form_of o v)
   unfolding integer_form_of memory_form_of
   upd_form m a v e = ap (λ t. norm_memory (memory_part t)) (tree_at-row o.nodes n (node scope (shape.Upd m a v)) N e)
 
   -- after a replacement the variables and the memory are what is put for them
-  pub variable_after : (i : ℕ) (x : Replacement) → slice_get o.nodes n ≡ Some (node scope (shape.Var i)) → integer_form_after o x n ≡ slice_index_or x.integers i nought
+  pub variable_after : (i : ℕ) (x : Replacement) → slice_get o.nodes n ≡ Some (node scope (shape.Var i)) →
+      integer_form_after o x n ≡ slice_index_or x.integers i nought
   unfolding integer_form_after
-  variable_after i x e = ap (λ t. norm_under (integer_part t) x.integers x.memory) (tree_at-row o.nodes n (node scope (shape.Var i)) N e)
+  variable_after i x e = ap (λ t. norm_under (integer_part t) x.integers x.memory)
+      (tree_at-row o.nodes n (node scope (shape.Var i)) N e)
 
   -- and so is the memory variable
-  pub memory_after : (x : Replacement) → slice_get o.nodes n ≡ Some (node scope shape.Memory) → memory_form_after o x n ≡ x.memory
+  pub memory_after : (x : Replacement) → slice_get o.nodes n ≡ Some (node scope shape.Memory) → memory_form_after o x n
+      ≡ x.memory
   unfolding memory_form_after
-  memory_after x e = ap (λ t. norm_memory_under (memory_part t) x.integers x.memory) (tree_at-row o.nodes n (node scope shape.Memory) N e)
+  memory_after x e = ap (λ t. norm_memory_under (memory_part t) x.integers x.memory)
+      (tree_at-row o.nodes n (node scope shape.Memory) N e)

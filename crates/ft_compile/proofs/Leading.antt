@@ -1,5 +1,7 @@
 -- The rows of jumps apply, and lead to code type 1; so the rows of each block apply.
-use Rattle.std.proofs.Common.{◌≡◌, ◌≢◌, ℕ, zero, suc, ◌+◌, ◌-◌, ◌<◌, ◌≤◌, Bool, true, false, cond, ◌==◌, List, [], ◌∷◌, ◌++◌, length, ◌⊎◌, inl, inr, Some, refl, sym, ap, ◌∙◌, subst, arith, slice_get, take, drop, map, append_assoc, eq-eqb, eqb-true}
+use Rattle.std.proofs.Common.{◌≡◌, ◌≢◌, ℕ, zero, suc, ◌+◌, ◌-◌, ◌<◌, ◌≤◌, Bool, true, false, cond, ◌==◌, List, [], ◌∷◌}
+use Rattle.std.proofs.Common.{◌++◌, length, ◌⊎◌, inl, inr, Some, refl, sym, ap, ◌∙◌, subst, arith, slice_get, take}
+use Rattle.std.proofs.Common.{drop, map, append_assoc, eq-eqb, eqb-true}
 use Rattle.std.specs.Prelude.{All, slice_index, slice_range}
 use Rattle.std.specs.List.{range_with_len}
 use Rattle.std.specs.FinMap as finite
@@ -19,48 +21,63 @@ use Rattle.ft_static.proofs.Equal.{same_itself}
 use Rattle.ft_types.specs.declared.object.Object.{Object}
 use Rattle.ft_types.specs.declared.object.RegType.{RegType}
 use Rattle.ft_typing.specs.Accepted.{Applies, last_row, next_row}
-use Rattle.ft_typing.specs.Context.{Typed, d_zero, d_code, d_conditional, Context, typed, with_type, typed_row, registers_after, start_context, integer_form_of, memory_form_of, queue_pair, TypedRegisters}
+use Rattle.ft_typing.specs.Context.{Typed, d_zero, d_code, d_conditional, Context, typed, with_type, typed_row}
+use Rattle.ft_typing.specs.Context.{registers_after, start_context, integer_form_of, memory_form_of, queue_pair}
+use Rattle.ft_typing.specs.Context.{TypedRegisters}
 use Rattle.ft_isa.specs.BasicTypes.{code, int, ref}
 use Rattle.ft_typing.specs.TypedWord.{has_type, run_type}
-use Rattle.ft_typing.specs.TypingRow.{Goes, Ends, same_colour, need, for_typed, for_code_over, for_zero, for_target, for_conditional, is_empty, leads, row}
+use Rattle.ft_typing.specs.TypingRow.{Goes, Ends, same_colour, need, for_typed, for_code_over, for_zero, for_target}
+use Rattle.ft_typing.specs.TypingRow.{for_conditional, is_empty, leads, row}
 use Rattle.ft_types.proofs.Maps.{get-insert}
 use Rattle.ft_scope.specs.declared.slot.Slot.TheVariants.{Run}
 use Rattle.ft_scope.specs.Size.{RunFits}
 use Rattle.ft_lower.specs.declared.step3.Step3.{Step3}
 use Rattle.ft_lower.specs.declared.step3.Step3.TheVariants.{Put, Copy, Op, Load, Store, LoadAt, StoreAt, Exit, Go, Stop}
 use Rattle.ft_lower.specs.Size.{pairs_of}
-use Rattle.ft_lower.specs.Well.{Known, forget, known_after, known_first, is_last, IsBlock, KeepsVariables, IsTarget, StepFits, ReadsKnown, RowIsWell}
+use Rattle.ft_lower.specs.Well.{Known, forget, known_after, known_first, is_last, IsBlock, KeepsVariables, IsTarget}
+use Rattle.ft_lower.specs.Well.{StepFits, ReadsKnown, RowIsWell}
 use Rattle.ft_dup.specs.Images.{green, blue}
 use Rattle.ft_dup.proofs.Pairs.{blue_number}
-use Rattle.ft_compile.specs.Emitted.{Noted, with_jump, jump_subst, step_noted, row_noted, first_pairs, scope_of_block, green_row, blue_row}
+use Rattle.ft_compile.specs.Emitted.{Noted, with_jump, jump_subst, step_noted, row_noted, first_pairs, scope_of_block}
+use Rattle.ft_compile.specs.Emitted.{green_row, blue_row}
 use Rattle.ft_compile.proofs.Lists.{Starts, starts_trans}
 use Rattle.ft_compile.proofs.Named.{IsNamed, IsLawful, step_lawful}
 use Rattle.ft_compile.proofs.Walked.{row_grows, first_pair}
 use Rattle.ft_compile.proofs.Coded.{coded_step, row_coded}
 use Rattle.ft_compile.proofs.Forms.{green_number}
-use Rattle.ft_compile.proofs.Typing.{both, both_green, both_blue, other_green, other_blue, green_is_not_blue, blue_is_not_green, IsGood, good_forget, Passes, Leads, straight_leads}
+use Rattle.ft_compile.proofs.Typing.{both, both_green, both_blue, other_green, other_blue, green_is_not_blue}
+use Rattle.ft_compile.proofs.Typing.{blue_is_not_green, IsGood, good_forget, Passes, Leads, straight_leads}
 use Rattle.ft_compile.proofs.BlockTypes.{HasTypes, AreRows, type_rows, PutsThese, leads_on}
 use Rattle.ft_compile.proofs.PremiseRows.{ty, mov_row}
 
 -- JUMPS
 
 -- the row of a green branch, where d is 0
-branch_green_row : (o : Object) (c : Context) (rz rd : Reg) (z a : Polynomial) → typed c rz.number ≡ Some (ty Green int z) → typed c rd.number ≡ Some (ty Green (code 1) a) → c.d ≡ d_zero → row o c (instr.BzG rz rd) ≡ Goes (record c { d = d_conditional z 1 a })
+branch_green_row : (o : Object) (c : Context) (rz rd : Reg) (z a : Polynomial) → typed c rz.number
+    ≡ Some (ty Green int z) → typed c rd.number ≡ Some (ty Green (code 1) a) → c.d ≡ d_zero → row o c (instr.BzG rz rd)
+    ≡ Goes (record c { d = d_conditional z 1 a })
 unfolding need for_typed for_code_over for_zero same_colour
 branch_green_row o c rz rd z a hz hd d = rw (hz, hd, d) refl
 
 -- that of a blue one after it
-branch_blue_row : (o : Object) (c : Context) (rz rd : Reg) (u : Subst) (z a : Polynomial) → typed c rz.number ≡ Some (ty Blue int z) → typed c rd.number ≡ Some (ty Blue (code 1) a) → leads o u 1 (record c { d = d_conditional z 1 a }) (Goes (record c { d = d_zero })) ≡ Goes (record c { d = d_zero }) → row o (record c { d = d_conditional z 1 a }) (instr.BzB rz rd u) ≡ Goes (record c { d = d_zero })
+branch_blue_row : (o : Object) (c : Context) (rz rd : Reg) (u : Subst) (z a : Polynomial) → typed c rz.number
+    ≡ Some (ty Blue int z) → typed c rd.number ≡ Some (ty Blue (code 1) a) →
+    leads o u 1 (record c { d = d_conditional z 1 a }) (Goes (record c { d = d_zero }))
+    ≡ Goes (record c { d = d_zero }) → row o (record c { d = d_conditional z 1 a }) (instr.BzB rz rd u)
+    ≡ Goes (record c { d = d_zero })
 unfolding need for_typed for_code_over for_conditional same_colour
 branch_blue_row o c rz rd u z a hz hd l = rw (hz, hd) (rw (same_itself z) (rw (same_itself a) l))
 
 -- the row of a green jump, where d is 0
-jump_green_row : (o : Object) (c : Context) (rd : Reg) (a : Polynomial) → typed c rd.number ≡ Some (ty Green (code 1) a) → c.d ≡ d_zero → row o c (instr.JmpG rd) ≡ Goes (record c { d = d_code 1 a })
+jump_green_row : (o : Object) (c : Context) (rd : Reg) (a : Polynomial) → typed c rd.number
+    ≡ Some (ty Green (code 1) a) → c.d ≡ d_zero → row o c (instr.JmpG rd) ≡ Goes (record c { d = d_code 1 a })
 unfolding need for_typed for_code_over for_zero same_colour
 jump_green_row o c rd a hd d = rw (hd, d) refl
 
 -- that of a blue one after it
-jump_blue_row : (o : Object) (c : Context) (rd : Reg) (u : Subst) (a : Polynomial) → typed c rd.number ≡ Some (ty Blue (code 1) a) → leads o u 1 (record c { d = d_code 1 a }) Ends ≡ Ends → row o (record c { d = d_code 1 a }) (instr.JmpB rd u) ≡ Ends
+jump_blue_row : (o : Object) (c : Context) (rd : Reg) (u : Subst) (a : Polynomial) → typed c rd.number
+    ≡ Some (ty Blue (code 1) a) → leads o u 1 (record c { d = d_code 1 a }) Ends ≡ Ends →
+    row o (record c { d = d_code 1 a }) (instr.JmpB rd u) ≡ Ends
 unfolding need for_typed for_code_over for_target same_colour
 jump_blue_row o c rd u a hd l = rw hd (rw (same_itself a) l)
 
@@ -70,7 +87,8 @@ unfolding need for_zero is_empty
 halt_row o c d q = rw (d, q) refl
 
 -- instructions that pass, before instructions that apply
-passes_applies : (o : Object) (c d : Context) (is js : List Instr) → Passes o c is d → Applies o d js → Applies o c (is ++ js)
+passes_applies : (o : Object) (c d : Context) (is js : List Instr) → Passes o c is d → Applies o d js →
+    Applies o c (is ++ js)
 passes_applies o c d [] js p a = subst (λ e. Applies o e js) (sym p) a
 passes_applies o c d (i ∷ is) js p a = next_row p.0 p.1 (passes_applies o p.0 d is js p.2 a)
 
@@ -79,7 +97,8 @@ module _ (o : Object) (vars : ℕ) (T : HasTypes o vars) (cells blocks : ℕ) (s
     (arrays : (begin many : ℕ) → RunFits cells (Run begin many) → run_type o begin many ≡ Some int)
     (targets : (b : ℕ) → IsTarget blocks b → has_type o (code_address (start b)) (code 1) ≡ true) where
   -- what a jump's substitution puts, where its rows are among all
-  puts_these : (scope : ℕ) (w : Noted) → length w.pairs ≡ 32 → Starts (with_jump vars w).rows o.substs → PutsThese o vars T scope w.pairs w.memory (jump_subst vars w)
+  puts_these : (scope : ℕ) (w : Noted) → length w.pairs ≡ 32 → Starts (with_jump vars w).rows o.substs →
+      PutsThese o vars T scope w.pairs w.memory (jump_subst vars w)
   puts_these scope w many s =
       let few = T.few in
       let n = length w.rows in
@@ -98,7 +117,10 @@ module _ (o : Object) (vars : ℕ) (T : HasTypes o vars) (cells blocks : ℕ) (s
       }
 
   -- a branch goes on
-  exit_leads : (scope : ℕ) (k : Known) (w : Noted) (c : Context) (q spare to : ℕ) → IsTarget blocks to → q < 32 → spare < 32 → ReadsKnown vars k (Exit q spare to) → Starts (with_jump vars w).rows o.substs → IsNamed o.nodes scope k (length w.nodes) w.pairs w.memory → IsGood o scope k w.pairs w.memory c → Leads o c (coded_step start (jump_subst vars w) (Exit q spare to)) scope (forget spare k) (with_jump vars w)
+  exit_leads : (scope : ℕ) (k : Known) (w : Noted) (c : Context) (q spare to : ℕ) → IsTarget blocks to → q < 32 →
+      spare < 32 → ReadsKnown vars k (Exit q spare to) → Starts (with_jump vars w).rows o.substs →
+      IsNamed o.nodes scope k (length w.nodes) w.pairs w.memory → IsGood o scope k w.pairs w.memory c →
+      Leads o c (coded_step start (jump_subst vars w) (Exit q spare to)) scope (forget spare k) (with_jump vars w)
   exit_leads scope k w c q spare to fits lq ls reads s h G =
       let v = code_address (start to) in
       let a = constant v in
@@ -111,8 +133,14 @@ module _ (o : Object) (vars : ℕ) (T : HasTypes o vars) (cells blocks : ℕ) (s
       let c4 = record c3 { d = d_zero } in
       let g2 = good_forget o scope k w.pairs w.memory c spare (code 1) a ls G in
       let free : (x : ℕ) → x < vars → x ≢ spare = λ x lt e. let f = keeps.free in omega arith in
-      let holds : (x : ℕ) → x < vars → (typed c3 (green x).number ≡ Some (ty Green int (integer_form_of o (slice_index w.pairs x)))) × (typed c3 (blue x).number ≡ Some (ty Blue int (integer_form_of o (slice_index w.pairs x)))) = λ x lt.
-      (other_green spare x (code 1) a c ls (G.small x (keeps.known x lt)) (free x lt) ∙ G.green_pair x (keeps.known x lt), other_blue spare x (code 1) a c ls (G.small x (keeps.known x lt)) (free x lt) ∙ G.blue_pair x (keeps.known x lt)) in
+      let holds : (x : ℕ) → x < vars → (typed c3 (green x).number
+      ≡ Some (ty Green int (integer_form_of o (slice_index w.pairs x))))
+      × (typed c3 (blue x).number ≡ Some (ty Blue int (integer_form_of o (slice_index w.pairs x)))) = λ x lt. (
+        other_green spare x (code 1) a c ls (G.small x (keeps.known x lt)) (free x lt)
+            ∙ G.green_pair x (keeps.known x lt),
+        other_blue spare x (code 1) a c ls (G.small x (keeps.known x lt))
+            (free x lt) ∙ G.blue_pair x (keeps.known x lt),
+      ) in
       record {
         after = c4;
         passes = (
@@ -123,11 +151,14 @@ module _ (o : Object) (vars : ℕ) (T : HasTypes o vars) (cells blocks : ℕ) (s
             mov_row o (with_type (green spare).number (ty Green (code 1) a) c) (blue spare) v Blue (code 1) t,
             (
               c3,
-              branch_green_row o c2 (green q) (green spare) y a (other_green spare q (code 1) a c ls lq reads.1 ∙ G.green_pair q reads.0) (both_green spare (code 1) a c ls) G.zero,
+              branch_green_row o c2 (green q) (green spare) y a (other_green spare q (code 1) a c ls lq reads.1
+                  ∙ G.green_pair q reads.0) (both_green spare (code 1) a c ls) G.zero,
               (
                 c4,
-                branch_blue_row o c2 (blue q) (blue spare) u y a (other_blue spare q (code 1) a c ls lq reads.1 ∙ G.blue_pair q reads.0) (both_blue spare (code 1) a c)
-                    (leads_on o vars T scope w.pairs w.memory u (puts_these scope w G.many s) k (length w.nodes) spare c3 (Goes c4) h keeps holds G.ints G.queue G.memory_is),
+                branch_blue_row o c2 (blue q) (blue spare) u y a (other_blue spare q (code 1) a c ls lq reads.1
+                    ∙ G.blue_pair q reads.0) (both_blue spare (code 1) a c)
+                    (leads_on o vars T scope w.pairs w.memory u (puts_these scope w G.many s) k (length w.nodes) spare
+                    c3 (Goes c4) h keeps holds G.ints G.queue G.memory_is),
                 refl,
               ),
             ),
@@ -146,7 +177,10 @@ module _ (o : Object) (vars : ℕ) (T : HasTypes o vars) (cells blocks : ℕ) (s
       }
 
   -- a jump ends its block
-  go_applies : (scope : ℕ) (k : Known) (w : Noted) (c : Context) (spare to : ℕ) → IsTarget blocks to → spare < 32 → KeepsVariables vars k spare → Starts (with_jump vars w).rows o.substs → IsNamed o.nodes scope k (length w.nodes) w.pairs w.memory → IsGood o scope k w.pairs w.memory c → Applies o c (coded_step start (jump_subst vars w) (Go spare to))
+  go_applies : (scope : ℕ) (k : Known) (w : Noted) (c : Context) (spare to : ℕ) → IsTarget blocks to → spare < 32 →
+      KeepsVariables vars k spare → Starts (with_jump vars w).rows o.substs →
+      IsNamed o.nodes scope k (length w.nodes) w.pairs w.memory → IsGood o scope k w.pairs w.memory c →
+      Applies o c (coded_step start (jump_subst vars w) (Go spare to))
   go_applies scope k w c spare to fits ls keeps s h G =
       let v = code_address (start to) in
       let a = constant v in
@@ -156,31 +190,62 @@ module _ (o : Object) (vars : ℕ) (T : HasTypes o vars) (cells blocks : ℕ) (s
       let c2 = both spare (code 1) a c in
       let c3 = record c2 { d = d_code 1 a } in
       let free : (x : ℕ) → x < vars → x ≢ spare = λ x lt e. let f = keeps.free in omega arith in
-      let holds : (x : ℕ) → x < vars → (typed c3 (green x).number ≡ Some (ty Green int (integer_form_of o (slice_index w.pairs x)))) × (typed c3 (blue x).number ≡ Some (ty Blue int (integer_form_of o (slice_index w.pairs x)))) = λ x lt.
-      (other_green spare x (code 1) a c ls (G.small x (keeps.known x lt)) (free x lt) ∙ G.green_pair x (keeps.known x lt), other_blue spare x (code 1) a c ls (G.small x (keeps.known x lt)) (free x lt) ∙ G.blue_pair x (keeps.known x lt)) in
+      let holds : (x : ℕ) → x < vars → (typed c3 (green x).number
+      ≡ Some (ty Green int (integer_form_of o (slice_index w.pairs x))))
+      × (typed c3 (blue x).number ≡ Some (ty Blue int (integer_form_of o (slice_index w.pairs x)))) = λ x lt. (
+        other_green spare x (code 1) a c ls (G.small x (keeps.known x lt)) (free x lt)
+            ∙ G.green_pair x (keeps.known x lt),
+        other_blue spare x (code 1) a c ls (G.small x (keeps.known x lt))
+            (free x lt) ∙ G.blue_pair x (keeps.known x lt),
+      ) in
       next_row c1 (mov_row o c (green spare) v Green (code 1) t)
       (next_row c2 (mov_row o c1 (blue spare) v Blue (code 1) t)
       (next_row c3 (jump_green_row o c2 (green spare) a (both_green spare (code 1) a c ls) G.zero)
       (last_row (jump_blue_row o c2 (blue spare) u a (both_blue spare (code 1) a c)
-      (leads_on o vars T scope w.pairs w.memory u (puts_these scope w G.many s) k (length w.nodes) spare c3 Ends h keeps holds G.ints G.queue G.memory_is)))))
+      (leads_on o vars T scope w.pairs w.memory u (puts_these scope w G.many s) k (length w.nodes) spare c3 Ends h keeps
+      holds G.ints G.queue G.memory_is)))))
 
   -- STEPS AND ROWS
 
   -- a step that does not end its block
-  step_leads : (scope : ℕ) (k : Known) (w : Noted) (c : Context) (i : Step3) → is_last i ≡ false → StepFits cells blocks i → All (λ p. p < 32) (pairs_of i) → ReadsKnown vars k i → Starts (step_noted vars scope w i).nodes o.nodes → Starts (step_noted vars scope w i).rows o.substs → IsNamed o.nodes scope k (length w.nodes) w.pairs w.memory → IsGood o scope k w.pairs w.memory c → Leads o c (coded_step start (jump_subst vars w) i) scope (known_after i k) (step_noted vars scope w i)
-  step_leads scope k w c (Put p v) e fits ps reads sn sr h G = straight_leads o T.nodes cells refs arrays start (jump_subst vars w) vars scope blocks k w c (Put p v) tt fits ps reads sn G
-  step_leads scope k w c (Copy p q) e fits ps reads sn sr h G = straight_leads o T.nodes cells refs arrays start (jump_subst vars w) vars scope blocks k w c (Copy p q) tt fits ps reads sn G
-  step_leads scope k w c (Op op p q r) e fits ps reads sn sr h G = straight_leads o T.nodes cells refs arrays start (jump_subst vars w) vars scope blocks k w c (Op op p q r) tt fits ps reads sn G
-  step_leads scope k w c (Load p cl) e fits ps reads sn sr h G = straight_leads o T.nodes cells refs arrays start (jump_subst vars w) vars scope blocks k w c (Load p cl) tt fits ps reads sn G
-  step_leads scope k w c (Store cl q spare) e fits ps reads sn sr h G = straight_leads o T.nodes cells refs arrays start (jump_subst vars w) vars scope blocks k w c (Store cl q spare) tt fits ps reads sn G
-  step_leads scope k w c (LoadAt p q begin many) e fits ps reads sn sr h G = straight_leads o T.nodes cells refs arrays start (jump_subst vars w) vars scope blocks k w c (LoadAt p q begin many) tt fits ps reads sn G
-  step_leads scope k w c (StoreAt begin many i q spare) e fits ps reads sn sr h G = straight_leads o T.nodes cells refs arrays start (jump_subst vars w) vars scope blocks k w c (StoreAt begin many i q spare) tt fits ps reads sn G
-  step_leads scope k w c (Exit q spare to) e fits ps reads sn sr h G = exit_leads scope k w c q spare to fits (ps 0 0 (omega arith)) (ps 1 0 (omega arith)) reads sr h G
+  step_leads : (scope : ℕ) (k : Known) (w : Noted) (c : Context) (i : Step3) → is_last i ≡ false →
+      StepFits cells blocks i → All (λ p. p < 32) (pairs_of i) → ReadsKnown vars k i →
+      Starts (step_noted vars scope w i).nodes o.nodes → Starts (step_noted vars scope w i).rows o.substs →
+      IsNamed o.nodes scope k (length w.nodes) w.pairs w.memory → IsGood o scope k w.pairs w.memory c →
+      Leads o c (coded_step start (jump_subst vars w) i) scope (known_after i k) (step_noted vars scope w i)
+  step_leads scope k w c (Put p v) e fits ps reads sn sr h G =
+      straight_leads o T.nodes cells refs arrays start (jump_subst vars w) vars scope blocks k w c (Put p v) tt fits ps
+      reads sn G
+  step_leads scope k w c (Copy p q) e fits ps reads sn sr h G =
+      straight_leads o T.nodes cells refs arrays start (jump_subst vars w) vars scope blocks k w c (Copy p q) tt fits ps
+      reads sn G
+  step_leads scope k w c (Op op p q r) e fits ps reads sn sr h G =
+      straight_leads o T.nodes cells refs arrays start (jump_subst vars w) vars scope blocks k w c (Op op p q r) tt fits
+      ps reads sn G
+  step_leads scope k w c (Load p cl) e fits ps reads sn sr h G =
+      straight_leads o T.nodes cells refs arrays start (jump_subst vars w) vars scope blocks k w c (Load p cl) tt fits
+      ps
+      reads sn G
+  step_leads scope k w c (Store cl q spare) e fits ps reads sn sr h G =
+      straight_leads o T.nodes cells refs arrays start (jump_subst vars w) vars scope blocks k w c (Store cl q spare) tt
+      fits ps reads sn G
+  step_leads scope k w c (LoadAt p q begin many) e fits ps reads sn sr h G =
+      straight_leads o T.nodes cells refs arrays start (jump_subst vars w) vars scope blocks k w c
+      (LoadAt p q begin many)
+      tt fits ps reads sn G
+  step_leads scope k w c (StoreAt begin many i q spare) e fits ps reads sn sr h G =
+      straight_leads o T.nodes cells refs arrays start (jump_subst vars w) vars scope blocks k w c
+      (StoreAt begin many i q spare) tt fits ps reads sn G
+  step_leads scope k w c (Exit q spare to) e fits ps reads sn sr h G =
+      exit_leads scope k w c q spare to fits (ps 0 0 (omega arith)) (ps 1 0 (omega arith)) reads sr h G
   step_leads scope k w c (Go spare to) e fits ps reads sn sr h G = cc
   step_leads scope k w c Stop e fits ps reads sn sr h G = cc
 
   -- one that does
-  last_applies : (scope : ℕ) (k : Known) (w : Noted) (c : Context) (i : Step3) → is_last i ≡ true → StepFits cells blocks i → All (λ p. p < 32) (pairs_of i) → ReadsKnown vars k i → Starts (step_noted vars scope w i).rows o.substs → IsNamed o.nodes scope k (length w.nodes) w.pairs w.memory → IsGood o scope k w.pairs w.memory c → Applies o c (coded_step start (jump_subst vars w) i)
+  last_applies : (scope : ℕ) (k : Known) (w : Noted) (c : Context) (i : Step3) → is_last i ≡ true →
+      StepFits cells blocks i → All (λ p. p < 32) (pairs_of i) → ReadsKnown vars k i →
+      Starts (step_noted vars scope w i).rows o.substs → IsNamed o.nodes scope k (length w.nodes) w.pairs w.memory →
+      IsGood o scope k w.pairs w.memory c → Applies o c (coded_step start (jump_subst vars w) i)
   last_applies scope k w c (Put p v) e fits ps reads sr h G = cc
   last_applies scope k w c (Copy p q) e fits ps reads sr h G = cc
   last_applies scope k w c (Op op p q r) e fits ps reads sr h G = cc
@@ -189,7 +254,8 @@ module _ (o : Object) (vars : ℕ) (T : HasTypes o vars) (cells blocks : ℕ) (s
   last_applies scope k w c (LoadAt p q begin many) e fits ps reads sr h G = cc
   last_applies scope k w c (StoreAt begin many i q spare) e fits ps reads sr h G = cc
   last_applies scope k w c (Exit q spare to) e fits ps reads sr h G = cc
-  last_applies scope k w c (Go spare to) e fits ps reads sr h G = go_applies scope k w c spare to fits (ps 0 0 (omega arith)) reads sr h G
+  last_applies scope k w c (Go spare to) e fits ps reads sr h G =
+      go_applies scope k w c spare to fits (ps 0 0 (omega arith)) reads sr h G
   last_applies scope k w c Stop e fits ps reads sr h G = last_row (halt_row o c G.zero G.queue)
 
   -- a step ends its block, or it does not
@@ -206,7 +272,10 @@ module _ (o : Object) (vars : ℕ) (T : HasTypes o vars) (cells blocks : ℕ) (s
   block_goes_on i is e h = subst (λ b. elim b as (λ x. Type 0) [ true ↦ is ≡ [] | false ↦ IsBlock is ]) e h
 
   -- the rows of a block's steps apply
-  pub row_applies : (scope : ℕ) (k : Known) (w : Noted) (c : Context) (is : List Step3) → scope ≤ 128 → IsBlock is → RowIsWell vars cells blocks k is → All (λ i. All (λ p. p < 32) (pairs_of i)) is → Starts (row_noted vars scope w is).nodes o.nodes → Starts (row_noted vars scope w is).rows o.substs → IsLawful o.nodes scope k w → IsGood o scope k w.pairs w.memory c → Applies o c (row_coded vars start scope w is)
+  pub row_applies : (scope : ℕ) (k : Known) (w : Noted) (c : Context) (is : List Step3) → scope ≤ 128 → IsBlock is →
+      RowIsWell vars cells blocks k is → All (λ i. All (λ p. p < 32) (pairs_of i)) is →
+      Starts (row_noted vars scope w is).nodes o.nodes → Starts (row_noted vars scope w is).rows o.substs →
+      IsLawful o.nodes scope k w → IsGood o scope k w.pairs w.memory c → Applies o c (row_coded vars start scope w is)
   row_applies scope k w c [] le B W ps sn sr L G = absurd B
   row_applies scope k w c (i ∷ is) le B W ps sn sr L G =
       let v = step_noted vars scope w i in
@@ -221,53 +290,69 @@ module _ (o : Object) (vars : ℕ) (T : HasTypes o vars) (cells blocks : ℕ) (s
             (subst (Applies o c) (sym (append-nil here)) (last_applies scope k w c i e W.0 p W.1 hr L.named G))
         | inr e ↦ let S = step_leads scope k w c i e W.0 p W.1 hn hr L.named G in
             passes_applies o c S.after here (row_coded vars start scope v is) S.passes
-            (row_applies scope (known_after i k) v S.after is le (block_goes_on i is e B) W.2 (λ j d lt. ps (suc j) d (omega arith)) sn sr (step_lawful o.nodes vars scope cells blocks k w i le small W.0 p W.1 hn L) S.good)
+            (row_applies scope (known_after i k) v S.after is le (block_goes_on i is e B) W.2 (λ j d lt.
+            ps (suc j) d (omega arith)) sn sr (step_lawful o.nodes vars scope cells blocks k w i le small W.0 p W.1 hn
+            L) S.good)
       ]
 
 -- WHERE A BLOCK BEGINS
 
 -- what a register has after rows that say the same of it
-row_later : (o : Object) (m : TypedRegisters) (xs : List RegType) (r : ℕ) (t : Typed) → finite.get m r ≡ Some t → ((n : ℕ) (x : RegType) → slice_get xs n ≡ Some x → r ≡ x.reg.number → typed_row o x ≡ t) → finite.get (registers_after o m xs) r ≡ Some t
+row_later : (o : Object) (m : TypedRegisters) (xs : List RegType) (r : ℕ) (t : Typed) → finite.get m r ≡ Some t →
+    ((n : ℕ) (x : RegType) → slice_get xs n ≡ Some x → r ≡ x.reg.number → typed_row o x ≡ t) →
+    finite.get (registers_after o m xs) r ≡ Some t
 unfolding registers_after
 row_later o m [] r t e h = e
-row_later o m (x ∷ xs) r t e h = row_later o (finite.insert m x.reg.number (typed_row o x)) xs r t (get-insert m x.reg.number (typed_row o x) r ∙ here (r == x.reg.number) refl) (λ n y f g. h (suc n) y f g)
+row_later o m (x ∷ xs) r t e h = row_later o (finite.insert m x.reg.number (typed_row o x)) xs r t
+    (get-insert m x.reg.number (typed_row o x) r ∙ here (r == x.reg.number) refl) (λ n y f g. h (suc n) y f g)
   where
     here : (b : Bool) → (r == x.reg.number) ≡ b → cond b (Some (typed_row o x)) (finite.get m r) ≡ Some t
     here true f = ap Some (h 0 x refl (eqb-true r x.reg.number f))
     here false f = e
 
 -- a register has what its row says
-row_there : (o : Object) (m : TypedRegisters) (xs : List RegType) (r : ℕ) (t : Typed) (n : ℕ) (x : RegType) → slice_get xs n ≡ Some x → r ≡ x.reg.number → ((n : ℕ) (x : RegType) → slice_get xs n ≡ Some x → r ≡ x.reg.number → typed_row o x ≡ t) → finite.get (registers_after o m xs) r ≡ Some t
+row_there : (o : Object) (m : TypedRegisters) (xs : List RegType) (r : ℕ) (t : Typed) (n : ℕ) (x : RegType) →
+    slice_get xs n ≡ Some x → r ≡ x.reg.number → ((n : ℕ) (x : RegType) → slice_get xs n ≡ Some x → r ≡ x.reg.number →
+    typed_row o x ≡ t) → finite.get (registers_after o m xs) r ≡ Some t
 unfolding registers_after
 row_there o m [] r t n x f e h = cc
 row_there o m (y ∷ ys) r t zero x f e h =
     let g : y ≡ x = cc in
     let e2 : r ≡ y.reg.number = e ∙ ap (λ (z : RegType). z.reg.number) (sym g) in
     row_later o (finite.insert m y.reg.number (typed_row o y)) ys r t
-    (get-insert m y.reg.number (typed_row o y) r ∙ ap (λ b. cond b (Some (typed_row o y)) (finite.get m r)) (eq-eqb r y.reg.number e2) ∙ ap Some (h 0 y refl e2)) (λ k z a b. h (suc k) z a b)
-row_there o m (y ∷ ys) r t (suc n) x f e h = row_there o (finite.insert m y.reg.number (typed_row o y)) ys r t n x f e (λ k z a b. h (suc k) z a b)
+    (get-insert m y.reg.number (typed_row o y) r ∙ ap (λ b. cond b (Some (typed_row o y)) (finite.get m r))
+    (eq-eqb r y.reg.number e2) ∙ ap Some (h 0 y refl e2)) (λ k z a b. h (suc k) z a b)
+row_there o m (y ∷ ys) r t (suc n) x f e h = row_there o (finite.insert m y.reg.number (typed_row o y)) ys r t n x f e
+    (λ k z a b. h (suc k) z a b)
 
 -- a row of a variable stands where it should
-green_there : (a n i : ℕ) (rest : List RegType) → i < n → slice_get (map green_row (range_with_len a n) ++ rest) i ≡ Some (green_row (a + i))
+green_there : (a n i : ℕ) (rest : List RegType) → i < n → slice_get (map green_row (range_with_len a n) ++ rest) i
+    ≡ Some (green_row (a + i))
 green_there a zero i rest lt = absurd (omega (arith, lt))
 green_there a (suc n) zero rest lt = let z : a ≡ a + 0 = omega arith in ap (λ j. Some (green_row j)) z
-green_there a (suc n) (suc i) rest lt = let z : a + 1 + i ≡ a + suc i = omega arith in green_there (a + 1) n i rest (omega (arith, lt)) ∙ ap (λ j. Some (green_row j)) z
+green_there a (suc n) (suc i) rest lt = let z : a + 1 + i ≡ a + suc i = omega arith in
+    green_there (a + 1) n i rest (omega (arith, lt)) ∙ ap (λ j. Some (green_row j)) z
 
 -- and the blue one
 blue_there : (a n i : ℕ) → i < n → slice_get (map blue_row (range_with_len a n)) i ≡ Some (blue_row (a + i))
 blue_there a zero i lt = absurd (omega (arith, lt))
 blue_there a (suc n) zero lt = let z : a ≡ a + 0 = omega arith in ap (λ j. Some (blue_row j)) z
-blue_there a (suc n) (suc i) lt = let z : a + 1 + i ≡ a + suc i = omega arith in blue_there (a + 1) n i (omega (arith, lt)) ∙ ap (λ j. Some (blue_row j)) z
+blue_there a (suc n) (suc i) lt = let z : a + 1 + i ≡ a + suc i = omega arith in
+    blue_there (a + 1) n i (omega (arith, lt)) ∙ ap (λ j. Some (blue_row j)) z
 
 -- after the green rows come the blue ones
-after_green : (a n : ℕ) (rest : List RegType) (i : ℕ) → slice_get (map green_row (range_with_len a n) ++ rest) (n + i) ≡ slice_get rest i
+after_green : (a n : ℕ) (rest : List RegType) (i : ℕ) → slice_get (map green_row (range_with_len a n) ++ rest) (n + i)
+    ≡ slice_get rest i
 after_green a zero rest i = let z : 0 + i ≡ i = omega arith in ap (slice_get rest) z
-after_green a (suc n) rest i = let z : suc n + i ≡ suc (n + i) = omega arith in ap (slice_get (map green_row (range_with_len a (suc n)) ++ rest)) z ∙ after_green (a + 1) n rest i
+after_green a (suc n) rest i = let z : suc n + i ≡ suc (n + i) = omega arith in
+    ap (slice_get (map green_row (range_with_len a (suc n)) ++ rest)) z ∙ after_green (a + 1) n rest i
 
 -- which row it is
-row_at : (n : ℕ) (xs : List RegType) (k : ℕ) (x : RegType) → AreRows n xs → slice_get xs k ≡ Some x → (i : ℕ) × (i < n) × ((x ≡ green_row i) ⊎ (x ≡ blue_row i))
+row_at : (n : ℕ) (xs : List RegType) (k : ℕ) (x : RegType) → AreRows n xs → slice_get xs k ≡ Some x → (i : ℕ) × (i < n)
+    × ((x ≡ green_row i) ⊎ (x ≡ blue_row i))
 row_at n [] k x h e = cc
-row_at n (y ∷ ys) zero x h e = let f : y ≡ x = cc in subst (λ z. (i : ℕ) × (i < n) × ((z ≡ green_row i) ⊎ (z ≡ blue_row i))) f h.0
+row_at n (y ∷ ys) zero x h e = let f : y ≡ x = cc in
+    subst (λ z. (i : ℕ) × (i < n) × ((z ≡ green_row i) ⊎ (z ≡ blue_row i))) f h.0
 row_at n (y ∷ ys) (suc k) x h e = row_at n ys k x h.1 e
 
 module _ (o : Object) (vars : ℕ) (T : HasTypes o vars) where
@@ -276,31 +361,39 @@ module _ (o : Object) (vars : ℕ) (T : HasTypes o vars) where
   all_rows = map green_row (range_with_len 0 vars) ++ map blue_row (range_with_len 0 vars)
 
   -- the rows say one thing of each register
-  green_only : (q : ℕ) → q < vars → (n : ℕ) (x : RegType) → slice_get all_rows n ≡ Some x → (green q).number ≡ x.reg.number → typed_row o x ≡ ty Green int (integer_form_of o (1 + q))
+  green_only : (q : ℕ) → q < vars → (n : ℕ) (x : RegType) → slice_get all_rows n ≡ Some x → (green q).number
+      ≡ x.reg.number → typed_row o x ≡ ty Green int (integer_form_of o (1 + q))
   green_only q lt n x e f = go (row_at vars all_rows n x (type_rows vars) e)
     where
       few : vars ≤ 32
       few = T.few
 
-      go : (i : ℕ) × (i < vars) × ((x ≡ green_row i) ⊎ (x ≡ blue_row i)) → typed_row o x ≡ ty Green int (integer_form_of o (1 + q))
+      go : (i : ℕ) × (i < vars) × ((x ≡ green_row i) ⊎ (x ≡ blue_row i)) → typed_row o x
+          ≡ ty Green int (integer_form_of o (1 + q))
       go (i, li, inl g) =
           let h : (green q).number ≡ (green i).number = f ∙ ap (λ (z : RegType). z.reg.number) g in
-          let same : i ≡ q = sym (green_number i (omega (arith, few, li))) ∙ sym h ∙ green_number q (omega (arith, few, lt)) in
+          let same : i ≡ q = sym (green_number i (omega (arith, few, li))) ∙ sym h
+          ∙ green_number q (omega (arith, few, lt)) in
           ap (typed_row o) g ∙ ap (λ j. ty Green int (integer_form_of o (1 + j))) same
-      go (i, li, inr g) = absurd (green_is_not_blue i q (omega (arith, few, li)) (omega (arith, few, lt)) (f ∙ ap (λ (z : RegType). z.reg.number) g))
+      go (i, li, inr g) = absurd (green_is_not_blue i q (omega (arith, few, li)) (omega (arith, few, lt)) (f
+          ∙ ap (λ (z : RegType). z.reg.number) g))
 
   -- and the blue ones
-  blue_only : (q : ℕ) → q < vars → (n : ℕ) (x : RegType) → slice_get all_rows n ≡ Some x → (blue q).number ≡ x.reg.number → typed_row o x ≡ ty Blue int (integer_form_of o (1 + q))
+  blue_only : (q : ℕ) → q < vars → (n : ℕ) (x : RegType) → slice_get all_rows n ≡ Some x → (blue q).number
+      ≡ x.reg.number → typed_row o x ≡ ty Blue int (integer_form_of o (1 + q))
   blue_only q lt n x e f = go (row_at vars all_rows n x (type_rows vars) e)
     where
       few : vars ≤ 32
       few = T.few
 
-      go : (i : ℕ) × (i < vars) × ((x ≡ green_row i) ⊎ (x ≡ blue_row i)) → typed_row o x ≡ ty Blue int (integer_form_of o (1 + q))
-      go (i, li, inl g) = absurd (blue_is_not_green i q (omega (arith, few, li)) (omega (arith, few, lt)) (f ∙ ap (λ (z : RegType). z.reg.number) g))
+      go : (i : ℕ) × (i < vars) × ((x ≡ green_row i) ⊎ (x ≡ blue_row i)) → typed_row o x
+          ≡ ty Blue int (integer_form_of o (1 + q))
+      go (i, li, inl g) = absurd (blue_is_not_green i q (omega (arith, few, li)) (omega (arith, few, lt)) (f
+          ∙ ap (λ (z : RegType). z.reg.number) g))
       go (i, li, inr g) =
           let h : (blue q).number ≡ (blue i).number = f ∙ ap (λ (z : RegType). z.reg.number) g in
-          let k : 32 + i ≡ 32 + q = sym (blue_number i (omega (arith, few, li))) ∙ sym h ∙ blue_number q (omega (arith, few, lt)) in
+          let k : 32 + i ≡ 32 + q = sym (blue_number i (omega (arith, few, li))) ∙ sym h
+          ∙ blue_number q (omega (arith, few, lt)) in
           let same : i ≡ q = omega arith in
           ap (typed_row o) g ∙ ap (λ j. ty Blue int (integer_form_of o (1 + j))) same
 
@@ -314,7 +407,8 @@ module _ (o : Object) (vars : ℕ) (T : HasTypes o vars) where
   type_of_block (suc b) = 1
 
   -- what is known where block b begins is what its code type says
-  pub begins_good : (b : ℕ) → IsGood o (scope_of_block vars b) (known_first vars b) first_pairs 0 (start_context o (type_of_block b))
+  pub begins_good : (b : ℕ) → IsGood o (scope_of_block vars b) (known_first vars b) first_pairs 0
+      (start_context o (type_of_block b))
   unfolding registers_after
   begins_good zero = record {
     green_pair = λ q known. absurd (no known);
@@ -333,12 +427,16 @@ module _ (o : Object) (vars : ℕ) (T : HasTypes o vars) where
     green_pair = λ q known.
         let lt : q < vars = ltb-true q vars known in
         ap (λ xs. finite.get (registers_after o finite.empty xs) (green q).number) T.rows
-        ∙ row_there o finite.empty all_rows (green q).number (ty Green int (integer_form_of o (1 + q))) q (green_row (0 + q)) (green_there 0 vars q (map blue_row (range_with_len 0 vars)) lt) (let z : q ≡ 0 + q = omega arith in ap (λ j. (green j).number) z) (green_only q lt)
+        ∙ row_there o finite.empty all_rows (green q).number (ty Green int (integer_form_of o (1 + q))) q
+        (green_row (0 + q)) (green_there 0 vars q (map blue_row (range_with_len 0 vars)) lt) (let z : q
+        ≡ 0 + q = omega arith in ap (λ j. (green j).number) z) (green_only q lt)
         ∙ ap (λ n. Some (ty Green int (integer_form_of o n))) (first_node q lt);
     blue_pair = λ q known.
         let lt : q < vars = ltb-true q vars known in
         ap (λ xs. finite.get (registers_after o finite.empty xs) (blue q).number) T.rows
-        ∙ row_there o finite.empty all_rows (blue q).number (ty Blue int (integer_form_of o (1 + q))) (vars + q) (blue_row (0 + q)) (after_green 0 vars (map blue_row (range_with_len 0 vars)) q ∙ blue_there 0 vars q lt) (let z : q ≡ 0 + q = omega arith in ap (λ j. (blue j).number) z) (blue_only q lt)
+        ∙ row_there o finite.empty all_rows (blue q).number (ty Blue int (integer_form_of o (1 + q))) (vars + q)
+        (blue_row (0 + q)) (after_green 0 vars (map blue_row (range_with_len 0 vars)) q
+        ∙ blue_there 0 vars q lt) (let z : q ≡ 0 + q = omega arith in ap (λ j. (blue j).number) z) (blue_only q lt)
         ∙ ap (λ n. Some (ty Blue int (integer_form_of o n))) (first_node q lt);
     small = λ q known. let lt : q < vars = ltb-true q vars known in let few = T.few in omega arith;
     many = length-range_with_len 1 32;

@@ -1,5 +1,6 @@
 -- Lists: beginnings, and what stands where.
-use Rattle.std.proofs.Common.{◌≡◌, ℕ, ◌≤◌, List, [], ◌∷◌, ◌++◌, length, Some, refl, sym, ap, ◌∙◌, subst, arith, append_assoc, length-append, slice_get}
+use Rattle.std.proofs.Common.{◌≡◌, ℕ, ◌≤◌, List, [], ◌∷◌, ◌++◌, length, Some, refl, sym, ap, ◌∙◌, subst, arith}
+use Rattle.std.proofs.Common.{append_assoc, length-append, slice_get}
 use Rattle.std.proofs.lemmas.List.{append-nil}
 use Rattle.ft_isa.proofs.Lists.{there_front}
 
@@ -20,7 +21,8 @@ pub starts_length : {X : Type 0} (xs ys : List X) → Starts xs ys → length xs
 starts_length xs ys p = let e = length-append xs p.0 in let f = ap length p.1 in omega arith
 
 -- what stands in a beginning stands in the whole
-pub get_starts : {X : Type 0} (xs ys : List X) (k : ℕ) (x : X) → Starts xs ys → slice_get xs k ≡ Some x → slice_get ys k ≡ Some x
+pub get_starts : {X : Type 0} (xs ys : List X) (k : ℕ) (x : X) → Starts xs ys → slice_get xs k ≡ Some x → slice_get ys k
+    ≡ Some x
 get_starts xs ys k x p e = subst (λ l. slice_get l k ≡ Some x) p.1 (there_front xs p.0 k x e)
 
 -- what begins with one more begins

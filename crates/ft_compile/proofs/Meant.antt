@@ -1,16 +1,15 @@
 -- The run of an object that carries a program's blocks, and the meaning of the program.
-use Rattle.std.proofs.Common.{◌≡◌, ◌≢◌, ℕ, zero, suc, ◌+◌, ◌-◌, ◌*◌, ◌≤◌, Bool, true, false, cond, [], ◌++◌, Option, Some, None, inl, inr, refl, sym, ap, ◌∙◌, subst, arith}
-use Rattle.std.specs.Option.{option_to_list}
-use Rattle.std.proofs.lemmas.Bool.{cases_lt}
+use Rattle.std.proofs.Common.{◌≡◌, ◌≢◌, ℕ, zero, suc, ◌+◌, ◌*◌, ◌≤◌, Bool, true, false, cond, [], Option, Some, None}
+use Rattle.std.proofs.Common.{refl, sym, ap, ◌∙◌, subst, arith}
 use Rattle.ft_semantics.specs.declared.status.Status.{Status}
 use Rattle.ft_semantics.specs.declared.status.Status.TheVariants.{Running, Done, Detected}
 use Rattle.ft_types.specs.declared.object.Object.{Object}
-use Rattle.ft_semantics.specs.Step.{step, step_at}
-use Rattle.ft_semantics.specs.Run.{Ran, extended, run}
+use Rattle.ft_semantics.specs.Run.{Ran, run}
+use Rattle.ft_semantics.proofs.Runs.{HasStopped, run_stays, run_stops_once, run_goes_on, outputs_grow}
 use Rattle.ft_scope.specs.Resolved.{Program}
 use Rattle.ft_meaning.specs.Meaning.{State, Outcome, Ended, outputs, meaning}
 use Rattle.ft_meaning.specs.Begins.{Begins}
-use Rattle.ft_meaning.proofs.Longer.{begins_refl, begins_trans}
+use Rattle.ft_simulation.proofs.Lists.{begins_on}
 use Rattle.ft_lower.specs.declared.step3.Step3.{Step3}
 use Rattle.ft_lower.specs.declared.step3.Step3.TheVariants.{Put, Copy, Op, Load, Store, LoadAt, StoreAt, Exit, Go, Stop}
 use Rattle.ft_lower.specs.Flow.{Blocks, FlowState, flow_step, flow_run, flow_start}
@@ -20,55 +19,12 @@ use Rattle.ft_lower.specs.Size.{size}
 use Rattle.ft_dup.specs.Doubles.{words_of, cost, cost_if, Doubles}
 use Rattle.ft_compile.specs.StandsFor.{RunsAsMeant}
 use Rattle.ft_compile.specs.Laws.{CarriedBlocksRunAsMeant}
-use Rattle.std.proofs.lemmas.List.{append-nil}
 
 -- MACHINE RUNS
 
 -- the run without a strike and without answers to wild loads
 abbrev ran : Object → ℕ → Ran
 ran o n = run o None [] n
-
--- one step more
-ran_more : (o : Object) (n : ℕ) → ran o (suc n) ≡ extended (ran o n).outputs (step o (ran o n).state (ran o n).wild)
-unfolding run
-ran_more o n = refl
-
--- the outputs so far begin those after n more steps
-more_begins : (o : Object) (n j : ℕ) → Begins (ran o n).outputs (ran o (n + j)).outputs
-more_begins o n zero = let e : n ≡ n + 0 = omega arith in subst (λ m. Begins (ran o n).outputs (ran o m).outputs) e (begins_refl (ran o n).outputs)
-more_begins o n (suc j) =
-    let e : suc (n + j) ≡ n + suc j = omega arith in
-    let r = ran o (n + j) in
-    let out = option_to_list (step o r.state r.wild).output in
-    let b : Begins (ran o n).outputs (r.outputs ++ out) = begins_trans (ran o n).outputs r.outputs (r.outputs ++ out) (more_begins o n j) (out, refl) in
-    subst (λ m. Begins (ran o n).outputs (ran o m).outputs) e (subst (λ (x : Ran). Begins (ran o n).outputs x.outputs) (sym (ran_more o (n + j))) b)
-
--- the outputs so far begin those of any later time
-later_begins : (o : Object) (n m : ℕ) → n ≤ m → Begins (ran o n).outputs (ran o m).outputs
-later_begins o n m le = let e : n + (m - n) ≡ m = omega arith in subst (λ x. Begins (ran o n).outputs (ran o x).outputs) e (more_begins o n (m - n))
-
--- the machine has stopped
-abbrev Stopped : Status → Type 0
-Stopped Running = ⊥
-Stopped Done = Unit {0}
-Stopped Detected = Unit {0}
-
--- a stopped machine takes no step
-stopped_step : (v : Status) (o : Object) (r : Ran) → Stopped v → extended r.outputs (step_at o v r.state r.wild) ≡ r
-stopped_step Running o r h = absurd h
-stopped_step Done o r h = let e = append-nil r.outputs in λ i. record { state = r.state; wild = r.wild; outputs = e i }
-stopped_step Detected o r h = let e = append-nil r.outputs in λ i. record { state = r.state; wild = r.wild; outputs = e i }
-
--- nor any number of them
-more_stays : (o : Object) (n j : ℕ) → Stopped (ran o n).state.status → ran o (n + j) ≡ ran o n
-more_stays o n zero h = let e : n + 0 ≡ n = omega arith in ap (ran o) e
-more_stays o n (suc j) h =
-    let e : n + suc j ≡ suc (n + j) = omega arith in
-    ap (ran o) e ∙ ran_more o (n + j) ∙ ap (λ (r : Ran). extended r.outputs (step o r.state r.wild)) (more_stays o n j h) ∙ stopped_step (ran o n).state.status o (ran o n) h
-
--- so it stays at any later time
-stays : (o : Object) (n m : ℕ) → n ≤ m → Stopped (ran o n).state.status → ran o m ≡ ran o n
-stays o n m le h = let e : m ≡ n + (m - n) = omega arith in ap (ran o) e ∙ more_stays o n (m - n) h
 
 -- WHAT FLOW STEPS COST
 
@@ -99,12 +55,12 @@ cost_most bs (suc k) f = omega (arith, cost_if_most f.done (flow.step_at bs f.pl
 -- STATUSES
 
 -- a machine that is done has stopped
-stopped_done : (x : Status) → x ≡ Done → Stopped x
-stopped_done x e = subst Stopped (sym e) tt
+stopped_done : (x : Status) → x ≡ Done → HasStopped x
+stopped_done x e = subst HasStopped (sym e) tt
 
 -- so has one that is detected
-stopped_detected : (x : Status) → x ≡ Detected → Stopped x
-stopped_detected x e = subst Stopped (sym e) tt
+stopped_detected : (x : Status) → x ≡ Detected → HasStopped x
+stopped_detected x e = subst HasStopped (sym e) tt
 
 -- no status is two
 done_undetected : (x : Status) → x ≡ Done → x ≡ Detected → ⊥
@@ -120,7 +76,8 @@ running_undone x p q = cc
 
 -- WHOLE RUNS
 
-module _ (p : Program) (o : Object) (vars : ℕ) (bs : Blocks) (L : Lowers p bs) (D : Doubles o vars bs []) (same : words_of o ≡ p.inits) where
+module _ (p : Program) (o : Object) (vars : ℕ) (bs : Blocks) (L : Lowers p bs) (D : Doubles o vars bs [])
+    (same : words_of o ≡ p.inits) where
   -- the flow after k steps, and what these cost
   abbrev at : ℕ → FlowState
   at k = flow_run bs p.inits k
@@ -158,22 +115,16 @@ module _ (p : Program) (o : Object) (vars : ℕ) (bs : Blocks) (L : Lowers p bs)
       let E = L.done n d in
       let out : (ran o c).outputs ≡ E.0.out = out_at n ∙ E.2 in
       let st : (ran o c).state.status ≡ Done = status_at n ∙ ap (λ b. cond b Done Running) d in
-      elim (cases_lt n c) [
-        | inl lt ↦ record {
-          undetected = λ e. done_undetected (ran o c).state.status st (ap (λ (r : Ran). r.state.status) (stays o n c (omega arith) (stopped_detected _ e)) ∙ e);
-          done = λ e. (E.0, E.1, sym (ap (λ (r : Ran). r.outputs) (stays o n c (omega arith) (stopped_done _ e))) ∙ out);
-          running = λ e. subst (λ (r : Outcome). Begins (ran o n).outputs (outputs r)) (sym E.1) (subst (λ x. Begins (ran o n).outputs x) out (later_begins o n c (omega arith)));
-        }
-        | inr le ↦
-            let stay = stays o c n le (stopped_done _ st) in
-            let st2 = ap (λ (r : Ran). r.state.status) stay ∙ st in
-            let out2 = ap (λ (r : Ran). r.outputs) stay ∙ out in
-            record {
-              undetected = λ e. done_undetected (ran o n).state.status st2 e;
-              done = λ e. (E.0, E.1, out2);
-              running = λ e. absurd (running_undone (ran o n).state.status e st2);
-            }
-      ]
+      let end = stopped_done _ st in
+      let same = λ (h : HasStopped (ran o n).state.status). run_stops_once o None [] n c h end in
+      record {
+        undetected = λ e. done_undetected _ (ap (λ (r : Ran). r.state.status) (same (stopped_detected _ e)) ∙ st) e;
+        done = λ e. (E.0, E.1, ap (λ (r : Ran). r.outputs) (same (stopped_done _ e)) ∙ out);
+        running = λ e.
+            let lt = run_goes_on o None [] n c (subst HasStopped e) end in
+            subst (λ (r : Outcome). Begins (ran o n).outputs (outputs r)) (sym E.1)
+            (subst (λ x. Begins (ran o n).outputs x) out (outputs_grow o None [] n c (omega (arith, lt))));
+      }
 
   -- where it is running
   seen_running : (n : ℕ) → (at n).done ≡ false → Seen n
@@ -183,9 +134,12 @@ module _ (p : Program) (o : Object) (vars : ℕ) (bs : Blocks) (L : Lowers p bs)
       let R = L.running n d in
       let st : (ran o c).state.status ≡ Running = status_at n ∙ ap (λ b. cond b Done Running) d in
       record {
-        undetected = λ e. running_undetected (ran o c).state.status st (ap (λ (r : Ran). r.state.status) (stays o n c le (stopped_detected _ e)) ∙ e);
-        done = λ e. absurd (running_undone (ran o c).state.status st (ap (λ (r : Ran). r.state.status) (stays o n c le (stopped_done _ e)) ∙ e));
-        running = λ e. begins_trans (ran o n).outputs (ran o c).outputs _ (later_begins o n c le) (subst (λ x. Begins x (outputs (meaning p n))) (sym (out_at n)) R);
+        undetected = λ e. running_undetected (ran o c).state.status st
+            (ap (λ (r : Ran). r.state.status) (run_stays o None [] n c le (stopped_detected _ e)) ∙ e);
+        done = λ e. absurd (running_undone (ran o c).state.status st
+            (ap (λ (r : Ran). r.state.status) (run_stays o None [] n c le (stopped_done _ e)) ∙ e));
+        running = λ e. begins_on (ran o n).outputs (ran o c).outputs _ (outputs_grow o None [] n c le)
+            (subst (λ x. Begins x (outputs (meaning p n))) (sym (out_at n)) R);
       }
 
   -- so it is in either case
@@ -203,12 +157,14 @@ module _ (p : Program) (o : Object) (vars : ℕ) (bs : Blocks) (L : Lowers p bs)
         let k = 2 * s.work + 40 in
         let E = L.ends k t s e (omega arith) in
         let st : (ran o (spent k)).state.status ≡ Done = status_at k ∙ ap (λ b. cond b Done Running) E.0 in
-        let stay = stays o (spent k) n (omega (arith, cost_most bs k (flow_start (words_of o)))) (stopped_done _ st) in
+        let stay = run_stays o None [] (spent k) n (omega (arith, cost_most bs k (flow_start (words_of o))))
+        (stopped_done _ st) in
         (ap (λ (r : Ran). r.state.status) stay ∙ st, ap (λ (r : Ran). r.outputs) stay ∙ out_at k ∙ E.1);
     cuts = λ n t s e le.
         let k = 2 * s.work + 40 in
         let E = L.cuts k t s e (omega arith) in
-        begins_trans s.out (ran o (spent k)).outputs _ (subst (λ x. Begins s.out x) (sym (out_at k)) E) (later_begins o (spent k) n (omega (arith, cost_most bs k (flow_start (words_of o)))));
+        begins_on s.out (ran o (spent k)).outputs _ (subst (λ x. Begins s.out x) (sym (out_at k)) E)
+        (outputs_grow o None [] (spent k) n (omega (arith, cost_most bs k (flow_start (words_of o)))));
   }
 
 -- the run of an object that carries a program's blocks is what the program means

@@ -22,17 +22,20 @@ bytes_same b = ap (λ x. x || is_digit b || spell.is_bracket b) (letters_same b)
 -- so are lists of them
 all_same : (bs : List ℕ) → list_all is_cell_byte bs ≡ list_all spell.is_name_byte bs
 all_same [] = refl
-all_same (b ∷ bs) = ap (λ x. x && list_all is_cell_byte bs) (bytes_same b) ∙ ap (λ x. spell.is_name_byte b && x) (all_same bs)
+all_same (b ∷ bs) = ap (λ x. x && list_all is_cell_byte bs) (bytes_same b)
+    ∙ ap (λ x. spell.is_name_byte b && x) (all_same bs)
 
 -- and names
 names_same : (t : List ℕ) → is_cell_text t ≡ spell.is_name t
 names_same [] = refl
-names_same (b ∷ bs) = ap (λ x. x && list_all is_cell_byte bs) (letters_same b) ∙ ap (λ x. spell.is_letter b && x) (all_same bs)
+names_same (b ∷ bs) = ap (λ x. x && list_all is_cell_byte bs) (letters_same b)
+    ∙ ap (λ x. spell.is_letter b && x) (all_same bs)
 
 -- the cells of a proper program are lawful in objects
 proper_cells : (p : Program) → IsProper p → AreCells p.names p.inits
 proper_cells p proper = record {
-  lawful = λ k d lt. let name = proper.names k d lt in record { bytes = sym (names_same (get_or p.names k d)) ∙ name.bytes; short = omega (arith, name.short) };
+  lawful = λ k d lt. let name = proper.names k d lt in
+      record { bytes = sym (names_same (get_or p.names k d)) ∙ name.bytes; short = omega (arith, name.short) };
   differ = proper.differ;
   as_many = proper.as_many;
   few = proper.limits.few;

@@ -1,5 +1,6 @@
 -- The object of well formed blocks carries them, and is spellable and accepted.
-use Rattle.std.proofs.Common.{◌≡◌, ◌≢◌, ℕ, zero, suc, ◌+◌, ◌<◌, ◌≤◌, true, false, ◌==◌, List, [], ◌∷◌, length, Some, refl, sym, ap, ◌∙◌, subst, arith, slice_get, map}
+use Rattle.std.proofs.Common.{◌≡◌, ◌≢◌, ℕ, zero, suc, ◌+◌, ◌<◌, ◌≤◌, true, false, ◌==◌, List, [], ◌∷◌, length, Some}
+use Rattle.std.proofs.Common.{refl, sym, ap, ◌∙◌, subst, arith, slice_get, map}
 use Rattle.std.specs.Prelude.{All, slice_range}
 use Rattle.std.specs.List.{AllPairs, find, zip}
 use Rattle.std.specs.Option.{option_map, unwrap_or}
@@ -16,7 +17,8 @@ use Rattle.ft_types.specs.declared.object.Cell.{Cell}
 use Rattle.ft_types.specs.declared.object.Block.{Block}
 use Rattle.ft_typing.specs.Accepted.{Applies, IsEntryType}
 use Rattle.ft_typing.specs.Context.{start_context}
-use Rattle.ft_types.specs.Objects.{name_of, basic_of, start_of as start_of_block, code_type_of, block_type, block_instrs}
+use Rattle.ft_types.specs.Objects.{name_of, basic_of, start_of as start_of_block, code_type_of, block_type}
+use Rattle.ft_types.specs.Objects.{block_instrs}
 use Rattle.ft_types.specs.Spellable.{IsCell, IsSpellable, Cover, substs_of, IsNodeIn, IsInstr}
 use Rattle.ft_isa.specs.BasicTypes.{code, int, ref}
 use Rattle.ft_typing.specs.TypedWord.{cell_type, run_type, block_at, HasType, has_type}
@@ -31,13 +33,18 @@ use Rattle.ft_dup.specs.Doubles.{bare, init_of_cell, IsIntCell, words_of}
 use Rattle.ft_dup.proofs.WellFormedBlocks.{starts_length}
 use Rattle.ft_dup.specs.Images.{starts, start_of, doubled}
 use Rattle.ft_compile.specs.Cells.{IsCellName, AreCells}
-use Rattle.ft_compile.specs.Emitted.{Noted, with_subst, substs_left, placed, blocks_at, block_from, cell_from, begun, scope_of_block, blocks_noted, at_first, noted, emitted}
+use Rattle.ft_compile.specs.Emitted.{Noted, with_subst, substs_left, placed, blocks_at, block_from, cell_from, begun}
+use Rattle.ft_compile.specs.Emitted.{scope_of_block, blocks_noted, at_first, noted, emitted}
 use Rattle.ft_compile.specs.Laws.{IsEmission, EmittedObjectsAreAccepted}
 use Rattle.ft_compile.proofs.Lists.{Starts, starts_refl, starts_trans, get_starts}
-use Rattle.ft_compile.proofs.Walked.{block_noted, block_grows, blocks_grow, RowsAreFine, well_rows, chain_covers, IsSound, begun_lawful, scope_within, noted_sound, row_sound, first_fine}
-use Rattle.ft_compile.proofs.Coded.{row_coded, rows_coded, joined, added_blocks, placed_blocks, joined_length, offsets, offsets_are_starts, cut_out}
-use Rattle.ft_compile.proofs.Counted.{nodes_blocks, rows_blocks, HaveSome, fine_have_some, blocks_few, start_within, places_of_blocks, find_block}
-use Rattle.ft_compile.proofs.Spelled.{instrs_blocks, substs_blocks, types_lawful, reg_rows_few, queue_rows_few, blocks_in_order, blocks_begin, blocks_typed, blocks_many}
+use Rattle.ft_compile.proofs.Walked.{block_noted, block_grows, blocks_grow, RowsAreFine, well_rows, chain_covers}
+use Rattle.ft_compile.proofs.Walked.{IsSound, begun_lawful, scope_within, noted_sound, row_sound, first_fine}
+use Rattle.ft_compile.proofs.Coded.{row_coded, rows_coded, joined, added_blocks, placed_blocks, joined_length, offsets}
+use Rattle.ft_compile.proofs.Coded.{offsets_are_starts, cut_out}
+use Rattle.ft_compile.proofs.Counted.{nodes_blocks, rows_blocks, HaveSome, fine_have_some, blocks_few, start_within}
+use Rattle.ft_compile.proofs.Counted.{places_of_blocks, find_block}
+use Rattle.ft_compile.proofs.Spelled.{instrs_blocks, substs_blocks, types_lawful, reg_rows_few, queue_rows_few}
+use Rattle.ft_compile.proofs.Spelled.{blocks_in_order, blocks_begin, blocks_typed, blocks_many}
 use Rattle.ft_compile.proofs.Leading.{row_applies, type_of_block, begins_good}
 use Rattle.std.proofs.lemmas.List.FromFn.{length-map-range_with_len}
 use Rattle.ft_compile.specs.Emitted.{node, variable_node}
@@ -46,20 +53,23 @@ use Rattle.ft_compile.proofs.BlockTypes.{HasTypes}
 -- CELLS
 
 -- the cells have the names
-names_of_cells : (names : List (List ℕ)) (inits : List ℕ) → length names ≡ length inits → map name_of (map cell_from (zip names inits)) ≡ names
+names_of_cells : (names : List (List ℕ)) (inits : List ℕ) → length names ≡ length inits →
+    map name_of (map cell_from (zip names inits)) ≡ names
 names_of_cells [] inits e = refl
 names_of_cells (n ∷ ns) [] e = absurd (omega (arith, e))
 names_of_cells (n ∷ ns) (w ∷ ws) e = ap (λ l. n ∷ l) (names_of_cells ns ws (omega (arith, e)))
 
 -- and the initial words
-words_of_cells : (names : List (List ℕ)) (inits : List ℕ) → length names ≡ length inits → map init_of_cell (map cell_from (zip names inits)) ≡ inits
+words_of_cells : (names : List (List ℕ)) (inits : List ℕ) → length names ≡ length inits →
+    map init_of_cell (map cell_from (zip names inits)) ≡ inits
 words_of_cells [] [] e = refl
 words_of_cells [] (w ∷ ws) e = absurd (omega (arith, e))
 words_of_cells (n ∷ ns) [] e = absurd (omega (arith, e))
 words_of_cells (n ∷ ns) (w ∷ ws) e = ap (λ l. w ∷ l) (words_of_cells ns ws (omega (arith, e)))
 
 -- and are as many
-many_cells : (names : List (List ℕ)) (inits : List ℕ) → length names ≡ length inits → length (map cell_from (zip names inits)) ≡ length inits
+many_cells : (names : List (List ℕ)) (inits : List ℕ) → length names ≡ length inits →
+    length (map cell_from (zip names inits)) ≡ length inits
 many_cells [] [] e = refl
 many_cells [] (w ∷ ws) e = absurd (omega (arith, e))
 many_cells (n ∷ ns) [] e = absurd (omega (arith, e))
@@ -71,13 +81,19 @@ int_cells [] = All-nil IsIntCell
 int_cells (x ∷ xs) = All-cons IsIntCell (cell_from x) (map cell_from xs) refl (int_cells xs)
 
 -- each obeys the rules
-lawful_cells : (names : List (List ℕ)) (inits : List ℕ) → All IsCellName names → All IsWord inits → All (IsCell 2) (map cell_from (zip names inits))
+lawful_cells : (names : List (List ℕ)) (inits : List ℕ) → All IsCellName names → All IsWord inits →
+    All (IsCell 2) (map cell_from (zip names inits))
 lawful_cells [] inits h k = All-nil (IsCell 2)
 lawful_cells (n ∷ ns) [] h k = All-nil (IsCell 2)
 lawful_cells (n ∷ ns) (w ∷ ws) h k =
     let a = All-head IsCellName n ns h in
     All-cons (IsCell 2) (cell_from (n, w)) (map cell_from (zip ns ws))
-    (record { name = a.bytes; name_length = a.short; basic = record { refs = omega arith; base = tt }; init = All-head IsWord w ws k })
+    (record {
+      name = a.bytes;
+      name_length = a.short;
+      basic = record { refs = omega arith; base = tt };
+      init = All-head IsWord w ws k;
+    })
     (lawful_cells ns ws (All-tail IsCellName n ns h) (All-tail IsWord w ws k))
 
 -- so does the cell at a place
@@ -87,7 +103,8 @@ cell_is_int (x ∷ xs) zero c e = let f : cell_from x ≡ c = cc in sym (ap basi
 cell_is_int (x ∷ xs) (suc k) c e = cell_is_int xs k c e
 
 -- each number of a cell is one of type `int`
-cell_there : (names : List (List ℕ)) (inits : List ℕ) (k : ℕ) → length names ≡ length inits → k < length inits → option_map basic_of (slice_get (map cell_from (zip names inits)) k) ≡ Some int
+cell_there : (names : List (List ℕ)) (inits : List ℕ) (k : ℕ) → length names ≡ length inits → k < length inits →
+    option_map basic_of (slice_get (map cell_from (zip names inits)) k) ≡ Some int
 cell_there [] [] k e lt = absurd (omega (arith, lt))
 cell_there [] (w ∷ ws) k e lt = absurd (omega (arith, e))
 cell_there (n ∷ ns) [] k e lt = absurd (omega (arith, e))
@@ -98,31 +115,28 @@ cell_there (n ∷ ns) (w ∷ ws) (suc k) e lt = cell_there ns ws k (omega (arith
 
 -- a substitution in place changes nothing else
 bare_subst : (i : Instr) (us : List Subst) → bare (with_subst i us) ≡ bare i
-bare_subst (instr.OpReg o rd rs rt) us = refl
-bare_subst (instr.OpWord o rd rs v) us = refl
-bare_subst (instr.Mov rd v b) us = refl
-bare_subst (instr.Ld c rd rs) us = refl
-bare_subst (instr.St c rd rs) us = refl
-bare_subst (instr.JmpG rd) us = refl
 bare_subst (instr.JmpB rd t) [] = refl
 bare_subst (instr.JmpB rd t) (u ∷ us) = refl
-bare_subst (instr.BzG rz rd) us = refl
 bare_subst (instr.BzB rz rd t) [] = refl
 bare_subst (instr.BzB rz rd t) (u ∷ us) = refl
-bare_subst instr.Halt us = refl
-bare_subst (instr.Idx rd rs first m) us = refl
+bare_subst i us = refl
 
 -- nor do all of them
 bare_placed : (us : List Subst) (is : List Instr) → map bare (placed us is) ≡ map bare is
 bare_placed us [] = refl
-bare_placed us (i ∷ is) = ap (λ x. x ∷ map bare (placed (substs_left i us) is)) (bare_subst i us) ∙ ap (λ l. bare i ∷ l) (bare_placed (substs_left i us) is)
+bare_placed us (i ∷ is) = ap (λ x. x ∷ map bare (placed (substs_left i us) is)) (bare_subst i us)
+    ∙ ap (λ l. bare i ∷ l) (bare_placed (substs_left i us) is)
 
 -- BLOCKS
 
 -- a block has the code type of its place
-code_type_is : (o : Object) (vars : ℕ) (T : HasTypes o vars) (ss : List ℕ) (b : ℕ) (x : Block) → slice_get (blocks_at ss) b ≡ Some x → x.code_type ≡ type_of_block o vars T b
+code_type_is : (o : Object) (vars : ℕ) (T : HasTypes o vars) (ss : List ℕ) (b : ℕ) (x : Block) →
+    slice_get (blocks_at ss) b ≡ Some x → x.code_type ≡ type_of_block o vars T b
 code_type_is o vars T [] b x e = cc
-code_type_is o vars T (s ∷ ss) zero x e = let f : Rattle.std.proofs.Common.◌≡◌ {A = Block} (record { start = s; code_type = 0 }) x = cc in sym (ap code_type_of f)
+code_type_is o vars T (s ∷ ss) zero x e = let f : Rattle.std.proofs.Common.◌≡◌ {A = Block} (record {
+  start = s;
+  code_type = 0;
+}) x = cc in sym (ap code_type_of f)
 code_type_is o vars T (s ∷ ss) (suc b) x e = others ss b x e
   where
     others : (ts : List ℕ) (k : ℕ) (y : Block) → slice_get (map block_from ts) k ≡ Some y → y.code_type ≡ 1
@@ -141,12 +155,15 @@ first_there [] h lt = absurd (omega (arith, lt))
 first_there (x ∷ xs) h lt = omega (arith, h.0)
 
 -- a target's code address is that of a block of code type 1
-target_found : (bs : Blocks) (to : ℕ) → HaveSome bs → IsTarget (length bs) to → option_map code_type_of (find (λ (c : Block). code_address (start_of bs to) == code_address c.start) (blocks_at (starts bs))) ≡ Some 1
+target_found : (bs : Blocks) (to : ℕ) → HaveSome bs → IsTarget (length bs) to →
+    option_map code_type_of (find (λ (c : Block). code_address (start_of bs to) == code_address c.start)
+    (blocks_at (starts bs))) ≡ Some 1
 target_found [] to h t = absurd (omega (arith, t.there))
 target_found (x ∷ xs) zero h t = absurd (omega (arith, t.no_entry))
 target_found (x ∷ xs) (suc b) h t = ap (option_map code_type_of) (find_block x xs b h.0 (omega (arith, t.there)))
 
-module _ (names : List (List ℕ)) (inits : List ℕ) (vars : ℕ) (bs : Blocks) (C : AreCells names inits) (F : vars ≤ 32) (W : IsWell vars (length inits) bs) where
+module _ (names : List (List ℕ)) (inits : List ℕ) (vars : ℕ) (bs : Blocks) (C : AreCells names inits) (F : vars ≤ 32)
+    (W : IsWell vars (length inits) bs) where
   -- the object
   abbrev o : Object
   o = emitted names inits vars bs
@@ -173,7 +190,8 @@ module _ (names : List (List ℕ)) (inits : List ℕ) (vars : ℕ) (bs : Blocks)
 
   -- the instructions are those of the rows, one after another
   instrs_are : o.instrs ≡ joined vars start rows
-  instrs_are = ap (λ us. placed us (doubled bs)) (added_blocks vars start 0 (at_first vars) bs) ∙ placed_blocks vars start 0 (at_first vars) bs
+  instrs_are = ap (λ us. placed us (doubled bs)) (added_blocks vars start 0 (at_first vars) bs)
+      ∙ placed_blocks vars start 0 (at_first vars) bs
 
   -- so there are as many as the blocks become
   instrs_many : length o.instrs ≡ blocks_size bs
@@ -182,7 +200,9 @@ module _ (names : List (List ℕ)) (inits : List ℕ) (vars : ℕ) (bs : Blocks)
   -- the nodes obey the rules
   nodes_lawful : AreNodes o.nodes
   nodes_lawful = record {
-    few = let n = nodes_blocks vars 0 (at_first vars) bs in let m : length (at_first vars).nodes ≡ suc vars = ap suc (length-map-range_with_len (variable_node vars) 0 vars) in let s = W.short in let f = F in omega arith;
+    few = let n = nodes_blocks vars 0 (at_first vars) bs in let m : length (at_first vars).nodes
+        ≡ suc vars = ap suc (length-map-range_with_len (variable_node vars) 0 vars) in let s = W.short in let f = F in
+        omega arith;
     each = sound.fine;
   }
 
@@ -212,7 +232,8 @@ module _ (names : List (List ℕ)) (inits : List ℕ) (vars : ℕ) (bs : Blocks)
 
   -- the substitutions of the instructions are those that were noted
   substs_are : substs_of o.instrs ≡ (noted vars bs).substs
-  substs_are = ap substs_of instrs_are ∙ substs_blocks vars start 0 (at_first vars) bs ∙ sym (added_blocks vars start 0 (at_first vars) bs)
+  substs_are = ap substs_of instrs_are ∙ substs_blocks vars start 0 (at_first vars) bs
+      ∙ sym (added_blocks vars start 0 (at_first vars) bs)
 
   -- there are as many blocks
   pub block_count : length o.blocks ≡ length bs
@@ -248,9 +269,12 @@ module _ (names : List (List ℕ)) (inits : List ℕ) (vars : ℕ) (bs : Blocks)
     block_types = blocks_typed (starts bs);
     some_instr = let e = instrs_many in let f = first_there bs some W.some in omega arith;
     few_instrs = let e = instrs_many in let s = W.short in omega arith;
-    instrs = subst (λ n. All (IsInstr 2 n) o.instrs) (sym cell_count) (subst (All (IsInstr 2 (length inits))) (sym instrs_are) (instrs_blocks vars start (length inits) (length bs) C.few address_words 0 (at_first vars) bs fine));
+    instrs = subst (λ n. All (IsInstr 2 n) o.instrs) (sym cell_count)
+        (subst (All (IsInstr 2 (length inits))) (sym instrs_are)
+        (instrs_blocks vars start (length inits) (length bs) C.few address_words 0 (at_first vars) bs fine));
     few_substs = let r = rows_blocks vars 0 (at_first vars) bs F in let s = W.short in omega arith;
-    covered = subst (Cover o.nodes (length o.substs) 0) (sym substs_are) (chain_covers o.nodes o.substs 0 (noted vars bs).substs sound.covered.chain);
+    covered = subst (Cover o.nodes (length o.substs) 0) (sym substs_are)
+        (chain_covers o.nodes o.substs 0 (noted vars bs).substs sound.covered.chain);
     substs = sound.covered.rows;
     entry = let c = block_count in let s = W.some in omega arith;
   }
@@ -269,7 +293,8 @@ module _ (names : List (List ℕ)) (inits : List ℕ) (vars : ℕ) (bs : Blocks)
   arrays : (begin many : ℕ) → RunFits (length inits) (Run begin many) → run_type o begin many ≡ Some int
   arrays begin many fits =
       let within : begin + many ≤ length o.cells = omega (arith, cell_count, fits.2) in
-      (run_type_is o begin many int fits.0 within).1 (record { each = λ k lt. type_there (begin + k) (omega (arith, lt, fits.2)); referable = omega arith })
+      (run_type_is o begin many int fits.0 within).1
+      (record { each = λ k lt. type_there (begin + k) (omega (arith, lt, fits.2)); referable = omega arith })
 
   -- the code address of a jump's target has that of a block of code type 1
   targets : (b : ℕ) → IsTarget (length bs) b → has_type o (code_address (start b)) (code 1) ≡ true
@@ -277,7 +302,11 @@ module _ (names : List (List ℕ)) (inits : List ℕ) (vars : ℕ) (bs : Blocks)
   targets b t = (has_type_decides o (code_address (start b)) (code 1)).1 (target_found bs b some t)
 
   -- the rows of each block's instructions apply
-  rows_apply : (b : ℕ) (w : Noted) (xs : Blocks) → RowsAreFine vars (length inits) (length bs) b xs → Starts (at_first vars).nodes w.nodes → Starts (blocks_noted vars b w xs).nodes o.nodes → Starts (blocks_noted vars b w xs).rows o.substs → IsSound o.nodes o.substs w → (j : ℕ) (r : List Instr) → slice_get (rows_coded vars start b w xs) j ≡ Some r → Applies o (start_context o (type_of_block o vars types (b + j))) r
+  rows_apply : (b : ℕ) (w : Noted) (xs : Blocks) → RowsAreFine vars (length inits) (length bs) b xs →
+      Starts (at_first vars).nodes w.nodes → Starts (blocks_noted vars b w xs).nodes o.nodes →
+      Starts (blocks_noted vars b w xs).rows o.substs → IsSound o.nodes o.substs w → (j : ℕ) (r : List Instr) →
+      slice_get (rows_coded vars start b w xs) j ≡ Some r →
+      Applies o (start_context o (type_of_block o vars types (b + j))) r
   rows_apply b w [] f s sn sr h j r e = cc
   rows_apply b w (x ∷ xs) f s sn sr h zero r e =
       let v = block_noted vars b w x in
@@ -289,7 +318,8 @@ module _ (names : List (List ℕ)) (inits : List ℕ) (vars : ℕ) (bs : Blocks)
       let z : b ≡ b + 0 = omega arith in
       subst (λ n. Applies o (start_context o (type_of_block o vars types n)) r) z
       (subst (Applies o (start_context o (type_of_block o vars types b))) q
-      (row_applies o vars types (length inits) (length bs) start C.few refs arrays targets (scope_of_block vars b) (known_first vars b) (begun w) (start_context o (type_of_block o vars types b)) x
+      (row_applies o vars types (length inits) (length bs) start C.few refs arrays targets (scope_of_block vars b)
+      (known_first vars b) (begun w) (start_context o (type_of_block o vars types b)) x
       (scope_within vars b F) f.0.ended f.0.well f.0.pairs hn hr
       (begun_lawful o.nodes vars b w F s (starts_trans w.nodes v.nodes o.nodes wg.nodes hn) h.fine)
       (begins_good o vars types b)))
@@ -302,38 +332,50 @@ module _ (names : List (List ℕ)) (inits : List ℕ) (vars : ℕ) (bs : Blocks)
       let z : suc b + j ≡ b + suc j = omega arith in
       subst (λ n. Applies o (start_context o (type_of_block o vars types n)) r) z
       (rows_apply (suc b) v xs f.1 (starts_trans (at_first vars).nodes w.nodes v.nodes s wg.nodes) sn sr
-      (row_sound o.nodes o.substs vars (scope_of_block vars b) (length inits) (length bs) (known_first vars b) (begun w) x F (scope_within vars b F) C.few f.0.well f.0.pairs hn hr
+      (row_sound o.nodes o.substs vars (scope_of_block vars b) (length inits) (length bs) (known_first vars b) (begun w)
+      x F (scope_within vars b F) C.few f.0.well f.0.pairs hn hr
       (begun_lawful o.nodes vars b w F s (starts_trans w.nodes v.nodes o.nodes wg.nodes hn) h.fine)
       (record { rows = h.covered.rows; chain = h.covered.chain }))
       j r e)
 
   -- each block has its row
-  pub row_of_block : (b : ℕ) (w : Noted) (xs : Blocks) (j : ℕ) → j < length xs → (r : List Instr) × (slice_get (rows_coded vars start b w xs) j ≡ Some r)
+  pub row_of_block : (b : ℕ) (w : Noted) (xs : Blocks) (j : ℕ) → j < length xs → (r : List Instr)
+      × (slice_get (rows_coded vars start b w xs) j ≡ Some r)
   row_of_block b w [] j lt = absurd (omega (arith, lt))
   row_of_block b w (x ∷ xs) zero lt = (row_coded vars start (scope_of_block vars b) (begun w) x, refl)
   row_of_block b w (x ∷ xs) (suc j) lt = row_of_block (suc b) (block_noted vars b w x) xs j (omega (arith, lt))
 
   -- where a block begins
   place_is : (b : ℕ) → option_map start_of_block (slice_get o.blocks b) ≡ slice_get (offsets vars start 0 rows) b
-  place_is b = sym (slice_get-map start_of_block o.blocks b) ∙ ap (λ l. slice_get l b) (places_of_blocks (starts bs) ∙ sym (offsets_are_starts vars start 0 0 (at_first vars) bs))
+  place_is b = sym (slice_get-map start_of_block o.blocks b)
+      ∙ ap (λ l. slice_get l b) (places_of_blocks (starts bs)
+      ∙ sym (offsets_are_starts vars start 0 0 (at_first vars) bs))
 
   -- the instructions of a block are its row
   pub block_is_row : (b : ℕ) (r : List Instr) → slice_get rows b ≡ Some r → block_instrs o b ≡ r
   block_is_row b r e =
-      ap (λ p. slice_range o.instrs (unwrap_or p 0) (unwrap_or (option_map start_of_block (slice_get o.blocks (suc b))) (length o.instrs))) (place_is b)
-      ∙ ap (λ p. slice_range o.instrs (unwrap_or (slice_get (offsets vars start 0 rows) b) 0) (unwrap_or p (length o.instrs))) (place_is (suc b))
-      ∙ ap (λ l. slice_range l (unwrap_or (slice_get (offsets vars start 0 rows) b) 0) (unwrap_or (slice_get (offsets vars start 0 rows) (suc b)) (length l))) instrs_are
+      ap (λ p. slice_range o.instrs (unwrap_or p 0) (unwrap_or (option_map start_of_block (slice_get o.blocks (suc b)))
+      (length o.instrs))) (place_is b)
+      ∙ ap (λ p. slice_range o.instrs (unwrap_or (slice_get (offsets vars start 0 rows) b) 0)
+      (unwrap_or p (length o.instrs))) (place_is (suc b))
+      ∙ ap (λ l. slice_range l (unwrap_or (slice_get (offsets vars start 0 rows) b) 0)
+      (unwrap_or (slice_get (offsets vars start 0 rows) (suc b)) (length l))) instrs_are
       ∙ cut_out vars start rows b r e
 
   -- so the rows of the instructions of each block apply
-  blocks_apply : (b : ℕ) (x : Block) → slice_get o.blocks b ≡ Some x → Applies o (start_context o x.code_type) (block_instrs o b)
+  blocks_apply : (b : ℕ) (x : Block) → slice_get o.blocks b ≡ Some x →
+      Applies o (start_context o x.code_type) (block_instrs o b)
   blocks_apply b x e =
       let lt : b < length bs = let c = block_count in omega (arith, slice_get_within o.blocks b x e) in
       let R = row_of_block 0 (at_first vars) bs b lt in
       let z : 0 + b ≡ b = omega arith in
       let whole = noted vars bs in
-      let h = rows_apply 0 (at_first vars) bs fine (starts_refl (at_first vars).nodes) (starts_refl whole.nodes) (starts_refl whole.rows)
-      (record { fine = first_fine whole.nodes vars F; covered = record { rows = All-nil (IsNodeIn whole.nodes 128 false); chain = refl } }) b R.0 R.1 in
+      let h = rows_apply 0 (at_first vars) bs fine (starts_refl (at_first vars).nodes) (starts_refl whole.nodes)
+      (starts_refl whole.rows)
+      (record {
+        fine = first_fine whole.nodes vars F;
+        covered = record { rows = All-nil (IsNodeIn whole.nodes 128 false); chain = refl };
+      }) b R.0 R.1 in
       subst (λ t. Applies o (start_context o t) (block_instrs o b)) (sym (code_type_is o vars types (starts bs) b x e))
       (subst (λ l. Applies o (start_context o (type_of_block o vars types b)) l) (sym (block_is_row b R.0 R.1))
       (subst (λ n. Applies o (start_context o (type_of_block o vars types n)) R.0) z h))
@@ -344,7 +386,12 @@ module _ (names : List (List ℕ)) (inits : List ℕ) (vars : ℕ) (bs : Blocks)
     ints = refl;
     regs = refl;
     queue = refl;
-    memory = record { node = node 0 shape.Memory; found = get_starts (at_first vars).nodes o.nodes 0 (node 0 shape.Memory) first_nodes refl; shape = refl };
+    memory = record {
+      node = node 0 shape.Memory;
+      found =
+          get_starts (at_first vars).nodes o.nodes 0 (node 0 shape.Memory) first_nodes refl;
+      shape = refl;
+    };
   })
 
   -- each initial word has the type of its cell

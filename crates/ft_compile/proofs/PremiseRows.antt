@@ -14,7 +14,8 @@ use Rattle.ft_types.specs.declared.object.Object.{Object}
 use Rattle.ft_typing.specs.Context.{Typed, Context, typed, with_type}
 use Rattle.ft_isa.specs.BasicTypes.{int, ref}
 use Rattle.ft_typing.specs.TypedWord.{has_type, is_seen_as, same_basic, run_type}
-use Rattle.ft_typing.specs.TypingRow.{Goes, same_colour, need, for_typed, for_ref_over, for_oldest, for_run, pending_memory, run_form, row}
+use Rattle.ft_typing.specs.TypingRow.{Goes, same_colour, need, for_typed, for_ref_over, for_oldest, for_run}
+use Rattle.ft_typing.specs.TypingRow.{pending_memory, run_form, row}
 use Rattle.ft_types.proofs.Maps.{get-insert}
 use Rattle.ft_typing.proofs.TypedWords.{same_colours}
 
@@ -43,41 +44,55 @@ has_int o v = refl
 
 module _ (o : Object) where
   -- a move
-  pub mov_row : (c : Context) (rd : Reg) (v : ℕ) (k : Colour) (b : Basic) → has_type o v b ≡ true → row o c (instr.Mov rd (record { colour = k; word = v }) b) ≡ Goes (with_type rd.number (ty k b (constant v)) c)
+  pub mov_row : (c : Context) (rd : Reg) (v : ℕ) (k : Colour) (b : Basic) → has_type o v b ≡ true →
+      row o c (instr.Mov rd (record { colour = k; word = v }) b) ≡ Goes (with_type rd.number (ty k b (constant v)) c)
   unfolding need
   mov_row c rd v k b h = rw h refl
 
   -- an operation on two registers
-  pub op_row : (c : Context) (p : Operator) (rd rs rt : Reg) (k : Colour) (a b : Basic) (x y : Polynomial) → typed c rs.number ≡ Some (ty k a x) → typed c rt.number ≡ Some (ty k b y) → row o c (instr.OpReg p rd rs rt) ≡ Goes (with_type rd.number (ty k int (norm_op p x y)) c)
+  pub op_row : (c : Context) (p : Operator) (rd rs rt : Reg) (k : Colour) (a b : Basic) (x y : Polynomial) →
+      typed c rs.number ≡ Some (ty k a x) → typed c rt.number ≡ Some (ty k b y) → row o c (instr.OpReg p rd rs rt)
+      ≡ Goes (with_type rd.number (ty k int (norm_op p x y)) c)
   unfolding need for_typed
   op_row c p rd rs rt k a b x y hs ht = rw (hs, ht, same_colours k) refl
 
   -- an operation with a word
-  pub op_word_row : (c : Context) (p : Operator) (rd rs : Reg) (v : ℕ) (k : Colour) (a : Basic) (x : Polynomial) → typed c rs.number ≡ Some (ty k a x) → row o c (instr.OpWord p rd rs (record { colour = k; word = v })) ≡ Goes (with_type rd.number (ty k int (norm_op p x (constant v))) c)
+  pub op_word_row : (c : Context) (p : Operator) (rd rs : Reg) (v : ℕ) (k : Colour) (a : Basic) (x : Polynomial) →
+      typed c rs.number ≡ Some (ty k a x) → row o c (instr.OpWord p rd rs (record { colour = k; word = v }))
+      ≡ Goes (with_type rd.number (ty k int (norm_op p x (constant v))) c)
   unfolding need for_typed
   op_word_row c p rd rs v k a x hs = rw (hs, same_colours k) refl
 
   -- a green load, where nothing waits
-  pub load_green_row : (c : Context) (rd rs : Reg) (x : Polynomial) → c.queue ≡ [] → typed c rs.number ≡ Some (ty Green (ref int) x) → row o c (instr.Ld Green rd rs) ≡ Goes (with_type rd.number (ty Green int (norm_sel c.memory x)) c)
+  pub load_green_row : (c : Context) (rd rs : Reg) (x : Polynomial) → c.queue ≡ [] → typed c rs.number
+      ≡ Some (ty Green (ref int) x) → row o c (instr.Ld Green rd rs)
+      ≡ Goes (with_type rd.number (ty Green int (norm_sel c.memory x)) c)
   unfolding need for_typed for_ref_over same_colour pending_memory
   load_green_row c rd rs x q hs = rw (hs, q) refl
 
   -- a blue load
-  pub load_blue_row : (c : Context) (rd rs : Reg) (x : Polynomial) → typed c rs.number ≡ Some (ty Blue (ref int) x) → row o c (instr.Ld Blue rd rs) ≡ Goes (with_type rd.number (ty Blue int (norm_sel c.memory x)) c)
+  pub load_blue_row : (c : Context) (rd rs : Reg) (x : Polynomial) → typed c rs.number ≡ Some (ty Blue (ref int) x) →
+      row o c (instr.Ld Blue rd rs) ≡ Goes (with_type rd.number (ty Blue int (norm_sel c.memory x)) c)
   unfolding need for_typed for_ref_over same_colour
   load_blue_row c rd rs x hs = rw hs refl
 
   -- a green store, where nothing waits
-  pub store_green_row : (c : Context) (rd rs : Reg) (a x : Polynomial) → c.queue ≡ [] → typed c rd.number ≡ Some (ty Green (ref int) a) → typed c rs.number ≡ Some (ty Green int x) → row o c (instr.St Green rd rs) ≡ Goes (record c { queue = (a, x) ∷ [] })
+  pub store_green_row : (c : Context) (rd rs : Reg) (a x : Polynomial) → c.queue ≡ [] → typed c rd.number
+      ≡ Some (ty Green (ref int) a) → typed c rs.number ≡ Some (ty Green int x) → row o c (instr.St Green rd rs)
+      ≡ Goes (record c { queue = (a, x) ∷ [] })
   unfolding need for_typed for_ref_over is_seen_as same_basic same_colour
   store_green_row c rd rs a x q hd hs = rw (hd, hs, q) refl
 
   -- a blue store, where the same waits
-  pub store_blue_row : (c : Context) (rd rs : Reg) (a x : Polynomial) → c.queue ≡ (a, x) ∷ [] → typed c rd.number ≡ Some (ty Blue (ref int) a) → typed c rs.number ≡ Some (ty Blue int x) → row o c (instr.St Blue rd rs) ≡ Goes (record c { queue = []; memory = norm_upd c.memory a x })
+  pub store_blue_row : (c : Context) (rd rs : Reg) (a x : Polynomial) → c.queue ≡ (a, x) ∷ [] → typed c rd.number
+      ≡ Some (ty Blue (ref int) a) → typed c rs.number ≡ Some (ty Blue int x) → row o c (instr.St Blue rd rs)
+      ≡ Goes (record c { queue = []; memory = norm_upd c.memory a x })
   unfolding need for_typed for_ref_over is_seen_as same_basic same_colour for_oldest
   store_blue_row c rd rs a x q hd hs = rw (hd, hs, q) (rw (same_itself a) (rw (same_itself x) refl))
 
   -- the address of the cell of an array of type `int`
-  pub index_row : (c : Context) (rd rs : Reg) (k : Colour) (b : Basic) (begin many : ℕ) (x : Polynomial) → run_type o begin many ≡ Some int → typed c rs.number ≡ Some (ty k b x) → row o c (instr.Idx rd rs begin many) ≡ Goes (with_type rd.number (ty k (ref int) (run_form begin many x)) c)
+  pub index_row : (c : Context) (rd rs : Reg) (k : Colour) (b : Basic) (begin many : ℕ) (x : Polynomial) →
+      run_type o begin many ≡ Some int → typed c rs.number ≡ Some (ty k b x) → row o c (instr.Idx rd rs begin many)
+      ≡ Goes (with_type rd.number (ty k (ref int) (run_form begin many x)) c)
   unfolding for_typed for_run
   index_row c rd rs k b begin many x h hs = rw (hs, h) refl

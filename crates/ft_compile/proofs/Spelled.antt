@@ -1,5 +1,6 @@
 -- The instructions, the substitutions and the code types of an emitted object obey the rules of their tables.
-use Rattle.std.proofs.Common.{◌≡◌, ℕ, zero, suc, ◌+◌, ◌<◌, ◌≤◌, true, false, List, [], ◌∷◌, ◌++◌, length, refl, sym, ap, ◌∙◌, subst, arith, map, append_assoc, length-append}
+use Rattle.std.proofs.Common.{◌≡◌, ℕ, zero, suc, ◌+◌, ◌<◌, ◌≤◌, true, false, List, [], ◌∷◌, ◌++◌, length, refl, sym, ap}
+use Rattle.std.proofs.Common.{◌∙◌, subst, arith, map, append_assoc, length-append}
 use Rattle.std.specs.Prelude.{All}
 use Rattle.std.specs.List.{range_with_len, AllByRecursion}
 use Rattle.std.proofs.lemmas.List.Elements.{All-append, All-nil, All-cons, All-from_recursion, All-map}
@@ -9,7 +10,8 @@ use Rattle.ft_isa.specs.declared.instr.Subst.{Subst}
 use Rattle.ft_isa.specs.declared.instr.Instr.{Instr}
 use Rattle.ft_static.specs.declared.node.Node.{Node}
 use Rattle.ft_static.specs.declared.node.Shape.TheVariants as shape
-use Rattle.ft_types.specs.Spellable.{IsBasic, IsNodeIn, IsRegRow, AreRising, IsQueueRow, IsCodeType, HasCodeType, AreBlocks, BeginAtZero, IsRun, IsInstr, substs_of, reg_row_count, queue_row_count}
+use Rattle.ft_types.specs.Spellable.{IsBasic, IsNodeIn, IsRegRow, AreRising, IsQueueRow, IsCodeType, HasCodeType}
+use Rattle.ft_types.specs.Spellable.{AreBlocks, BeginAtZero, IsRun, IsInstr, substs_of, reg_row_count, queue_row_count}
 use Rattle.ft_isa.specs.BasicTypes.{code, int, ref}
 use Rattle.ft_scope.specs.declared.slot.Slot.TheVariants.{Run}
 use Rattle.ft_scope.specs.Size.{RunFits}
@@ -20,7 +22,8 @@ use Rattle.ft_lower.specs.Size.{row_size, blocks_size}
 use Rattle.ft_lower.specs.Well.{Known, known_after, StepFits, RowIsWell}
 use Rattle.ft_dup.specs.Images.{green, blue, starts_from}
 use Rattle.ft_dup.proofs.Pairs.{blue_number}
-use Rattle.ft_compile.specs.Emitted.{Noted, node, jump_subst, step_noted, begun, scope_of_block, variable_node, at_first, green_row, blue_row, entry_type, variables_type, block_from, blocks_at}
+use Rattle.ft_compile.specs.Emitted.{Noted, node, jump_subst, step_noted, begun, scope_of_block, variable_node}
+use Rattle.ft_compile.specs.Emitted.{at_first, green_row, blue_row, entry_type, variables_type, block_from, blocks_at}
 use Rattle.ft_compile.proofs.Lists.{Starts, starts_length, get_starts}
 use Rattle.ft_compile.proofs.Named.{address_is_word}
 use Rattle.ft_compile.proofs.Walked.{block_noted, variable_there, RowsAreFine}
@@ -44,24 +47,37 @@ code_one_is_basic = record { refs = omega arith; base = omega arith }
 
 -- the cells of an array are there
 run_there : (cells begin many : ℕ) → RunFits cells (Run begin many) → IsRun cells begin many
-run_there cells begin many fits = record { begins = omega (arith, fits.0, fits.2); length = (fits.0, fits.1); ends = fits.2 }
+run_there cells begin many fits = record {
+  begins = omega (arith, fits.0, fits.2);
+  length = (fits.0, fits.1);
+  ends = fits.2;
+}
 
-module _ (vars : ℕ) (start : ℕ → ℕ) (cells blocks : ℕ) (small : cells ≤ 1024) (words : (b : ℕ) → IsWord (code_address (start b))) where
+module _ (vars : ℕ) (start : ℕ → ℕ) (cells blocks : ℕ) (small : cells ≤ 1024) (words : (b : ℕ) →
+    IsWord (code_address (start b))) where
   -- the instructions of a step obey the rules
-  instrs_step : (u : Subst) (i : Step3) → StepFits cells blocks i → AllByRecursion (IsInstr 2 cells) (coded_step start u i)
+  instrs_step : (u : Subst) (i : Step3) → StepFits cells blocks i →
+      AllByRecursion (IsInstr 2 cells) (coded_step start u i)
   instrs_step u (Put p v) fits = ((fits, int_is_basic), ((fits, int_is_basic), tt))
   instrs_step u (Copy p q) fits = ((let z : IsWord 0 = omega arith in z), ((let z : IsWord 0 = omega arith in z), tt))
   instrs_step u (Op o p q r) fits = (tt, (tt, tt))
-  instrs_step u (Load p c) fits = let a = address_is_word [] cells c small fits in ((a, ref_int_is_basic), ((a, ref_int_is_basic), (tt, (tt, tt))))
-  instrs_step u (Store c q spare) fits = let a = address_is_word [] cells c small fits in ((a, ref_int_is_basic), ((a, ref_int_is_basic), (tt, (tt, tt))))
+  instrs_step u (Load p c) fits = let a = address_is_word [] cells c small fits in
+      ((a, ref_int_is_basic), ((a, ref_int_is_basic), (tt, (tt, tt))))
+  instrs_step u (Store c q spare) fits = let a = address_is_word [] cells c small fits in
+      ((a, ref_int_is_basic), ((a, ref_int_is_basic), (tt, (tt, tt))))
   instrs_step u (LoadAt p q begin many) fits = let r = run_there cells begin many fits in (r, (r, (tt, (tt, tt))))
-  instrs_step u (StoreAt begin many i q spare) fits = let r = run_there cells begin many fits in (r, (r, (tt, (tt, tt))))
-  instrs_step u (Exit q spare to) fits = ((words to, code_one_is_basic), ((words to, code_one_is_basic), (tt, (tt, tt))))
+  instrs_step u (StoreAt begin many i q spare) fits = let r = run_there cells begin many fits in
+      (r, (r, (tt, (tt, tt))))
+  instrs_step u (Exit q spare to) fits = (
+    (words to, code_one_is_basic),
+    ((words to, code_one_is_basic), (tt, (tt, tt))),
+  )
   instrs_step u (Go spare to) fits = ((words to, code_one_is_basic), ((words to, code_one_is_basic), (tt, (tt, tt))))
   instrs_step u Stop fits = (tt, tt)
 
   -- those of a row
-  instrs_row : (scope : ℕ) (k : Known) (w : Noted) (is : List Step3) → RowIsWell vars cells blocks k is → All (IsInstr 2 cells) (row_coded vars start scope w is)
+  instrs_row : (scope : ℕ) (k : Known) (w : Noted) (is : List Step3) → RowIsWell vars cells blocks k is →
+      All (IsInstr 2 cells) (row_coded vars start scope w is)
   instrs_row scope k w [] h = All-nil (IsInstr 2 cells)
   instrs_row scope k w (i ∷ is) h =
       let here = coded_step start (jump_subst vars w) i in
@@ -70,10 +86,12 @@ module _ (vars : ℕ) (start : ℕ → ℕ) (cells blocks : ℕ) (small : cells 
       (instrs_row scope (known_after i k) (step_noted vars scope w i) is h.2)
 
   -- those of all blocks
-  pub instrs_blocks : (b : ℕ) (w : Noted) (xs : Blocks) → RowsAreFine vars cells blocks b xs → All (IsInstr 2 cells) (joined vars start (rows_coded vars start b w xs))
+  pub instrs_blocks : (b : ℕ) (w : Noted) (xs : Blocks) → RowsAreFine vars cells blocks b xs →
+      All (IsInstr 2 cells) (joined vars start (rows_coded vars start b w xs))
   instrs_blocks b w [] h = All-nil (IsInstr 2 cells)
   instrs_blocks b w (x ∷ xs) h =
-      All-append (IsInstr 2 cells) (row_coded vars start (scope_of_block vars b) (begun w) x) (joined vars start (rows_coded vars start (suc b) (block_noted vars b w x) xs))
+      All-append (IsInstr 2 cells) (row_coded vars start (scope_of_block vars b) (begun w) x)
+      (joined vars start (rows_coded vars start (suc b) (block_noted vars b w x) xs))
       (instrs_row (scope_of_block vars b) _ (begun w) x h.0.well)
       (instrs_blocks (suc b) (block_noted vars b w x) xs h.1)
 
@@ -81,7 +99,8 @@ module _ (vars : ℕ) (start : ℕ → ℕ) (cells blocks : ℕ) (small : cells 
 
 module _ (vars : ℕ) (start : ℕ → ℕ) where
   -- the instructions of a step carry the substitution that it adds
-  substs_step : (w : Noted) (i : Step3) (rest : List Instr) → substs_of (coded_step start (jump_subst vars w) i ++ rest) ≡ step_added vars start w i ++ substs_of rest
+  substs_step : (w : Noted) (i : Step3) (rest : List Instr) → substs_of (coded_step start (jump_subst vars w) i ++ rest)
+      ≡ step_added vars start w i ++ substs_of rest
   substs_step w (Put p v) rest = refl
   substs_step w (Copy p q) rest = refl
   substs_step w (Op o p q r) rest = refl
@@ -94,7 +113,8 @@ module _ (vars : ℕ) (start : ℕ → ℕ) where
   substs_step w Stop rest = refl
 
   -- those of a row
-  substs_row : (scope : ℕ) (w : Noted) (is : List Step3) (rest : List Instr) → substs_of (row_coded vars start scope w is ++ rest) ≡ row_added vars start scope w is ++ substs_of rest
+  substs_row : (scope : ℕ) (w : Noted) (is : List Step3) (rest : List Instr) →
+      substs_of (row_coded vars start scope w is ++ rest) ≡ row_added vars start scope w is ++ substs_of rest
   substs_row scope w [] rest = refl
   substs_row scope w (i ∷ is) rest =
       let v = step_noted vars scope w i in
@@ -104,7 +124,8 @@ module _ (vars : ℕ) (start : ℕ → ℕ) where
       ∙ sym (append_assoc (step_added vars start w i) (row_added vars start scope v is) (substs_of rest))
 
   -- the substitutions of all instructions are those that were noted
-  pub substs_blocks : (b : ℕ) (w : Noted) (xs : Blocks) → substs_of (joined vars start (rows_coded vars start b w xs)) ≡ blocks_added vars start b w xs
+  pub substs_blocks : (b : ℕ) (w : Noted) (xs : Blocks) → substs_of (joined vars start (rows_coded vars start b w xs))
+      ≡ blocks_added vars start b w xs
   substs_blocks b w [] = refl
   substs_blocks b w (x ∷ xs) =
       let v = block_noted vars b w x in
@@ -121,7 +142,8 @@ blue_rising least a (suc n) h k =
     (omega arith, blue_rising (suc (blue a).number) (a + 1) n (omega arith) (omega arith))
 
 -- and of the green ones before them
-green_rising : (least a n m : ℕ) → least ≤ a → a + n ≤ 32 → m ≤ 32 → AreRising least (map green_row (range_with_len a n) ++ map blue_row (range_with_len 0 m))
+green_rising : (least a n m : ℕ) → least ≤ a → a + n ≤ 32 → m ≤ 32 →
+    AreRising least (map green_row (range_with_len a n) ++ map blue_row (range_with_len 0 m))
 green_rising least a zero m h k l = blue_rising least 0 m (omega arith) (omega arith)
 green_rising least a (suc n) m h k l =
     let e = green_number a (omega arith) in
@@ -142,7 +164,8 @@ module _ (nodes : List Node) (vars : ℕ) (few : vars ≤ 32) (s : Starts (at_fi
   first_variable : (i : ℕ) → i < vars → IsNodeIn nodes vars false (1 + i)
   first_variable i lt =
       let l = starts_length (at_first vars).nodes nodes s in
-      let m : length (at_first vars).nodes ≡ suc vars = ap suc (length-map-range_with_len (variable_node vars) 0 vars) in
+      let m : length (at_first vars).nodes ≡ suc vars = ap suc (length-map-range_with_len (variable_node vars) 0 vars)
+      in
       let z : suc i ≡ 1 + i = omega arith in
       subst (IsNodeIn nodes vars false) z (record {
         lower = omega arith;
@@ -154,7 +177,8 @@ module _ (nodes : List Node) (vars : ℕ) (few : vars ≤ 32) (s : Starts (at_fi
 
   -- what is so of each number below the variables is so of their list
   range_all : (P : ℕ → Type 0) → ((i : ℕ) → i < vars → P i) → All P (range_with_len 0 vars)
-  range_all P h k d lt = let l = length-range_with_len 0 vars in let kv : k < vars = omega arith in let z : k ≡ 0 + k = omega arith in subst P (z ∙ sym (get_or-range_with_len 0 vars k d kv)) (h k kv)
+  range_all P h k d lt = let l = length-range_with_len 0 vars in let kv : k < vars = omega arith in
+      let z : k ≡ 0 + k = omega arith in subst P (z ∙ sym (get_or-range_with_len 0 vars k d kv)) (h k kv)
 
   -- the two code types obey the rules
   pub types_lawful : All (IsCodeType 2 nodes) (entry_type ∷ variables_type vars ∷ [])
@@ -170,9 +194,18 @@ module _ (nodes : List Node) (vars : ℕ) (few : vars ≤ 32) (s : Starts (at_fi
     (
       record {
         ints = omega arith;
-        regs = All-append (IsRegRow 2 nodes vars) (map green_row (range_with_len 0 vars)) (map blue_row (range_with_len 0 vars))
-            (All-map (IsRegRow 2 nodes vars) green_row (range_with_len 0 vars) (range_all (λ i. IsRegRow 2 nodes vars (green_row i)) (λ i lt. record { basic = int_is_basic; expr = first_variable i lt })))
-            (All-map (IsRegRow 2 nodes vars) blue_row (range_with_len 0 vars) (range_all (λ i. IsRegRow 2 nodes vars (blue_row i)) (λ i lt. record { basic = int_is_basic; expr = first_variable i lt })));
+        regs = All-append (IsRegRow 2 nodes vars) (map green_row (range_with_len 0 vars))
+            (map blue_row (range_with_len 0 vars))
+            (All-map (IsRegRow 2 nodes vars) green_row (range_with_len 0 vars)
+            (range_all (λ i. IsRegRow 2 nodes vars (green_row i)) (λ i lt. record {
+              basic = int_is_basic;
+              expr = first_variable i lt;
+            })))
+            (All-map (IsRegRow 2 nodes vars) blue_row (range_with_len 0 vars)
+            (range_all (λ i. IsRegRow 2 nodes vars (blue_row i)) (λ i lt. record {
+              basic = int_is_basic;
+              expr = first_variable i lt;
+            })));
         rising = green_rising 0 0 vars vars (omega arith) (omega arith) few;
         queue_length = omega arith;
         queue = All-nil (IsQueueRow nodes vars);
@@ -197,14 +230,24 @@ queue_rows_few vars = omega arith
 -- BLOCKS
 
 -- blocks but the first are in order
-later_blocks : (end least n : ℕ) (xs : Blocks) → least ≤ n → n + blocks_size xs ≤ end → HaveSome xs → AreBlocks end least (map block_from (starts_from n xs))
+later_blocks : (end least n : ℕ) (xs : Blocks) → least ≤ n → n + blocks_size xs ≤ end → HaveSome xs →
+    AreBlocks end least (map block_from (starts_from n xs))
 later_blocks end least n [] h k some = tt
-later_blocks end least n (x ∷ xs) h k some = (h, omega (arith, k, some.0), later_blocks end (suc n) (n + row_size x) xs (omega (arith, some.0)) (omega (arith, k)) some.1)
+later_blocks end least n (x ∷ xs) h k some = (
+  h,
+  omega (arith, k, some.0),
+  later_blocks end (suc n) (n + row_size x) xs (omega (arith, some.0)) (omega (arith, k)) some.1,
+)
 
 -- blocks at their places are in order, and of the two code types
-pub blocks_in_order : (end : ℕ) (xs : Blocks) → blocks_size xs ≤ end → HaveSome xs → AreBlocks end 0 (blocks_at (starts_from 0 xs))
+pub blocks_in_order : (end : ℕ) (xs : Blocks) → blocks_size xs ≤ end → HaveSome xs →
+    AreBlocks end 0 (blocks_at (starts_from 0 xs))
 blocks_in_order end [] k some = tt
-blocks_in_order end (x ∷ xs) k some = (omega arith, omega (arith, k, some.0), later_blocks end 1 (0 + row_size x) xs (omega (arith, some.0)) (omega (arith, k)) some.1)
+blocks_in_order end (x ∷ xs) k some = (
+  omega arith,
+  omega (arith, k, some.0),
+  later_blocks end 1 (0 + row_size x) xs (omega (arith, some.0)) (omega (arith, k)) some.1,
+)
 
 -- the first begins at 0
 pub blocks_begin : (xs : Blocks) → 0 < length xs → BeginAtZero (blocks_at (starts_from 0 xs))
@@ -214,7 +257,9 @@ blocks_begin (x ∷ xs) h = refl
 -- each has one of the two code types
 pub blocks_typed : (ss : List ℕ) → All (HasCodeType 2) (blocks_at ss)
 blocks_typed [] = All-nil (HasCodeType 2)
-blocks_typed (s ∷ ss) = All-cons (HasCodeType 2) (record { start = s; code_type = 0 }) (map block_from ss) (let z : 0 < 2 = omega arith in z) (All-map (HasCodeType 2) block_from ss (λ k d lt. let z : 1 < 2 = omega arith in z))
+blocks_typed (s ∷ ss) = All-cons (HasCodeType 2) (record { start = s; code_type = 0 }) (map block_from ss)
+    (let z : 0 < 2 = omega arith in z) (All-map (HasCodeType 2) block_from ss (λ k d lt. let z : 1 < 2 = omega arith in
+    z))
 
 -- there are as many as places
 pub blocks_many : (ss : List ℕ) → length (blocks_at ss) ≡ length ss

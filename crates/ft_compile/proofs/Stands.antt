@@ -14,7 +14,9 @@ use Rattle.ft_compile.proofs.Meant.{runs_as_meant}
 use Rattle.ft_compile.proofs.Objects.{emission}
 
 -- the object of blocks to which a program was lowered is emitted for it
-pub emits : (p : Program) (o : Object) (vars cells : ℕ) (bs : Blocks) → vars ≤ 32 → IsWell vars cells bs → vars ≡ p.vars → cells ≡ length p.inits → Lowers p bs → blocks_size bs ≤ program_weight p → PairsBelow (program_need p) bs → o ≡ emitted p.names p.inits vars bs → IsEmitted p o
+pub emits : (p : Program) (o : Object) (vars cells : ℕ) (bs : Blocks) → vars ≤ 32 → IsWell vars cells bs → vars
+    ≡ p.vars → cells ≡ length p.inits → Lowers p bs → blocks_size bs ≤ program_weight p →
+    PairsBelow (program_need p) bs → o ≡ emitted p.names p.inits vars bs → IsEmitted p o
 emits p o vars cells bs F W named many L light below e = record {
   flow = bs;
   few = subst (λ v. v ≤ 32) named F;
@@ -26,7 +28,9 @@ emits p o vars cells bs F W named many L light below e = record {
 }
 
 -- the object of blocks to which a program was lowered, and which run as doubled code does
-pub stands : (p : Program) (o : Object) (vars cells : ℕ) (bs : Blocks) → AreCells p.names p.inits → vars ≤ 32 → IsWell vars cells bs → cells ≡ length p.inits → blocks_size bs ≤ program_weight p → Lowers p bs → RunsAs vars cells bs → o ≡ emitted p.names p.inits vars bs → StandsFor p o
+pub stands : (p : Program) (o : Object) (vars cells : ℕ) (bs : Blocks) → AreCells p.names p.inits → vars ≤ 32 →
+    IsWell vars cells bs → cells ≡ length p.inits → blocks_size bs ≤ program_weight p → Lowers p bs →
+    RunsAs vars cells bs → o ≡ emitted p.names p.inits vars bs → StandsFor p o
 stands p o vars cells bs C F W many light L R e =
     let E = emission p.names p.inits vars bs C F (subst (λ n. IsWell vars n bs) many W) in
     subst (StandsFor p) (sym e) (record {
@@ -36,5 +40,6 @@ stands p o vars cells bs C F W many light L R e =
       spellable = E.spellable;
       accepted = E.accepted;
       short = omega (arith, E.instrs, light);
-      run = runs_as_meant p vars cells bs (emitted p.names p.inits vars bs) L R (subst (λ n. Carries (emitted p.names p.inits vars bs) n bs) (sym many) E.carries) E.words_are;
+      run = runs_as_meant p vars cells bs (emitted p.names p.inits vars bs) L R
+          (subst (λ n. Carries (emitted p.names p.inits vars bs) n bs) (sym many) E.carries) E.words_are;
     })

@@ -1,5 +1,6 @@
 -- The turns of loops over plain values.
-use Rattle.std.proofs.Common.{◌≡◌, ℕ, suc, ◌+◌, ◌<◌, ◌≤◌, List, [], ◌∷◌, ◌++◌, length, refl, sym, ap, ◌∙◌, subst, arith, map, drop, get_or, Vec, Global, append_assoc}
+use Rattle.std.proofs.Common.{◌≡◌, ℕ, suc, ◌+◌, ◌<◌, ◌≤◌, List, [], ◌∷◌, ◌++◌, length, refl, sym, ap, ◌∙◌, subst, arith}
+use Rattle.std.proofs.Common.{map, drop, get_or, Vec, Global, append_assoc}
 use Rattle.std.proofs.lemmas.List.{append-nil, drop_all, drop_more, length-set}
 use Rattle.std.specs.List.{range_with_len}
 use Rattle.std.proofs.lemmas.List.FromFn.{map-range_with_len_more, length-map-range_with_len}
@@ -14,7 +15,8 @@ use Rattle.ft_lower.specs.declared.step3.Step3.{Step3}
 use Rattle.ft_lower.specs.declared.step3.Step3.TheVariants.{Put, Copy, Op, Load, Store, LoadAt, StoreAt, Exit, Go, Stop}
 use Rattle.ft_lower.specs.Flow.{Blocks}
 use Rattle.ft_lower.specs.Size.{row_size, blocks_size}
-use Rattle.ft_compile.specs.Emitted.{Noted, step_noted, row_noted, begun, block_from, blocks_at, scope_of_block, blocks_noted, at_first, green_row, blue_row, variable_node}
+use Rattle.ft_compile.specs.Emitted.{Noted, step_noted, row_noted, begun, block_from, blocks_at, scope_of_block}
+use Rattle.ft_compile.specs.Emitted.{blocks_noted, at_first, green_row, blue_row, variable_node}
 use Rattle.ft_compile.specs.Viewed.{HasRoom}
 use Rattle.ft_compile.proofs.Counted.{nodes_step, rows_step, nodes_row, rows_row}
 
@@ -51,7 +53,8 @@ pairs_row vars scope w [] = refl
 pairs_row vars scope w (i ∷ is) = pairs_row vars scope (step_noted vars scope w i) is ∙ pairs_step vars scope w i
 
 -- room for a row is room for the steps after its first
-pub room_next : (vars scope : ℕ) (w : Noted) (i : Step3) (is : List Step3) → vars ≤ 32 → HasRoom w (row_size (i ∷ is)) → HasRoom (step_noted vars scope w i) (row_size is)
+pub room_next : (vars scope : ℕ) (w : Noted) (i : Step3) (is : List Step3) → vars ≤ 32 → HasRoom w (row_size (i ∷ is)) →
+    HasRoom (step_noted vars scope w i) (row_size is)
 room_next vars scope w i is few h = record {
   nodes = omega (arith, h.nodes, nodes_step vars scope w i);
   rows = omega (arith, h.rows, rows_step vars scope w i few);
@@ -59,7 +62,8 @@ room_next vars scope w i is few h = record {
 }
 
 -- room for blocks is room for those after the first
-pub room_blocks : (vars scope : ℕ) (w : Noted) (x : List Step3) (xs : Blocks) → vars ≤ 32 → HasRoom w (blocks_size (x ∷ xs)) → HasRoom (row_noted vars scope (begun w) x) (blocks_size xs)
+pub room_blocks : (vars scope : ℕ) (w : Noted) (x : List Step3) (xs : Blocks) → vars ≤ 32 →
+    HasRoom w (blocks_size (x ∷ xs)) → HasRoom (row_noted vars scope (begun w) x) (blocks_size xs)
 room_blocks vars scope w x xs few h = record {
   nodes = omega (arith, h.nodes, nodes_row vars scope (begun w) x);
   rows = omega (arith, h.rows, rows_row vars scope (begun w) x few);
@@ -67,55 +71,88 @@ room_blocks vars scope w x xs few h = record {
 }
 
 -- one more row of a variable
-pub green_more : (new regs old : List RegType) (i : ℕ) (reg : Reg) (expr : ℕ) → new ≡ regs ++ record { reg = reg; colour = Green; basic = int; expr = expr } ∷ [] → regs ≡ old ++ map green_row (range_with_len 0 i) → reg ≡ green i → expr ≡ 1 + i → new ≡ old ++ map green_row (range_with_len 0 (i + 1))
+pub green_more : (new regs old : List RegType) (i : ℕ) (reg : Reg) (expr : ℕ) → new ≡ regs
+    ++ record { reg = reg; colour = Green; basic = int; expr = expr } ∷ [] → regs ≡ old
+    ++ map green_row (range_with_len 0 i) → reg ≡ green i → expr ≡ 1 + i → new ≡ old
+    ++ map green_row (range_with_len 0 (i + 1))
 green_more new regs old i reg expr e f g h =
-    let row : record { reg = reg; colour = Green; basic = int; expr = expr } ≡ green_row i = λ j. record { reg = g j; colour = Green; basic = int; expr = h j } in
+    let row : record { reg = reg; colour = Green; basic = int; expr = expr } ≡ green_row i = λ j.
+    record { reg = g j; colour = Green; basic = int; expr = h j } in
     let z : 0 + i ≡ i = omega arith in
     e ∙ ap (λ l. l ++ record { reg = reg; colour = Green; basic = int; expr = expr } ∷ []) f
-    ∙ append_assoc old (map green_row (range_with_len 0 i)) (record { reg = reg; colour = Green; basic = int; expr = expr } ∷ [])
+    ∙ append_assoc old (map green_row (range_with_len 0 i)) (record {
+      reg = reg;
+      colour = Green;
+      basic = int;
+      expr = expr;
+    } ∷ [])
     ∙ ap (λ x. old ++ (map green_row (range_with_len 0 i) ++ x ∷ [])) row
     ∙ ap (λ l. old ++ l) (sym (map-range_with_len_more green_row 0 i i z))
 
 -- and in blue
-pub blue_more : (new regs old : List RegType) (i : ℕ) (reg : Reg) (expr : ℕ) → new ≡ regs ++ record { reg = reg; colour = Blue; basic = int; expr = expr } ∷ [] → regs ≡ old ++ map blue_row (range_with_len 0 i) → reg ≡ blue i → expr ≡ 1 + i → new ≡ old ++ map blue_row (range_with_len 0 (i + 1))
+pub blue_more : (new regs old : List RegType) (i : ℕ) (reg : Reg) (expr : ℕ) → new ≡ regs
+    ++ record { reg = reg; colour = Blue; basic = int; expr = expr } ∷ [] → regs ≡ old
+    ++ map blue_row (range_with_len 0 i) → reg ≡ blue i → expr ≡ 1 + i → new ≡ old
+    ++ map blue_row (range_with_len 0 (i + 1))
 blue_more new regs old i reg expr e f g h =
-    let row : record { reg = reg; colour = Blue; basic = int; expr = expr } ≡ blue_row i = λ j. record { reg = g j; colour = Blue; basic = int; expr = h j } in
+    let row : record { reg = reg; colour = Blue; basic = int; expr = expr } ≡ blue_row i = λ j.
+    record { reg = g j; colour = Blue; basic = int; expr = h j } in
     let z : 0 + i ≡ i = omega arith in
     e ∙ ap (λ l. l ++ record { reg = reg; colour = Blue; basic = int; expr = expr } ∷ []) f
-    ∙ append_assoc old (map blue_row (range_with_len 0 i)) (record { reg = reg; colour = Blue; basic = int; expr = expr } ∷ [])
+    ∙ append_assoc old (map blue_row (range_with_len 0 i)) (record {
+      reg = reg;
+      colour = Blue;
+      basic = int;
+      expr = expr;
+    } ∷ [])
     ∙ ap (λ x. old ++ (map blue_row (range_with_len 0 i) ++ x ∷ [])) row
     ∙ ap (λ l. old ++ l) (sym (map-range_with_len_more blue_row 0 i i z))
 
 -- one more variable's node
-pub nodes_more : (new nodes : List Node) (first : Node) (vars i : ℕ) → new ≡ nodes ++ variable_node vars i ∷ [] → nodes ≡ first ∷ map (variable_node vars) (range_with_len 0 i) → new ≡ first ∷ map (variable_node vars) (range_with_len 0 (i + 1))
+pub nodes_more : (new nodes : List Node) (first : Node) (vars i : ℕ) → new ≡ nodes ++ variable_node vars i ∷ [] → nodes
+    ≡ first ∷ map (variable_node vars) (range_with_len 0 i) → new
+    ≡ first ∷ map (variable_node vars) (range_with_len 0 (i + 1))
 nodes_more new nodes first vars i e f =
     let z : 0 + i ≡ i = omega arith in
-    e ∙ ap (λ l. l ++ variable_node vars i ∷ []) f ∙ ap (λ l. first ∷ l) (sym (map-range_with_len_more (variable_node vars) 0 i i z))
+    e ∙ ap (λ l. l ++ variable_node vars i ∷ []) f
+    ∙ ap (λ l. first ∷ l) (sym (map-range_with_len_more (variable_node vars) 0 i i z))
 
 -- after the last place all blocks are there
-pub blocks_end : (blocks : List Block) (ss : List ℕ) (t k : ℕ) → length ss ≤ k → blocks ++ blocks_with t (drop k ss) ≡ blocks_with 0 ss → blocks ≡ blocks_at ss
-blocks_end blocks ss t k le e = sym (append-nil blocks) ∙ ap (λ l. blocks ++ blocks_with t l) (sym (drop_all k ss le)) ∙ e ∙ blocks_with_zero ss
+pub blocks_end : (blocks : List Block) (ss : List ℕ) (t k : ℕ) → length ss ≤ k → blocks ++ blocks_with t (drop k ss)
+    ≡ blocks_with 0 ss → blocks ≡ blocks_at ss
+blocks_end blocks ss t k le e = sym (append-nil blocks) ∙ ap (λ l. blocks ++ blocks_with t l) (sym (drop_all k ss le))
+    ∙ e ∙ blocks_with_zero ss
 
 -- a turn along the steps of a row
-pub row_turn : (vars scope : ℕ) (w v whole : Noted) (is : List Step3) (j : ℕ) (d : Step3) → vars ≤ 32 → j < length is → v ≡ step_noted vars scope w (get_or is j d) → row_noted vars scope w (drop j is) ≡ whole → HasRoom w (row_size (drop j is)) → (row_noted vars scope v (drop (j + 1) is) ≡ whole) × HasRoom v (row_size (drop (j + 1) is))
+pub row_turn : (vars scope : ℕ) (w v whole : Noted) (is : List Step3) (j : ℕ) (d : Step3) → vars ≤ 32 → j < length is →
+    v ≡ step_noted vars scope w (get_or is j d) → row_noted vars scope w (drop j is) ≡ whole →
+    HasRoom w (row_size (drop j is)) → (row_noted vars scope v (drop (j + 1) is) ≡ whole)
+    × HasRoom v (row_size (drop (j + 1) is))
 row_turn vars scope w v whole is j d few lt e left room =
     let x = get_or is j d in
     let rest = drop (j + 1) is in
     let f : drop j is ≡ x ∷ rest = drop_more is j d lt in
-    let r = room_next vars scope w x rest few (subst (λ l. HasRoom w (row_size l)) f room) in
-    (ap (λ z. row_noted vars scope z rest) e ∙ ap (row_noted vars scope w) (sym f) ∙ left, subst (λ z. HasRoom z (row_size rest)) (sym e) r)
+    let r = room_next vars scope w x rest few (subst (λ l. HasRoom w (row_size l)) f room) in (
+      ap (λ z. row_noted vars scope z rest) e ∙ ap (row_noted vars scope w) (sym f) ∙ left,
+      subst (λ z. HasRoom z (row_size rest)) (sym e) r,
+    )
 
 -- the steps of each block
 abbrev pub items_of : List (Vec Step3 Global) → Blocks
 items_of xs = map (λ b. b.items) xs
 
 -- a turn along the blocks
-pub block_turn : (vars scope : ℕ) (w v whole : Noted) (xs : List (Vec Step3 Global)) (j : ℕ) (x : Vec Step3 Global) → vars ≤ 32 → j < length xs → x ≡ get_or xs j x → scope ≡ scope_of_block vars j → v ≡ row_noted vars scope (begun w) x.items → blocks_noted vars j w (items_of (drop j xs)) ≡ whole → HasRoom w (blocks_size (items_of (drop j xs))) → (blocks_noted vars (j + 1) v (items_of (drop (j + 1) xs)) ≡ whole) × (vars ≡ scope_of_block vars (j + 1)) × HasRoom v (blocks_size (items_of (drop (j + 1) xs)))
+pub block_turn : (vars scope : ℕ) (w v whole : Noted) (xs : List (Vec Step3 Global)) (j : ℕ) (x : Vec Step3 Global) →
+    vars ≤ 32 → j < length xs → x ≡ get_or xs j x → scope ≡ scope_of_block vars j → v
+    ≡ row_noted vars scope (begun w) x.items → blocks_noted vars j w (items_of (drop j xs)) ≡ whole →
+    HasRoom w (blocks_size (items_of (drop j xs))) → (blocks_noted vars (j + 1) v (items_of (drop (j + 1) xs)) ≡ whole)
+    × (vars ≡ scope_of_block vars (j + 1)) × HasRoom v (blocks_size (items_of (drop (j + 1) xs)))
 block_turn vars scope w v whole xs j x few lt is sc e left room =
     let rest = drop (j + 1) xs in
     let f : drop j xs ≡ x ∷ rest = drop_more xs j x lt ∙ ap (λ y. y ∷ rest) (sym is) in
     let next : suc j ≡ j + 1 = omega arith in
-    let r = room_blocks vars scope w x.items (items_of rest) few (subst (λ l. HasRoom w (blocks_size (items_of l))) f room) in (
+    let r = room_blocks vars scope w x.items (items_of rest) few
+    (subst (λ l. HasRoom w (blocks_size (items_of l))) f room) in (
       ap (λ n. blocks_noted vars n v (items_of rest)) (sym next)
           ∙ ap (λ z. blocks_noted vars (suc j) z (items_of rest)) (e ∙ ap (λ s. row_noted vars s (begun w) x.items) sc)
           ∙ ap (λ l. blocks_noted vars j w (items_of l)) (sym f) ∙ left,
@@ -124,7 +161,8 @@ block_turn vars scope w v whole xs j x few lt is sc e left room =
     )
 
 -- room at the start
-pub room_at_first : (w : Noted) (vars : ℕ) (xs : Blocks) → w ≡ at_first vars → vars ≤ 32 → blocks_size xs ≤ 65536 → HasRoom w (blocks_size xs)
+pub room_at_first : (w : Noted) (vars : ℕ) (xs : Blocks) → w ≡ at_first vars → vars ≤ 32 → blocks_size xs ≤ 65536 →
+    HasRoom w (blocks_size xs)
 room_at_first w vars xs e few short =
     let l : length (at_first vars).nodes ≡ suc vars = ap suc (length-map-range_with_len (variable_node vars) 0 vars) in
     subst (λ z. HasRoom z (blocks_size xs)) (sym e) (record { nodes = omega arith; rows = omega arith; pairs = refl })

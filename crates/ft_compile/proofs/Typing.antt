@@ -1,5 +1,6 @@
 -- The rows of a step's instructions apply, where the known pairs have the forms of their nodes.
-use Rattle.std.proofs.Common.{◌≡◌, ◌≢◌, ℕ, ◌+◌, ◌<◌, true, List, [], ◌∷◌, ◌++◌, length, inl, inr, Some, refl, sym, ap, ◌∙◌, subst, arith}
+use Rattle.std.proofs.Common.{◌≡◌, ◌≢◌, ℕ, ◌+◌, ◌<◌, true, List, [], ◌∷◌, ◌++◌, length, inl, inr, Some, refl, sym, ap}
+use Rattle.std.proofs.Common.{◌∙◌, subst, arith}
 use Rattle.std.specs.Prelude.{All, slice_index, slice_set}
 use Rattle.std.proofs.lemmas.Bool.{cases_eq}
 use Rattle.std.proofs.lemmas.List.{get_or-set_same, get_or-set_other, length-set}
@@ -29,11 +30,13 @@ use Rattle.ft_lower.specs.Size.{pairs_of}
 use Rattle.ft_lower.specs.Well.{Known, learn, forget, known_after, StepFits, ReadsKnown}
 use Rattle.ft_dup.specs.Images.{green, blue, loads, stores}
 use Rattle.ft_dup.proofs.Pairs.{blue_number, learned, forgotten, greens_differ, blues_differ}
-use Rattle.ft_compile.specs.Emitted.{Noted, node, pair_node, with_node, with_pair_node, with_memory_node, with_address_nodes, step_noted}
+use Rattle.ft_compile.specs.Emitted.{Noted, node, pair_node, with_node, with_pair_node, with_memory_node}
+use Rattle.ft_compile.specs.Emitted.{with_address_nodes, step_noted}
 use Rattle.ft_compile.proofs.Lists.{Starts, starts_less, get_newest}
 use Rattle.ft_compile.proofs.Coded.{coded_step}
 use Rattle.ft_compile.proofs.Forms.{green_number, word_form, operation_form, rem_form, sel_form, upd_form}
-use Rattle.ft_compile.proofs.PremiseRows.{ty, typed_same, typed_other, has_int, mov_row, op_row, op_word_row, load_green_row, load_blue_row, store_green_row, store_blue_row, index_row}
+use Rattle.ft_compile.proofs.PremiseRows.{ty, typed_same, typed_other, has_int, mov_row, op_row, op_word_row}
+use Rattle.ft_compile.proofs.PremiseRows.{load_green_row, load_blue_row, store_green_row, store_blue_row, index_row}
 
 -- PAIRS
 
@@ -43,34 +46,47 @@ both p b x c = with_type (blue p).number (ty Blue b x) (with_type (green p).numb
 
 -- a green one is no blue one
 pub green_is_not_blue : (p q : ℕ) → p < 32 → q < 32 → (green q).number ≢ (blue p).number
-green_is_not_blue p q lp lq e = let f = sym (green_number q (omega arith)) ∙ e ∙ blue_number p lp in (let g : q ≡ 32 + p = f in omega arith)
+green_is_not_blue p q lp lq e = let f = sym (green_number q (omega arith)) ∙ e ∙ blue_number p lp in
+    (let g : q ≡ 32 + p = f in omega arith)
 
 -- nor the other way round
 pub blue_is_not_green : (p q : ℕ) → p < 32 → q < 32 → (blue q).number ≢ (green p).number
 blue_is_not_green p q lp lq e = green_is_not_blue q p lq lp (sym e)
 
 -- the green register of the pair that was set
-pub both_green : (p : ℕ) (b : Basic) (x : Polynomial) (c : Context) → p < 32 → typed (both p b x c) (green p).number ≡ Some (ty Green b x)
-both_green p b x c lt = typed_other (with_type (green p).number (ty Green b x) c) (blue p).number (ty Blue b x) (green p).number (green_is_not_blue p p lt lt) ∙ typed_same c (green p).number (ty Green b x)
+pub both_green : (p : ℕ) (b : Basic) (x : Polynomial) (c : Context) → p < 32 → typed (both p b x c) (green p).number
+    ≡ Some (ty Green b x)
+both_green p b x c lt = typed_other (with_type (green p).number (ty Green b x) c) (blue p).number (ty Blue b x)
+    (green p).number (green_is_not_blue p p lt lt) ∙ typed_same c (green p).number (ty Green b x)
 
 -- and its blue one
-pub both_blue : (p : ℕ) (b : Basic) (x : Polynomial) (c : Context) → typed (both p b x c) (blue p).number ≡ Some (ty Blue b x)
+pub both_blue : (p : ℕ) (b : Basic) (x : Polynomial) (c : Context) → typed (both p b x c) (blue p).number
+    ≡ Some (ty Blue b x)
 both_blue p b x c = typed_same (with_type (green p).number (ty Green b x) c) (blue p).number (ty Blue b x)
 
 -- the green register of another pair
-pub other_green : (p q : ℕ) (b : Basic) (x : Polynomial) (c : Context) → p < 32 → q < 32 → q ≢ p → typed (both p b x c) (green q).number ≡ typed c (green q).number
-other_green p q b x c lp lq ne = typed_other (with_type (green p).number (ty Green b x) c) (blue p).number (ty Blue b x) (green q).number (green_is_not_blue p q lp lq) ∙ typed_other c (green p).number (ty Green b x) (green q).number (greens_differ p q lp lq ne)
+pub other_green : (p q : ℕ) (b : Basic) (x : Polynomial) (c : Context) → p < 32 → q < 32 → q ≢ p →
+    typed (both p b x c) (green q).number ≡ typed c (green q).number
+other_green p q b x c lp lq ne = typed_other (with_type (green p).number (ty Green b x) c) (blue p).number (ty Blue b x)
+    (green q).number (green_is_not_blue p q lp lq)
+    ∙ typed_other c (green p).number (ty Green b x) (green q).number (greens_differ p q lp lq ne)
 
 -- and its blue one
-pub other_blue : (p q : ℕ) (b : Basic) (x : Polynomial) (c : Context) → p < 32 → q < 32 → q ≢ p → typed (both p b x c) (blue q).number ≡ typed c (blue q).number
-other_blue p q b x c lp lq ne = typed_other (with_type (green p).number (ty Green b x) c) (blue p).number (ty Blue b x) (blue q).number (blues_differ p q lp lq ne) ∙ typed_other c (green p).number (ty Green b x) (blue q).number (blue_is_not_green p q lp lq)
+pub other_blue : (p q : ℕ) (b : Basic) (x : Polynomial) (c : Context) → p < 32 → q < 32 → q ≢ p →
+    typed (both p b x c) (blue q).number ≡ typed c (blue q).number
+other_blue p q b x c lp lq ne = typed_other (with_type (green p).number (ty Green b x) c) (blue p).number (ty Blue b x)
+    (blue q).number (blues_differ p q lp lq ne) ∙ typed_other c (green p).number (ty Green b x) (blue q).number
+    (blue_is_not_green p q lp lq)
 
 -- WHAT A CONTEXT KNOWS
 
--- both registers of each known pair have the form of the pair's node, the memory that of its own, d is 0 and nothing waits
+-- both registers of each known pair have the form of the pair's node, the memory that of its own, d is 0 and nothing
+-- waits
 pub record IsGood (o : Object) (scope : ℕ) (k : Known) (pairs : List ℕ) (memory : ℕ) (c : Context) : Type 0 where
-  pub green_pair : (q : ℕ) → k q ≡ true → typed c (green q).number ≡ Some (ty Green int (integer_form_of o (slice_index pairs q)))
-  pub blue_pair : (q : ℕ) → k q ≡ true → typed c (blue q).number ≡ Some (ty Blue int (integer_form_of o (slice_index pairs q)))
+  pub green_pair : (q : ℕ) → k q ≡ true → typed c (green q).number
+      ≡ Some (ty Green int (integer_form_of o (slice_index pairs q)))
+  pub blue_pair : (q : ℕ) → k q ≡ true → typed c (blue q).number
+      ≡ Some (ty Blue int (integer_form_of o (slice_index pairs q)))
   pub small : (q : ℕ) → k q ≡ true → q < 32
   pub many : length pairs ≡ 32
   pub zero : c.d ≡ d_zero
@@ -80,24 +96,39 @@ pub record IsGood (o : Object) (scope : ℕ) (k : Known) (pairs : List ℕ) (mem
 
 -- what is so of a pair other than p
 abbrev pub Others : Object → Known → List ℕ → ℕ → Context → Type 0
-Others o k pairs p c = (q : ℕ) → q ≢ p → k q ≡ true → (typed c (green q).number ≡ Some (ty Green int (integer_form_of o (slice_index pairs q)))) × (typed c (blue q).number ≡ Some (ty Blue int (integer_form_of o (slice_index pairs q)))) × (q < 32)
+Others o k pairs p c = (q : ℕ) → q ≢ p → k q ≡ true →
+    (typed c (green q).number ≡ Some (ty Green int (integer_form_of o (slice_index pairs q))))
+    × (typed c (blue q).number ≡ Some (ty Blue int (integer_form_of o (slice_index pairs q)))) × (q < 32)
 
 -- it is so of all known pairs
-pub others_of : (o : Object) (scope : ℕ) (k : Known) (pairs : List ℕ) (memory p : ℕ) (c : Context) → IsGood o scope k pairs memory c → Others o k pairs p c
+pub others_of : (o : Object) (scope : ℕ) (k : Known) (pairs : List ℕ) (memory p : ℕ) (c : Context) →
+    IsGood o scope k pairs memory c → Others o k pairs p c
 others_of o scope k pairs memory p c G q ne h = (G.green_pair q h, G.blue_pair q h, G.small q h)
 
 -- pair p gets a form, which is that of its new node
-good_learn : (o : Object) (scope : ℕ) (k : Known) (pairs : List ℕ) (memory : ℕ) (c : Context) (p new : ℕ) (x : Polynomial) → p < 32 → length pairs ≡ 32 → integer_form_of o new ≡ x → Others o k pairs p c → c.d ≡ d_zero → c.queue ≡ [] → c.memory ≡ memory_form_of o memory → c.ints ≡ scope → IsGood o scope (learn p k) (slice_set pairs p new) memory (both p int x c)
+good_learn : (o : Object) (scope : ℕ) (k : Known) (pairs : List ℕ) (memory : ℕ) (c : Context) (p new : ℕ)
+    (x : Polynomial) → p < 32 → length pairs ≡ 32 → integer_form_of o new ≡ x → Others o k pairs p c → c.d ≡ d_zero →
+    c.queue ≡ [] → c.memory ≡ memory_form_of o memory → c.ints ≡ scope →
+    IsGood o scope (learn p k) (slice_set pairs p new) memory (both p int x c)
 good_learn o scope k pairs memory c p new x lt many f old z qu mem ints = record {
   green_pair = λ q h. elim (cases_eq q p) [
-    | inl e ↦ subst (λ r. typed (both p int x c) (green r).number ≡ Some (ty Green int (integer_form_of o (slice_index (slice_set pairs p new) r)))) (sym e) (both_green p int x c lt ∙ ap (λ y. Some (ty Green int y)) here)
-    | inr ne ↦ let r = old q ne (learned k p q ne h) in other_green p q int x c lt r.2 ne ∙ r.0 ∙ ap (λ n. Some (ty Green int (integer_form_of o n))) (there q ne)
+    | inl e ↦ subst (λ r. typed (both p int x c) (green r).number
+        ≡ Some (ty Green int (integer_form_of o (slice_index (slice_set pairs p new) r)))) (sym e)
+        (both_green p int x c lt ∙ ap (λ y. Some (ty Green int y)) here)
+    | inr ne ↦ let r = old q ne (learned k p q ne h) in other_green p q int x c lt r.2 ne ∙ r.0
+        ∙ ap (λ n. Some (ty Green int (integer_form_of o n))) (there q ne)
   ];
   blue_pair = λ q h. elim (cases_eq q p) [
-    | inl e ↦ subst (λ r. typed (both p int x c) (blue r).number ≡ Some (ty Blue int (integer_form_of o (slice_index (slice_set pairs p new) r)))) (sym e) (both_blue p int x c ∙ ap (λ y. Some (ty Blue int y)) here)
-    | inr ne ↦ let r = old q ne (learned k p q ne h) in other_blue p q int x c lt r.2 ne ∙ r.1 ∙ ap (λ n. Some (ty Blue int (integer_form_of o n))) (there q ne)
+    | inl e ↦ subst (λ r. typed (both p int x c) (blue r).number
+        ≡ Some (ty Blue int (integer_form_of o (slice_index (slice_set pairs p new) r)))) (sym e) (both_blue p int x c
+        ∙ ap (λ y. Some (ty Blue int y)) here)
+    | inr ne ↦ let r = old q ne (learned k p q ne h) in other_blue p q int x c lt r.2 ne ∙ r.1
+        ∙ ap (λ n. Some (ty Blue int (integer_form_of o n))) (there q ne)
   ];
-  small = λ q h. elim (cases_eq q p) [ inl e ↦ subst (λ r. r < 32) (sym e) lt | inr ne ↦ (old q ne (learned k p q ne h)).2 ];
+  small = λ q h. elim (cases_eq q p) [
+    | inl e ↦ subst (λ r. r < 32) (sym e) lt
+    | inr ne ↦ (old q ne (learned k p q ne h)).2
+  ];
   many = length-set pairs p new ∙ many;
   zero = z;
   queue = qu;
@@ -112,7 +143,9 @@ good_learn o scope k pairs memory c p new x lt many f old z qu mem ints = record
     there q ne = sym (get_or-set_other pairs p q new 0 ne)
 
 -- pair p is set and then forgotten
-pub good_forget : (o : Object) (scope : ℕ) (k : Known) (pairs : List ℕ) (memory : ℕ) (c : Context) (p : ℕ) (b : Basic) (x : Polynomial) → p < 32 → IsGood o scope k pairs memory c → IsGood o scope (forget p k) pairs memory (both p b x c)
+pub good_forget : (o : Object) (scope : ℕ) (k : Known) (pairs : List ℕ) (memory : ℕ) (c : Context) (p : ℕ) (b : Basic)
+    (x : Polynomial) → p < 32 → IsGood o scope k pairs memory c →
+    IsGood o scope (forget p k) pairs memory (both p b x c)
 good_forget o scope k pairs memory c p b x lt G = record {
   green_pair = λ q h. let u = forgotten k p q h in other_green p q b x c lt (G.small q u.1) u.0 ∙ G.green_pair q u.1;
   blue_pair = λ q h. let u = forgotten k p q h in other_blue p q b x c lt (G.small q u.1) u.0 ∙ G.blue_pair q u.1;
@@ -154,7 +187,8 @@ module _ (o : Object) (N : AreNodes o.nodes) (cells : ℕ)
     (refs : (c : ℕ) → c < cells → has_type o (cell_address c) (ref int) ≡ true)
     (arrays : (begin many : ℕ) → RunFits cells (Run begin many) → run_type o begin many ≡ Some int) where
   -- the form of the address of the cell of an array that a pair names
-  address_form : (w : Noted) (scope begin many q : ℕ) → Starts (with_address_nodes scope begin many q w).nodes o.nodes → integer_form_of o (length w.nodes + 2) ≡ run_form begin many (integer_form_of o (pair_node w q))
+  address_form : (w : Noted) (scope begin many q : ℕ) → Starts (with_address_nodes scope begin many q w).nodes o.nodes →
+      integer_form_of o (length w.nodes + 2) ≡ run_form begin many (integer_form_of o (pair_node w q))
   address_form w scope begin many q s =
       let v = cell_address begin in
       let a = shape.Word v in
@@ -169,19 +203,30 @@ module _ (o : Object) (N : AreNodes o.nodes) (cells : ℕ)
       let n1 : length w.nodes + 1 ≡ length w1.nodes = omega arith in
       let n2 : length w.nodes + 2 ≡ length w2.nodes = omega arith in
       ap (integer_form_of o) n2
-      ∙ operation_form o N (length w2.nodes) scope Add (length w.nodes) (length w.nodes + 1) (get_newest w2.nodes o.nodes (node scope t) s)
-      ∙ ap (λ y. norm_op Add y (integer_form_of o (length w.nodes + 1))) (word_form o N (length w.nodes) scope v (get_newest w.nodes o.nodes (node scope a) s1))
+      ∙ operation_form o N (length w2.nodes) scope Add (length w.nodes) (length w.nodes + 1)
+      (get_newest w2.nodes o.nodes (node scope t) s)
+      ∙ ap (λ y. norm_op Add y (integer_form_of o (length w.nodes + 1)))
+      (word_form o N (length w.nodes) scope v (get_newest w.nodes o.nodes (node scope a) s1))
       ∙ ap (λ n. norm_op Add (constant v) (integer_form_of o n)) n1
-      ∙ ap (norm_op Add (constant v)) (rem_form o N (length w1.nodes) scope (pair_node w q) many (get_newest w1.nodes o.nodes (node scope r) s2))
+      ∙ ap (norm_op Add (constant v)) (rem_form o N (length w1.nodes) scope (pair_node w q) many
+      (get_newest w1.nodes o.nodes (node scope r) s2))
 
   -- loads from an address that two instructions put into both registers of a pair
-  load_leads : (scope : ℕ) (k : Known) (w : Noted) (c : Context) (p : ℕ) (a : Polynomial) (x : Shape) (i j : Instr) → p < 32 → integer_form_of o (length w.nodes) ≡ norm_sel c.memory a → IsGood o scope k w.pairs w.memory c → row o c i ≡ Goes (with_type (green p).number (ty Green (ref int) a) c) → row o (with_type (green p).number (ty Green (ref int) a) c) j ≡ Goes (both p (ref int) a c) → Leads o c (i ∷ j ∷ loads p) scope (learn p k) (with_pair_node scope p x w)
+  load_leads : (scope : ℕ) (k : Known) (w : Noted) (c : Context) (p : ℕ) (a : Polynomial) (x : Shape) (i j : Instr) →
+      p < 32 → integer_form_of o (length w.nodes) ≡ norm_sel c.memory a → IsGood o scope k w.pairs w.memory c →
+      row o c i
+      ≡ Goes (with_type (green p).number (ty Green (ref int) a) c) →
+      row o (with_type (green p).number (ty Green (ref int) a) c) j ≡ Goes (both p (ref int) a c) →
+      Leads o c (i ∷ j ∷ loads p) scope (learn p k) (with_pair_node scope p x w)
   load_leads scope k w c p a x i j lt f G first second =
       let y = norm_sel c.memory a in
       let c2 = both p (ref int) a c in
       let c3 = with_type (green p).number (ty Green int y) c2 in
-      let old : Others o k w.pairs p c2 = λ q ne known.
-      (other_green p q (ref int) a c lt (G.small q known) ne ∙ G.green_pair q known, other_blue p q (ref int) a c lt (G.small q known) ne ∙ G.blue_pair q known, G.small q known) in
+      let old : Others o k w.pairs p c2 = λ q ne known. (
+        other_green p q (ref int) a c lt (G.small q known) ne ∙ G.green_pair q known,
+        other_blue p q (ref int) a c lt (G.small q known) ne ∙ G.blue_pair q known,
+        G.small q known,
+      ) in
       record {
         after = both p int y c2;
         passes = (
@@ -193,15 +238,27 @@ module _ (o : Object) (N : AreNodes o.nodes) (cells : ℕ)
             (
               _,
               load_green_row o c2 (green p) (green p) a G.queue (both_green p (ref int) a c lt),
-              (_, load_blue_row o c3 (blue p) (blue p) a (typed_other c2 (green p).number (ty Green int y) (blue p).number (blue_is_not_green p p lt lt) ∙ both_blue p (ref int) a c), refl),
+              (
+                _,
+                load_blue_row o c3 (blue p) (blue p) a
+                    (typed_other c2 (green p).number (ty Green int y) (blue p).number (blue_is_not_green p p lt lt)
+                    ∙ both_blue p (ref int) a c),
+                refl,
+              ),
             ),
           ),
         );
-        good = good_learn o scope k w.pairs w.memory c2 p (length w.nodes) y lt G.many f old G.zero G.queue G.memory_is G.ints;
+        good = good_learn o scope k w.pairs w.memory c2 p (length w.nodes) y lt G.many f old G.zero G.queue G.memory_is
+            G.ints;
       }
 
   -- stores to an address that two instructions put into both registers of the spare
-  store_leads : (scope : ℕ) (k : Known) (w : Noted) (c : Context) (q spare : ℕ) (a : Polynomial) (x : Shape) (i j : Instr) → spare < 32 → k q ≡ true → q ≢ spare → memory_form_of o (length w.nodes) ≡ norm_upd c.memory a (integer_form_of o (pair_node w q)) → IsGood o scope k w.pairs w.memory c → row o c i ≡ Goes (with_type (green spare).number (ty Green (ref int) a) c) → row o (with_type (green spare).number (ty Green (ref int) a) c) j ≡ Goes (both spare (ref int) a c) → Leads o c (i ∷ j ∷ stores spare q) scope (forget spare k) (with_memory_node scope x w)
+  store_leads : (scope : ℕ) (k : Known) (w : Noted) (c : Context) (q spare : ℕ) (a : Polynomial) (x : Shape)
+      (i j : Instr) → spare < 32 → k q ≡ true → q ≢ spare → memory_form_of o (length w.nodes)
+      ≡ norm_upd c.memory a (integer_form_of o (pair_node w q)) → IsGood o scope k w.pairs w.memory c → row o c i
+      ≡ Goes (with_type (green spare).number (ty Green (ref int) a) c) →
+      row o (with_type (green spare).number (ty Green (ref int) a) c) j ≡ Goes (both spare (ref int) a c) →
+      Leads o c (i ∷ j ∷ stores spare q) scope (forget spare k) (with_memory_node scope x w)
   store_leads scope k w c q spare a x i j lt known ne f G first second =
       let y = integer_form_of o (pair_node w q) in
       let lq = G.small q known in
@@ -218,8 +275,14 @@ module _ (o : Object) (N : AreNodes o.nodes) (cells : ℕ)
             second,
             (
               _,
-              store_green_row o c2 (green spare) (green q) a y G.queue (both_green spare (ref int) a c lt) (other_green spare q (ref int) a c lt lq ne ∙ G.green_pair q known),
-              (_, store_blue_row o c3 (blue spare) (blue q) a y refl (both_blue spare (ref int) a c) (other_blue spare q (ref int) a c lt lq ne ∙ G.blue_pair q known), refl),
+              store_green_row o c2 (green spare) (green q) a y G.queue (both_green spare (ref int) a c lt)
+                  (other_green spare q (ref int) a c lt lq ne ∙ G.green_pair q known),
+              (
+                _,
+                store_blue_row o c3 (blue spare) (blue q) a y refl (both_blue spare (ref int) a c)
+                    (other_blue spare q (ref int) a c lt lq ne ∙ G.blue_pair q known),
+                refl,
+              ),
             ),
           ),
         );
@@ -236,23 +299,37 @@ module _ (o : Object) (N : AreNodes o.nodes) (cells : ℕ)
       }
 
   -- the address of the cell of an array that a pair names, put into both registers of another one or of the same
-  blue_index : (scope : ℕ) (k : Known) (w : Noted) (c : Context) (p q begin many : ℕ) → p < 32 → RunFits cells (Run begin many) → k q ≡ true → IsGood o scope k w.pairs w.memory c → let a = run_form begin many (integer_form_of o (pair_node w q)) in row o (with_type (green p).number (ty Green (ref int) a) c) (instr.Idx (blue p) (blue q) begin many) ≡ Goes (both p (ref int) a c)
+  blue_index : (scope : ℕ) (k : Known) (w : Noted) (c : Context) (p q begin many : ℕ) → p < 32 →
+      RunFits cells (Run begin many) → k q ≡ true → IsGood o scope k w.pairs w.memory c →
+      let a = run_form begin many (integer_form_of o (pair_node w q)) in
+      row o (with_type (green p).number (ty Green (ref int) a) c) (instr.Idx (blue p) (blue q) begin many)
+      ≡ Goes (both p (ref int) a c)
   blue_index scope k w c p q begin many lt fits known G =
       let y = integer_form_of o (pair_node w q) in
       let a = run_form begin many y in
-      index_row o (with_type (green p).number (ty Green (ref int) a) c) (blue p) (blue q) Blue int begin many y (arrays begin many fits)
-      (typed_other c (green p).number (ty Green (ref int) a) (blue q).number (blue_is_not_green p q lt (G.small q known)) ∙ G.blue_pair q known)
+      index_row o (with_type (green p).number (ty Green (ref int) a) c) (blue p) (blue q) Blue int begin many y
+      (arrays begin many fits)
+      (typed_other c (green p).number (ty Green (ref int) a) (blue q).number
+      (blue_is_not_green p q lt (G.small q known)) ∙ G.blue_pair q known)
 
   -- a straight step
-  pub straight_leads : (start : ℕ → ℕ) (u : Subst) (vars scope blocks : ℕ) (k : Known) (w : Noted) (c : Context) (i : Step3) → IsStraight i → StepFits cells blocks i → All (λ p. p < 32) (pairs_of i) → ReadsKnown vars k i → Starts (step_noted vars scope w i).nodes o.nodes → IsGood o scope k w.pairs w.memory c → Leads o c (coded_step start u i) scope (known_after i k) (step_noted vars scope w i)
+  pub straight_leads : (start : ℕ → ℕ) (u : Subst) (vars scope blocks : ℕ) (k : Known) (w : Noted) (c : Context)
+      (i : Step3) → IsStraight i → StepFits cells blocks i → All (λ p. p < 32) (pairs_of i) → ReadsKnown vars k i →
+      Starts (step_noted vars scope w i).nodes o.nodes → IsGood o scope k w.pairs w.memory c →
+      Leads o c (coded_step start u i) scope (known_after i k) (step_noted vars scope w i)
   straight_leads start u vars scope blocks k w c (Put p v) st fits ps reads s G =
       let x = constant v in
       let lt = ps 0 0 (omega arith) in
       let f = word_form o N (length w.nodes) scope v (get_newest w.nodes o.nodes (node scope (shape.Word v)) s) in
       record {
         after = both p int x c;
-        passes = (_, mov_row o c (green p) v Green int (has_int o v), (_, mov_row o (with_type (green p).number (ty Green int x) c) (blue p) v Blue int (has_int o v), refl));
-        good = good_learn o scope k w.pairs w.memory c p (length w.nodes) x lt G.many f (others_of o scope k w.pairs w.memory p c G) G.zero G.queue G.memory_is G.ints;
+        passes = (
+          _,
+          mov_row o c (green p) v Green int (has_int o v),
+          (_, mov_row o (with_type (green p).number (ty Green int x) c) (blue p) v Blue int (has_int o v), refl),
+        );
+        good = good_learn o scope k w.pairs w.memory c p (length w.nodes) x lt G.many f
+            (others_of o scope k w.pairs w.memory p c G) G.zero G.queue G.memory_is G.ints;
       }
   straight_leads start u vars scope blocks k w c (Copy p q) st fits ps reads s G =
       let m = length (w.nodes ++ node scope (shape.Word 0) ∷ []) in
@@ -263,16 +340,26 @@ module _ (o : Object) (N : AreNodes o.nodes) (cells : ℕ)
       let zeroed = with_node scope (shape.Word 0) w in
       let sh = shape.Op Add (pair_node w q) (length w.nodes) in
       let f : integer_form_of o m ≡ x =
-      operation_form o N m scope Add (pair_node w q) (length w.nodes) (get_newest zeroed.nodes o.nodes (node scope sh) s)
-      ∙ ap (norm_op Add y) (word_form o N (length w.nodes) scope 0 (get_newest w.nodes o.nodes (node scope (shape.Word 0)) (starts_less zeroed.nodes o.nodes (node scope sh) s))) in
+      operation_form o N m scope Add (pair_node w q) (length w.nodes)
+      (get_newest zeroed.nodes o.nodes (node scope sh) s)
+      ∙ ap (norm_op Add y) (word_form o N (length w.nodes) scope 0
+      (get_newest w.nodes o.nodes (node scope (shape.Word 0)) (starts_less zeroed.nodes o.nodes (node scope sh) s)))
+      in
       record {
         after = both p int x c;
         passes = (
           _,
           op_word_row o c Add (green p) (green q) 0 Green int y (G.green_pair q reads),
-          (_, op_word_row o (with_type (green p).number (ty Green int x) c) Add (blue p) (blue q) 0 Blue int y (typed_other c (green p).number (ty Green int x) (blue q).number (blue_is_not_green p q lt lq) ∙ G.blue_pair q reads), refl),
+          (
+            _,
+            op_word_row o (with_type (green p).number (ty Green int x) c) Add (blue p) (blue q) 0 Blue int y
+                (typed_other c (green p).number (ty Green int x) (blue q).number (blue_is_not_green p q lt lq)
+                ∙ G.blue_pair q reads),
+            refl,
+          ),
         );
-        good = good_learn o scope k w.pairs w.memory c p m x lt G.many f (others_of o scope k w.pairs w.memory p c G) G.zero G.queue G.memory_is G.ints;
+        good = good_learn o scope k w.pairs w.memory c p m x lt G.many f (others_of o scope k w.pairs w.memory p c G)
+            G.zero G.queue G.memory_is G.ints;
       }
   straight_leads start u vars scope blocks k w c (Op op p q r) st fits ps reads s G =
       let y = integer_form_of o (pair_node w q) in
@@ -280,22 +367,27 @@ module _ (o : Object) (N : AreNodes o.nodes) (cells : ℕ)
       let x = norm_op op y z in
       let lt = ps 0 0 (omega arith) in
       let sh = shape.Op op (pair_node w q) (pair_node w r) in
-      let f = operation_form o N (length w.nodes) scope op (pair_node w q) (pair_node w r) (get_newest w.nodes o.nodes (node scope sh) s) in
+      let f = operation_form o N (length w.nodes) scope op (pair_node w q) (pair_node w r)
+      (get_newest w.nodes o.nodes (node scope sh) s) in
       let c1 = with_type (green p).number (ty Green int x) c in
       record {
         after = both p int x c;
         passes = (
           _,
-          op_row o c op (green p) (green q) (green r) Green int int y z (G.green_pair q reads.0) (G.green_pair r reads.1),
+          op_row o c op (green p) (green q) (green r) Green int int y z (G.green_pair q reads.0)
+              (G.green_pair r reads.1),
           (
             _,
             op_row o c1 op (blue p) (blue q) (blue r) Blue int int y z
-                (typed_other c (green p).number (ty Green int x) (blue q).number (blue_is_not_green p q lt (G.small q reads.0)) ∙ G.blue_pair q reads.0)
-                (typed_other c (green p).number (ty Green int x) (blue r).number (blue_is_not_green p r lt (G.small r reads.1)) ∙ G.blue_pair r reads.1),
+                (typed_other c (green p).number (ty Green int x) (blue q).number
+                (blue_is_not_green p q lt (G.small q reads.0)) ∙ G.blue_pair q reads.0)
+                (typed_other c (green p).number (ty Green int x) (blue r).number
+                (blue_is_not_green p r lt (G.small r reads.1)) ∙ G.blue_pair r reads.1),
             refl,
           ),
         );
-        good = good_learn o scope k w.pairs w.memory c p (length w.nodes) x lt G.many f (others_of o scope k w.pairs w.memory p c G) G.zero G.queue G.memory_is G.ints;
+        good = good_learn o scope k w.pairs w.memory c p (length w.nodes) x lt G.many f
+            (others_of o scope k w.pairs w.memory p c G) G.zero G.queue G.memory_is G.ints;
       }
   straight_leads start u vars scope blocks k w c (Load p cl) st fits ps reads s G =
       let v = cell_address cl in
@@ -306,9 +398,11 @@ module _ (o : Object) (N : AreNodes o.nodes) (cells : ℕ)
       let h = refs cl fits in
       let f : integer_form_of o m ≡ norm_sel c.memory a =
       sel_form o N m scope w.memory (length w.nodes) (get_newest at.nodes o.nodes (node scope x) s)
-      ∙ ap (norm_sel (memory_form_of o w.memory)) (word_form o N (length w.nodes) scope v (get_newest w.nodes o.nodes (node scope (shape.Word v)) (starts_less at.nodes o.nodes (node scope x) s)))
+      ∙ ap (norm_sel (memory_form_of o w.memory)) (word_form o N (length w.nodes) scope v
+      (get_newest w.nodes o.nodes (node scope (shape.Word v)) (starts_less at.nodes o.nodes (node scope x) s)))
       ∙ ap (λ y. norm_sel y a) (sym G.memory_is) in
-      load_leads scope k at c p a x _ _ (ps 0 0 (omega arith)) f G (mov_row o c (green p) v Green (ref int) h) (mov_row o (with_type (green p).number (ty Green (ref int) a) c) (blue p) v Blue (ref int) h)
+      load_leads scope k at c p a x _ _ (ps 0 0 (omega arith)) f G (mov_row o c (green p) v Green (ref int) h)
+      (mov_row o (with_type (green p).number (ty Green (ref int) a) c) (blue p) v Blue (ref int) h)
   straight_leads start u vars scope blocks k w c (Store cl q spare) st fits ps reads s G =
       let v = cell_address cl in
       let a = constant v in
@@ -319,9 +413,13 @@ module _ (o : Object) (N : AreNodes o.nodes) (cells : ℕ)
       let h = refs cl fits in
       let f : memory_form_of o m ≡ norm_upd c.memory a y =
       upd_form o N m scope w.memory (length w.nodes) (pair_node w q) (get_newest at.nodes o.nodes (node scope x) s)
-      ∙ ap (λ b. norm_upd (memory_form_of o w.memory) b y) (word_form o N (length w.nodes) scope v (get_newest w.nodes o.nodes (node scope (shape.Word v)) (starts_less at.nodes o.nodes (node scope x) s)))
+      ∙ ap (λ b. norm_upd (memory_form_of o w.memory) b y)
+      (word_form o N (length w.nodes) scope v (get_newest w.nodes o.nodes (node scope (shape.Word v))
+      (starts_less at.nodes o.nodes (node scope x) s)))
       ∙ ap (λ z. norm_upd z a y) (sym G.memory_is) in
-      store_leads scope k at c q spare a x _ _ (ps 1 0 (omega arith)) reads.0 reads.1 f G (mov_row o c (green spare) v Green (ref int) h) (mov_row o (with_type (green spare).number (ty Green (ref int) a) c) (blue spare) v Blue (ref int) h)
+      store_leads scope k at c q spare a x _ _ (ps 1 0 (omega arith)) reads.0 reads.1 f G
+      (mov_row o c (green spare) v Green (ref int) h)
+      (mov_row o (with_type (green spare).number (ty Green (ref int) a) c) (blue spare) v Blue (ref int) h)
   straight_leads start u vars scope blocks k w c (LoadAt p q begin many) st fits ps reads s G =
       let y = integer_form_of o (pair_node w q) in
       let a = run_form begin many y in
@@ -331,9 +429,11 @@ module _ (o : Object) (N : AreNodes o.nodes) (cells : ℕ)
       let lt = ps 0 0 (omega arith) in
       let f : integer_form_of o m ≡ norm_sel c.memory a =
       sel_form o N m scope w.memory (length w.nodes + 2) (get_newest at.nodes o.nodes (node scope x) s)
-      ∙ ap (norm_sel (memory_form_of o w.memory)) (address_form w scope begin many q (starts_less at.nodes o.nodes (node scope x) s))
+      ∙ ap (norm_sel (memory_form_of o w.memory)) (address_form w scope begin many q
+      (starts_less at.nodes o.nodes (node scope x) s))
       ∙ ap (λ z. norm_sel z a) (sym G.memory_is) in
-      load_leads scope k at c p a x _ _ lt f G (index_row o c (green p) (green q) Green int begin many y (arrays begin many fits) (G.green_pair q reads)) (blue_index scope k w c p q begin many lt fits reads G)
+      load_leads scope k at c p a x _ _ lt f G (index_row o c (green p) (green q) Green int begin many y
+      (arrays begin many fits) (G.green_pair q reads)) (blue_index scope k w c p q begin many lt fits reads G)
   straight_leads start u vars scope blocks k w c (StoreAt begin many e q spare) st fits ps reads s G =
       let y = integer_form_of o (pair_node w q) in
       let z = integer_form_of o (pair_node w e) in
@@ -344,9 +444,12 @@ module _ (o : Object) (N : AreNodes o.nodes) (cells : ℕ)
       let lt = ps 2 0 (omega arith) in
       let f : memory_form_of o m ≡ norm_upd c.memory a y =
       upd_form o N m scope w.memory (length w.nodes + 2) (pair_node w q) (get_newest at.nodes o.nodes (node scope x) s)
-      ∙ ap (λ b. norm_upd (memory_form_of o w.memory) b y) (address_form w scope begin many e (starts_less at.nodes o.nodes (node scope x) s))
+      ∙ ap (λ b. norm_upd (memory_form_of o w.memory) b y)
+      (address_form w scope begin many e (starts_less at.nodes o.nodes (node scope x) s))
       ∙ ap (λ b. norm_upd b a y) (sym G.memory_is) in
-      store_leads scope k at c q spare a x _ _ lt reads.1 reads.3 f G (index_row o c (green spare) (green e) Green int begin many z (arrays begin many fits) (G.green_pair e reads.0)) (blue_index scope k w c spare e begin many lt fits reads.0 G)
+      store_leads scope k at c q spare a x _ _ lt reads.1 reads.3 f G
+      (index_row o c (green spare) (green e) Green int begin many z (arrays begin many fits) (G.green_pair e reads.0))
+      (blue_index scope k w c spare e begin many lt fits reads.0 G)
   straight_leads start u vars scope blocks k w c (Exit q spare to) st fits ps reads s G = absurd st
   straight_leads start u vars scope blocks k w c (Go spare to) st fits ps reads s G = absurd st
   straight_leads start u vars scope blocks k w c Stop st fits ps reads s G = absurd st

@@ -1,5 +1,6 @@
 -- Where an object stands for a program, outputs have the same lines by the object's cells as by the program's names.
-use Rattle.std.proofs.Common.{◌≡◌, ℕ, ◌+◌, ◌*◌, ◌-◌, ◌≤◌, List, [], ◌∷◌, None, refl, sym, ap, ◌∙◌, subst, slice_get, map}
+use Rattle.std.proofs.Common.{◌≡◌, ℕ, ◌+◌, ◌*◌, ◌-◌, ◌≤◌, List, [], ◌∷◌, None, refl, sym, ap, ◌∙◌, subst, slice_get}
+use Rattle.std.proofs.Common.{map}
 use Rattle.std.specs.Option.{unwrap_or}
 use Rattle.std.proofs.lemmas.Option.{slice_get-map}
 use Rattle.std.proofs.lemmas.List.{map-append}
@@ -18,44 +19,59 @@ use Rattle.ft_compile.specs.StandsFor.{StandsFor}
 use Rattle.ft_compile.specs.Laws.{object_lines, LinesBegin}
 
 -- the line of an output
-same_line : (o : Object) (names : List (List ℕ)) → map name_of o.cells ≡ names → (x : Output) → line_at o x ≡ line_of names x
+same_line : (o : Object) (names : List (List ℕ)) → map name_of o.cells ≡ names → (x : Output) → line_at o x
+    ≡ line_of names x
 same_line o names e x =
     let k = x.addr - cell_address 0 in
     ap (λ name. line (unwrap_or name []) x.value) (sym (slice_get-map name_of o.cells k) ∙ ap (λ l. slice_get l k) e)
 
 -- the lines of outputs
-lines_by_names : (o : Object) (names : List (List ℕ)) → map name_of o.cells ≡ names → (xs : List Output) → object_lines o xs ≡ output_lines names xs
+lines_by_names : (o : Object) (names : List (List ℕ)) → map name_of o.cells ≡ names → (xs : List Output) →
+    object_lines o xs ≡ output_lines names xs
 lines_by_names o names e [] = refl
-lines_by_names o names e (x ∷ xs) = ap (λ l. l ∷ object_lines o xs) (same_line o names e x) ∙ ap (λ ls. line_of names x ∷ ls) (lines_by_names o names e xs)
+lines_by_names o names e (x ∷ xs) = ap (λ l. l ∷ object_lines o xs) (same_line o names e x)
+    ∙ ap (λ ls. line_of names x ∷ ls) (lines_by_names o names e xs)
 
 -- the lines of outputs, where an object stands for a program
-pub same_lines : (p : Program) (o : Object) → StandsFor p o → (xs : List Output) → object_lines o xs ≡ output_lines p.names xs
+pub same_lines : (p : Program) (o : Object) → StandsFor p o → (xs : List Output) → object_lines o xs
+    ≡ output_lines p.names xs
 same_lines p o h xs = lines_by_names o p.names h.names xs
 
 -- lines begin lines where outputs begin outputs
-lines_begin : (names : List (List ℕ)) (xs ys : List Output) → Begins xs ys → LinesBegin (output_lines names xs) (output_lines names ys)
-lines_begin names xs ys h = (output_lines names h.0, sym (map-append (line_of names) xs h.0) ∙ ap (output_lines names) h.1)
+lines_begin : (names : List (List ℕ)) (xs ys : List Output) → Begins xs ys →
+    LinesBegin (output_lines names xs) (output_lines names ys)
+lines_begin names xs ys h = (
+  output_lines names h.0,
+  sym (map-append (line_of names) xs h.0)
+      ∙ ap (output_lines names) h.1,
+)
 
 -- a run that is done has the lines of the meaning, which has ended
-pub done_lines : (p : Program) (o : Object) → StandsFor p o → (n : ℕ) → status_after o None [] n ≡ Done → (s : State) × (meaning p n ≡ Ended s) × (object_lines o (outputs_after o None [] n) ≡ output_lines p.names s.out)
+pub done_lines : (p : Program) (o : Object) → StandsFor p o → (n : ℕ) → status_after o None [] n ≡ Done → (s : State)
+    × (meaning p n ≡ Ended s) × (object_lines o (outputs_after o None [] n) ≡ output_lines p.names s.out)
 done_lines p o h n d =
     let m = h.run.done n d in
     (m.0, m.1, same_lines p o h (outputs_after o None [] n) ∙ ap (output_lines p.names) m.2)
 
 -- the lines of a run that is running begin those of the meaning
-pub running_lines : (p : Program) (o : Object) → StandsFor p o → (n : ℕ) → status_after o None [] n ≡ Running → LinesBegin (object_lines o (outputs_after o None [] n)) (output_lines p.names (outputs (meaning p n)))
+pub running_lines : (p : Program) (o : Object) → StandsFor p o → (n : ℕ) → status_after o None [] n ≡ Running →
+    LinesBegin (object_lines o (outputs_after o None [] n)) (output_lines p.names (outputs (meaning p n)))
 running_lines p o h n r =
-    subst (λ ls. LinesBegin ls (output_lines p.names (outputs (meaning p n)))) (sym (same_lines p o h (outputs_after o None [] n)))
+    subst (λ ls. LinesBegin ls (output_lines p.names (outputs (meaning p n))))
+    (sym (same_lines p o h (outputs_after o None [] n)))
     (lines_begin p.names (outputs_after o None [] n) (outputs (meaning p n)) (h.run.running n r))
 
 -- where the meaning ends, the run does so with its lines
-pub ended_lines : (p : Program) (o : Object) → StandsFor p o → (n t : ℕ) (s : State) → meaning p t ≡ Ended s → 16 * s.work + 320 ≤ n → (status_after o None [] n ≡ Done) × (object_lines o (outputs_after o None [] n) ≡ output_lines p.names s.out)
+pub ended_lines : (p : Program) (o : Object) → StandsFor p o → (n t : ℕ) (s : State) → meaning p t ≡ Ended s →
+    16 * s.work + 320 ≤ n → (status_after o None [] n ≡ Done)
+    × (object_lines o (outputs_after o None [] n) ≡ output_lines p.names s.out)
 ended_lines p o h n t s e lt =
     let m = h.run.ends n t s e lt in
     (m.0, same_lines p o h (outputs_after o None [] n) ∙ ap (output_lines p.names) m.1)
 
 -- the lines of a meaning that is cut begin those of the run
-pub cut_lines : (p : Program) (o : Object) → StandsFor p o → (n t : ℕ) (s : State) → meaning p t ≡ Cut s → 16 * s.work + 320 ≤ n → LinesBegin (output_lines p.names s.out) (object_lines o (outputs_after o None [] n))
+pub cut_lines : (p : Program) (o : Object) → StandsFor p o → (n t : ℕ) (s : State) → meaning p t ≡ Cut s →
+    16 * s.work + 320 ≤ n → LinesBegin (output_lines p.names s.out) (object_lines o (outputs_after o None [] n))
 cut_lines p o h n t s e lt =
     subst (LinesBegin (output_lines p.names s.out)) (sym (same_lines p o h (outputs_after o None [] n)))
     (lines_begin p.names s.out (outputs_after o None [] n) (h.run.cuts n t s e lt))

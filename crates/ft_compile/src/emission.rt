@@ -30,7 +30,7 @@ pub fn emit(alloc: Global, prog: &Prog<'_>, flow: &Flow, code: Doubled) -> Resul
 {
     let names = prog.cell_names(alloc)?;
     let cells = cells_of(alloc, names, &prog.inits)?;
-    let notes = note_flow(alloc, flow)?;
+    let notes = note_flow(alloc, flow, code.instrs.len())?;
     let types = types_of(alloc, flow.vars)?;
     let blocks = blocks_from(alloc, &code.starts)?;
     let Doubled { mut instrs, .. } = code;

@@ -30,11 +30,15 @@ pub struct Notes {
 }
 
 impl Notes {
-    /// The memory variable, and so many variables.
-    pub fn new(alloc: Global, vars: u8) -> Result<Notes, AllocError>
+    /// The memory variable, and so many variables. There is room for what is noted along so many instructions: no step has more
+    /// nodes than instructions, and a jump has four.
+    pub fn new(alloc: Global, vars: u8, instrs: usize) -> Result<Notes, AllocError>
         ensures { IfOk result (λ n. noted_of n ≡ at_first vars) }
     {
-        let mut nodes = Vec::new(alloc);
+        let jumps = instrs / 4;
+        let rows = Vec::with_capacity(alloc, jumps.saturating_mul(usize::from(vars)))?;
+        let substs = Vec::with_capacity(alloc, jumps)?;
+        let mut nodes = Vec::with_capacity(alloc, instrs)?;
         nodes.push(Node {
             scope: 0,
             shape: Shape::Memory,
@@ -47,8 +51,8 @@ impl Notes {
         }
         Ok(Notes {
             nodes,
-            rows: Vec::new(alloc),
-            substs: Vec::new(alloc),
+            rows,
+            substs,
             pairs: FIRST_PAIRS,
             memory: 0,
         })

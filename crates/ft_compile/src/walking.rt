@@ -198,14 +198,15 @@ fn note_row(notes: &mut Notes, vars: u8, scope: u8, steps: &[Step3]) -> Result<(
     Ok(())
 }
 
-/// Notes all blocks of a flow: the entry has no variable, and the others have those of the flow.
-pub fn note_flow(alloc: Global, flow: &Flow) -> Result<Notes, AllocError>
+/// Notes all blocks of a flow, which become so many instructions: the entry has no variable, and the others have those of the
+/// flow.
+pub fn note_flow(alloc: Global, flow: &Flow, instrs: usize) -> Result<Notes, AllocError>
     requires vars { flow.now.vars ≤ 32 }
     requires pairs { PairsBelow 32 (blocks_of flow.now) }
     requires short { blocks_size (blocks_of flow.now) ≤ 65536 }
     ensures { IfOk result (λ n. noted_of n ≡ noted flow.now.vars (blocks_of flow.now)) }
 {
-    let mut notes = Notes::new(alloc, flow.vars)?;
+    let mut notes = Notes::new(alloc, flow.vars, instrs)?;
     let mut scope = 0;
     for block in &flow.blocks {
         notes.begin();

@@ -21,7 +21,8 @@ pub tree_steps : (o : Object) (n u s t : ℕ) → n < length o.nodes → t ≤ s
 unfolding tree_cost
 tree_steps o n u s t l h =
     let a : (n + 1) * (1 + u + n) ≤ length o.nodes * (1 + u + n) = mul-le-mul_right (1 + u + n) (omega arith) in
-    let b : length o.nodes * (1 + u + n) ≤ length o.nodes * (u + length o.nodes) = mul-le-mul_left (length o.nodes) (omega arith) in
+    let b : length o.nodes * (1 + u + n) ≤ length o.nodes * (u + length o.nodes) =
+    mul-le-mul_left (length o.nodes) (omega arith) in
     omega (arith, h, a, b)
 
 -- more updates cost more
@@ -40,7 +41,8 @@ some_trees s i j r c h l = let m : j * c ≤ r * c = mul-le-mul_right c l in ome
 -- rows of registers that rise are at most 64
 rows_few : (least : ℕ) (rs : List RegType) → AreRising least rs → least ≤ 64 → length rs + least ≤ 64
 rows_few least [] h l = omega arith
-rows_few least (r ∷ rs) h l = let b = r.reg.in_range in let k = rows_few (suc r.reg.number) rs h.1 (omega arith) in let m = h.0 in omega arith
+rows_few least (r ∷ rs) h l = let b = r.reg.in_range in let k = rows_few (suc r.reg.number) rs h.1 (omega arith) in
+    let m = h.0 in omega arith
 
 -- so are those of a code type
 pub few_reg_rows : (o : Object) (t : ℕ) → IsSpellable o → t < length o.types → length (reg_rows o t) ≤ 64
@@ -59,13 +61,16 @@ few_queue_rows o t h l =
     rw rows k.queue_length
 
 -- the steps of a tree with the variables as they are
-pub own_steps : (o : Object) (fs : List Normal) (n : ℕ) (v : Variables) (s t : ℕ) → AreOwn fs n v → t ≤ s + tree_cost o (updates (updates_held fs v.memory)) → t ≤ s + tree_cost o 0
+pub own_steps : (o : Object) (fs : List Normal) (n : ℕ) (v : Variables) (s t : ℕ) → AreOwn fs n v →
+    t ≤ s + tree_cost o (updates (updates_held fs v.memory)) → t ≤ s + tree_cost o 0
 own_steps o fs n v s t own h = let z = updates_found fs v.memory unchanged own.memory in rw z at h
 
 -- the steps of a tree after what is put for variables, in a longer list of forms
-pub put_steps : (o : Object) (fs gs : List Normal) (v : Variables) (s t : ℕ) → Keeps fs gs → HoldsVariables fs v → t ≤ s + tree_cost o (updates (updates_held gs v.memory)) → t ≤ s + tree_cost o (updates (updates_held fs v.memory))
+pub put_steps : (o : Object) (fs gs : List Normal) (v : Variables) (s t : ℕ) → Keeps fs gs → HoldsVariables fs v →
+    t ≤ s + tree_cost o (updates (updates_held gs v.memory)) → t ≤ s + tree_cost o (updates (updates_held fs v.memory))
 put_steps o fs gs v s t k w h = let z = memory_stays fs gs v.memory k w.memory in rw z at h
 
 -- two trees
 pub two_trees : (s t r i j c : ℕ) → s ≤ i + j * (2 * c) → t ≤ s + c → r ≤ t + c → r ≤ i + (j + 1) * (2 * c)
-two_trees s t r i j c h k l = let m : (j + 1) * (2 * c) ≡ j * (2 * c) + 2 * c = omega arith in rw m (omega (arith, h, k, l))
+two_trees s t r i j c h k l = let m : (j + 1) * (2 * c) ≡ j * (2 * c) + 2 * c = omega arith in
+    rw m (omega (arith, h, k, l))

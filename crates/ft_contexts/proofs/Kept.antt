@@ -1,7 +1,8 @@
 -- What is held stays, and says the same, where the list of forms grows.
 use Rattle.std.proofs.Common.{◌≡◌, ℕ, suc, List, [], ◌∷◌, map, Option, None, Some, refl, ap}
 use Rattle.std.specs.Option.{unwrap_or}
-use Rattle.ft_static.specs.Form.{Form as Normal, integer_form, memory_form, polynomial_of, updates_of, Polynomial, Updates, nought}
+use Rattle.ft_static.specs.Form.{Form as Normal, integer_form, memory_form, polynomial_of, updates_of, Polynomial}
+use Rattle.ft_static.specs.Form.{Updates, nought}
 use Rattle.ft_norm.specs.declared.form.Form.{Form}
 use Rattle.ft_norm.specs.Held.{held, polynomial, updates_held, IsInteger, IsMemory, AreIntegers, Keeps}
 use Rattle.ft_norm.specs.declared.substitution.Memo.{Memo}
@@ -14,14 +15,18 @@ use Rattle.ft_contexts.specs.declared.destination.StateD.TheVariants.{Zero, Code
 use Rattle.ft_contexts.specs.declared.variables.OwnVariables.{OwnVariables}
 use Rattle.ft_contexts.specs.declared.variables.Variables.{Variables}
 use Rattle.ft_contexts.specs.declared.context.Context.{Context}
-use Rattle.ft_contexts.specs.Contexts.{typed_in, registers_in, d_in, pair_in, context_in, replacement_in, HoldsVariables, AreOwn, HoldsOwn, RemembersUnder, HoldsD, HoldsRegisters, HoldsQueue, HoldsForms}
+use Rattle.ft_contexts.specs.Contexts.{typed_in, registers_in, d_in, pair_in, context_in, replacement_in}
+use Rattle.ft_contexts.specs.Contexts.{HoldsVariables, AreOwn, HoldsOwn, RemembersUnder, HoldsD, HoldsRegisters}
+use Rattle.ft_contexts.specs.Contexts.{HoldsQueue, HoldsForms}
 
 -- the polynomial of a form that is held as this one
-pub polynomial_found : (fs : List Normal) (f : Form) (p : Polynomial) → held fs f ≡ Some (integer_form p) → polynomial fs f ≡ p
+pub polynomial_found : (fs : List Normal) (f : Form) (p : Polynomial) → held fs f ≡ Some (integer_form p) →
+    polynomial fs f ≡ p
 polynomial_found fs f p h = ap (λ (x : Option Normal). polynomial_of (unwrap_or x (integer_form nought))) h
 
 -- the updates of a form that is held as these
-pub updates_found : (fs : List Normal) (f : Form) (u : Updates) → held fs f ≡ Some (memory_form u) → updates_held fs f ≡ u
+pub updates_found : (fs : List Normal) (f : Form) (u : Updates) → held fs f ≡ Some (memory_form u) → updates_held fs f
+    ≡ u
 updates_found fs f u h = ap (λ (x : Option Normal). updates_of (unwrap_or x (integer_form nought))) h
 
 -- an integer's form stays the same polynomial
@@ -33,7 +38,8 @@ pub integer_kept : (fs gs : List Normal) (f : Form) → Keeps fs gs → IsIntege
 integer_kept fs gs f k h = k.integers_stay f h
 
 -- a memory's form stays the same updates
-pub memory_stays : (fs gs : List Normal) (f : Form) → Keeps fs gs → IsMemory fs f → updates_held gs f ≡ updates_held fs f
+pub memory_stays : (fs gs : List Normal) (f : Form) → Keeps fs gs → IsMemory fs f → updates_held gs f
+    ≡ updates_held fs f
 memory_stays fs gs f k h = k.updates_stay f h
 
 -- and a memory's
@@ -42,7 +48,13 @@ memory_kept fs gs f k h = k.memories_stay f h
 
 -- a list keeps itself
 pub keeps_itself : (fs : List Normal) → Keeps fs fs
-keeps_itself fs = record { forms_stay = λ f x h. h; integers_stay = λ f h. h; memories_stay = λ f h. h; polynomials_stay = λ f h. refl; updates_stay = λ f h. refl }
+keeps_itself fs = record {
+  forms_stay = λ f x h. h;
+  integers_stay = λ f h. h;
+  memories_stay = λ f h. h;
+  polynomials_stay = λ f h. refl;
+  updates_stay = λ f h. refl;
+}
 
 -- VARIABLES
 
@@ -53,10 +65,14 @@ none_held fs (x ∷ xs) e i f h = cc
 
 -- the forms of variables are held
 pub variables_kept : (fs gs : List Normal) (v : Variables) → Keeps fs gs → HoldsVariables fs v → HoldsVariables gs v
-variables_kept fs gs v k h = record { integers = λ i f e. integer_kept fs gs f k (h.integers i f e); memory = memory_kept fs gs v.memory k h.memory }
+variables_kept fs gs v k h = record {
+  integers = λ i f e. integer_kept fs gs f k (h.integers i f e);
+  memory = memory_kept fs gs v.memory k h.memory;
+}
 
 -- what is put for variables stays
-pub replacement_stays : (fs gs : List Normal) (v : Variables) → Keeps fs gs → HoldsVariables fs v → replacement_in gs v ≡ replacement_in fs v
+pub replacement_stays : (fs gs : List Normal) (v : Variables) → Keeps fs gs → HoldsVariables fs v → replacement_in gs v
+    ≡ replacement_in fs v
 replacement_stays fs gs v k h =
     let p = polynomials_kept fs gs v.integers k h.integers in
     let u = memory_stays fs gs v.memory k h.memory in
@@ -64,36 +80,54 @@ replacement_stays fs gs v k h =
 
 -- the forms of the variables themselves stay those
 pub own_kept : (fs gs : List Normal) (n : ℕ) (v : Variables) → Keeps fs gs → AreOwn fs n v → AreOwn gs n v
-own_kept fs gs n v k h = record { count = h.count; integers = λ i f e. k.forms_stay f _ (h.integers i f e); memory = k.forms_stay v.memory _ h.memory }
+own_kept fs gs n v k h = record {
+  count = h.count;
+  integers = λ i f e. k.forms_stay f _ (h.integers i f e);
+  memory = k.forms_stay v.memory _ h.memory;
+}
 
 -- and they are held
 pub own_held : (fs : List Normal) (n : ℕ) (v : Variables) → AreOwn fs n v → HoldsVariables fs v
-own_held fs n v h = record { integers = λ i f e. integer_from fs f _ (h.integers i f e); memory = memory_from fs v.memory _ h.memory }
+own_held fs n v h = record {
+  integers = λ i f e. integer_from fs f _ (h.integers i f e);
+  memory = memory_from fs v.memory _ h.memory;
+}
 
 -- what is remembered under variables stays right
-pub under_kept : (o : Object) (fs gs : List Normal) (v : Variables) (m : Memo) → Keeps fs gs → HoldsVariables fs v → RemembersUnder o fs v m → RemembersUnder o gs v m
+pub under_kept : (o : Object) (fs gs : List Normal) (v : Variables) (m : Memo) → Keeps fs gs → HoldsVariables fs v →
+    RemembersUnder o fs v m → RemembersUnder o gs v m
 under_kept o fs gs v m k h r = remembers_kept o.nodes fs gs v.integers v.memory m k h.integers h.memory r
 
 -- so does what is held of the variables themselves
 pub owned_kept : (o : Object) (fs gs : List Normal) (v : OwnVariables) → Keeps fs gs → HoldsOwn o fs v → HoldsOwn o gs v
-owned_kept o fs gs v k h = record { own = own_kept fs gs 128 v.variables k h.own; made = under_kept o fs gs v.variables v.made k (own_held fs 128 v.variables h.own) h.made }
+owned_kept o fs gs v k h = record {
+  own = own_kept fs gs 128 v.variables k h.own;
+  made = under_kept o fs gs v.variables v.made k (own_held fs 128 v.variables h.own) h.made;
+}
 
 -- CONTEXTS
 
 -- what is known of a register stays
-pub typed_stays : (fs gs : List Normal) (x : RegForm) → Keeps fs gs → IsInteger fs x.form → typed_in gs x ≡ typed_in fs x
-typed_stays fs gs x k h = let e = integer_stays fs gs x.form k h in λ i. record { colour = x.colour; basic = x.basic; form = e i }
+pub typed_stays : (fs gs : List Normal) (x : RegForm) → Keeps fs gs → IsInteger fs x.form → typed_in gs x
+    ≡ typed_in fs x
+typed_stays fs gs x k h = let e = integer_stays fs gs x.form k h in
+    λ i. record { colour = x.colour; basic = x.basic; form = e i }
 
 -- the forms of registers are held
-pub registers_kept : (fs gs : List Normal) (xs : List (Option RegForm)) → Keeps fs gs → HoldsRegisters fs xs → HoldsRegisters gs xs
+pub registers_kept : (fs gs : List Normal) (xs : List (Option RegForm)) → Keeps fs gs → HoldsRegisters fs xs →
+    HoldsRegisters gs xs
 registers_kept fs gs xs k h r x e = integer_kept fs gs x.form k (h r x e)
 
 -- what is known of registers stays
-pub registers_stay : (fs gs : List Normal) (n : ℕ) (xs : List (Option RegForm)) → Keeps fs gs → HoldsRegisters fs xs → registers_in gs n xs ≡ registers_in fs n xs
+pub registers_stay : (fs gs : List Normal) (n : ℕ) (xs : List (Option RegForm)) → Keeps fs gs → HoldsRegisters fs xs →
+    registers_in gs n xs ≡ registers_in fs n xs
 unfolding registers_in
 registers_stay fs gs n [] k h = refl
 registers_stay fs gs n (None ∷ xs) k h = registers_stay fs gs (suc n) xs k (λ r x e. h (suc r) x e)
-registers_stay fs gs n (Some y ∷ xs) k h = rw (registers_stay fs gs (suc n) xs k (λ r x e. h (suc r) x e), typed_stays fs gs y k (h 0 y refl)) refl
+registers_stay fs gs n (Some y ∷ xs) k h = rw (
+  registers_stay fs gs (suc n) xs k (λ r x e. h (suc r) x e),
+  typed_stays fs gs y k (h 0 y refl),
+) refl
 
 -- the forms of d's state are held
 pub d_kept : (fs gs : List Normal) (d : StateD) → Keeps fs gs → HoldsD fs d → HoldsD gs d
@@ -112,11 +146,13 @@ pub queue_kept : (fs gs : List Normal) (q : List (Form × Form)) → Keeps fs gs
 queue_kept fs gs q k h i p e = (integer_kept fs gs p.0 k (h i p e).0, integer_kept fs gs p.1 k (h i p e).1)
 
 -- what the pairs are stays
-pub queue_stays : (fs gs : List Normal) (q : List (Form × Form)) → Keeps fs gs → HoldsQueue fs q → map (pair_in gs) q ≡ map (pair_in fs) q
+pub queue_stays : (fs gs : List Normal) (q : List (Form × Form)) → Keeps fs gs → HoldsQueue fs q → map (pair_in gs) q
+    ≡ map (pair_in fs) q
 queue_stays fs gs [] k h = refl
 queue_stays fs gs (p ∷ q) k h =
     let x = h 0 p refl in
-    rw (integer_stays fs gs p.0 k x.0, integer_stays fs gs p.1 k x.1, queue_stays fs gs q k (λ i y e. h (suc i) y e)) refl
+    rw (integer_stays fs gs p.0 k x.0, integer_stays fs gs p.1 k x.1, queue_stays fs gs q k (λ i y e. h (suc i) y e))
+    refl
 
 -- the forms of a context are held
 pub forms_kept : (fs gs : List Normal) (c : Context) → Keeps fs gs → HoldsForms fs c → HoldsForms gs c
@@ -128,7 +164,8 @@ forms_kept fs gs c k h = record {
 }
 
 -- a context stays
-pub context_stays : (fs gs : List Normal) (c : Context) → Keeps fs gs → HoldsForms fs c → context_in gs c ≡ context_in fs c
+pub context_stays : (fs gs : List Normal) (c : Context) → Keeps fs gs → HoldsForms fs c → context_in gs c
+    ≡ context_in fs c
 context_stays fs gs c k h =
     let r = registers_stay fs gs 0 c.registers k h.registers in
     let d = d_stays fs gs c.d k h.d in

@@ -1,7 +1,9 @@
 -- The forms of nodes, after what is put for variables and with the variables as they are.
-use Rattle.std.proofs.Common.{◌≡◌, ℕ, zero, suc, ◌<◌, true, false, List, [], ◌∷◌, length, slice_get, slice_index_or, Some, refl, ap, subst, arith}
+use Rattle.std.proofs.Common.{◌≡◌, ℕ, zero, suc, ◌<◌, true, false, List, [], ◌∷◌, length, slice_get, slice_index_or}
+use Rattle.std.proofs.Common.{Some, refl, ap, subst, arith}
 use Rattle.ft_static.specs.Expression.{HasVariablesBelow}
-use Rattle.ft_static.specs.Form.{Form as Normal, integer_form, memory_form, variable_atom, unchanged, Polynomial, nought}
+use Rattle.ft_static.specs.Form.{Form as Normal, integer_form, memory_form, variable_atom, unchanged, Polynomial}
+use Rattle.ft_static.specs.Form.{nought}
 use Rattle.ft_static.specs.FormUnder.{form_under}
 use Rattle.ft_static.specs.NodeRules.{AreNodes}
 use Rattle.ft_static.specs.NodeTree.{tree_at, trees, integer_at, memory_at}
@@ -19,35 +21,45 @@ use Rattle.ft_contexts.specs.Contexts.{replacement_in, AreOwn}
 use Rattle.ft_contexts.proofs.Kept.{polynomial_found, updates_found}
 
 -- the form of an integer's node after what is put for variables
-pub integer_under : (o : Object) (x : Replacement) (scope n : ℕ) → AreNodes o.nodes → IsNodeIn o.nodes scope false n → form_under x.integers x.memory (tree_at o.nodes n) ≡ integer_form (integer_form_after o x n)
+pub integer_under : (o : Object) (x : Replacement) (scope n : ℕ) → AreNodes o.nodes → IsNodeIn o.nodes scope false n →
+    form_under x.integers x.memory (tree_at o.nodes n) ≡ integer_form (integer_form_after o x n)
 unfolding integer_form_after
 integer_under o x scope n h k = ap (form_under x.integers x.memory) (integer_in o.nodes scope n h k)
 
 -- that of a memory's node
-pub memory_under : (o : Object) (x : Replacement) (scope n : ℕ) → AreNodes o.nodes → IsNodeIn o.nodes scope true n → form_under x.integers x.memory (tree_at o.nodes n) ≡ memory_form (memory_form_after o x n)
+pub memory_under : (o : Object) (x : Replacement) (scope n : ℕ) → AreNodes o.nodes → IsNodeIn o.nodes scope true n →
+    form_under x.integers x.memory (tree_at o.nodes n) ≡ memory_form (memory_form_after o x n)
 unfolding memory_form_after
 memory_under o x scope n h k = ap (form_under x.integers x.memory) (memory_in o.nodes scope n h k)
 
 -- the polynomial in a place of these
-polynomial_in : (fs : List Normal) (xs : List Form) (i : ℕ) (p : Polynomial) → i < length xs → ((f : Form) → slice_get xs i ≡ Some f → held fs f ≡ Some (integer_form p)) → slice_index_or (polynomials fs xs) i nought ≡ p
+polynomial_in : (fs : List Normal) (xs : List Form) (i : ℕ) (p : Polynomial) → i < length xs →
+    ((f : Form) → slice_get xs i ≡ Some f → held fs f ≡ Some (integer_form p)) →
+    slice_index_or (polynomials fs xs) i nought ≡ p
 polynomial_in fs [] i p l h = absurd (omega arith)
 polynomial_in fs (x ∷ xs) zero p l h = polynomial_found fs x p (h x refl)
 polynomial_in fs (x ∷ xs) (suc i) p l h = polynomial_in fs xs i p (omega arith) h
 
 -- with the variables as they are, an integer's node has its own form
-pub own_integer : (o : Object) (fs : List Normal) (ints : ℕ) (v : Variables) (n : ℕ) → AreNodes o.nodes → AreOwn fs ints v → IsNodeIn o.nodes (length v.integers) false n → integer_form_after o (replacement_in fs v) n ≡ integer_form_of o n
+pub own_integer : (o : Object) (fs : List Normal) (ints : ℕ) (v : Variables) (n : ℕ) → AreNodes o.nodes →
+    AreOwn fs ints v → IsNodeIn o.nodes (length v.integers) false n → integer_form_after o (replacement_in fs v) n
+    ≡ integer_form_of o n
 unfolding integer_form_after integer_form_of
 own_integer o fs ints v n h own k =
     let e = integer_in o.nodes (length v.integers) n h k in
     let w = subst (HasVariablesBelow k.node.scope) e (tree_fits o.nodes n k.node h k.found).1 in
     let u = updates_found fs v.memory unchanged own.memory in
-    rw u (norm_under_itself (integer_at (trees o.nodes) n) k.node.scope (polynomials fs v.integers) (λ i l. polynomial_in fs v.integers i (alone (variable_atom i)) (omega (arith, k.scope_within)) (own.integers i)) w)
+    rw u (norm_under_itself (integer_at (trees o.nodes) n) k.node.scope (polynomials fs v.integers) (λ i l.
+    polynomial_in fs v.integers i (alone (variable_atom i)) (omega (arith, k.scope_within)) (own.integers i)) w)
 
 -- so has a memory's
-pub own_memory : (o : Object) (fs : List Normal) (ints : ℕ) (v : Variables) (n : ℕ) → AreNodes o.nodes → AreOwn fs ints v → IsNodeIn o.nodes (length v.integers) true n → memory_form_after o (replacement_in fs v) n ≡ memory_form_of o n
+pub own_memory : (o : Object) (fs : List Normal) (ints : ℕ) (v : Variables) (n : ℕ) → AreNodes o.nodes →
+    AreOwn fs ints v → IsNodeIn o.nodes (length v.integers) true n → memory_form_after o (replacement_in fs v) n
+    ≡ memory_form_of o n
 unfolding memory_form_after memory_form_of
 own_memory o fs ints v n h own k =
     let e = memory_in o.nodes (length v.integers) n h k in
     let w = subst (HasVariablesBelow k.node.scope) e (tree_fits o.nodes n k.node h k.found).1 in
     let u = updates_found fs v.memory unchanged own.memory in
-    rw u (norm_memory_under_itself (memory_at (trees o.nodes) n) k.node.scope (polynomials fs v.integers) (λ i l. polynomial_in fs v.integers i (alone (variable_atom i)) (omega (arith, k.scope_within)) (own.integers i)) w)
+    rw u (norm_memory_under_itself (memory_at (trees o.nodes) n) k.node.scope (polynomials fs v.integers) (λ i l.
+    polynomial_in fs v.integers i (alone (variable_atom i)) (omega (arith, k.scope_within)) (own.integers i)) w)

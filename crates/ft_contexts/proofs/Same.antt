@@ -14,13 +14,23 @@ same_tests false true P h k = h.1 (k.0 refl)
 same_tests false false P h k = refl
 
 -- two integers that are held are held as the same exactly when their polynomials are
-pub held_integers : (fs : List Normal) (a b : Form) → IsInteger fs a → IsInteger fs b → (same_polynomial (polynomial fs a) (polynomial fs b) ≡ true) ↔ (held fs a ≡ held fs b)
+pub held_integers : (fs : List Normal) (a b : Form) → IsInteger fs a → IsInteger fs b →
+    (same_polynomial (polynomial fs a) (polynomial fs b) ≡ true) ↔ (held fs a ≡ held fs b)
 held_integers fs a b h k =
-    let e = equal_polynomials (polynomial fs a) (polynomial fs b) in
-    (λ t. h.found ∙ ap (λ (p : Polynomial). Some (integer_form p)) (e.0 t) ∙ sym k.found, λ s. e.1 (let q : Some (integer_form (polynomial fs a)) ≡ Some (integer_form (polynomial fs b)) = sym h.found ∙ s ∙ k.found in cc))
+    let e = equal_polynomials (polynomial fs a) (polynomial fs b) in (
+      λ t. h.found ∙ ap (λ (p : Polynomial). Some (integer_form p)) (e.0 t) ∙ sym k.found,
+      λ s.
+          e.1 (let q : Some (integer_form (polynomial fs a)) ≡ Some (integer_form (polynomial fs b)) = sym h.found ∙ s
+          ∙ k.found in cc),
+    )
 
 -- and two memories where their updates are
-pub held_memories : (fs : List Normal) (a b : Form) → IsMemory fs a → IsMemory fs b → (same_updates (updates_held fs a) (updates_held fs b) ≡ true) ↔ (held fs a ≡ held fs b)
+pub held_memories : (fs : List Normal) (a b : Form) → IsMemory fs a → IsMemory fs b →
+    (same_updates (updates_held fs a) (updates_held fs b) ≡ true) ↔ (held fs a ≡ held fs b)
 held_memories fs a b h k =
-    let e = equal_updates (updates_held fs a) (updates_held fs b) in
-    (λ t. h.found ∙ ap (λ (p : Updates). Some (memory_form p)) (e.0 t) ∙ sym k.found, λ s. e.1 (let q : Some (memory_form (updates_held fs a)) ≡ Some (memory_form (updates_held fs b)) = sym h.found ∙ s ∙ k.found in cc))
+    let e = equal_updates (updates_held fs a) (updates_held fs b) in (
+      λ t. h.found ∙ ap (λ (p : Updates). Some (memory_form p)) (e.0 t) ∙ sym k.found,
+      λ s.
+          e.1 (let q : Some (memory_form (updates_held fs a)) ≡ Some (memory_form (updates_held fs b)) = sym h.found ∙ s
+          ∙ k.found in cc),
+    )

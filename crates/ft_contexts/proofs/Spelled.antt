@@ -1,5 +1,6 @@
 -- What a spellable object says of its rows and of its instructions.
-use Rattle.std.proofs.Common.{◌≡◌, ℕ, zero, suc, Bool, true, ◌<◌, List, [], ◌∷◌, length, slice_get, Option, None, Some, refl, sym, ap, ◌∙◌, subst, arith}
+use Rattle.std.proofs.Common.{◌≡◌, ℕ, zero, suc, Bool, true, ◌<◌, List, [], ◌∷◌, length, slice_get, Option, None, Some}
+use Rattle.std.proofs.Common.{refl, sym, ap, ◌∙◌, subst, arith}
 use Rattle.std.specs.Option.{option_map, unwrap_or}
 use Rattle.ft_isa.specs.declared.instr.Subst.{Subst}
 use Rattle.ft_isa.specs.declared.instr.Instr.{Instr}
@@ -8,8 +9,10 @@ use Rattle.ft_static.specs.declared.node.Node.{Node}
 use Rattle.ft_types.specs.declared.object.Object.{Object}
 use Rattle.ft_types.specs.declared.object.CodeType.{CodeType}
 use Rattle.ft_types.specs.declared.object.RegType.{RegType}
-use Rattle.ft_types.specs.Objects.{reg_rows, queue_rows, ints_of, memory_of, regs_of, queue_of, ints_of_type, memory_of_type}
-use Rattle.ft_types.specs.Spellable.{IsSpellable, IsCodeType, IsRegRow, IsQueueRow, IsNodeIn, IsInstr, IsSubst, Cover, before, subst_of, substs_of}
+use Rattle.ft_types.specs.Objects.{reg_rows, queue_rows, ints_of, memory_of, regs_of, queue_of, ints_of_type}
+use Rattle.ft_types.specs.Objects.{memory_of_type}
+use Rattle.ft_types.specs.Spellable.{IsSpellable, IsCodeType, IsRegRow, IsQueueRow, IsNodeIn, IsInstr, IsSubst, Cover}
+use Rattle.ft_types.specs.Spellable.{before, subst_of, substs_of}
 
 -- a code type that is there
 pub type_there : (o : Object) (t : ℕ) → t < length o.types → (x : CodeType) × (slice_get o.types t ≡ Some x)
@@ -21,7 +24,8 @@ type_there o t h = there o.types t h
     there (x ∷ ts) (suc t) h = there ts t (omega arith)
 
 -- the register rows of a code type are so
-pub reg_row_spelled : (o : Object) (t j : ℕ) (r : RegType) → IsSpellable o → t < length o.types → slice_get (reg_rows o t) j ≡ Some r → IsRegRow (length o.types) o.nodes (ints_of o t) r
+pub reg_row_spelled : (o : Object) (t j : ℕ) (r : RegType) → IsSpellable o → t < length o.types →
+    slice_get (reg_rows o t) j ≡ Some r → IsRegRow (length o.types) o.nodes (ints_of o t) r
 reg_row_spelled o t j r h l e =
     let x = type_there o t l in
     let k = all_there (IsCodeType (length o.types) o.nodes) o.types t x.0 h.types x.1 in
@@ -31,7 +35,8 @@ reg_row_spelled o t j r h l e =
     rw ints (all_there (IsRegRow (length o.types) o.nodes x.0.ints) x.0.regs j r k.regs found)
 
 -- so are the queue rows
-pub queue_row_spelled : (o : Object) (t j : ℕ) (q : ℕ × ℕ) → IsSpellable o → t < length o.types → slice_get (queue_rows o t) j ≡ Some q → IsQueueRow o.nodes (ints_of o t) q
+pub queue_row_spelled : (o : Object) (t j : ℕ) (q : ℕ × ℕ) → IsSpellable o → t < length o.types →
+    slice_get (queue_rows o t) j ≡ Some q → IsQueueRow o.nodes (ints_of o t) q
 queue_row_spelled o t j q h l e =
     let x = type_there o t l in
     let k = all_there (IsCodeType (length o.types) o.nodes) o.types t x.0 h.types x.1 in
@@ -41,43 +46,57 @@ queue_row_spelled o t j q h l e =
     rw ints (all_there (IsQueueRow o.nodes x.0.ints) x.0.queue j q k.queue found)
 
 -- and the memory
-pub memory_spelled : (o : Object) (t : ℕ) → IsSpellable o → t < length o.types → IsNodeIn o.nodes (ints_of o t) true (memory_of o t)
+pub memory_spelled : (o : Object) (t : ℕ) → IsSpellable o → t < length o.types →
+    IsNodeIn o.nodes (ints_of o t) true (memory_of o t)
 memory_spelled o t h l =
     let x = type_there o t l in
     let k = all_there (IsCodeType (length o.types) o.nodes) o.types t x.0 h.types x.1 in
-    let memory : memory_of o t ≡ x.0.memory = ap (λ (y : Option CodeType). unwrap_or (option_map memory_of_type y) 0) x.1 in
+    let memory : memory_of o t ≡ x.0.memory = ap (λ (y : Option CodeType). unwrap_or (option_map memory_of_type y) 0)
+    x.1 in
     let ints : ints_of o t ≡ x.0.ints = ap (λ (y : Option CodeType). unwrap_or (option_map ints_of_type y) 0) x.1 in
     rw (ints, memory) k.memory
 
 -- an instruction is so
-pub instr_spelled : (o : Object) (k : ℕ) (i : Instr) → IsSpellable o → slice_get o.instrs k ≡ Some i → IsInstr (length o.types) (length o.cells) i
+pub instr_spelled : (o : Object) (k : ℕ) (i : Instr) → IsSpellable o → slice_get o.instrs k ≡ Some i →
+    IsInstr (length o.types) (length o.cells) i
 instr_spelled o k i h e = all_there (IsInstr (length o.types) (length o.cells)) o.instrs k i h.instrs e
 
 -- the substitutions that follow are covered
-cover_rest : (nodes : List Node) (rows first : ℕ) (x : Option Subst) (ss : List Subst) → Cover nodes rows first (before x ss) → (f : ℕ) × Cover nodes rows f ss
+cover_rest : (nodes : List Node) (rows first : ℕ) (x : Option Subst) (ss : List Subst) →
+    Cover nodes rows first (before x ss) → (f : ℕ) × Cover nodes rows f ss
 cover_rest nodes rows first None ss h = (first, h)
 cover_rest nodes rows first (Some s) ss h = (s.past, h.1)
 
 -- a substitution that is covered is so
-covered : (nodes : List Node) (rows first : ℕ) (is : List Instr) (k : ℕ) (i : Instr) (u : Subst) → Cover nodes rows first (substs_of is) → slice_get is k ≡ Some i → subst_of i ≡ Some u → IsSubst nodes rows u.first u
+covered : (nodes : List Node) (rows first : ℕ) (is : List Instr) (k : ℕ) (i : Instr) (u : Subst) →
+    Cover nodes rows first (substs_of is) → slice_get is k ≡ Some i → subst_of i ≡ Some u → IsSubst nodes rows u.first u
 covered nodes rows first [] k i u h e s = cc
 covered nodes rows first (j ∷ is) zero i u h e s =
     let same : j ≡ i = cc in
     let t : subst_of j ≡ Some u = ap subst_of same ∙ s in
-    let c : Cover nodes rows first (u ∷ substs_of is) = subst (λ (x : Option Subst). Cover nodes rows first (before x (substs_of is))) t h in
+    let c : Cover nodes rows first (u ∷ substs_of is) =
+    subst (λ (x : Option Subst). Cover nodes rows first (before x (substs_of is))) t h in
     subst (λ (f : ℕ). IsSubst nodes rows f u) (sym c.0.first_is) c.0
 covered nodes rows first (j ∷ is) (suc k) i u h e s =
     let r = cover_rest nodes rows first (subst_of j) (substs_of is) h in
     covered nodes rows r.0 is k i u r.1 e s
 
 -- so is the substitution of an instruction
-pub subst_spelled : (o : Object) (k : ℕ) (i : Instr) (u : Subst) → IsSpellable o → slice_get o.instrs k ≡ Some i → subst_of i ≡ Some u → IsSubst o.nodes (length o.substs) u.first u
+pub subst_spelled : (o : Object) (k : ℕ) (i : Instr) (u : Subst) → IsSpellable o → slice_get o.instrs k ≡ Some i →
+    subst_of i ≡ Some u → IsSubst o.nodes (length o.substs) u.first u
 subst_spelled o k i u h e s = covered o.nodes (length o.substs) 0 o.instrs k i u h.covered e s
 
 -- a node within the scope of a code type's variables is within that of the most
-pub most_scope : (o : Object) (t n : ℕ) (b : Bool) → IsSpellable o → t < length o.types → IsNodeIn o.nodes (ints_of o t) b n → IsNodeIn o.nodes 128 b n
+pub most_scope : (o : Object) (t n : ℕ) (b : Bool) → IsSpellable o → t < length o.types →
+    IsNodeIn o.nodes (ints_of o t) b n → IsNodeIn o.nodes 128 b n
 most_scope o t n b h l k =
     let x = type_there o t l in
     let m = all_there (IsCodeType (length o.types) o.nodes) o.types t x.0 h.types x.1 in
     let ints : ints_of o t ≡ x.0.ints = ap (λ (y : Option CodeType). unwrap_or (option_map ints_of_type y) 0) x.1 in
-    record { lower = k.lower; node = k.node; found = k.found; sort = k.sort; scope_within = omega (arith, k.scope_within, ints, m.ints) }
+    record {
+      lower = k.lower;
+      node = k.node;
+      found = k.found;
+      sort = k.sort;
+      scope_within = omega (arith, k.scope_within, ints, m.ints);
+    }

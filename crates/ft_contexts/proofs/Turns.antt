@@ -1,5 +1,6 @@
 -- One turn of each loop, and its end.
-use Rattle.std.proofs.Common.{◌≡◌, ◌≢◌, ◌+◌, ◌<◌, ◌≤◌, ℕ, zero, suc, Bool, true, false, ◌&&◌, List, [], ◌∷◌, length, map, drop, slice_get, Option, None, Some, refl, ap, ◌∙◌, arith}
+use Rattle.std.proofs.Common.{◌≡◌, ◌≢◌, ◌+◌, ◌<◌, ◌≤◌, ℕ, zero, suc, Bool, true, false, ◌&&◌, List, [], ◌∷◌, length}
+use Rattle.std.proofs.Common.{map, drop, slice_get, Option, None, Some, refl, ap, ◌∙◌, arith}
 use Rattle.std.specs.Option.{option_map, unwrap_or}
 use Rattle.std.specs.FinMap as finite
 use Rattle.std.proofs.Math.ListN.{set, replicate}
@@ -14,8 +15,10 @@ use Rattle.ft_types.specs.declared.object.Object.{Object}
 use Rattle.ft_types.specs.declared.object.CodeType.{CodeType}
 use Rattle.ft_types.specs.declared.object.TypeHead.{TypeHead}
 use Rattle.ft_types.specs.declared.object.RegType.{RegType}
-use Rattle.ft_types.specs.Objects.{reg_rows, queue_rows, ints_of, memory_of, regs_of, queue_of, ints_of_type, memory_of_type, type_head_of}
-use Rattle.ft_typing.specs.Context.{Typed, TypedRegisters, FormPair, Replacement, typed_row, registers_after, integer_form_of, integer_form_after}
+use Rattle.ft_types.specs.Objects.{reg_rows, queue_rows, ints_of, memory_of, regs_of, queue_of, ints_of_type}
+use Rattle.ft_types.specs.Objects.{memory_of_type, type_head_of}
+use Rattle.ft_typing.specs.Context.{Typed, TypedRegisters, FormPair, Replacement, typed_row, registers_after}
+use Rattle.ft_typing.specs.Context.{integer_form_of, integer_form_after}
 use Rattle.ft_typing.specs.TypingRow.{pending_memory, same_colour, is_like, is_queue_like}
 use Rattle.ft_typing.specs.TypedWord.{is_seen_as}
 use Rattle.ft_contexts.specs.declared.register.RegForm.{RegForm}
@@ -25,11 +28,15 @@ use Rattle.ft_contexts.proofs.Registers.{registers_set}
 
 -- THE PENDING MEMORY
 
-pub pending_turn : (fs : List Normal) (m : Updates) (q : List (Form × Form)) (j : ℕ) (p : Form × Form) → slice_get q j ≡ Some p → pending_memory m (drop j (map (pair_in fs) q)) ≡ pending_memory (norm_upd m (polynomial fs p.0) (polynomial fs p.1)) (drop (j + 1) (map (pair_in fs) q))
+pub pending_turn : (fs : List Normal) (m : Updates) (q : List (Form × Form)) (j : ℕ) (p : Form × Form) → slice_get q j
+    ≡ Some p → pending_memory m (drop j (map (pair_in fs) q))
+    ≡ pending_memory (norm_upd m (polynomial fs p.0) (polynomial fs p.1)) (drop (j + 1) (map (pair_in fs) q))
 unfolding pending_memory
-pending_turn fs m q j p e = rw (drop_next (map (pair_in fs) q) j (pair_in fs p) (there_mapped (pair_in fs) q j p e)) refl
+pending_turn fs m q j p e = rw (drop_next (map (pair_in fs) q) j (pair_in fs p) (there_mapped (pair_in fs) q j p e))
+    refl
 
-pub pending_end : (fs : List Normal) (m : Updates) (q : List (Form × Form)) (j : ℕ) → length q ≤ j → pending_memory m (drop j (map (pair_in fs) q)) ≡ m
+pub pending_end : (fs : List Normal) (m : Updates) (q : List (Form × Form)) (j : ℕ) → length q ≤ j →
+    pending_memory m (drop j (map (pair_in fs) q)) ≡ m
 unfolding pending_memory
 pending_end fs m q j l =
     let n = length-map q (pair_in fs) in
@@ -50,44 +57,65 @@ none_there (suc k) zero x P e = cc
 none_there (suc k) (suc r) x P e = none_there k r x P e
 
 -- a register row
-pub registers_turn : (o : Object) (m : TypedRegisters) (rows : List RegType) (j : ℕ) (r : RegType) → slice_get rows j ≡ Some r → registers_after o m (drop j rows) ≡ registers_after o (finite.insert m r.reg.number (typed_row o r)) (drop (j + 1) rows)
+pub registers_turn : (o : Object) (m : TypedRegisters) (rows : List RegType) (j : ℕ) (r : RegType) → slice_get rows j
+    ≡ Some r → registers_after o m (drop j rows) ≡ registers_after o (finite.insert m r.reg.number (typed_row o r))
+    (drop (j + 1) rows)
 unfolding registers_after
 registers_turn o m rows j r e = rw (drop_next rows j r e) refl
 
 -- no row is left
-pub registers_end : (o : Object) (m : TypedRegisters) (rows : List RegType) (j : ℕ) → length rows ≤ j → registers_after o m (drop j rows) ≡ m
+pub registers_end : (o : Object) (m : TypedRegisters) (rows : List RegType) (j : ℕ) → length rows ≤ j →
+    registers_after o m (drop j rows) ≡ m
 unfolding registers_after
 registers_end o m rows j l = rw (drop_all j rows l) refl
 
 -- the registers with a row's
-pub registers_noted : (o : Object) (fs gs : List Normal) (xs : List (Option RegForm)) (n : ℕ) (row : RegType) (f : Form) → Keeps fs gs → HoldsRegisters fs xs → n < length xs → n ≡ row.reg.number → held gs f ≡ Some (integer_form (integer_form_of o row.expr))
-    → registers_in gs 0 (set xs n (Some (record { colour = row.colour; basic = row.basic; form = f }))) ≡ finite.insert (registers_in fs 0 xs) row.reg.number (typed_row o row)
+pub registers_noted : (o : Object) (fs gs : List Normal) (xs : List (Option RegForm)) (n : ℕ) (row : RegType) (f : Form)
+    → Keeps fs gs → HoldsRegisters fs xs → n < length xs → n ≡ row.reg.number → held gs f
+    ≡ Some (integer_form (integer_form_of o row.expr))
+    → registers_in gs 0 (set xs n (Some (record { colour = row.colour; basic = row.basic; form = f })))
+    ≡ finite.insert (registers_in fs 0 xs) row.reg.number (typed_row o row)
 registers_noted o fs gs xs n row f k h l same made =
     let x : RegForm = record { colour = row.colour; basic = row.basic; form = f } in
-    let t : typed_in gs x ≡ typed_row o row = (let e = polynomial_found gs f (integer_form_of o row.expr) made in λ i. record { colour = row.colour; basic = row.basic; form = e i }) in
-    registers_set gs xs n x l ∙ ap (λ m. finite.insert m n (typed_in gs x)) (registers_stay fs gs 0 xs k h) ∙ ap (finite.insert (registers_in fs 0 xs) n) t ∙ ap (λ y. finite.insert (registers_in fs 0 xs) y (typed_row o row)) same
+    let t : typed_in gs x ≡ typed_row o row = (let e = polynomial_found gs f (integer_form_of o row.expr) made in
+    λ i. record { colour = row.colour; basic = row.basic; form = e i }) in
+    registers_set gs xs n x l ∙ ap (λ m. finite.insert m n (typed_in gs x)) (registers_stay fs gs 0 xs k h)
+    ∙ ap (finite.insert (registers_in fs 0 xs) n) t
+    ∙ ap (λ y. finite.insert (registers_in fs 0 xs) y (typed_row o row)) same
 
 -- CODE TYPES
 
 -- what the head of a code type says
-pub head_says : (o : Object) (t : ℕ) (x : TypeHead) → option_map type_head_of (slice_get o.types t) ≡ Some x → (x.ints ≡ ints_of o t) × (x.regs ≡ length (reg_rows o t)) × (x.queue ≡ length (queue_rows o t)) × (x.memory ≡ memory_of o t)
+pub head_says : (o : Object) (t : ℕ) (x : TypeHead) → option_map type_head_of (slice_get o.types t) ≡ Some x →
+    (x.ints ≡ ints_of o t) × (x.regs ≡ length (reg_rows o t)) × (x.queue ≡ length (queue_rows o t))
+    × (x.memory ≡ memory_of o t)
 head_says o t x e = says (slice_get o.types t) e
   where
-    says : (y : Option CodeType) → option_map type_head_of y ≡ Some x → (x.ints ≡ unwrap_or (option_map ints_of_type y) 0) × (x.regs ≡ length (unwrap_or (option_map regs_of y) [])) × (x.queue ≡ length (unwrap_or (option_map queue_of y) [])) × (x.memory ≡ unwrap_or (option_map memory_of_type y) 0)
+    says : (y : Option CodeType) → option_map type_head_of y ≡ Some x →
+        (x.ints ≡ unwrap_or (option_map ints_of_type y) 0) × (x.regs ≡ length (unwrap_or (option_map regs_of y) []))
+        × (x.queue ≡ length (unwrap_or (option_map queue_of y) []))
+        × (x.memory ≡ unwrap_or (option_map memory_of_type y) 0)
     says None e = cc
     says (Some y) e =
-        let same : x ≡ type_head_of y = cc in
-        (ap (λ (z : TypeHead). z.ints) same, ap (λ (z : TypeHead). z.regs) same, ap (λ (z : TypeHead). z.queue) same, ap (λ (z : TypeHead). z.memory) same)
+        let same : x ≡ type_head_of y = cc in (
+          ap (λ (z : TypeHead). z.ints) same,
+          ap (λ (z : TypeHead). z.regs) same,
+          ap (λ (z : TypeHead). z.queue) same,
+          ap (λ (z : TypeHead). z.memory) same,
+        )
 
 -- LIKENESS
 
 -- a register that is typed like its row
-pub like_typed : (o : Object) (x : Replacement) (k : Option Typed) (t : Typed) (r : RegType) → k ≡ Some t → (same_colour t.colour r.colour && is_seen_as t.basic r.basic) ≡ true → is_like o x k r ≡ same_polynomial t.form (integer_form_after o x r.expr)
+pub like_typed : (o : Object) (x : Replacement) (k : Option Typed) (t : Typed) (r : RegType) → k ≡ Some t →
+    (same_colour t.colour r.colour && is_seen_as t.basic r.basic) ≡ true → is_like o x k r
+    ≡ same_polynomial t.form (integer_form_after o x r.expr)
 unfolding is_like
 like_typed o x k t r e h = rw (e, h) refl
 
 -- two queues of different lengths
-pub unlike_lengths : (o : Object) (x : Replacement) (q : List FormPair) (rows : List (ℕ × ℕ)) → length q ≢ length rows → is_queue_like o x q rows ≡ false
+pub unlike_lengths : (o : Object) (x : Replacement) (q : List FormPair) (rows : List (ℕ × ℕ)) → length q ≢ length rows →
+    is_queue_like o x q rows ≡ false
 unfolding is_queue_like
 unlike_lengths o x [] [] h = absurd (h refl)
 unlike_lengths o x [] (r ∷ rs) h = refl
@@ -99,13 +127,16 @@ unlike_lengths o x (e ∷ q) (r ∷ rs) h = rw (unlike_lengths o x q rs (λ s. h
     and_false false = refl
 
 -- a pair and a row
-pub queue_turn : (o : Object) (x : Replacement) (q : List FormPair) (rows : List (ℕ × ℕ)) (j : ℕ) (e : FormPair) (r : ℕ × ℕ) (b : Bool) → slice_get q j ≡ Some e → slice_get rows j ≡ Some r → b ≡ (same_polynomial e.0 (integer_form_after o x r.0) && same_polynomial e.1 (integer_form_after o x r.1))
+pub queue_turn : (o : Object) (x : Replacement) (q : List FormPair) (rows : List (ℕ × ℕ)) (j : ℕ) (e : FormPair) (r : ℕ
+    × ℕ) (b : Bool) → slice_get q j ≡ Some e → slice_get rows j ≡ Some r → b
+    ≡ (same_polynomial e.0 (integer_form_after o x r.0) && same_polynomial e.1 (integer_form_after o x r.1))
     → is_queue_like o x (drop j q) (drop j rows) ≡ (b && is_queue_like o x (drop (j + 1) q) (drop (j + 1) rows))
 unfolding is_queue_like
 queue_turn o x q rows j e r b f g h = rw (drop_next q j e f, drop_next rows j r g, h) refl
 
 -- no pair is left
-pub queue_end : (o : Object) (x : Replacement) (q : List FormPair) (rows : List (ℕ × ℕ)) (j : ℕ) → length q ≤ j → length rows ≤ j → is_queue_like o x (drop j q) (drop j rows) ≡ true
+pub queue_end : (o : Object) (x : Replacement) (q : List FormPair) (rows : List (ℕ × ℕ)) (j : ℕ) → length q ≤ j →
+    length rows ≤ j → is_queue_like o x (drop j q) (drop j rows) ≡ true
 unfolding is_queue_like
 queue_end o x q rows j l m = rw (drop_all j q l, drop_all j rows m) refl
 

@@ -17,9 +17,8 @@ use crate::context::Context;
 use crate::forms::{same_integers, same_memories};
 use crate::register::RegForm;
 use crate::variables::Variables;
-use ft_isa::{NoMemory, Subst};
+use ft_isa::{NoMemory, Steps, Subst};
 use ft_norm::{Form, Interner, Memo};
-use ft_steps::Steps;
 use ft_types::{Program, RegType};
 use std::sync::ledger::Ledger;
 

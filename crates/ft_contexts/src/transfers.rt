@@ -8,9 +8,8 @@ ghost use Rattle.ft_contexts.specs.Costs.{tree_cost};
 
 use crate::sequence::Sequence;
 use crate::variables::{OwnVariables, Variables};
-use ft_isa::{NoMemory, Subst};
+use ft_isa::{NoMemory, Steps, Subst};
 use ft_norm::{Interner, Memo};
-use ft_steps::Steps;
 use ft_types::Program;
 use std::alloc::Global;
 use std::sync::ledger::Ledger;

@@ -7,9 +7,8 @@ ghost use Rattle.ft_types.specs.Spellable.{IsNodeIn, IsSpellable};
 ghost use Rattle.ft_contexts.specs.Costs.{tree_cost};
 
 use crate::sequence::Sequence;
-use ft_isa::NoMemory;
+use ft_isa::{NoMemory, Steps};
 use ft_norm::{Form, Interner, Memo};
-use ft_steps::Steps;
 use ft_types::Program;
 use std::alloc::Global;
 use std::sync::ledger::Ledger;

@@ -1,5 +1,7 @@
 -- Steps of the debugger, and what they put.
-use Rattle.std.proofs.Common.{◌≡◌, ℕ, zero, suc, ◌+◌, ◌-◌, ◌<◌, ◌≤◌, Bool, true, false, not, ◌&&◌, min, List, [], ◌∷◌, ◌++◌, map, drop, Option, Some, None, Result, Ok, Err, refl, ap, sym, ◌∙◌, subst, append_assoc, append-nil, arith}
+use Rattle.std.proofs.Common.{◌≡◌, ℕ, zero, suc, ◌+◌, ◌-◌, ◌<◌, ◌≤◌, Bool, true, false, not, ◌&&◌, min, List, [], ◌∷◌}
+use Rattle.std.proofs.Common.{◌++◌, map, drop, Option, Some, None, Result, Ok, Err, refl, ap, sym, ◌∙◌, subst}
+use Rattle.std.proofs.Common.{append_assoc, append-nil, arith}
 use Rattle.std.specs.Option.{option_to_list}
 use Rattle.std.specs.Prelude.{if◌then◌else◌, IsErr, OnOk}
 use Rattle.ft_edge.specs.declared.failed.Failed.{Failed}
@@ -50,17 +52,21 @@ does_err go whole o d e failed r old new longer is does = λ w s h.
 
 -- ONE STEP
 
-committed_by : (o : Object) (output : Option Output) (s : Status) → committed_lines o (told_output output s) ≡ map (line_at o) (option_to_list output)
+committed_by : (o : Object) (output : Option Output) (s : Status) → committed_lines o (told_output output s)
+    ≡ map (line_at o) (option_to_list output)
 committed_by o (Some output) s = refl
 committed_by o None status.Running = refl
 committed_by o None status.Done = refl
 committed_by o None status.Detected = refl
 
 -- what was committed is what the session's step puts
-step_puts : (o : Object) (w : List Wild) (s : Session) (d e : Debugger) (stepped : Stepped) → Holds o w s d → Takes (step o d.present.machine d.present.wild) e.present.machine e.present.wild stepped → committed_lines o stepped ≡ step_lines o (present o w s)
+step_puts : (o : Object) (w : List Wild) (s : Session) (d e : Debugger) (stepped : Stepped) → Holds o w s d →
+    Takes (step o d.present.machine d.present.wild) e.present.machine e.present.wild stepped → committed_lines o stepped
+    ≡ step_lines o (present o w s)
 step_puts o w s d e stepped h t =
     let u = step o d.present.machine d.present.wild in
-    ap (committed_lines o) t.answer_is ∙ committed_by o u.output u.state.status ∙ ap (λ (m : Moment). map (line_at o) (option_to_list (step o m.machine m.wild).output)) h.present
+    ap (committed_lines o) t.answer_is ∙ committed_by o u.output u.state.status
+    ∙ ap (λ (m : Moment). map (line_at o) (option_to_list (step o m.machine m.wild).output)) h.present
 
 -- what an advance did to the debugger
 pub record Advances (o : Object) (d e : Debugger) (stepped : Stepped) : Type 0 where
@@ -85,30 +91,37 @@ none_walked : (o : Object) (w : List Wild) (halts : State → Bool) (s : Session
 unfolding walks
 none_walked o w halts s = refl
 
-stays_if : (a b : Bool) (x y : Reply) (s : Session) → (not a && b) ≡ false → (if a then stays s else (if b then x else stays s)) ≡ stays s
+stays_if : (a b : Bool) (x y : Reply) (s : Session) → (not a && b) ≡ false →
+    (if a then stays s else (if b then x else stays s)) ≡ stays s
 stays_if true b x y s e = refl
 stays_if false true x y s e = absurd (cc)
 stays_if false false x y s e = refl
 
-takes_if : (a b : Bool) (x : Reply) (s : Session) → (not a && b) ≡ true → (if a then stays s else (if b then x else stays s)) ≡ x
+takes_if : (a b : Bool) (x : Reply) (s : Session) → (not a && b) ≡ true →
+    (if a then stays s else (if b then x else stays s)) ≡ x
 takes_if true b x s e = absurd (cc)
 takes_if false true x s e = refl
 takes_if false false x s e = absurd (cc)
 
 -- a machine that is not to go on takes no step
-pub walk_stays : (o : Object) (w : List Wild) (halts : State → Bool) (n : ℕ) (s : Session) → (not (halts (present o w s).state) && is_running (present o w s).state.status) ≡ false → walks o w halts n s ≡ stays s
+pub walk_stays : (o : Object) (w : List Wild) (halts : State → Bool) (n : ℕ) (s : Session) →
+    (not (halts (present o w s).state) && is_running (present o w s).state.status) ≡ false → walks o w halts n s
+    ≡ stays s
 unfolding walks
 walk_stays o w halts zero s e = refl
-walk_stays o w halts (suc n) s e = stays_if (halts (present o w s).state) (is_running (present o w s).state.status) (after_lines (step_lines o (present o w s)) (walks o w halts n (further s))) (stays s) s e
+walk_stays o w halts (suc n) s e = stays_if (halts (present o w s).state) (is_running (present o w s).state.status)
+    (after_lines (step_lines o (present o w s)) (walks o w halts n (further s))) (stays s) s e
 
 -- one that is to go on takes one, and then more
-pub walk_takes : (o : Object) (w : List Wild) (halts : State → Bool) (n : ℕ) (s : Session) → 0 < n → (not (halts (present o w s).state) && is_running (present o w s).state.status) ≡ true
+pub walk_takes : (o : Object) (w : List Wild) (halts : State → Bool) (n : ℕ) (s : Session) → 0 < n →
+    (not (halts (present o w s).state) && is_running (present o w s).state.status) ≡ true
     → walks o w halts n s ≡ after_lines (step_lines o (present o w s)) (walks o w halts (n - 1) (further s))
 unfolding walks
 walk_takes o w halts zero s l e = absurd (omega arith)
 walk_takes o w halts (suc n) s l e =
     let same : n ≡ suc n - 1 = omega arith in
-    takes_if (halts (present o w s).state) (is_running (present o w s).state.status) (after_lines (step_lines o (present o w s)) (walks o w halts n (further s))) s e
+    takes_if (halts (present o w s).state) (is_running (present o w s).state.status)
+    (after_lines (step_lines o (present o w s)) (walks o w halts n (further s))) s e
     ∙ ap (λ m. after_lines (step_lines o (present o w s)) (walks o w halts m (further s))) same
 
 -- after so many of the steps, the rest of the walk is left
@@ -122,8 +135,11 @@ pub walked_none : (o : Object) (halts : State → Bool) (n : ℕ) (d : Debugger)
 walked_none o halts n d old = λ w s h.
     let same : n ≡ n - 0 = omega arith in (s, [], h, lines_none old, ap (λ m. walks o w halts m s) same)
 
-goes_on_there : (o : Object) (w : List Wild) (halts : State → Bool) (t : Session) (e : Debugger) (b : Bool) → Holds o w t e → (not (halts e.present.machine) && is_running e.present.machine.status) ≡ b → (not (halts (present o w t).state) && is_running (present o w t).state.status) ≡ b
-goes_on_there o w halts t e b h g = sym (ap (λ (m : Moment). not (halts m.machine) && is_running m.machine.status) h.present) ∙ g
+goes_on_there : (o : Object) (w : List Wild) (halts : State → Bool) (t : Session) (e : Debugger) (b : Bool) →
+    Holds o w t e → (not (halts e.present.machine) && is_running e.present.machine.status) ≡ b →
+    (not (halts (present o w t).state) && is_running (present o w t).state.status) ≡ b
+goes_on_there o w halts t e b h g = sym (ap (λ (m : Moment). not (halts m.machine) && is_running m.machine.status)
+    h.present) ∙ g
 
 -- one more step
 pub walked_more : (o : Object) (halts : State → Bool) (n k : ℕ) (d e f : Debugger) (old mid new : SinkLog) → k < n
@@ -140,7 +156,8 @@ walked_more o halts n k d e f old mid new l g walked does = λ w s h.
       lines_then x.1 (step_lines o (present o w t)) old mid new x.3 y.1,
       x.4 ∙ ap (after_lines x.1) (walk_takes o w halts (n - k) t (omega arith) (goes_on_there o w halts t e true x.2 g))
           ∙ ap (λ m. after_lines x.1 (after_lines (step_lines o (present o w t)) (walks o w halts m (further t)))) next
-          ∙ ap (λ ls. record { session = (walks o w halts (n - (k + 1)) (further t)).session; lines = ls }) (sym (append_assoc x.1 (step_lines o (present o w t)) (walks o w halts (n - (k + 1)) (further t)).lines)),
+          ∙ ap (λ ls. record { session = (walks o w halts (n - (k + 1)) (further t)).session; lines = ls })
+          (sym (append_assoc x.1 (step_lines o (present o w t)) (walks o w halts (n - (k + 1)) (further t)).lines)),
     )
 
 ended : (o : Object) (w : List Wild) (e : Debugger) (t : Session) (ls : List (List ℕ)) (r : Reply) (old new : SinkLog)

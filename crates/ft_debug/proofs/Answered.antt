@@ -1,5 +1,6 @@
 -- What each command's reply is, and that it was put.
-use Rattle.std.proofs.Common.{not, length, Some, None, ◌≡◌, ℕ, ◌+◌, ◌-◌, ◌<◌, ◌≤◌, Bool, true, false, List, [], ◌∷◌, ◌++◌, Result, Ok, Err, refl, ap, sym, ◌∙◌, subst, arith}
+use Rattle.std.proofs.Common.{not, length, Some, None, ◌≡◌, ℕ, ◌+◌, ◌-◌, ◌<◌, ◌≤◌, Bool, true, false, List, [], ◌∷◌}
+use Rattle.std.proofs.Common.{◌++◌, Result, Ok, Err, refl, ap, sym, ◌∙◌, subst, arith}
 use Rattle.std.specs.Prelude.{slice_get, if◌then◌else◌, nat_lt, codes, IsErr}
 use Rattle.std.proofs.lemmas.Bool.{lt-ltb}
 use Rattle.std.proofs.lemmas.Bool.Decides.{nat_tests}
@@ -17,13 +18,15 @@ use Rattle.ft_script.specs.Reads.{command_of}
 use Rattle.ft_debug.specs.declared.moment.Moment.{Moment}
 use Rattle.ft_debug.specs.declared.debugger.Debugger.{Debugger}
 use Rattle.ft_debug.specs.declared.history.History.{History}
-use Rattle.ft_debug.specs.Sessions.{is_set, sets_break, with_break, break_address, reply, Session, Reply, present, stays, says, reports, at_line, goes_back, earlier, zaps, with_strike}
+use Rattle.ft_debug.specs.Sessions.{is_set, sets_break, with_break, break_address, reply, Session, Reply, present}
+use Rattle.ft_debug.specs.Sessions.{stays, says, reports, at_line, goes_back, earlier, zaps, with_strike}
 use Rattle.ft_debug.specs.Inside.{Holds, IsReplied, Does}
 use Rattle.ft_debug.proofs.Advanced.{on_ok, does_err}
 
 -- REPORTS
 
-at_there : (o : Object) (w : List Wild) (t : Session) (e : Debugger) → Holds o w t e → at_line e.present.position e.present.machine ≡ at_line t.position (present o w t).state
+at_there : (o : Object) (w : List Wild) (t : Session) (e : Debugger) → Holds o w t e →
+    at_line e.present.position e.present.machine ≡ at_line t.position (present o w t).state
 at_there o w t e h = ap (λ (m : Moment). at_line m.position m.machine) h.present
 
 -- after what was done, the position is put
@@ -66,12 +69,14 @@ pub does_as : (go same : List Wild → Session → Reply) (o : Object) (d e : De
 does_as go same o d e r old new eq does = λ w s h.
     subst (λ (q : Reply). IsReplied o w q e r old new) (sym (eq w s h)) (does w s h)
 
-there_is : (o : Object) (w : List Wild) (s : Session) (d : Debugger) (site : Site) (b : Bool) → Holds o w s d → is_there d.present.machine site ≡ b → is_there (present o w s).state site ≡ b
+there_is : (o : Object) (w : List Wild) (s : Session) (d : Debugger) (site : Site) (b : Bool) → Holds o w s d →
+    is_there d.present.machine site ≡ b → is_there (present o w s).state site ≡ b
 there_is o w s d site b h e = sym (ap (λ (m : Moment). is_there m.machine site) h.present) ∙ e
 
 -- ZAP
 
-zap_line : (b : Bool) (x y : Session) (l m : List ℕ) → (if b then says l x else says m y) ≡ says (if b then l else m) (if b then says l x else says m y).session
+zap_line : (b : Bool) (x y : Session) (l m : List ℕ) → (if b then says l x else says m y)
+    ≡ says (if b then l else m) (if b then says l x else says m y).session
 zap_line true x y l m = refl
 zap_line false x y l m = refl
 
@@ -83,22 +88,27 @@ pub does_zap : (o : Object) (d e : Debugger) (site : Site) (value : ℕ) (b : Bo
 does_zap o d e site value b r old new there holds p =
     says_line (λ w. zaps o w site value) o d e (if b then codes "zapped\n" else codes "nothing there\n")
     (λ w s. (zaps o w site value s).session) r old new (λ w s h. (
-      zap_line (is_there (present o w s).state site) (with_strike site value s) s (codes "zapped\n") (codes "nothing there\n")
-          ∙ ap (λ t. says (if t then codes "zapped\n" else codes "nothing there\n") (zaps o w site value s).session) (there_is o w s d site b h there),
+      zap_line (is_there (present o w s).state site) (with_strike site value s) s (codes "zapped\n")
+          (codes "nothing there\n")
+          ∙ ap (λ t. says (if t then codes "zapped\n" else codes "nothing there\n") (zaps o w site value s).session)
+          (there_is o w s d site b h there),
       holds w s h,
     )) p
 
 -- BACK
 
-kept_back : (o : Object) (w : List Wild) (s : Session) (d : Debugger) (n : ℕ) (b : Bool) → Holds o w s d → nat_lt d.history.count n ≡ b → nat_lt (s.position - s.low) n ≡ b
-kept_back o w s d n b h e = let kept = h.kept in let same : s.position - s.low ≡ d.history.count = omega arith in ap (λ m. nat_lt m n) same ∙ e
+kept_back : (o : Object) (w : List Wild) (s : Session) (d : Debugger) (n : ℕ) (b : Bool) → Holds o w s d →
+    nat_lt d.history.count n ≡ b → nat_lt (s.position - s.low) n ≡ b
+kept_back o w s d n b h e = let kept = h.kept in let same : s.position - s.low ≡ d.history.count = omega arith in
+    ap (λ m. nat_lt m n) same ∙ e
 
 pub back_refused : (o : Object) (d : Debugger) (n : ℕ) (r : Result (Unit {0}) Failed) (old new : SinkLog)
     → d.history.count < n → Puts (end_of_puts r) (codes "no history\n" ∷ []) old new
     → Does (λ w. goes_back o w n) o d d r old new
 back_refused o d n r old new l p =
     says_line (λ w. goes_back o w n) o d d (codes "no history\n") (λ w s. s) r old new (λ w s h. (
-      ap (λ t. if t then says (codes "no history\n") s else reports o w (stays (earlier n s))) (kept_back o w s d n true h (lt-ltb d.history.count n l)),
+      ap (λ t. if t then says (codes "no history\n") s else reports o w (stays (earlier n s)))
+          (kept_back o w s d n true h (lt-ltb d.history.count n l)),
       h,
     )) p
 
@@ -108,7 +118,8 @@ pub back_taken : (o : Object) (d e : Debugger) (n : ℕ) (r : Result (Unit {0}) 
     → Does (λ w. goes_back o w n) o d e r old new
 back_taken o d e n r old new l holds p =
     does_as (λ w s. reports o w (stays (earlier n s))) (λ w. goes_back o w n) o d e r old new
-    (λ w s h. ap (λ t. if t then says (codes "no history\n") s else reports o w (stays (earlier n s))) (kept_back o w s d n false h (not_more d.history.count n l)))
+    (λ w s h. ap (λ t. if t then says (codes "no history\n") s else reports o w (stays (earlier n s)))
+    (kept_back o w s d n false h (not_more d.history.count n l)))
     (does_report (λ w s. stays (earlier n s)) o d e r old old new (λ w s h. (holds w s h, lines_none old)) p)
   where
     not_more : (m n : ℕ) → n ≤ m → nat_lt m n ≡ false
@@ -128,7 +139,8 @@ answers_bad o d r old new p =
 
 -- BREAK
 
-breaks_are : (o : Object) (w : List Wild) (s : Session) (d : Debugger) (a : ℕ) (t : Bool) → Holds o w s d → is_set d.breaks a ≡ t → is_set s.breaks a ≡ t
+breaks_are : (o : Object) (w : List Wild) (s : Session) (d : Debugger) (a : ℕ) (t : Bool) → Holds o w s d →
+    is_set d.breaks a ≡ t → is_set s.breaks a ≡ t
 breaks_are o w s d a t h e = ap (λ l. is_set l a) (sym h.breaks) ∙ e
 
 pub break_nowhere : (o : Object) (d : Debugger) (b i : ℕ) (r : Result (Unit {0}) Failed) (old new : SinkLog)
@@ -140,7 +152,8 @@ break_nowhere o d b i r old new e p =
 
 -- what is set, where a place is there
 abbrev set_or : Bool → Bool → ℕ → Session → Reply
-set_or known room a s = if known then says (codes "break set\n") s else (if room then says (codes "break set\n") (with_break a s) else says (codes "too many breaks\n") s)
+set_or known room a s = if known then says (codes "break set\n") s
+    else (if room then says (codes "break set\n") (with_break a s) else says (codes "too many breaks\n") s)
 
 pub break_again : (o : Object) (d : Debugger) (b i a : ℕ) (r : Result (Unit {0}) Failed) (old new : SinkLog)
     → break_address o b i ≡ Some a → is_set d.breaks a ≡ true → Puts (end_of_puts r) (codes "break set\n" ∷ []) old new
@@ -159,16 +172,19 @@ pub break_refused : (o : Object) (d : Debugger) (b i a : ℕ) (r : Result (Unit 
     → Does (λ w. reply o w (Break b i)) o d d r old new
 break_refused o d b i a r old new e known full p =
     says_line (λ w. reply o w (Break b i)) o d d (codes "too many breaks\n") (λ w s. s) r old new (λ w s h. (
-      ap (λ c. sets_break c s) e ∙ ap (λ t. set_or t (nat_lt (length s.breaks) 64) a s) (breaks_are o w s d a false h known)
+      ap (λ c. sets_break c s) e ∙ ap (λ t. set_or t (nat_lt (length s.breaks) 64) a s)
+          (breaks_are o w s d a false h known)
           ∙ ap (λ t. set_or false t a s) (ap (λ l. nat_lt (length l) 64) (sym h.breaks) ∙ full),
       h,
     )) p
 
-holds_break : (o : Object) (w : List Wild) (s : Session) (d e : Debugger) (a : ℕ) → Holds o w s d → e.present ≡ d.present → e.history ≡ d.history → e.breaks ≡ d.breaks ++ a ∷ [] → Holds o w (with_break a s) e
+holds_break : (o : Object) (w : List Wild) (s : Session) (d e : Debugger) (a : ℕ) → Holds o w s d → e.present
+    ≡ d.present → e.history ≡ d.history → e.breaks ≡ d.breaks ++ a ∷ [] → Holds o w (with_break a s) e
 holds_break o w s d e a h ep eh eb = record {
   present = ep ∙ h.present;
   kept = ap (λ (r : History). s.low + r.count) eh ∙ h.kept;
-  past = λ i l lt. let count = ap (λ (r : History). r.count) eh in ap (λ (r : History). slice_get r.moments.items i) eh ∙ h.past i (omega arith) lt;
+  past = λ i l lt. let count = ap (λ (r : History). r.count) eh in ap (λ (r : History). slice_get r.moments.items i) eh
+      ∙ h.past i (omega arith) lt;
   breaks = eb ∙ ap (λ l. l ++ a ∷ []) h.breaks;
   made = h.made;
 }
@@ -179,7 +195,8 @@ pub break_added : (o : Object) (d e : Debugger) (b i a : ℕ) (r : Result (Unit 
     → Puts (end_of_puts r) (codes "break set\n" ∷ []) old new → Does (λ w. reply o w (Break b i)) o d e r old new
 break_added o d e b i a r old new there known room ep eh eb p =
     says_line (λ w. reply o w (Break b i)) o d e (codes "break set\n") (λ w s. with_break a s) r old new (λ w s h. (
-      ap (λ c. sets_break c s) there ∙ ap (λ t. set_or t (nat_lt (length s.breaks) 64) a s) (breaks_are o w s d a false h known)
+      ap (λ c. sets_break c s) there ∙ ap (λ t. set_or t (nat_lt (length s.breaks) 64) a s)
+          (breaks_are o w s d a false h known)
           ∙ ap (λ t. set_or false t a s) (ap (λ l. nat_lt (length l) 64) (sym h.breaks) ∙ room),
       holds_break o w s d e a h ep eh eb,
     )) p

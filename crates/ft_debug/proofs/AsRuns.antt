@@ -19,7 +19,8 @@ shown_plain o w zero = refl
 shown_plain o w (suc n) = ap (λ (m : Shown). led_to (suc n) [] (step o m.state m.wild)) (shown_plain o w n)
 
 -- with one strike
-pub shown_one : (o : Object) (w : List Wild) (s : Strike) (n : ℕ) → shown o w (s ∷ []) n ≡ of_run n (Some s) (run o (Some s) w n)
+pub shown_one : (o : Object) (w : List Wild) (s : Strike) (n : ℕ) → shown o w (s ∷ []) n
+    ≡ of_run n (Some s) (run o (Some s) w n)
 unfolding shown run
 shown_one o w s zero = refl
 shown_one o w s (suc n) = ap (λ (m : Shown). led_to (suc n) (s ∷ []) (step o m.state m.wild)) (shown_one o w s n)

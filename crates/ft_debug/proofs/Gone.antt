@@ -1,5 +1,6 @@
 -- Walks that stop at break places.
-use Rattle.std.proofs.Common.{◌≡◌, ℕ, zero, suc, ◌-◌, Bool, true, false, List, Result, Ok, Err, refl, ap, sym, ◌∙◌, subst, arith}
+use Rattle.std.proofs.Common.{◌≡◌, ℕ, zero, suc, ◌-◌, Bool, true, false, List, Result, Ok, Err, refl, ap, sym, ◌∙◌}
+use Rattle.std.proofs.Common.{subst, arith}
 use Rattle.std.specs.Prelude.{if◌then◌else◌, IsErr}
 use Rattle.ft_edge.specs.declared.failed.Failed.{Failed}
 use Rattle.ft_isa.specs.declared.plan.Wild.{Wild}
@@ -10,7 +11,8 @@ use Rattle.ft_types.specs.declared.object.Object.{Object}
 use Rattle.ft_semantics.specs.Strike.{is_running}
 use Rattle.ft_debug.specs.declared.moment.Moment.{Moment}
 use Rattle.ft_debug.specs.declared.debugger.Debugger.{Debugger}
-use Rattle.ft_debug.specs.Sessions.{Session, Reply, present, stays, after_lines, further, step_lines, walks, goes, is_at_break}
+use Rattle.ft_debug.specs.Sessions.{Session, Reply, present, stays, after_lines, further, step_lines, walks, goes}
+use Rattle.ft_debug.specs.Sessions.{is_at_break}
 use Rattle.ft_debug.specs.Inside.{Holds, IsReplied, Does, advances}
 use Rattle.ft_debug.proofs.Advanced.{does_err}
 
@@ -20,18 +22,24 @@ none_gone : (o : Object) (w : List Wild) (n : ℕ) (s : Session) → n ≡ 0 →
 none_gone o w zero s e = refl
 none_gone o w (suc n) s e = absurd (omega arith)
 
-stopped_gone : (o : Object) (w : List Wild) (n : ℕ) (s : Session) → is_running (present o w s).state.status ≡ false → goes o w n s ≡ stays s
+stopped_gone : (o : Object) (w : List Wild) (n : ℕ) (s : Session) → is_running (present o w s).state.status ≡ false →
+    goes o w n s ≡ stays s
 stopped_gone o w zero s e = refl
-stopped_gone o w (suc n) s e = ap (λ b. if b then after_lines (step_lines o (present o w s)) (walks o w (is_at_break s.breaks) n (further s)) else stays s) e
+stopped_gone o w (suc n) s e = ap (λ b. if b then after_lines (step_lines o (present o w s))
+    (walks o w (is_at_break s.breaks) n (further s)) else stays s) e
 
-first_gone : (o : Object) (w : List Wild) (n : ℕ) (s : Session) → ¬ (n ≡ 0) → is_running (present o w s).state.status ≡ true → goes o w n s ≡ after_lines (step_lines o (present o w s)) (walks o w (is_at_break s.breaks) (n - 1) (further s))
+first_gone : (o : Object) (w : List Wild) (n : ℕ) (s : Session) → ¬ (n ≡ 0) → is_running (present o w s).state.status
+    ≡ true → goes o w n s ≡ after_lines (step_lines o (present o w s))
+    (walks o w (is_at_break s.breaks) (n - 1) (further s))
 first_gone o w zero s ne e = absurd (ne refl)
 first_gone o w (suc n) s ne e =
     let same : n ≡ suc n - 1 = omega arith in
-    ap (λ b. if b then after_lines (step_lines o (present o w s)) (walks o w (is_at_break s.breaks) n (further s)) else stays s) e
+    ap (λ b. if b then after_lines (step_lines o (present o w s)) (walks o w (is_at_break s.breaks) n (further s))
+    else stays s) e
     ∙ ap (λ m. after_lines (step_lines o (present o w s)) (walks o w (is_at_break s.breaks) m (further s))) same
 
-runs_there : (o : Object) (w : List Wild) (s : Session) (d : Debugger) (b : Bool) → Holds o w s d → is_running d.present.machine.status ≡ b → is_running (present o w s).state.status ≡ b
+runs_there : (o : Object) (w : List Wild) (s : Session) (d : Debugger) (b : Bool) → Holds o w s d →
+    is_running d.present.machine.status ≡ b → is_running (present o w s).state.status ≡ b
 runs_there o w s d b h e = sym (ap (λ (m : Moment). is_running m.machine.status) h.present) ∙ e
 
 -- nothing is done

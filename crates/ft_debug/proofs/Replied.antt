@@ -1,5 +1,7 @@
 -- Replies one after the other, and how far they come.
-use Rattle.std.proofs.Common.{◌≡◌, ℕ, zero, suc, ◌+◌, ◌-◌, ◌*◌, ◌<◌, ◌≤◌, Bool, true, false, List, [], ◌∷◌, ◌++◌, length, map, take, drop, get_or, Option, Some, None, Ok, Err, refl, ap, sym, ◌∙◌, subst, append_assoc, append-nil, arith}
+use Rattle.std.proofs.Common.{◌≡◌, ℕ, zero, suc, ◌+◌, ◌-◌, ◌*◌, ◌<◌, ◌≤◌, Bool, true, false, List, [], ◌∷◌, ◌++◌}
+use Rattle.std.proofs.Common.{length, map, take, drop, get_or, Option, Some, None, Ok, Err, refl, ap, sym, ◌∙◌, subst}
+use Rattle.std.proofs.Common.{append_assoc, append-nil, arith}
 use Rattle.std.specs.Prelude.{if◌then◌else◌, nat_lt}
 use Rattle.std.specs.List.{AllZip, AllByRecursion}
 use Rattle.std.proofs.lemmas.List.{map-append, take_more, take_all}
@@ -16,7 +18,9 @@ use Rattle.ft_script.specs.declared.command.Command as read
 use Rattle.ft_script.specs.Commands.{Command, Step, Go, Back, Zap, Reg, Queue, Cell, Where, Break, Bad, Gives}
 use Rattle.ft_script.specs.Reads.{command_of}
 use Rattle.ft_debug.specs.declared.debugger.Debugger.{Debugger}
-use Rattle.ft_debug.specs.Sessions.{Session, Reply, first_session, present, stays, says, after_lines, further, step_lines, walks, goes, is_at_break, is_set, with_break, with_strike, earlier, reports, never, sets_break, break_address, reply, replies, session_lines}
+use Rattle.ft_debug.specs.Sessions.{Session, Reply, first_session, present, stays, says, after_lines, further}
+use Rattle.ft_debug.specs.Sessions.{step_lines, walks, goes, is_at_break, is_set, with_break, with_strike, earlier}
+use Rattle.ft_debug.specs.Sessions.{reports, never, sets_break, break_address, reply, replies, session_lines}
 use Rattle.ft_debug.specs.Inside.{Holds, Does, IsSmall}
 
 -- HOW FAR
@@ -33,14 +37,16 @@ run_within : (b : Bool) (n : ℕ) (s : Session) (r : Reply) → Within n s r →
 run_within true n s r h = h
 run_within false n s r h = omega arith
 
-walk_within : (o : Object) (w : List Wild) (halts : State → Bool) (n : ℕ) (s : Session) → Within n s (walks o w halts n s)
+walk_within : (o : Object) (w : List Wild) (halts : State → Bool) (n : ℕ) (s : Session) →
+    Within n s (walks o w halts n s)
 unfolding walks
 walk_within o w halts zero s = omega arith
 walk_within o w halts (suc n) s =
     let rest = walk_within o w halts n (further s) in
     let r : Reply = after_lines (step_lines o (present o w s)) (walks o w halts n (further s)) in
     let one : Within (suc n) s r = omega (arith, rest) in
-    halt_within (halts (present o w s).state) (suc n) s (if is_running (present o w s).state.status then r else stays s) (run_within (is_running (present o w s).state.status) (suc n) s r one)
+    halt_within (halts (present o w s).state) (suc n) s (if is_running (present o w s).state.status then r
+    else stays s) (run_within (is_running (present o w s).state.status) (suc n) s r one)
 
 go_within : (o : Object) (w : List Wild) (n : ℕ) (s : Session) → Within n s (goes o w n s)
 go_within o w zero s = omega arith
@@ -50,21 +56,26 @@ go_within o w (suc n) s =
     let one : Within (suc n) s r = omega (arith, rest) in
     run_within (is_running (present o w s).state.status) (suc n) s r one
 
-either_within : (b : Bool) (s : Session) (x y : Reply) → Within 1000000 s x → Within 1000000 s y → Within 1000000 s (if b then x else y)
+either_within : (b : Bool) (s : Session) (x y : Reply) → Within 1000000 s x → Within 1000000 s y →
+    Within 1000000 s (if b then x else y)
 either_within true s x y h i = h
 either_within false s x y h i = i
 
 break_within : (a : Option ℕ) (s : Session) → Within 1000000 s (sets_break a s)
 break_within None s = omega arith
 break_within (Some a) s =
-    either_within (is_set s.breaks a) s _ _ (omega arith) (either_within (nat_lt (length s.breaks) 64) s (says _ (with_break a s)) (says _ s) (omega arith) (omega arith))
+    either_within (is_set s.breaks a) s _ _ (omega arith)
+    (either_within (nat_lt (length s.breaks) 64) s (says _ (with_break a s)) (says _ s) (omega arith) (omega arith))
 
 -- a command takes the position at most 1,000,000 steps further
-pub reply_within : (o : Object) (w : List Wild) (c : Command) (s : Session) → IsSmall c → Within 1000000 s (reply o w c s)
+pub reply_within : (o : Object) (w : List Wild) (c : Command) (s : Session) → IsSmall c →
+    Within 1000000 s (reply o w c s)
 reply_within o w (Step n) s h = let far = walk_within o w never n s in omega arith
 reply_within o w (Go n) s h = let far = go_within o w n s in omega arith
-reply_within o w (Back n) s h = either_within (nat_lt (s.position - s.low) n) s (says _ s) (reports o w (stays (earlier n s))) (omega arith) (omega arith)
-reply_within o w (Zap site value) s h = either_within (is_there (present o w s).state site) s (says _ (with_strike site value s)) (says _ s) (omega arith) (omega arith)
+reply_within o w (Back n) s h = either_within (nat_lt (s.position - s.low) n) s (says _ s)
+    (reports o w (stays (earlier n s))) (omega arith) (omega arith)
+reply_within o w (Zap site value) s h = either_within (is_there (present o w s).state site) s
+    (says _ (with_strike site value s)) (says _ s) (omega arith) (omega arith)
 reply_within o w (Reg r) s h = omega arith
 reply_within o w Queue s h = omega arith
 reply_within o w (Cell name) s h = omega arith
@@ -81,7 +92,8 @@ pub record Replied (o : Object) (w : List Wild) (xs : List read.Command) (i : �
   pub holds : Holds o w session d
   pub lines : List (List ℕ)
   pub puts : new ≡ with_lines lines old
-  pub rest : (cs : List Command) → replies o w (map command_of (take i xs) ++ cs) first_session ≡ lines ++ replies o w cs session
+  pub rest : (cs : List Command) → replies o w (map command_of (take i xs) ++ cs) first_session ≡ lines
+      ++ replies o w cs session
   pub within : session.position ≤ 1000000 * i
 
 pub replied_none : (o : Object) (w : List Wild) (xs : List read.Command) (d : Debugger) (old : SinkLog)
@@ -97,8 +109,10 @@ replied_none o w xs d old h =
           arith;
     }
 
-next_command : (xs : List read.Command) (i : ℕ) (x : read.Command) → i < length xs → x ≡ get_or xs i x → map command_of (take (i + 1) xs) ≡ map command_of (take i xs) ++ command_of x ∷ []
-next_command xs i x l e = ap (map command_of) (take_more xs i x l ∙ ap (λ y. take i xs ++ y ∷ []) (sym e)) ∙ map-append command_of (take i xs) (x ∷ [])
+next_command : (xs : List read.Command) (i : ℕ) (x : read.Command) → i < length xs → x ≡ get_or xs i x →
+    map command_of (take (i + 1) xs) ≡ map command_of (take i xs) ++ command_of x ∷ []
+next_command xs i x l e = ap (map command_of) (take_more xs i x l ∙ ap (λ y. take i xs ++ y ∷ []) (sym e))
+    ∙ map-append command_of (take i xs) (x ∷ [])
 
 pub replied_more : (o : Object) (w : List Wild) (xs : List read.Command) (i : ℕ) (x : read.Command) (d e : Debugger)
     (old mid new : SinkLog) → i < length xs → x ≡ get_or xs i x → IsSmall (command_of x)
@@ -116,14 +130,19 @@ replied_more o w xs i x d e old mid new l at small h does =
       lines = h.lines ++ r.lines;
       puts = lines_then h.lines r.lines old mid new h.puts y.1;
       rest = λ cs.
-          ap (λ l. replies o w (l ++ cs) first_session) (next_command xs i x l at) ∙ ap (λ l. replies o w l first_session) (append_assoc (map command_of (take i xs)) (command_of x ∷ []) cs)
+          ap (λ l. replies o w (l ++ cs) first_session) (next_command xs i x l at)
+          ∙ ap (λ l. replies o w l first_session) (append_assoc (map command_of (take i xs)) (command_of x ∷ []) cs)
           ∙ h.rest (command_of x ∷ cs) ∙ sym (append_assoc h.lines r.lines (replies o w cs r.session));
       within = omega arith;
     }
 
-all_lines : (o : Object) (w : List Wild) (xs : List read.Command) (i : ℕ) (s : Session) (lines : List (List ℕ)) → length xs ≤ i → ((cs : List Command) → replies o w (map command_of (take i xs) ++ cs) first_session ≡ lines ++ replies o w cs s) → session_lines o w (map command_of xs) ≡ lines
+all_lines : (o : Object) (w : List Wild) (xs : List read.Command) (i : ℕ) (s : Session) (lines : List (List ℕ)) →
+    length xs ≤ i → ((cs : List Command) → replies o w (map command_of (take i xs) ++ cs) first_session ≡ lines
+    ++ replies o w cs s) → session_lines o w (map command_of xs) ≡ lines
 all_lines o w xs i s lines le rest =
-    ap (λ l. replies o w (map command_of l) first_session) (sym (take_all i xs le)) ∙ ap (λ l. replies o w l first_session) (sym (append-nil (map command_of (take i xs)))) ∙ rest [] ∙ append-nil lines
+    ap (λ l. replies o w (map command_of l) first_session) (sym (take_all i xs le))
+    ∙ ap (λ l. replies o w l first_session) (sym (append-nil (map command_of (take i xs)))) ∙ rest []
+    ∙ append-nil lines
 
 -- all commands were answered
 pub replied_all : (o : Object) (w : List Wild) (xs : List read.Command) (i : ℕ) (d : Debugger) (old new : SinkLog)
@@ -141,7 +160,8 @@ replied_breaks o w xs i x d e failed old mid new l at h does =
     let r = reply o w (command_of x) s in
     let cs = map command_of (drop (suc i) xs) in
     let whole : map command_of xs ≡ map command_of (take i xs) ++ command_of x ∷ cs =
-    ap (map command_of) (split_at xs i x l ∙ ap (λ y. take i xs ++ y ∷ drop (suc i) xs) (sym at)) ∙ map-append command_of (take i xs) (x ∷ drop (suc i) xs) in
+    ap (map command_of) (split_at xs i x l ∙ ap (λ y. take i xs ++ y ∷ drop (suc i) xs) (sym at))
+    ∙ map-append command_of (take i xs) (x ∷ drop (suc i) xs) in
     subst (λ (ls : List (List ℕ)). BreaksOff ls old new)
     (sym (ap (λ l. replies o w l first_session) whole ∙ h.rest (command_of x ∷ cs)))
     (breaks_then h.lines (r.lines ++ replies o w cs r.session) old mid new h.puts
@@ -168,7 +188,8 @@ small_commands [] (c ∷ cs) h = absurd h
 small_commands (l ∷ ls) [] h = absurd h
 small_commands (l ∷ ls) (c ∷ cs) h = (small_command c l h.0, small_commands ls cs h.1)
 
-pub small_at : (xs : List read.Command) (i : ℕ) (d : read.Command) → i < length xs → AllByRecursion IsSmall (map command_of xs) → IsSmall (command_of (get_or xs i d))
+pub small_at : (xs : List read.Command) (i : ℕ) (d : read.Command) → i < length xs →
+    AllByRecursion IsSmall (map command_of xs) → IsSmall (command_of (get_or xs i d))
 small_at [] i d l h = absurd (omega arith)
 small_at (x ∷ xs) zero d l h = h.0
 small_at (x ∷ xs) (suc i) d l h = small_at xs i d (omega arith) h.1

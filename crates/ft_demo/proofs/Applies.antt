@@ -17,7 +17,8 @@ use Rattle.ft_types.specs.declared.object.Cell.{Cell}
 use Rattle.ft_types.specs.Objects.{block_instrs}
 use Rattle.ft_isa.specs.BasicTypes.{int, ref}
 use Rattle.ft_typing.specs.TypedWord.{HasType, has_type, is_seen_as, same_basic, cell_of}
-use Rattle.ft_typing.specs.Context.{Typed, Context, typed, with_type, d_zero, start_context, registers_after, memory_form_of}
+use Rattle.ft_typing.specs.Context.{Typed, Context, typed, with_type, d_zero, start_context, registers_after}
+use Rattle.ft_typing.specs.Context.{memory_form_of}
 use Rattle.ft_typing.specs.TypingRow.{same_colour, need, for_typed, for_ref_over, for_zero, for_oldest, is_empty}
 use Rattle.ft_typing.specs.Accepted.{Applies, IsAccepted, last_row, next_row}
 use Rattle.ft_types.proofs.Maps.{get-insert}
@@ -80,11 +81,15 @@ unfolding for_typed need same_colour for_ref_over for_oldest is_seen_as same_bas
 turn_applies o c f i is h rest =
     let k = values_known i f c h in
     next_row (with_type 1 (known Green int (tripled f)) c) (simp h.green_value)
-    (next_row (with_type 1 (known Green int (raised i f)) (with_type 1 (known Green int (tripled f)) c)) (simp get-insert)
-    (next_row (with_type 33 (known Blue int (tripled f)) (with_type 1 (known Green int (raised i f)) (with_type 1 (known Green int (tripled f)) c))) (simp (get-insert, h.blue_value))
+    (next_row (with_type 1 (known Green int (raised i f)) (with_type 1 (known Green int (tripled f)) c))
+    (simp get-insert)
+    (next_row (with_type 33 (known Blue int (tripled f))
+    (with_type 1 (known Green int (raised i f)) (with_type 1 (known Green int (tripled f)) c)))
+    (simp (get-insert, h.blue_value))
     (next_row (with_values i f c) (simp get-insert)
     (next_row (with_pending (raised i f) (with_values i f c)) (simp (k.green_address, k.green_value, k.queue))
-    (next_row (with_stored (raised i f) (with_values i f c)) (simp (k.blue_address, k.blue_value, k.queue, same_itself)) rest)))))
+    (next_row (with_stored (raised i f) (with_values i f c)) (simp (k.blue_address, k.blue_value, k.queue, same_itself))
+    rest)))))
 
 -- so many turns apply, whatever the value
 turns_apply : (o : Object) (n i : ℕ) (c : Context) (f : Polynomial) → Holds c f → Applies o c (turns_from i n)
@@ -93,7 +98,14 @@ turns_apply o zero i c f h = last_row (rw (h.d, h.queue) refl)
 turns_apply o (suc n) i c f h =
     let k = values_known i f c h in
     turn_applies o c f i (turns_from (suc i) n) h
-    (turns_apply o n (suc i) _ (raised i f) (record { green_address = k.green_address; blue_address = k.blue_address; green_value = k.green_value; blue_value = k.blue_value; d = k.d; queue = refl }))
+    (turns_apply o n (suc i) _ (raised i f) (record {
+      green_address = k.green_address;
+      blue_address = k.blue_address;
+      green_value = k.green_value;
+      blue_value = k.blue_value;
+      d = k.d;
+      queue = refl;
+    }))
 
 -- what is known after the opening
 abbrev opened : Context → Context
@@ -102,12 +114,14 @@ opened c =
     (with_type 32 (known Blue (ref int) place) (with_type 0 (known Green (ref int) place) c)))
 
 -- the opening applies from the start of a block about whose registers nothing is known
-opening_applies : (n : ℕ) (c : Context) (is : List Instr) → Applies (sample_object n) (opened c) is → Applies (sample_object n) c (opening ++ is)
+opening_applies : (n : ℕ) (c : Context) (is : List Instr) → Applies (sample_object n) (opened c) is →
+    Applies (sample_object n) c (opening ++ is)
 unfolding need has_type cell_of same_basic
 opening_applies n c is rest =
     next_row (with_type 0 (known Green (ref int) place) c) refl
     (next_row (with_type 32 (known Blue (ref int) place) (with_type 0 (known Green (ref int) place) c)) refl
-    (next_row (with_type 1 (known Green int (constant 0)) (with_type 32 (known Blue (ref int) place) (with_type 0 (known Green (ref int) place) c))) refl
+    (next_row (with_type 1 (known Green int (constant 0))
+    (with_type 32 (known Blue (ref int) place) (with_type 0 (known Green (ref int) place) c))) refl
     (next_row (opened c) refl rest)))
 
 -- a list from its first value to its last
@@ -115,11 +129,13 @@ whole_range : (is : List Instr) → slice_range is 0 (length is) ≡ is
 whole_range is = grind (arith, common_steps)
 
 -- the one block applies
-block_applies : (n : ℕ) (b : ℕ) (x : Block) → slice_get (sample_object n).blocks b ≡ Some x → Applies (sample_object n) (start_context (sample_object n) x.code_type) (block_instrs (sample_object n) b)
+block_applies : (n : ℕ) (b : ℕ) (x : Block) → slice_get (sample_object n).blocks b ≡ Some x →
+    Applies (sample_object n) (start_context (sample_object n) x.code_type) (block_instrs (sample_object n) b)
 unfolding registers_after memory_form_of
 block_applies n zero x e =
     let c = start_context (sample_object n) 0 in
-    subst (λ y. Applies (sample_object n) (start_context (sample_object n) y.code_type) (block_instrs (sample_object n) 0)) (same_Some _ _ e)
+    subst (λ y. Applies (sample_object n) (start_context (sample_object n) y.code_type)
+    (block_instrs (sample_object n) 0)) (same_Some _ _ e)
     (subst (Applies (sample_object n) c) (sym (whole_range (sample_object n).instrs))
     (opening_applies n c (turns_from 1 n)
     (turns_apply (sample_object n) n 1 (opened c) (constant 0) (record {
@@ -133,7 +149,8 @@ block_applies n zero x e =
 block_applies n (suc b) x e = absurd cc
 
 -- the one cell's word is an integer's
-cell_is_typed : (n : ℕ) (k : ℕ) (x : Cell) → slice_get (sample_object n).cells k ≡ Some x → HasType (sample_object n) x.init x.basic
+cell_is_typed : (n : ℕ) (k : ℕ) (x : Cell) → slice_get (sample_object n).cells k ≡ Some x →
+    HasType (sample_object n) x.init x.basic
 cell_is_typed n zero x e = subst (λ y. HasType (sample_object n) y.init y.basic) (same_Some _ _ e) tt
 cell_is_typed n (suc k) x e = absurd cc
 

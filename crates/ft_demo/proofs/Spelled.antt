@@ -11,7 +11,8 @@ use Rattle.ft_static.specs.declared.node.Shape.TheVariants as shape
 use Rattle.ft_static.specs.NodeRules.{IsNode}
 use Rattle.ft_types.specs.declared.object.Object.{Object}
 use Rattle.ft_typing.specs.Examples.{int_cell, nothing_known}
-use Rattle.ft_types.specs.Spellable.{IsSpellable, IsBasic, IsCell, IsCodeType, IsInstr, HasCodeType, Cover, IsRegRow, IsQueueRow, IsNodeIn, substs_of}
+use Rattle.ft_types.specs.Spellable.{IsSpellable, IsBasic, IsCell, IsCodeType, IsInstr, HasCodeType, Cover, IsRegRow}
+use Rattle.ft_types.specs.Spellable.{IsQueueRow, IsNodeIn, substs_of}
 use Rattle.ft_isa.specs.BasicTypes.{int, ref}
 use Rattle.ft_isa.proofs.Lists.{all_of_one}
 use Rattle.ft_demo.specs.Sample.{opening, turns_from, sample_object}
@@ -67,7 +68,12 @@ sample_is_spellable o n e some few = subst IsSpellable (sym e) (
     let many = turns_many n 1 in
     record {
       few_cells = omega arith;
-      cells = all_of_one (IsCell 1) (int_cell (codes "out") 0) (record { name = refl; name_length = omega arith; basic = record { refs = omega arith; base = tt }; init = small 0 (omega arith) });
+      cells = all_of_one (IsCell 1) (int_cell (codes "out") 0) (record {
+        name = refl;
+        name_length = omega arith;
+        basic = record { refs = omega arith; base = tt };
+        init = small 0 (omega arith);
+      });
       names_differ = λ i j d before within same. omega (arith, before, within);
       nodes = record { few = omega arith; each = node_is_lawful };
       some_type = omega arith;

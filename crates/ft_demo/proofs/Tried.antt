@@ -1,5 +1,6 @@
 -- The faults that are tried.
-use Rattle.std.proofs.Common.{◌≡◌, ℕ, zero, suc, ◌+◌, ◌*◌, ◌≤◌, [], ◌∷◌, ◌++◌, length, Option, Some, None, refl, ap, sym, ◌∙◌, arith, length-append}
+use Rattle.std.proofs.Common.{◌≡◌, ℕ, zero, suc, ◌+◌, ◌*◌, ◌≤◌, [], ◌∷◌, ◌++◌, length, Option, Some, None, refl, ap}
+use Rattle.std.proofs.Common.{sym, ◌∙◌, arith, length-append}
 use Rattle.std.specs.Option.{option_map, option_to_list}
 use Rattle.ft_isa.specs.Registers.{reg_of}
 use Rattle.ft_isa.proofs.Registers.{reg_of-number}
@@ -9,7 +10,8 @@ use Rattle.ft_isa.specs.declared.plan.Strike.{Strike}
 use Rattle.ft_demo.specs.Demonstrations.{fault, first_faults}
 
 -- a fault by its register
-pub fault_is : (j : ℕ) (register : Reg) → register.number ≡ j → fault j ≡ Some (record { step = 16 * j; site = R register; value = j })
+pub fault_is : (j : ℕ) (register : Reg) → register.number ≡ j → fault j
+    ≡ Some (record { step = 16 * j; site = R register; value = j })
 fault_is j register e =
     let whole : Reg → Strike = λ r. record { step = 16 * j; site = R r; value = j } in
     ap (option_map whole) (ap reg_of (sym e) ∙ reg_of-number register)
@@ -21,7 +23,8 @@ no_faults = refl
 -- one fault more
 pub more_faults : (n : ℕ) (x : Strike) → fault n ≡ Some x → first_faults (n + 1) ≡ first_faults n ++ x ∷ []
 unfolding first_faults
-more_faults n x e = let next : n + 1 ≡ suc n = omega arith in ap first_faults next ∙ ap (λ f. first_faults n ++ option_to_list f) e
+more_faults n x e = let next : n + 1 ≡ suc n = omega arith in
+    ap first_faults next ∙ ap (λ f. first_faults n ++ option_to_list f) e
 
 at_most_one : (f : Option Strike) → length (option_to_list f) ≤ 1
 at_most_one None = omega arith
@@ -31,4 +34,5 @@ at_most_one (Some x) = omega arith
 pub few_faults : (n : ℕ) → length (first_faults n) ≤ n
 unfolding first_faults
 few_faults zero = omega arith
-few_faults (suc n) = let long = length-append (first_faults n) (option_to_list (fault n)) in omega (arith, long, at_most_one (fault n), few_faults n)
+few_faults (suc n) = let long = length-append (first_faults n) (option_to_list (fault n)) in
+    omega (arith, long, at_most_one (fault n), few_faults n)

@@ -5,6 +5,7 @@ ghost use Rattle.ft_typing.specs.Accepted.{IsAccepted, refusal};
 ghost use Rattle.ft_types.specs.Spellable.{IsSpellable};
 ghost use Rattle.ft_demo.specs.Demonstrations.{EndsAs};
 ghost use Rattle.ft_demo.specs.Shown.{IsShown, AreTotals};
+ghost use Rattle.ft_format.specs.Broken.{broken, object_of};
 
 use crate::demo_end::DemoEnd;
 use crate::faults::all_faults;
@@ -14,10 +15,11 @@ use crate::tally::{STEPS, Tally, tally_run};
 use ft_campaign::{CampaignEnd, Totals, campaign};
 use ft_checker::{CheckError, Checked, check};
 use ft_edge::{NullSink, Sink};
-use ft_isa::{NoMemory, Strike};
+use ft_encode::encode;
+use ft_isa::{NoMemory, Steps, Strike};
 use ft_runs::Clean;
-use ft_steps::Steps;
-use ft_types::{Object, Program};
+use ft_types::Program;
+use ft_view::View;
 use std::alloc::Global;
 use std::marker::Brand;
 use std::sync::ledger::{Blank, Ledger};
@@ -67,18 +69,18 @@ fn show_checked<P: Program, L: Ledger>(
     Ok(Shown { tally, totals })
 }
 
-/// What is shown of an accepted object, with a counter of steps of its own.
-fn show<L: Ledger>(alloc: Global, object: &Object, blank: Blank) -> Result<Shown, NoMemory>
+/// What is shown of an accepted program, with a counter of steps of its own.
+fn show<P: Program, L: Ledger>(alloc: Global, program: &P, blank: Blank) -> Result<Shown, NoMemory>
     requires name { blank.name ≡ L.name }
     requires parts { blank.parts ≡ L.parts }
     requires some { 0 < L.parts }
-    requires spellable { IsSpellable object.now }
-    requires accepted { IsAccepted object.now }
-    requires unrefused { refusal object.now ≡ None }
-    ensures { IfOk result (IsShown object.now) }
+    requires spellable { IsSpellable (P.object program.now) }
+    requires accepted { IsAccepted (P.object program.now) }
+    requires unrefused { refusal (P.object program.now) ≡ None }
+    ensures { IfOk result (IsShown (P.object program.now)) }
 {
     let mut steps = Steps::<L>::new(blank);
-    let checked = match check(alloc, object, &mut steps) {
+    let checked = match check(alloc, program, &mut steps) {
         Ok(checked) => checked,
         Err(CheckError::NoMemory) => return Err(NoMemory),
         Err(_) => unreachable!(),
@@ -86,14 +88,40 @@ fn show<L: Ledger>(alloc: Global, object: &Object, blank: Blank) -> Result<Shown
     show_checked(alloc, &checked, &mut steps)
 }
 
-/// What is shown of the object of `turns` turns.
+/// The bytes of the object of `turns` turns.
+fn spelled_sample(alloc: Global, turns: u32) -> Result<Vec<u8>, NoMemory>
+    requires some { 1 ≤ turns }
+    requires few { turns ≤ 10921 }
+    ensures lawful { IfOk result (λ bytes. broken bytes.items ≡ None) }
+    ensures object { IfOk result (λ bytes. object_of bytes.items ≡ sample_object turns) }
+    ensures spellable { IfOk result (λ bytes. IsSpellable (object_of bytes.items)) }
+    ensures accepted { IfOk result (λ bytes. IsAccepted (object_of bytes.items)) }
+{
+    let object = sample(alloc, turns)?;
+    let bytes = encode(alloc, &object)?;
+    Ok(bytes)
+}
+
+/// The object in bytes that break no rule of the format.
+fn view_of(bytes: &[u8]) -> View<'_>
+    requires { broken bytes.now ≡ None }
+    ensures { result ≡ bytes.now }
+{
+    match View::over(bytes) {
+        Ok(view) => view,
+        Err(_) => unreachable!(),
+    }
+}
+
+/// What is shown of the object of `turns` turns, which is run where its bytes are, as an object that is loaded.
 fn show_sample(alloc: Global, turns: u32) -> Result<Shown, NoMemory>
     requires some { 1 ≤ turns }
     requires few { turns ≤ 10921 }
     ensures { IfOk result (IsShown (sample_object turns)) }
 {
-    let object = sample(alloc, turns)?;
-    show::<Brand>(alloc, &object, Blank::new(1))
+    let bytes = spelled_sample(alloc, turns)?;
+    let view = view_of(bytes.as_slice());
+    show::<View, Brand>(alloc, &view, Blank::new(1))
 }
 
 /// Makes the object of `turns` turns, from 1 to 10,921, checks it, runs it without a fault for at most

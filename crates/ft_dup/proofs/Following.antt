@@ -1,38 +1,43 @@
 -- The machine follows the flow.
-use Rattle.std.proofs.Common.{◌≡◌, ℕ, zero, suc, ◌+◌, ◌*◌, ◌<◌, ◌≤◌, true, false, cond, List, [], ◌∷◌, ◌++◌, length, map, Some, None, inl, inr, refl, sym, ap, ◌∙◌, subst, arith, slice_get, slice_index, length-append, append_assoc, take}
+use Rattle.std.proofs.Common.{◌≡◌, ℕ, zero, suc, ◌+◌, ◌*◌, ◌<◌, ◌≤◌, Bool, true, false, cond, List, [], ◌∷◌, ◌++◌}
+use Rattle.std.proofs.Common.{length, map, Some, None, inl, inr, refl, sym, ap, ◌∙◌, subst, arith, slice_get}
+use Rattle.std.proofs.Common.{slice_index, length-append, append_assoc, take}
 use Rattle.std.specs.List.{All}
 use Rattle.std.specs.Option.{option_map, unwrap_or}
-use Rattle.std.specs.FinMap as finite
-use Rattle.std.specs.Ordering.{nat_cmp}
-use Rattle.std.proofs.lemmas.Bool.{ne_eqb, eq-eqb, cases_eq, ltb-true}
+use Rattle.std.proofs.lemmas.Bool.{ne_eqb, ltb-true}
 use Rattle.std.proofs.lemmas.List.{length-set, append-nil, length-map}
 use Rattle.std.proofs.lemmas.List.Elements.{All-head, All-tail, All-set}
 use Rattle.std.proofs.lemmas.Option.{slice_get-get_or, slice_get-map, slice_get_cases, slice_get_within}
 use Rattle.std.proofs.Math.Nat.{mod-lt}
 use Rattle.std.proofs.Math.Seq.{get_or-append_seam, take-append_seam}
+use Rattle.ft_simulation.proofs.Steps.{iterate, follows}
 use Rattle.ft_isa.specs.Words.{IsWord, apply, cell_address, code_address}
 use Rattle.ft_isa.specs.declared.plan.Wild.{Wild}
 use Rattle.ft_isa.specs.declared.instr.Instr.TheVariants as instr
 use Rattle.ft_types.specs.declared.object.Object.{Object}
 use Rattle.ft_semantics.specs.declared.status.Status.TheVariants.{Running, Done}
-use Rattle.ft_types.specs.Objects.{start_of as start_of_block, block_start, entry_address, cell_head_of, init_or_zero, init_of}
-use Rattle.ft_semantics.specs.State.{Registers, Cells, cell_at, tabulate, green_zero}
+use Rattle.ft_types.specs.Objects.{start_of as start_of_block, block_start, entry_address, cell_head_of, init_or_zero}
+use Rattle.ft_types.specs.Objects.{init_of}
+use Rattle.ft_semantics.specs.State.{Registers, Cells, tabulate, green_zero}
+use Rattle.ft_semantics.proofs.Tabulated.{cells_tell, tabulated, untabulated}
 use Rattle.ft_semantics.specs.Run.{Ran, run}
-use Rattle.ft_types.proofs.Maps.{get-insert}
 use Rattle.ft_meaning.specs.Meaning.{cell_of_run}
 use Rattle.ft_lower.specs.declared.step3.Step3.{Step3}
 use Rattle.ft_lower.specs.declared.step3.Step3.TheVariants.{Put, Copy, Op, Load, Store, LoadAt, StoreAt, Exit, Go, Stop}
-use Rattle.ft_lower.specs.Flow.{Blocks, Place, FlowState, on, first, goes_on, goes_to, with_pair, with_cell, block_of, act, act_if, step_at, flow_step, steps, flow_start}
+use Rattle.ft_lower.specs.Flow.{Blocks, Place, FlowState, on, first, goes_on, goes_to, with_pair, with_cell, block_of}
+use Rattle.ft_lower.specs.Flow.{act, act_if, step_at, flow_step, steps, flow_start}
 use Rattle.ft_lower.specs.Size.{size, row_size, pairs_of}
-use Rattle.ft_lower.specs.Well.{IsBlock, IsTarget, Known, no_pair, pairs_below, forget, known_after, KeepsVariables, RowIsWell, known_first, row_known, known_at, IsWell}
+use Rattle.ft_lower.specs.Well.{IsBlock, IsTarget, Known, no_pair, pairs_below, forget, known_after, KeepsVariables}
+use Rattle.ft_lower.specs.Well.{RowIsWell, known_first, row_known, known_at, IsWell}
 use Rattle.ft_lower.proofs.Runs.{done_stays}
 use Rattle.ft_lower.proofs.Sizes.{row_size-append}
 use Rattle.ft_dup.specs.Images.{starts, start_of, doubled}
 use Rattle.ft_dup.specs.Doubles.{bare, init_of_cell, words_of, Carries, cost, cost_if, Holds, RunsAs}
 use Rattle.ft_dup.proofs.WellFormedBlocks.{first_start, block_is}
-use Rattle.ft_dup.proofs.Stretches.{machine_steps, run_is, Leads, spot, stands, ran, fetched_state, two_any}
+use Rattle.ft_dup.proofs.Stretches.{machine_step, run_is, Leads, spot, stands, ran, fetched_state, two_any}
 use Rattle.ft_dup.proofs.Pairs.{PairsHeld, CellsHold}
-use Rattle.ft_dup.proofs.FlowSteps.{Below, Row, put_row, copy_row, op_row, load_row, store_row, load_at_row, store_at_row, go_row, exit_zero_row, exit_other_row}
+use Rattle.ft_dup.proofs.FlowSteps.{Below, Row, put_row, copy_row, op_row, load_row, store_row, load_at_row}
+use Rattle.ft_dup.proofs.FlowSteps.{store_at_row, go_row, exit_zero_row, exit_other_row}
 use Rattle.ft_dup.proofs.Laying.{blocks_length, Laid, laid}
 
 -- WHAT IS KNOWN
@@ -59,11 +64,6 @@ record Agrees (vars : ℕ) (bs : Blocks) (f : FlowState) (r : Ran) : Type 0 wher
   status : r.state.status ≡ cond f.done Done Running
   holds : f.done ≡ false → Holds (known_at vars bs f.place) f.pairs r.state
 
--- they agree after k steps of the flow, which are at most their cost while it is running
-record Shows (o : Object) (vars : ℕ) (bs : Blocks) (k : ℕ) (f : FlowState) (r : Ran) : Type 0 where
-  agrees : Agrees vars bs (steps bs k f) (machine_steps o (cost bs k f) r)
-  pace : (steps bs k f).done ≡ false → k ≤ cost bs k f
-
 -- each step becomes an instruction
 size_some : (s : Step3) → 1 ≤ size s
 size_some (Put p w) = omega arith
@@ -77,252 +77,316 @@ size_some (Exit q s to) = omega arith
 size_some (Go s to) = omega arith
 size_some Stop = omega arith
 
--- one step of the flow and its steps of the machine
-shows_step : (o : Object) (vars : ℕ) (bs : Blocks) (k : ℕ) (f g : FlowState) (s : Step3) (r q : Ran) → f.done ≡ false → step_at bs f.place ≡ Some s → act s f ≡ g → Leads o (2 * size s) r q → Shows o vars bs k g q → Shows o vars bs (suc k) f r
-shows_step o vars bs k f g s r q runs at eq l h =
-    let to : flow_step bs f ≡ g = ap (λ b. act_if b (step_at bs f.place) f) runs ∙ ap (λ x. act_if false x f) at ∙ eq in
-    let c : cost_if f.done (step_at bs f.place) ≡ 2 * size s = ap (λ b. cost_if b (step_at bs f.place)) runs ∙ ap (cost_if false) at in
-    let all : cost bs (suc k) f ≡ 2 * size s + cost bs k g = ap (λ x. cost_if f.done (step_at bs f.place) + cost bs k x) to ∙ ap (λ x. x + cost bs k g) c in
-    let e = ap (λ n. machine_steps o n r) all ∙ l.by (cost bs k g) in
-    record {
-      agrees = subst (λ x. Agrees vars bs (steps bs k x) (machine_steps o (cost bs (suc k) f) r)) (sym to) (subst (Agrees vars bs (steps bs k g)) (sym e) h.agrees);
-      pace = λ d. let z = h.pace (sym (ap (λ x. (steps bs k x).done) to) ∙ d) in omega (arith, size_some s);
-    }
-
--- a flow that is done costs nothing
-done_costs : (bs : Blocks) (k : ℕ) (f : FlowState) → f.done ≡ true → cost bs k f ≡ 0
-done_costs bs zero f d = refl
-done_costs bs (suc k) f d =
-    let g : flow_step bs f ≡ f = ap (λ b. act_if b (step_at bs f.place) f) d in
-    let a : cost_if f.done (step_at bs f.place) ≡ 0 = ap (λ b. cost_if b (step_at bs f.place)) d in
-    let b : cost bs k (flow_step bs f) ≡ 0 = ap (cost bs k) g ∙ done_costs bs k f d in
-    omega arith
-
--- a run that is over stays as it is
-shows_done : (o : Object) (vars : ℕ) (bs : Blocks) (k : ℕ) (f : FlowState) (r : Ran) → f.done ≡ true → Agrees vars bs f r → Shows o vars bs k f r
-shows_done o vars bs k f r d h =
-    let s = done_stays bs k f d in
-    let a : machine_steps o (cost bs k f) r ≡ r = ap (λ n. machine_steps o n r) (done_costs bs k f d) in
-    record {
-      agrees = subst (λ x. Agrees vars bs x (machine_steps o (cost bs k f) r)) (sym s) (subst (Agrees vars bs f) (sym a) h);
-      pace = λ e. absurd (no_known (sym e ∙ ap (λ (x : FlowState). x.done) s ∙ d));
-    }
+-- what a step of a running flow costs
+costs : (bs : Blocks) (f : FlowState) (s : Step3) → f.done ≡ false → step_at bs f.place ≡ Some s →
+    cost_if f.done (step_at bs f.place) ≡ 2 * size s
+costs bs f s runs at = ap (λ b. cost_if b (step_at bs f.place)) runs ∙ ap (cost_if false) at
 
 -- the step at a place
-there : (bs : Blocks) (f : FlowState) (front rest : List Step3) (s : Step3) → block_of bs f.place.block ≡ front ++ s ∷ rest → f.place.index ≡ length front → step_at bs f.place ≡ Some s
+there : (bs : Blocks) (f : FlowState) (front rest : List Step3) (s : Step3) → block_of bs f.place.block ≡ front
+    ++ s ∷ rest → f.place.index ≡ length front → step_at bs f.place ≡ Some s
 there bs f front rest s e n =
     let within : length front < length (front ++ s ∷ rest) = omega (arith, length-append front (s ∷ rest)) in
-    ap (λ l. slice_get l f.place.index) e ∙ ap (slice_get (front ++ s ∷ rest)) n ∙ slice_get-get_or (front ++ s ∷ rest) (length front) s within ∙ ap Some (get_or-append_seam front s rest s)
+    ap (λ l. slice_get l f.place.index) e ∙ ap (slice_get (front ++ s ∷ rest)) n
+    ∙ slice_get-get_or (front ++ s ∷ rest) (length front) s within ∙ ap Some (get_or-append_seam front s rest s)
 
-module _ (o : Object) (vars cells : ℕ) (bs : Blocks) (W : IsWell vars cells bs) (C : Carries o cells bs) (w : List Wild) where
-  -- a running flow stands before the steps `rest` of its block, after the steps `front`, and the machine with it
-  record At (f : FlowState) (i : ℕ) (m : Registers) (c : Cells) (front rest : List Step3) (known : Known) : Type 0 where
-    within : f.place.block < length bs
-    is : block_of bs f.place.block ≡ front ++ rest
-    index : f.place.index ≡ length front
-    ended : IsBlock rest
-    well : RowIsWell vars cells (length bs) known rest
-    pairs : All (λ s. Below (pairs_of s)) rest
-    walked : known ≡ row_known (known_first vars f.place.block) front
-    number : i ≡ start_of bs f.place.block + row_size front
-    holds : PairsHeld known m f.pairs
-    memory : CellsHold c f.cells
-    many : length f.cells ≡ cells
-    words : All IsWord f.cells
-    running : f.done ≡ false
+module _ (o : Object) (vars cells : ℕ) (bs : Blocks) (W : IsWell vars cells bs) (C : Carries o cells bs) (w : List Wild)
+  where
+    -- the cells of a running flow
+    record Fine (cs : List ℕ) (done : Bool) : Type 0 where
+      many : length cs ≡ cells
+      words : All IsWord cs
+      running : done ≡ false
 
-  -- the machine where the flow stands
-  abbrev from : FlowState → ℕ → Registers → Cells → Ran
-  from f i m c = spot i m 0 [] c w f.out
+    -- a running flow stands before the steps `rest` of its block, after the steps `front`, and the machine with it
+    record At (f : FlowState) (i : ℕ) (m : Registers) (c : Cells) (front rest : List Step3) (known : Known) : Type 0
+      where
+        within : f.place.block < length bs
+        is : block_of bs f.place.block ≡ front ++ rest
+        index : f.place.index ≡ length front
+        ended : IsBlock rest
+        well : RowIsWell vars cells (length bs) known rest
+        pairs : All (λ s. Below (pairs_of s)) rest
+        walked : known ≡ row_known (known_first vars f.place.block) front
+        number : i ≡ start_of bs f.place.block + row_size front
+        holds : PairsHeld known m f.pairs
+        memory : CellsHold c f.cells
+        fine : Fine f.cells f.done
 
-  -- from wherever they stand, k steps of the flow are shown
-  abbrev Next : ℕ → Type 0
-  Next k = (f : FlowState) (i : ℕ) (m : Registers) (c : Cells) (front rest : List Step3) (known : Known) → At f i m c front rest known → Shows o vars bs k f (from f i m c)
+    -- the machine where the flow stands
+    abbrev from : FlowState → ℕ → Registers → Cells → Ran
+    from f i m c = spot i m 0 [] c w f.out
 
-  -- the cells after a step
-  record Fine (g : FlowState) : Type 0 where
-    many : length g.cells ≡ cells
-    words : All IsWord g.cells
-    running : g.done ≡ false
+    -- the machine is where the flow is, or the flow is done
+    data Beside (f : FlowState) : Ran → Type 0 where
+      standing : (i : ℕ) (m : Registers) (c : Cells) (front rest : List Step3) (known : Known) →
+          At f i m c front rest known → Beside f (from f i m c)
+      over : {r : Ran} → f.done ≡ true → Agrees vars bs f r → Beside f r
 
-  -- after a step that goes on
-  goes : (f g : FlowState) (i j : ℕ) (m n : Registers) (c d : Cells) (s : Step3) (front rest : List Step3) (known : Known) → At f i m c front (s ∷ rest) known → IsBlock rest → g.place ≡ on f.place → j ≡ i + size s → PairsHeld (known_after s known) n g.pairs → CellsHold d g.cells → Fine g → At g j n d (front ++ s ∷ []) rest (known_after s known)
-  goes f g i j m n c d s front rest known A ended place num holds memory fine =
-      let b : g.place.block ≡ f.place.block = ap (λ (p : Place). p.block) place in
-      record {
-        within = subst (λ k. k < length bs) (sym b) A.within;
-        is = ap (block_of bs) b ∙ A.is ∙ sym (append_assoc front (s ∷ []) rest);
-        index = ap (λ (p : Place). p.index) place ∙ (let x = A.index in omega (arith, length-append front (s ∷ [])));
-        ended = ended;
-        well = A.well.2;
-        pairs = All-tail (λ s. Below (pairs_of s)) s rest A.pairs;
-        walked = ap (known_after s) A.walked ∙ sym (row_known-append (known_first vars f.place.block) front s) ∙ ap (λ z. row_known (known_first vars z) (front ++ s ∷ [])) (sym b);
-        number = let z : start_of bs g.place.block ≡ start_of bs f.place.block = ap (start_of bs) b in let y = A.number in omega (arith, row_size-append front (s ∷ []));
-        holds = holds;
-        memory = memory;
-        many = fine.many;
-        words = fine.words;
-        running = fine.running;
-      }
+    -- a step of the flow leads on, and as many of the machine as it costs
+    data Onward (s : Step3) (f : FlowState) (r : Ran) : Type 0 where
+      onward : (g : FlowState) (q : Ran) → act s f ≡ g → Leads o (2 * size s) r q → Beside g q → Onward s f r
 
-  -- the variables' pairs are known at a jump's target
-  holds_below : (k : Known) (spare : ℕ) (m : Registers) (ps : ℕ → ℕ) → KeepsVariables vars k spare → PairsHeld (forget spare k) m ps → PairsHeld (pairs_below vars) m ps
-  holds_below k spare m ps J h = λ q lt.
-      let l : q < vars = ltb-true q vars lt in
-      h q (ap (λ b. cond b false (k q)) (ne_eqb q spare (λ e. let x = J.free in omega arith)) ∙ J.known q l)
+    -- after a step that goes on
+    goes : (f g : FlowState) (i j : ℕ) (m n : Registers) (c d : Cells) (s : Step3) (front rest : List Step3)
+        (known : Known) → At f i m c front (s ∷ rest) known → IsBlock rest → g.place ≡ on f.place → j ≡ i + size s →
+        PairsHeld (known_after s known) n g.pairs → CellsHold d g.cells → Fine g.cells g.done →
+        At g j n d (front ++ s ∷ []) rest (known_after s known)
+    goes f g i j m n c d s front rest known A ended place num holds memory fine =
+        let b : g.place.block ≡ f.place.block = ap (λ (p : Place). p.block) place in
+        record {
+          within = subst (λ k. k < length bs) (sym b) A.within;
+          is = ap (block_of bs) b ∙ A.is ∙ sym (append_assoc front (s ∷ []) rest);
+          index = ap (λ (p : Place). p.index) place ∙ (let x = A.index in omega (arith, length-append front (s ∷ [])));
+          ended = ended;
+          well = A.well.2;
+          pairs = All-tail (λ s. Below (pairs_of s)) s rest A.pairs;
+          walked = ap (known_after s) A.walked ∙ sym (row_known-append (known_first vars f.place.block) front s)
+              ∙ ap (λ z. row_known (known_first vars z) (front ++ s ∷ [])) (sym b);
+          number = let z : start_of bs g.place.block ≡ start_of bs f.place.block = ap (start_of bs) b in
+              let y = A.number in omega (arith, row_size-append front (s ∷ []));
+          holds = holds;
+          memory = memory;
+          fine = fine;
+        }
 
-  -- after a step that goes to a block
-  jumps : (k : Known) (spare to : ℕ) (g : FlowState) (n : Registers) (d : Cells) → IsTarget (length bs) to → KeepsVariables vars k spare → g.place ≡ first to → PairsHeld (forget spare k) n g.pairs → CellsHold d g.cells → Fine g → At g (start_of bs to) n d [] (block_of bs to) (known_first vars to)
-  jumps k spare zero g n d T J place holds memory fine = absurd (let x = T.no_entry in omega arith)
-  jumps k spare (suc t) g n d T J place holds memory fine =
-      let b : g.place.block ≡ suc t = ap (λ (p : Place). p.block) place in
-      record {
-        within = subst (λ k. k < length bs) (sym b) T.there;
-        is = ap (block_of bs) b;
-        index = ap (λ (p : Place). p.index) place;
-        ended = W.ended (suc t) T.there;
-        well = W.rows (suc t) T.there;
-        pairs = subst (All (λ s. Below (pairs_of s))) (sym (block_is bs (suc t) T.there)) (W.pairs (suc t) [] T.there);
-        walked = ap (known_first vars) (sym b);
-        number = let z : start_of bs g.place.block ≡ start_of bs (suc t) = ap (start_of bs) b in omega arith;
-        holds = holds_below k spare n g.pairs J holds;
-        memory = memory;
-        many = fine.many;
-        words = fine.words;
-        running = fine.running;
-      }
+    -- the variables' pairs are known at a jump's target
+    holds_below : (k : Known) (spare : ℕ) (m : Registers) (ps : ℕ → ℕ) → KeepsVariables vars k spare →
+        PairsHeld (forget spare k) m ps → PairsHeld (pairs_below vars) m ps
+    holds_below k spare m ps J h = λ q lt.
+        let l : q < vars = ltb-true q vars lt in
+        h q (ap (λ b. cond b false (k q)) (ne_eqb q spare (λ e. let x = J.free in omega arith)) ∙ J.known q l)
 
-  -- a step that goes on, with its row
-  on_row : (k : ℕ) (f g : FlowState) (i j : ℕ) (m : Registers) (c : Cells) (s : Step3) (front rest : List Step3) (known : Known) → Next k → At f i m c front (s ∷ rest) known → IsBlock rest → act s f ≡ g → g.place ≡ on f.place → j ≡ i + size s → Fine g → Row o w (known_after s known) (2 * size s) i j m c f g → Shows o vars bs (suc k) f (from f i m c)
-  on_row k f g i j m c s front rest known next A ended eq place num fine R =
-      shows_step o vars bs k f g s (from f i m c) (from g j R.regs R.cells) A.running (there bs f front rest s A.is A.index) eq R.leads
-      (next g j R.regs R.cells (front ++ s ∷ []) rest (known_after s known) (goes f g i j m R.regs c R.cells s front rest known A ended place num R.holds R.memory fine))
+    -- after a step that goes to a block
+    jumps : (k : Known) (spare to : ℕ) (g : FlowState) (n : Registers) (d : Cells) → IsTarget (length bs) to →
+        KeepsVariables vars k spare → g.place ≡ first to → PairsHeld (forget spare k) n g.pairs → CellsHold d g.cells →
+        Fine g.cells g.done → At g (start_of bs to) n d [] (block_of bs to) (known_first vars to)
+    jumps k spare zero g n d T J place holds memory fine = absurd (let x = T.no_entry in omega arith)
+    jumps k spare (suc t) g n d T J place holds memory fine =
+        let b : g.place.block ≡ suc t = ap (λ (p : Place). p.block) place in
+        record {
+          within = subst (λ k. k < length bs) (sym b) T.there;
+          is = ap (block_of bs) b;
+          index = ap (λ (p : Place). p.index) place;
+          ended = W.ended (suc t) T.there;
+          well = W.rows (suc t) T.there;
+          pairs = subst (All (λ s. Below (pairs_of s))) (sym (block_is bs (suc t) T.there))
+              (W.pairs (suc t) [] T.there);
+          walked = ap (known_first vars) (sym b);
+          number = let z : start_of bs g.place.block ≡ start_of bs (suc t) = ap (start_of bs) b in omega arith;
+          holds = holds_below k spare n g.pairs J holds;
+          memory = memory;
+          fine = fine;
+        }
 
-  -- a step that goes to a block, with its row
-  to_row : (k : ℕ) (f g : FlowState) (i to spare : ℕ) (m : Registers) (c : Cells) (s : Step3) (front rest : List Step3) (known : Known) → Next k → At f i m c front (s ∷ rest) known → IsTarget (length bs) to → KeepsVariables vars known spare → act s f ≡ g → g.place ≡ first to → Fine g → Row o w (forget spare known) (2 * size s) i (start_of bs to) m c f g → Shows o vars bs (suc k) f (from f i m c)
-  to_row k f g i to spare m c s front rest known next A T J eq place fine R =
-      shows_step o vars bs k f g s (from f i m c) (from g (start_of bs to) R.regs R.cells) A.running (there bs f front rest s A.is A.index) eq R.leads
-      (next g (start_of bs to) R.regs R.cells [] (block_of bs to) (known_first vars to) (jumps known spare to g R.regs R.cells T J place R.holds R.memory fine))
+    -- a step that goes on, with its row
+    on_row : (f g : FlowState) (i j : ℕ) (m : Registers) (c : Cells) (s : Step3) (front rest : List Step3)
+        (known : Known)
+        → At f i m c front (s ∷ rest) known → IsBlock rest → act s f ≡ g → g.place ≡ on f.place → j ≡ i + size s →
+        Fine g.cells g.done → Row o w (known_after s known) (2 * size s) i j m c f g → Onward s f (from f i m c)
+    on_row f g i j m c s front rest known A ended eq place num fine R =
+        onward g (from g j R.regs R.cells) eq R.leads
+        (standing j R.regs R.cells (front ++ s ∷ []) rest (known_after s known)
+        (goes f g i j m R.regs c R.cells s front rest known A ended place num R.holds R.memory fine))
 
-  -- an exit, by the word that it tests
-  exit_by : (v k : ℕ) (f : FlowState) (i : ℕ) (m : Registers) (c : Cells) (q s to : ℕ) (front rest : List Step3) (known : Known) → Next k → At f i m c front (Exit q s to ∷ rest) known → Laid (map bare o.instrs) i (start_of bs) (Exit q s to) → i + 4 < 65537 → Below (pairs_of (Exit q s to)) → f.pairs q ≡ v → Shows o vars bs (suc k) f (from f i m c)
-  exit_by zero k f i m c q s to front rest known next A L n p is =
-      let a = goes_to to (with_pair s 0 f) in
-      let r = A.well.1 in
-      to_row k f a i to s m c (Exit q s to) front rest known next A A.well.0 r.2 (rw is refl) refl (record { many = A.many; words = A.words; running = A.running })
-      (exit_zero_row o w known i q s to m c f (start_of bs) n L.has p r.0 r.1 is A.holds A.memory)
-  exit_by (suc v) k f i m c q s to front rest known next A L n p is =
-      let b = goes_on (with_pair s 0 f) in
-      let r = A.well.1 in
-      on_row k f b i (suc (suc (suc (suc i)))) m c (Exit q s to) front rest known next A A.ended (rw is refl) refl (omega arith) (record { many = A.many; words = A.words; running = A.running })
-      (exit_other_row o w known i q s to v m c f (start_of bs) n L.has p r.0 r.1 is A.holds A.memory)
+    -- a step that goes to a block, with its row
+    to_row : (f g : FlowState) (i to spare : ℕ) (m : Registers) (c : Cells) (s : Step3) (front rest : List Step3)
+        (known : Known) → At f i m c front (s ∷ rest) known → IsTarget (length bs) to →
+        KeepsVariables vars known spare →
+        act s f ≡ g → g.place ≡ first to → Fine g.cells g.done →
+        Row o w (forget spare known) (2 * size s) i (start_of bs to) m c f g → Onward s f (from f i m c)
+    to_row f g i to spare m c s front rest known A T J eq place fine R =
+        onward g (from g (start_of bs to) R.regs R.cells) eq R.leads
+        (standing (start_of bs to) R.regs R.cells [] (block_of bs to) (known_first vars to)
+        (jumps known spare to g R.regs R.cells T J place R.holds R.memory fine))
 
-  -- one step of the flow, by its kind
-  by_step : (k : ℕ) (f : FlowState) (i : ℕ) (m : Registers) (c : Cells) (s : Step3) (front rest : List Step3) (known : Known) → Next k → At f i m c front (s ∷ rest) known → Laid (map bare o.instrs) i (start_of bs) s → i + size s < 65537 → Below (pairs_of s) → Shows o vars bs (suc k) f (from f i m c)
-  by_step k f i m c (Put p v) front rest known next A L n h =
-      on_row k f (goes_on (with_pair p v f)) i (suc (suc i)) m c (Put p v) front rest known next A A.ended refl refl (omega arith) (record { many = A.many; words = A.words; running = A.running })
-      (put_row o w known i p v m c f (start_of bs) n L.has h A.well.0 A.holds A.memory)
-  by_step k f i m c (Copy p q) front rest known next A L n h =
-      on_row k f (goes_on (with_pair p (f.pairs q) f)) i (suc (suc i)) m c (Copy p q) front rest known next A A.ended refl refl (omega arith) (record { many = A.many; words = A.words; running = A.running })
-      (copy_row o w known i p q m c f (start_of bs) n L.has h A.well.1 A.holds A.memory)
-  by_step k f i m c (Op z p q s) front rest known next A L n h =
-      on_row k f (goes_on (with_pair p (apply z (f.pairs q) (f.pairs s)) f)) i (suc (suc i)) m c (Op z p q s) front rest known next A A.ended refl refl (omega arith) (record { many = A.many; words = A.words; running = A.running })
-      (op_row o w known i p q s z m c f (start_of bs) n L.has h A.well.1 A.holds A.memory)
-  by_step k f i m c (Load p x) front rest known next A L n h =
-      let lt : x < length f.cells = let y = A.well.0 in let z = A.many in omega arith in
-      on_row k f (goes_on (with_pair p (slice_index f.cells x) f)) i (suc (suc (suc (suc i)))) m c (Load p x) front rest known next A A.ended refl refl (omega arith) (record { many = A.many; words = A.words; running = A.running })
-      (load_row o w known i p x m c f (start_of bs) n L.has h lt (A.words x 0 lt) A.holds A.memory)
-  by_step k f i m c (Store x q s) front rest known next A L n h =
-      let lt : x < length f.cells = let y = A.well.0 in let z = A.many in omega arith in
-      on_row k f (goes_on (with_pair s 0 (with_cell x (f.pairs q) f))) i (suc (suc (suc (suc i)))) m c (Store x q s) front rest known next A A.ended refl refl (omega arith)
-      (record { many = length-set f.cells x (f.pairs q) ∙ A.many; words = All-set IsWord f.cells x (f.pairs q) (A.holds q A.well.1.0).word A.words; running = A.running })
-      (store_row o w known i x q s m c f (start_of bs) n L.has h lt A.well.1 A.holds A.memory)
-  by_step k f i m c (LoadAt p q begin many) front rest known next A L n h =
-      let x = cell_of_run begin many (f.pairs q) in
-      let lt : x < length f.cells = let y = named_cell begin many (f.pairs q) cells A.well.0.0 A.well.0.2 in let z = A.many in omega arith in
-      on_row k f (goes_on (with_pair p (slice_index f.cells x) f)) i (suc (suc (suc (suc i)))) m c (LoadAt p q begin many) front rest known next A A.ended refl refl (omega arith) (record { many = A.many; words = A.words; running = A.running })
-      (load_at_row o w known i p q begin many m c f (start_of bs) n L.has h lt (A.words x 0 lt) A.well.1 A.holds A.memory)
-  by_step k f i m c (StoreAt begin many e q s) front rest known next A L n h =
-      let r = A.well.1 in
-      let x = cell_of_run begin many (f.pairs e) in
-      let lt : x < length f.cells = let y = named_cell begin many (f.pairs e) cells A.well.0.0 A.well.0.2 in let z = A.many in omega arith in
-      on_row k f (goes_on (with_pair s 0 (with_cell x (f.pairs q) f))) i (suc (suc (suc (suc i)))) m c (StoreAt begin many e q s) front rest known next A A.ended refl refl (omega arith)
-      (record { many = length-set f.cells x (f.pairs q) ∙ A.many; words = All-set IsWord f.cells x (f.pairs q) (A.holds q r.1).word A.words; running = A.running })
-      (store_at_row o w known i begin many e q s m c f (start_of bs) n L.has h lt r.0 r.1 r.3 A.holds A.memory)
-  by_step k f i m c (Exit q s to) front rest known next A L n h = exit_by (f.pairs q) k f i m c q s to front rest known next A L n h refl
-  by_step k f i m c (Go s to) front rest known next A L n h =
-      to_row k f (goes_to to (with_pair s 0 f)) i to s m c (Go s to) front rest known next A A.well.0 A.well.1 refl refl (record { many = A.many; words = A.words; running = A.running })
-      (go_row o w known i s to m c f (start_of bs) n L.has h A.holds A.memory)
-  by_step k f i m c Stop front rest known next A L n h =
-      let g = act Stop f in
-      let T = two_any o instr.Halt i m 0 [] c w f.out L.has.0 in
-      let z : Ran = ran (record (fetched_state i m 0 [] c T.0) { status = Done }) w (f.out ++ []) in
-      let agrees : Agrees vars bs g z = record { out = append-nil f.out; cells = A.memory; status = refl; holds = λ d. absurd (no_known (sym d)) } in
-      shows_step o vars bs k f g Stop (from f i m c) z A.running (there bs f front rest Stop A.is A.index) refl T.1 (shows_done o vars bs k g z refl agrees)
+    -- an exit, by the word that it tests
+    exit_by : (v : ℕ) (f : FlowState) (i : ℕ) (m : Registers) (c : Cells) (q s to : ℕ) (front rest : List Step3)
+        (known : Known) → At f i m c front (Exit q s to ∷ rest) known →
+        Laid (map bare o.instrs) i (start_of bs) (Exit q s to) → i + 4 < 65537 → Below (pairs_of (Exit q s to)) →
+        f.pairs q
+        ≡ v → Onward (Exit q s to) f (from f i m c)
+    exit_by zero f i m c q s to front rest known A L n p is =
+        let a = goes_to to (with_pair s 0 f) in
+        let r = A.well.1 in
+        to_row f a i to s m c (Exit q s to) front rest known A A.well.0 r.2 (rw is refl) refl A.fine
+        (exit_zero_row o w known i q s to m c f (start_of bs) n L.has p r.0 r.1 is A.holds A.memory)
+    exit_by (suc v) f i m c q s to front rest known A L n p is =
+        let b = goes_on (with_pair s 0 f) in
+        let r = A.well.1 in
+        on_row f b i (suc (suc (suc (suc i)))) m c (Exit q s to) front rest known A A.ended (rw is refl) refl
+        (omega arith) A.fine
+        (exit_other_row o w known i q s to v m c f (start_of bs) n L.has p r.0 r.1 is A.holds A.memory)
 
-  -- the code is short
-  code_short : length (map bare o.instrs) ≤ 65536
-  code_short = let x = W.short in omega (arith, ap length C.instrs, length-map (doubled bs) bare, blocks_length (start_of bs) bs)
+    -- one step of the flow, by its kind
+    by_step : (f : FlowState) (i : ℕ) (m : Registers) (c : Cells) (s : Step3) (front rest : List Step3) (known : Known)
+        →
+        At f i m c front (s ∷ rest) known → Laid (map bare o.instrs) i (start_of bs) s → i + size s < 65537 →
+        Below (pairs_of s) → Onward s f (from f i m c)
+    by_step f i m c (Put p v) front rest known A L n h =
+        on_row f (goes_on (with_pair p v f)) i (suc (suc i)) m c (Put p v) front rest known A A.ended refl refl
+        (omega arith) A.fine
+        (put_row o w known i p v m c f (start_of bs) n L.has h A.well.0 A.holds A.memory)
+    by_step f i m c (Copy p q) front rest known A L n h =
+        on_row f (goes_on (with_pair p (f.pairs q) f)) i (suc (suc i)) m c (Copy p q) front rest known A A.ended refl
+        refl
+        (omega arith) A.fine
+        (copy_row o w known i p q m c f (start_of bs) n L.has h A.well.1 A.holds A.memory)
+    by_step f i m c (Op z p q s) front rest known A L n h =
+        on_row f (goes_on (with_pair p (apply z (f.pairs q) (f.pairs s)) f)) i (suc (suc i)) m c (Op z p q s) front rest
+        known A A.ended refl refl (omega arith) A.fine
+        (op_row o w known i p q s z m c f (start_of bs) n L.has h A.well.1 A.holds A.memory)
+    by_step f i m c (Load p x) front rest known A L n h =
+        let lt : x < length f.cells = let y = A.well.0 in let z = A.fine.many in omega arith in
+        on_row f (goes_on (with_pair p (slice_index f.cells x) f)) i (suc (suc (suc (suc i)))) m c (Load p x) front rest
+        known A A.ended refl refl (omega arith) A.fine
+        (load_row o w known i p x m c f (start_of bs) n L.has h lt (A.fine.words x 0 lt) A.holds A.memory)
+    by_step f i m c (Store x q s) front rest known A L n h =
+        let lt : x < length f.cells = let y = A.well.0 in let z = A.fine.many in omega arith in
+        on_row f (goes_on (with_pair s 0 (with_cell x (f.pairs q) f))) i (suc (suc (suc (suc i)))) m c (Store x q s)
+        front
+        rest known A A.ended refl refl (omega arith)
+        (record {
+          many = length-set f.cells x (f.pairs q) ∙ A.fine.many;
+          words = All-set IsWord f.cells x (f.pairs q) (A.holds q A.well.1.0).word A.fine.words;
+          running = A.fine.running;
+        })
+        (store_row o w known i x q s m c f (start_of bs) n L.has h lt A.well.1 A.holds A.memory)
+    by_step f i m c (LoadAt p q begin many) front rest known A L n h =
+        let x = cell_of_run begin many (f.pairs q) in
+        let lt : x < length f.cells = let y = named_cell begin many (f.pairs q) cells A.well.0.0 A.well.0.2 in
+        let z = A.fine.many in omega arith in
+        on_row f (goes_on (with_pair p (slice_index f.cells x) f)) i (suc (suc (suc (suc i)))) m c
+        (LoadAt p q begin many)
+        front rest known A A.ended refl refl (omega arith) A.fine
+        (load_at_row o w known i p q begin many m c f (start_of bs) n L.has h lt (A.fine.words x 0 lt) A.well.1 A.holds
+        A.memory)
+    by_step f i m c (StoreAt begin many e q s) front rest known A L n h =
+        let r = A.well.1 in
+        let x = cell_of_run begin many (f.pairs e) in
+        let lt : x < length f.cells = let y = named_cell begin many (f.pairs e) cells A.well.0.0 A.well.0.2 in
+        let z = A.fine.many in omega arith in
+        on_row f (goes_on (with_pair s 0 (with_cell x (f.pairs q) f))) i (suc (suc (suc (suc i)))) m c
+        (StoreAt begin many e q s) front rest known A A.ended refl refl (omega arith)
+        (record {
+          many = length-set f.cells x (f.pairs q) ∙ A.fine.many;
+          words = All-set IsWord f.cells x (f.pairs q) (A.holds q r.1).word A.fine.words;
+          running = A.fine.running;
+        })
+        (store_at_row o w known i begin many e q s m c f (start_of bs) n L.has h lt r.0 r.1 r.3 A.holds A.memory)
+    by_step f i m c (Exit q s to) front rest known A L n h =
+        exit_by (f.pairs q) f i m c q s to front rest known A L n h refl
+    by_step f i m c (Go s to) front rest known A L n h =
+        to_row f (goes_to to (with_pair s 0 f)) i to s m c (Go s to) front rest known A A.well.0 A.well.1 refl refl
+        A.fine
+        (go_row o w known i s to m c f (start_of bs) n L.has h A.holds A.memory)
+    by_step f i m c Stop front rest known A L n h =
+        let g = act Stop f in
+        let T = two_any o instr.Halt i m 0 [] c w f.out L.has.0 in
+        let z : Ran = ran (record (fetched_state i m 0 [] c T.0) { status = Done }) w (f.out ++ []) in
+        let agrees : Agrees vars bs g z = record {
+          out = append-nil f.out;
+          cells = A.memory;
+          status = refl;
+          holds = λ d. absurd (no_known (sym d));
+        } in
+        onward g z refl T.1 (over refl agrees)
 
-  -- a running flow has a step to take
-  by_rest : (k : ℕ) (f : FlowState) (i : ℕ) (m : Registers) (c : Cells) (front rest : List Step3) (known : Known) → Next k → At f i m c front rest known → Shows o vars bs (suc k) f (from f i m c)
-  by_rest k f i m c front [] known next A = absurd A.ended
-  by_rest k f i m c front (s ∷ rest) known next A =
-      let L = subst (λ j. Laid (map bare o.instrs) j (start_of bs) s) (sym A.number) (laid bs (map bare o.instrs) f.place.block front rest s C.instrs A.within A.is) in
-      by_step k f i m c s front rest known next A L (let y = L.short in omega (arith, code_short)) (All-head (λ s. Below (pairs_of s)) s rest A.pairs)
+    -- the code is short
+    code_short : length (map bare o.instrs) ≤ 65536
+    code_short = let x = W.short in omega (
+      arith,
+      ap length C.instrs,
+      length-map (doubled bs) bare,
+      blocks_length (start_of bs) bs,
+    )
 
-  -- what is known where they stand is held
-  held_at : (f : FlowState) (i : ℕ) (m : Registers) (c : Cells) (front rest : List Step3) (known : Known) → At f i m c front rest known → Holds (known_at vars bs f.place) f.pairs (from f i m c).state
-  held_at f i m c front rest known A =
-      let e : known_at vars bs f.place ≡ known =
-      ap (λ l. row_known (known_first vars f.place.block) (take f.place.index l)) A.is
-      ∙ ap (λ n. row_known (known_first vars f.place.block) (take n (front ++ rest))) A.index
-      ∙ ap (row_known (known_first vars f.place.block)) (take-append_seam front rest)
-      ∙ sym A.walked in
-      subst (λ (k : Known). Holds k f.pairs (from f i m c).state) (sym e) (record { green_pairs = λ q h. (A.holds q h).green; blue_pairs = λ q h. (A.holds q h).blue; d = refl; queue = refl })
+    -- one step, with what it costs
+    one_by : (f : FlowState) (r : Ran) (s : Step3) → f.done ≡ false → step_at bs f.place ≡ Some s → Onward s f r →
+        Beside (flow_step bs f) (iterate (machine_step o) (cost_if f.done (step_at bs f.place)) r)
+    one_by f r s runs at (onward g q eq l h) =
+        let to : flow_step bs f ≡ g = ap (λ b. act_if b (step_at bs f.place) f) runs ∙ ap (λ x. act_if false x f) at
+        ∙ eq in
+        let e = ap (λ n. iterate (machine_step o) n r) (costs bs f s runs at) ∙ l.is in
+        subst (Beside (flow_step bs f)) (sym e) (subst (λ x. Beside x q) (sym to) h)
 
-  -- any number of steps
-  follow : (k : ℕ) → Next k
-  follow zero f i m c front rest known A = record {
-    agrees = record { out = refl; cells = A.memory; status = ap (λ b. cond b Done Running) (sym A.running); holds = λ d. held_at f i m c front rest known A };
-    pace = λ d. omega arith;
-  }
-  follow (suc k) f i m c front rest known A = by_rest k f i m c front rest known (follow k) A
+    -- a running flow has a step to take, and one that is done stays
+    one : (f : FlowState) (r : Ran) → Beside f r → Beside (flow_step bs f)
+        (iterate (machine_step o) (cost_if f.done (step_at bs f.place)) r)
+    one f _ (standing i m c front [] known A) = absurd A.ended
+    one f _ (standing i m c front (s ∷ rest) known A) =
+        let L = subst (λ j. Laid (map bare o.instrs) j (start_of bs) s) (sym A.number)
+        (laid bs (map bare o.instrs) f.place.block front rest s C.instrs A.within A.is) in
+        one_by f (from f i m c) s A.fine.running (there bs f front rest s A.is A.index)
+        (by_step f i m c s front rest known A L (let y = L.short in
+        omega (arith, code_short)) (All-head (λ s. Below (pairs_of s)) s rest A.pairs))
+    one f r (over d h) = subst (λ b. Beside (act_if b (step_at bs f.place) f)
+        (iterate (machine_step o) (cost_if b (step_at bs f.place)) r)) (sym d) (over d h)
+
+    -- what is known where they stand is held
+    held_at : (f : FlowState) (i : ℕ) (m : Registers) (c : Cells) (front rest : List Step3) (known : Known) →
+        At f i m c front rest known → Holds (known_at vars bs f.place) f.pairs (from f i m c).state
+    held_at f i m c front rest known A =
+        let e : known_at vars bs f.place ≡ known =
+        ap (λ l. row_known (known_first vars f.place.block) (take f.place.index l)) A.is
+        ∙ ap (λ n. row_known (known_first vars f.place.block) (take n (front ++ rest))) A.index
+        ∙ ap (row_known (known_first vars f.place.block)) (take-append_seam front rest)
+        ∙ sym A.walked in
+        subst (λ (k : Known). Holds k f.pairs (from f i m c).state) (sym e) (record {
+          green_pairs = λ q h.
+              (A.holds q h).green;
+          blue_pairs = λ q h. (A.holds q h).blue;
+          d = refl;
+          queue = refl;
+        })
+
+    -- they agree
+    agrees : (f : FlowState) (r : Ran) → Beside f r → Agrees vars bs f r
+    agrees f _ (standing i m c front rest known A) = record {
+      out = refl;
+      cells = A.memory;
+      status = ap (λ b. cond b Done Running) (sym A.fine.running);
+      holds = λ d. held_at f i m c front rest known A;
+    }
+    agrees f r (over d h) = h
+
+    -- any number of steps
+    follow : (k : ℕ) (f : FlowState) (r : Ran) → Beside f r →
+        Beside (steps bs k f) (iterate (machine_step o) (cost bs k f) r)
+    follow = follows (flow_step bs) (λ f. cost_if f.done (step_at bs f.place)) (machine_step o) Beside one
+
+    -- each step of a running flow costs some
+    pace : (k : ℕ) (f : FlowState) (r : Ran) → Beside f r → (steps bs k f).done ≡ false → k ≤ cost bs k f
+    pace zero f r h e = omega arith
+    pace (suc k) f _ (standing i m c front [] known A) e = absurd A.ended
+    pace (suc k) f _ (standing i m c front (s ∷ rest) known A) e =
+        let some = costs bs f s A.fine.running (there bs f front rest s A.is A.index) in
+        let more = pace k (flow_step bs f) _ (one f _ (standing i m c front (s ∷ rest) known A)) e in
+        omega (arith, some, more, size_some s)
+    pace (suc k) f r (over d h) e = absurd (no_known (sym e
+        ∙ ap (λ (x : FlowState). x.done) (done_stays bs f 0 (suc k) (omega arith) d) ∙ d))
 
 -- THE START
-
--- what a map with numbered entries has at one of its cells
-tabulated : (value : ℕ → ℕ) (n k : ℕ) → k < n → cell_at (tabulate n cell_address value) (cell_address k) ≡ Some (value k)
-unfolding tabulate
-tabulated value zero k h = absurd (omega arith)
-tabulated value (suc n) k h =
-    get-insert (tabulate n cell_address value) (cell_address n) (value n) (cell_address k)
-    ∙ elim (cases_eq k n) [
-      | inl e ↦ ap (λ b. cond b (Some (value n)) (cell_at (tabulate n cell_address value) (cell_address k))) (eq-eqb (cell_address k) (cell_address n) (ap cell_address e)) ∙ ap (λ j. Some (value j)) (sym e)
-      | inr ne ↦ ap (λ b. cond b (Some (value n)) (cell_at (tabulate n cell_address value) (cell_address k))) (ne_eqb (cell_address k) (cell_address n) (λ e. ne (omega arith))) ∙ tabulated value n k (let g = ne in omega arith)
-    ]
-
--- and past the last of them
-untabulated : (value : ℕ → ℕ) (n k : ℕ) → n ≤ k → cell_at (tabulate n cell_address value) (cell_address k) ≡ None
-unfolding tabulate
-untabulated value zero k h = finite.get-empty nat_cmp (cell_address k)
-untabulated value (suc n) k h =
-    get-insert (tabulate n cell_address value) (cell_address n) (value n) (cell_address k)
-    ∙ ap (λ b. cond b (Some (value n)) (cell_at (tabulate n cell_address value) (cell_address k))) (ne_eqb (cell_address k) (cell_address n) (λ e. omega arith))
-    ∙ untabulated value n k (omega arith)
 
 -- the initial words stand in the cells
 start_cells : (o : Object) → CellsHold (tabulate (length o.cells) cell_address (init_of o)) (words_of o)
 start_cells o = λ c. elim (slice_get_cases o.cells c).1 [
-  | inl x ↦ tabulated (init_of o) (length o.cells) c (slice_get_within o.cells c x.0 x.2) ∙ ap (λ u. Some (init_or_zero (option_map cell_head_of u))) x.2 ∙ sym (slice_get-map init_of_cell o.cells c ∙ ap (option_map init_of_cell) x.2)
-  | inr e ↦ untabulated (init_of o) (length o.cells) c e.0 ∙ sym (slice_get-map init_of_cell o.cells c ∙ ap (option_map init_of_cell) e.1)
+  | inl x ↦ tabulated (length o.cells) cell_address cells_tell (init_of o) c (slice_get_within o.cells c x.0 x.2)
+      ∙ ap (λ u. Some (init_or_zero (option_map cell_head_of u))) x.2
+      ∙ sym (slice_get-map init_of_cell o.cells c ∙ ap (option_map init_of_cell) x.2)
+  | inr e ↦
+      let past = e.0 in
+      untabulated (length o.cells) cell_address (init_of o) (cell_address c) (λ i lt. cells_tell c i
+      ∙ ne_eqb c i (λ is. omega (arith, is, lt, past)))
+      ∙ sym (slice_get-map init_of_cell o.cells c ∙ ap (option_map init_of_cell) e.1)
 ]
 
 -- the run begins at the first instruction
 start_counter : (o : Object) (cells : ℕ) (bs : Blocks) → Carries o cells bs → entry_address o ≡ 1
 start_counter o cells bs C =
     let first_block : block_start o 0 ≡ 0 =
-    ap (λ u. unwrap_or u 0) (sym (slice_get-map start_of_block o.blocks 0) ∙ ap (λ l. slice_get l 0) C.blocks) ∙ first_of bs in
+    ap (λ u. unwrap_or u 0) (sym (slice_get-map start_of_block o.blocks 0) ∙ ap (λ l. slice_get l 0) C.blocks)
+    ∙ first_of bs in
     ap (λ b. code_address (block_start o b)) C.entry ∙ ap code_address first_block
   where
     first_of : (bs : Blocks) → unwrap_or (slice_get (starts bs) 0) 0 ≡ 0
@@ -338,7 +402,8 @@ runs_as vars cells bs W o C wild =
     let f = flow_start (words_of o) in
     let m = tabulate 64 (λ r. r) (λ _. green_zero) in
     let c = tabulate (length o.cells) cell_address (init_of o) in
-    let at : run o None wild 0 ≡ spot 0 m 0 [] c wild [] = ap (λ x. ran (stands x m 0 [] c) wild []) (start_counter o cells bs C) in
+    let at : run o None wild 0 ≡ spot 0 m 0 [] c wild [] =
+    ap (λ x. ran (stands x m 0 [] c) wild []) (start_counter o cells bs C) in
     let A : At o vars cells bs W C wild f 0 m c [] (block_of bs 0) no_pair = record {
       within = W.some;
       is = refl;
@@ -350,16 +415,15 @@ runs_as vars cells bs W o C wild =
       number = omega (arith, first_start bs);
       holds = λ q e. absurd (no_known e);
       memory = start_cells o;
-      many = length-map o.cells init_of_cell ∙ C.many;
-      words = C.words;
-      running = refl;
+      fine = record { many = length-map o.cells init_of_cell ∙ C.many; words = C.words; running = refl };
     } in
-    let S = λ (k : ℕ). follow o vars cells bs W C wild k f 0 m c [] (block_of bs 0) no_pair A in
+    let B : Beside o vars cells bs W C wild f (spot 0 m 0 [] c wild []) = standing 0 m c [] (block_of bs 0) no_pair A in
     record {
       after = λ k.
           let n = cost bs k f in
           let g = steps bs k f in
-          let h = subst (Agrees vars bs g) (sym (run_is o wild n ∙ ap (machine_steps o n) at)) (S k).agrees in
+          let h = subst (Agrees vars bs g) (sym (run_is o wild n ∙ ap (iterate (machine_step o) n) at))
+          (agrees o vars cells bs W C wild g _ (follow o vars cells bs W C wild k f _ B)) in
           record { out = h.out; cells = h.cells; status = h.status; holds = h.holds };
-      pace = λ k. (S k).pace;
+      pace = λ k. pace o vars cells bs W C wild k f _ B;
     }

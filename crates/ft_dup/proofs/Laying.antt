@@ -1,5 +1,6 @@
 -- Where the instructions of a step stand.
-use Rattle.std.proofs.Common.{◌≡◌, ℕ, zero, suc, ◌+◌, ◌<◌, ◌≤◌, List, [], ◌∷◌, ◌++◌, length, map, Some, refl, sym, ap, ◌∙◌, subst, arith, append_assoc, length-append}
+use Rattle.std.proofs.Common.{◌≡◌, ℕ, zero, suc, ◌+◌, ◌<◌, ◌≤◌, List, [], ◌∷◌, ◌++◌, length, map, Some, refl, sym, ap}
+use Rattle.std.proofs.Common.{◌∙◌, subst, arith, append_assoc, length-append}
 use Rattle.std.proofs.Math.Seq.{get_or-append_seam}
 use Rattle.std.proofs.lemmas.Option.{slice_get-get_or}
 use Rattle.std.proofs.lemmas.List.{length-map}
@@ -13,9 +14,11 @@ use Rattle.ft_dup.specs.Doubles.{bare}
 use Rattle.ft_dup.proofs.FlowSteps.{HasInstrs}
 
 -- the images of two rows
-row_images-append : (start : ℕ → ℕ) (a b : List Step3) → row_images start (a ++ b) ≡ row_images start a ++ row_images start b
+row_images-append : (start : ℕ → ℕ) (a b : List Step3) → row_images start (a ++ b) ≡ row_images start a
+    ++ row_images start b
 row_images-append start [] b = refl
-row_images-append start (i ∷ a) b = ap (λ l. image start i ++ l) (row_images-append start a b) ∙ sym (append_assoc (image start i) (row_images start a) (row_images start b))
+row_images-append start (i ∷ a) b = ap (λ l. image start i ++ l) (row_images-append start a b)
+    ∙ sym (append_assoc (image start i) (row_images start a) (row_images start b))
 
 -- HOW MANY INSTRUCTIONS
 
@@ -35,12 +38,14 @@ image_length start Stop = refl
 -- and so have the images of a row
 row_length : (start : ℕ → ℕ) (is : List Step3) → length (row_images start is) ≡ row_size is
 row_length start [] = refl
-row_length start (i ∷ is) = length-append (image start i) (row_images start is) ∙ omega (arith, image_length start i, row_length start is)
+row_length start (i ∷ is) = length-append (image start i) (row_images start is)
+    ∙ omega (arith, image_length start i, row_length start is)
 
 -- blocks have as many instructions as their size says
 pub blocks_length : (start : ℕ → ℕ) (bs : Blocks) → length (blocks_images start bs) ≡ blocks_size bs
 blocks_length start [] = refl
-blocks_length start (b ∷ bs) = length-append (row_images start b) (blocks_images start bs) ∙ omega (arith, row_length start b, blocks_length start bs)
+blocks_length start (b ∷ bs) = length-append (row_images start b) (blocks_images start bs)
+    ∙ omega (arith, row_length start b, blocks_length start bs)
 
 -- THE INSTRUCTIONS OF A STEP
 
@@ -52,7 +57,8 @@ record Among (start : ℕ → ℕ) (bs : Blocks) (b : ℕ) (front : List Step3) 
   long : length before ≡ start_of bs b + row_size front
 
 -- each step of a block has its image among those of all blocks
-among : (start : ℕ → ℕ) (bs : Blocks) (b : ℕ) (front rest : List Step3) (s : Step3) → b < length bs → block_of bs b ≡ front ++ s ∷ rest → Among start bs b front s
+among : (start : ℕ → ℕ) (bs : Blocks) (b : ℕ) (front rest : List Step3) (s : Step3) → b < length bs → block_of bs b
+    ≡ front ++ s ∷ rest → Among start bs b front s
 among start [] b front rest s h e = absurd (omega arith)
 among start (x ∷ bs) zero front rest s h e =
     let post = blocks_images start bs in
@@ -91,8 +97,12 @@ has_here (J ∷ js) A C =
     let all = A ++ bare J ∷ (map bare js ++ C) in
     let within : length A < length all = omega (arith, length-append A (bare J ∷ (map bare js ++ C))) in
     let n : length (A ++ bare J ∷ []) ≡ suc (length A) = omega (arith, length-append A (bare J ∷ [])) in
-    let rest = subst (λ l. HasInstrs l (length (A ++ bare J ∷ [])) js) (append_assoc A (bare J ∷ []) (map bare js ++ C)) (has_here js (A ++ bare J ∷ []) C) in
-    (slice_get-get_or all (length A) (bare J) within ∙ ap Some (get_or-append_seam A (bare J) (map bare js ++ C) (bare J)), subst (λ m. HasInstrs all m js) n rest)
+    let rest = subst (λ l. HasInstrs l (length (A ++ bare J ∷ [])) js) (append_assoc A (bare J ∷ []) (map bare js ++ C))
+    (has_here js (A ++ bare J ∷ []) C) in (
+      slice_get-get_or all (length A) (bare J) within
+          ∙ ap Some (get_or-append_seam A (bare J) (map bare js ++ C) (bare J)),
+      subst (λ m. HasInstrs all m js) n rest,
+    )
 
 -- the image of a step stands in the code, and ends within it
 pub record Laid (code : List Instr) (i : ℕ) (start : ℕ → ℕ) (s : Step3) : Type 0 where
@@ -100,14 +110,21 @@ pub record Laid (code : List Instr) (i : ℕ) (start : ℕ → ℕ) (s : Step3) 
   pub short : i + size s ≤ length code
 
 -- each step of a block is laid where the block begins and the steps before it end
-pub laid : (bs : Blocks) (code : List Instr) (b : ℕ) (front rest : List Step3) (s : Step3) → code ≡ map bare (doubled bs) → b < length bs → block_of bs b ≡ front ++ s ∷ rest → Laid code (start_of bs b + row_size front) (start_of bs) s
+pub laid : (bs : Blocks) (code : List Instr) (b : ℕ) (front rest : List Step3) (s : Step3) → code
+    ≡ map bare (doubled bs) → b < length bs → block_of bs b ≡ front ++ s ∷ rest →
+    Laid code (start_of bs b + row_size front) (start_of bs) s
 laid bs code b front rest s c h e =
     let start = start_of bs in
     let A = among start bs b front rest s h e in
-    let two = ap (map bare) A.is ∙ map_append A.before (image start s ++ A.behind) ∙ ap (λ l. map bare A.before ++ l) (map_append (image start s) A.behind) in
+    let two = ap (map bare) A.is ∙ map_append A.before (image start s ++ A.behind)
+    ∙ ap (λ l. map bare A.before ++ l) (map_append (image start s) A.behind) in
     let n : length (map bare A.before) ≡ start_of bs b + row_size front = length-map A.before bare ∙ A.long in
-    let m : length code ≡ length A.before + (length (image start s) + length A.behind) = ap length c ∙ length-map (doubled bs) bare ∙ ap length A.is ∙ length-append A.before (image start s ++ A.behind) ∙ ap (λ x. length A.before + x) (length-append (image start s) A.behind) in
+    let m : length code ≡ length A.before + (length (image start s) + length A.behind) = ap length c
+    ∙ length-map (doubled bs) bare ∙ ap length A.is ∙ length-append A.before (image start s ++ A.behind)
+    ∙ ap (λ x. length A.before + x) (length-append (image start s) A.behind) in
     record {
-      has = subst (λ i. HasInstrs code i (image start s)) n (subst (λ l. HasInstrs l (length (map bare A.before)) (image start s)) (sym (c ∙ two)) (has_here (image start s) (map bare A.before) (map bare A.behind)));
+      has = subst (λ i. HasInstrs code i (image start s)) n
+          (subst (λ l. HasInstrs l (length (map bare A.before)) (image start s)) (sym (c ∙ two))
+          (has_here (image start s) (map bare A.before) (map bare A.behind)));
       short = omega (arith, image_length start s, A.long);
     }

@@ -1,5 +1,6 @@
 -- The two registers of a pair, and what the registers and the cells hold of a flow's state.
-use Rattle.std.proofs.Common.{◌≡◌, ◌≢◌, ℕ, zero, suc, ◌+◌, ◌<◌, true, false, cond, List, [], ◌∷◌, length, Option, Some, inl, inr, refl, sym, ap, ◌∙◌, subst, arith, slice_get, slice_index, slice_set, nat_lt}
+use Rattle.std.proofs.Common.{◌≡◌, ◌≢◌, ℕ, zero, suc, ◌+◌, ◌<◌, true, false, cond, List, [], ◌∷◌, length, Option, Some}
+use Rattle.std.proofs.Common.{inl, inr, refl, sym, ap, ◌∙◌, subst, arith, slice_get, slice_index, slice_set, nat_lt}
 use Rattle.std.specs.Option.{unwrap_or}
 use Rattle.std.proofs.lemmas.Bool.{ne_eqb, eq-eqb, cases_eq, lt-ltb}
 use Rattle.std.proofs.lemmas.Option.{slice_get-get_or}
@@ -30,7 +31,8 @@ green_number p h =
 pub blue_number : (p : ℕ) → p < 32 → (blue p).number ≡ 32 + p
 blue_number p h =
     let l : 32 + p < 64 = omega arith in
-    ap (λ (r : Option Reg). (unwrap_or r register_zero).number) (sym (some_reg (32 + p) (nat_lt (32 + p) 64) refl l (lt-ltb (32 + p) 64 l)))
+    ap (λ (r : Option Reg). (unwrap_or r register_zero).number)
+    (sym (some_reg (32 + p) (nat_lt (32 + p) 64) refl l (lt-ltb (32 + p) 64 l)))
 
 -- a green register is no blue one
 green_no_blue : (p q : ℕ) → p < 32 → q < 32 → (green p).number ≢ (blue q).number
@@ -70,29 +72,36 @@ two_held m p x y = with_held (with_held m (green p).number x) (blue p).number y
 
 -- what the green register of a written pair holds
 pub green_read : (m : Registers) (p : ℕ) (x y : Coloured) → p < 32 → held (two_held m p x y) (green p).number ≡ x
-green_read m p x y h = held_other (with_held m (green p).number x) (blue p).number y (green p).number (green_no_blue p p h h) ∙ held_same m (green p).number x
+green_read m p x y h = held_other (with_held m (green p).number x) (blue p).number y (green p).number
+    (green_no_blue p p h h) ∙ held_same m (green p).number x
 
 -- and what the blue one holds
 pub blue_read : (m : Registers) (p : ℕ) (x y : Coloured) → held (two_held m p x y) (blue p).number ≡ y
 blue_read m p x y = held_same (with_held m (green p).number x) (blue p).number y
 
 -- a green write leaves the blue registers
-pub blue_left : (m : Registers) (p q : ℕ) (x : Coloured) → p < 32 → q < 32 → held (with_held m (green p).number x) (blue q).number ≡ held m (blue q).number
+pub blue_left : (m : Registers) (p q : ℕ) (x : Coloured) → p < 32 → q < 32 →
+    held (with_held m (green p).number x) (blue q).number ≡ held m (blue q).number
 blue_left m p q x h k = held_other m (green p).number x (blue q).number (λ e. green_no_blue p q h k (sym e))
 
 -- another pair is held after the write
-pub pair_kept : (m : Registers) (ps qs : ℕ → ℕ) (p q : ℕ) (x y : Coloured) → p < 32 → q ≢ p → qs q ≡ ps q → Pair m ps q → Pair (two_held m p x y) qs q
+pub pair_kept : (m : Registers) (ps qs : ℕ → ℕ) (p q : ℕ) (x y : Coloured) → p < 32 → q ≢ p → qs q ≡ ps q →
+    Pair m ps q → Pair (two_held m p x y) qs q
 pair_kept m ps qs p q x y lt ne e h =
     let b = h.below in
     record {
       below = b;
       word = subst IsWord (sym e) h.word;
-      green = held_other (with_held m (green p).number x) (blue p).number y (green q).number (green_no_blue q p b lt) ∙ held_other m (green p).number x (green q).number (greens_differ p q lt b ne) ∙ h.green ∙ ap (col Green) (sym e);
-      blue = held_other (with_held m (green p).number x) (blue p).number y (blue q).number (blues_differ p q lt b ne) ∙ blue_left m p q x lt b ∙ h.blue ∙ ap (col Blue) (sym e);
+      green = held_other (with_held m (green p).number x) (blue p).number y (green q).number (green_no_blue q p b lt)
+          ∙ held_other m (green p).number x (green q).number (greens_differ p q lt b ne) ∙ h.green
+          ∙ ap (col Green) (sym e);
+      blue = held_other (with_held m (green p).number x) (blue p).number y (blue q).number (blues_differ p q lt b ne)
+          ∙ blue_left m p q x lt b ∙ h.blue ∙ ap (col Blue) (sym e);
     }
 
 -- and so is the pair that got one word in both colours
-pair_put : (m : Registers) (qs : ℕ → ℕ) (p v : ℕ) → p < 32 → IsWord v → qs p ≡ v → Pair (two_held m p (col Green v) (col Blue v)) qs p
+pair_put : (m : Registers) (qs : ℕ → ℕ) (p v : ℕ) → p < 32 → IsWord v → qs p ≡ v →
+    Pair (two_held m p (col Green v) (col Blue v)) qs p
 pair_put m qs p v lt h e = record {
   below = lt;
   word = subst IsWord (sym e) h;
@@ -106,23 +115,33 @@ learned k p q ne h = sym (ap (λ b. cond b true (k q)) (ne_eqb q p ne)) ∙ h
 
 -- a pair that is known after forgetting is another one, and was known before
 pub forgotten : (k : Known) (p q : ℕ) → forget p k q ≡ true → (q ≢ p) × (k q ≡ true)
-forgotten k p q h = elim (cases_eq q p) [ inl e ↦ absurd (not_false (sym (ap (λ b. cond b false (k q)) (eq-eqb q p e)) ∙ h)) | inr ne ↦ (ne, sym (ap (λ b. cond b false (k q)) (ne_eqb q p ne)) ∙ h) ]
+forgotten k p q h = elim (cases_eq q p) [
+  | inl e ↦ absurd (not_false (sym (ap (λ b. cond b false (k q)) (eq-eqb q p e))
+      ∙ h))
+  | inr ne ↦ (ne, sym (ap (λ b. cond b false (k q)) (ne_eqb q p ne)) ∙ h)
+]
   where
     not_false : false ≡ true → ⊥
     not_false e = cc
 
 -- a pair is learned where both its registers get its word
-pub holds_learn : (k : Known) (n : Registers) (f : FlowState) (p v : ℕ) → p < 32 → IsWord v → ((q : ℕ) → q ≢ p → k q ≡ true → Pair n f.pairs q) → PairsHeld (learn p k) (two_held n p (col Green v) (col Blue v)) (with_pair p v f).pairs
+pub holds_learn : (k : Known) (n : Registers) (f : FlowState) (p v : ℕ) → p < 32 → IsWord v →
+    ((q : ℕ) → q ≢ p → k q ≡ true → Pair n f.pairs q) →
+    PairsHeld (learn p k) (two_held n p (col Green v) (col Blue v)) (with_pair p v f).pairs
 holds_learn k n f p v lt h old = λ q known.
     elim (cases_eq q p) [
-      | inl e ↦ subst (λ x. Pair (two_held n p (col Green v) (col Blue v)) (with_pair p v f).pairs x) (sym e) (pair_put n (with_pair p v f).pairs p v lt h (same_pair p v f))
-      | inr ne ↦ pair_kept n f.pairs (with_pair p v f).pairs p q (col Green v) (col Blue v) lt ne (other_pair p v f q ne) (old q ne (learned k p q ne known))
+      | inl e ↦ subst (λ x. Pair (two_held n p (col Green v) (col Blue v)) (with_pair p v f).pairs x) (sym e)
+          (pair_put n (with_pair p v f).pairs p v lt h (same_pair p v f))
+      | inr ne ↦ pair_kept n f.pairs (with_pair p v f).pairs p q (col Green v) (col Blue v) lt ne
+          (other_pair p v f q ne) (old q ne (learned k p q ne known))
     ]
 
 -- and forgotten where they get anything
-pub holds_forget : (k : Known) (m : Registers) (f : FlowState) (p v : ℕ) (x y : Coloured) → p < 32 → PairsHeld k m f.pairs → PairsHeld (forget p k) (two_held m p x y) (with_pair p v f).pairs
+pub holds_forget : (k : Known) (m : Registers) (f : FlowState) (p v : ℕ) (x y : Coloured) → p < 32 →
+    PairsHeld k m f.pairs → PairsHeld (forget p k) (two_held m p x y) (with_pair p v f).pairs
 holds_forget k m f p v x y lt old = λ q known.
-    let u = forgotten k p q known in pair_kept m f.pairs (with_pair p v f).pairs p q x y lt u.0 (other_pair p v f q u.0) (old q u.1)
+    let u = forgotten k p q known in pair_kept m f.pairs (with_pair p v f).pairs p q x y lt u.0 (other_pair p v f q u.0)
+    (old q u.1)
 
 -- CELLS
 
@@ -131,7 +150,8 @@ abbrev pub CellsHold : Cells → List ℕ → Type 0
 CellsHold m cs = (c : ℕ) → cell_at m (cell_address c) ≡ slice_get cs c
 
 -- the word of a cell that is there
-pub cell_there : (m : Cells) (cs : List ℕ) (c : ℕ) → CellsHold m cs → c < length cs → cell_at m (cell_address c) ≡ Some (slice_index cs c)
+pub cell_there : (m : Cells) (cs : List ℕ) (c : ℕ) → CellsHold m cs → c < length cs → cell_at m (cell_address c)
+    ≡ Some (slice_index cs c)
 cell_there m cs c h lt = h c ∙ slice_get-get_or cs c 0 lt
 
 -- the other elements of a list stay
@@ -143,16 +163,20 @@ get_set_other (x ∷ cs) (suc c) v zero ne = refl
 get_set_other (x ∷ cs) (suc c) v (suc d) ne = get_set_other cs c v d (λ e. ne (ap suc e))
 
 -- a cell of both is set
-pub cells_set : (m : Cells) (cs : List ℕ) (c v : ℕ) → c < length cs → CellsHold m cs → CellsHold (with_cell m (cell_address c) v) (slice_set cs c v)
+pub cells_set : (m : Cells) (cs : List ℕ) (c v : ℕ) → c < length cs → CellsHold m cs →
+    CellsHold (with_cell m (cell_address c) v) (slice_set cs c v)
 cells_set m cs c v lt h = λ d.
     get-insert m (cell_address c) v (cell_address d)
     ∙ elim (cases_eq d c) [
       | inl e ↦
           let within : c < length (slice_set cs c v) = omega (arith, length-set {A = ℕ}) in
-          ap (λ b. cond b (Some v) (cell_at m (cell_address d))) (eq-eqb (cell_address d) (cell_address c) (ap cell_address e))
-          ∙ sym (ap (slice_get (slice_set cs c v)) e ∙ slice_get-get_or (slice_set cs c v) c 0 within ∙ ap Some (get_or-set_same cs c v 0 lt))
+          ap (λ b. cond b (Some v) (cell_at m (cell_address d)))
+          (eq-eqb (cell_address d) (cell_address c) (ap cell_address e))
+          ∙ sym (ap (slice_get (slice_set cs c v)) e ∙ slice_get-get_or (slice_set cs c v) c 0 within
+          ∙ ap Some (get_or-set_same cs c v 0 lt))
       | inr ne ↦
-          ap (λ b. cond b (Some v) (cell_at m (cell_address d))) (ne_eqb (cell_address d) (cell_address c) (λ e. ne (omega arith)))
+          ap (λ b. cond b (Some v) (cell_at m (cell_address d))) (ne_eqb (cell_address d) (cell_address c) (λ e.
+          ne (omega arith)))
           ∙ h d
           ∙ sym (get_set_other cs c v d ne)
     ]

@@ -1,7 +1,10 @@
 -- Stretches of a run without a strike, and what two steps of it do: a fetch and an instruction.
-use Rattle.std.proofs.Common.{◌≡◌, ◌≢◌, ℕ, zero, suc, ◌+◌, ◌<◌, cond, List, [], ◌∷◌, ◌++◌, map, ◌==◌, ◌&&◌, not, Some, None, is_some, refl, sym, ap, ◌∙◌, subst, arith, slice_get}
+use Rattle.std.proofs.Common.{◌≡◌, ◌≢◌, ℕ, zero, suc, ◌+◌, ◌<◌, cond, List, [], ◌∷◌, ◌++◌, map, ◌==◌, ◌&&◌, not, Some}
+use Rattle.std.proofs.Common.{None, is_some, refl, sym, ap, ◌∙◌, subst, arith, slice_get}
 use Rattle.std.proofs.lemmas.Bool.{ne_eqb, eq-eqb}
 use Rattle.std.proofs.lemmas.List.{append-nil}
+use Rattle.ft_simulation.proofs.Steps as steps
+use Rattle.ft_simulation.proofs.Steps.{iterate, iterate_last}
 use Rattle.ft_isa.specs.BasicTypes.{int}
 use Rattle.ft_isa.specs.Words.{apply, cell_in_run}
 use Rattle.ft_isa.specs.Pending.{Pending, newest_at}
@@ -30,33 +33,32 @@ use Rattle.ft_dup.specs.Doubles.{bare}
 abbrev pub machine_step : Object → Ran → Ran
 machine_step o r = extended r.outputs (step o r.state r.wild)
 
--- so many steps
-abbrev pub machine_steps : Object → ℕ → Ran → Ran
-machine_steps o zero r = r
-machine_steps o (suc k) r = machine_steps o k (machine_step o r)
-
--- the first of some steps may be taken last
-steps_moved : (o : Object) (n : ℕ) (r : Ran) → machine_steps o n (machine_step o r) ≡ machine_step o (machine_steps o n r)
-steps_moved o zero r = refl
-steps_moved o (suc n) r = steps_moved o n (machine_step o r)
-
 -- a run with no strike is steps from its start on
-pub run_is : (o : Object) (w : List Wild) (n : ℕ) → run o None w n ≡ machine_steps o n (run o None w 0)
+pub run_is : (o : Object) (w : List Wild) (n : ℕ) → run o None w n ≡ iterate (machine_step o) n (run o None w 0)
 unfolding run
 run_is o w zero = refl
-run_is o w (suc n) = ap (machine_step o) (run_is o w n) ∙ sym (steps_moved o n (run o None w 0))
+run_is o w (suc n) = ap (machine_step o) (run_is o w n) ∙ sym (iterate_last (machine_step o) n (run o None w 0))
 
 -- j steps lead from one point of a run to another
-pub record Leads (o : Object) (j : ℕ) (r q : Ran) : Type 0 where
-  pub by : (k : ℕ) → machine_steps o (j + k) r ≡ machine_steps o k q
+abbrev pub Leads : Object → ℕ → Ran → Ran → Type 0
+Leads o = steps.Leads (machine_step o)
 
 -- stretches in a row
 pub lead_on : (o : Object) (i j : ℕ) (r q z : Ran) → Leads o i r q → Leads o j q z → Leads o (i + j) r z
-lead_on o i j r q z a b = record { by = λ k. let e : i + j + k ≡ i + (j + k) = omega arith in ap (λ m. machine_steps o m r) e ∙ a.by (j + k) ∙ b.by k }
+lead_on o = steps.lead_on (machine_step o)
 
 -- between two instructions, with these counters
 abbrev pub stands : ℕ → Registers → ℕ → Pending → Cells → State
-stands x m d q c = record { registers = m; d = d; pc_green = x; pc_blue = x; queue = q; cells = c; fetched = None; status = Running }
+stands x m d q c = record {
+  registers = m;
+  d = d;
+  pc_green = x;
+  pc_blue = x;
+  queue = q;
+  cells = c;
+  fetched = None;
+  status = Running;
+}
 
 -- a point of a run
 abbrev pub ran : State → List Wild → List Output → Ran
@@ -87,7 +89,8 @@ execute_bare instr.Halt s w = refl
 execute_bare (instr.Idx rd rs first m) s w = refl
 
 -- an instruction that stands there without its claims
-get_bare : (xs : List Instr) (i : ℕ) (J : Instr) → slice_get (map bare xs) i ≡ Some J → (I : Instr) × (slice_get xs i ≡ Some I) × (bare I ≡ J)
+get_bare : (xs : List Instr) (i : ℕ) (J : Instr) → slice_get (map bare xs) i ≡ Some J → (I : Instr)
+    × (slice_get xs i ≡ Some I) × (bare I ≡ J)
 get_bare [] i J h = absurd cc
 get_bare (x ∷ xs) zero J h = (x, refl, cc)
 get_bare (x ∷ xs) (suc i) J h = get_bare xs i J h
@@ -97,7 +100,9 @@ quiet_ran : (os : List Output) (s : State) (w : List Wild) → extended os (quie
 quiet_ran os s w = ap (ran s w) (append-nil os)
 
 -- a fetch and the instruction, which is known but for its claims
-pub two_any : (o : Object) (J : Instr) (i : ℕ) (m : Registers) (d : ℕ) (q : Pending) (c : Cells) (w : List Wild) (os : List Output) → slice_get (map bare o.instrs) i ≡ Some J → (I : Instr) × Leads o 2 (spot i m d q c w os) (extended os (execute J (fetched_state i m d q c I) w))
+pub two_any : (o : Object) (J : Instr) (i : ℕ) (m : Registers) (d : ℕ) (q : Pending) (c : Cells) (w : List Wild)
+    (os : List Output) → slice_get (map bare o.instrs) i ≡ Some J → (I : Instr)
+    × Leads o 2 (spot i m d q c w os) (extended os (execute J (fetched_state i m d q c I) w))
 two_any o J i m d q c w os at =
     let I = get_bare o.instrs i J at in
     let s = stands (suc i) m d q c in
@@ -108,17 +113,22 @@ two_any o J i m d q c w os at =
     ∙ quiet_ran os f w in
     let b : machine_step o (ran f w os) ≡ extended os (execute J f w) =
     ap (extended os) (execute_bare I.0 f w) ∙ ap (λ x. extended os (execute x f w)) I.2 in
-    (I.0, record { by = λ k. let e : 2 + k ≡ suc (suc k) = omega arith in ap (λ n. machine_steps o n (ran s w os)) e ∙ ap (λ x. machine_steps o k (machine_step o x)) a ∙ ap (machine_steps o k) b })
+    (I.0, record { is = ap (machine_step o) a ∙ b })
 
 -- the same where what comes of it is known
-two : (o : Object) (J : Instr) (i : ℕ) (m : Registers) (d : ℕ) (q : Pending) (c : Cells) (w : List Wild) (os : List Output) (t : Stepping) → slice_get (map bare o.instrs) i ≡ Some J → ((I : Instr) → execute J (fetched_state i m d q c I) w ≡ t) → Leads o 2 (spot i m d q c w os) (extended os t)
+two : (o : Object) (J : Instr) (i : ℕ) (m : Registers) (d : ℕ) (q : Pending) (c : Cells) (w : List Wild)
+    (os : List Output) (t : Stepping) → slice_get (map bare o.instrs) i ≡ Some J →
+    ((I : Instr) → execute J (fetched_state i m d q c I) w ≡ t) → Leads o 2 (spot i m d q c w os) (extended os t)
 two o J i m d q c w os t at does =
     let T = two_any o J i m d q c w os at in
     subst (λ x. Leads o 2 (spot i m d q c w os) (extended os x)) (does T.0) T.1
 
 -- and where it is quiet
-two_quiet : (o : Object) (J : Instr) (i : ℕ) (m : Registers) (d : ℕ) (q : Pending) (c : Cells) (w : List Wild) (os : List Output) (s : State) → slice_get (map bare o.instrs) i ≡ Some J → ((I : Instr) → execute J (fetched_state i m d q c I) w ≡ quiet s w) → Leads o 2 (spot i m d q c w os) (ran s w os)
-two_quiet o J i m d q c w os s at does = subst (Leads o 2 (spot i m d q c w os)) (quiet_ran os s w) (two o J i m d q c w os (quiet s w) at does)
+two_quiet : (o : Object) (J : Instr) (i : ℕ) (m : Registers) (d : ℕ) (q : Pending) (c : Cells) (w : List Wild)
+    (os : List Output) (s : State) → slice_get (map bare o.instrs) i ≡ Some J →
+    ((I : Instr) → execute J (fetched_state i m d q c I) w ≡ quiet s w) → Leads o 2 (spot i m d q c w os) (ran s w os)
+two_quiet o J i m d q c w os s at does = subst (Leads o 2 (spot i m d q c w os)) (quiet_ran os s w)
+    (two o J i m d q c w os (quiet s w) at does)
 
 -- a counter in the code has a next one
 next_small : (i : ℕ) → i < 65537 → next (suc i) ≡ suc (suc i)
@@ -142,15 +152,20 @@ col c v = record { colour = c; word = v }
 
 module _ (o : Object) (w : List Wild) (i : ℕ) (short : i < 65537) where
   -- both counters go on
-  goes_by : (m : Registers) (d : ℕ) (q : Pending) (c : Cells) → quiet (stands (next (suc i)) m d q c) w ≡ quiet (stands (suc (suc i)) m d q c) w
+  goes_by : (m : Registers) (d : ℕ) (q : Pending) (c : Cells) → quiet (stands (next (suc i)) m d q c) w
+      ≡ quiet (stands (suc (suc i)) m d q c) w
   goes_by m d q c = ap (λ z. quiet (stands z m d q c) w) (next_small i short)
 
   -- a move
-  pub mov : (m : Registers) (c : Cells) (os : List Output) (r : Reg) (x : Coloured) → slice_get (map bare o.instrs) i ≡ Some (instr.Mov r x int) → Leads o 2 (spot i m 0 [] c w os) (spot (suc i) (with_held m r.number x) 0 [] c w os)
+  pub mov : (m : Registers) (c : Cells) (os : List Output) (r : Reg) (x : Coloured) → slice_get (map bare o.instrs) i
+      ≡ Some (instr.Mov r x int) → Leads o 2 (spot i m 0 [] c w os) (spot (suc i) (with_held m r.number x) 0 [] c w os)
   mov m c os r x at = two_quiet o _ i m 0 [] c w os _ at (λ I. goes_by (with_held m r.number x) 0 [] c)
 
   -- an operation on registers of one colour
-  pub op_reg : (m : Registers) (c : Cells) (os : List Output) (op : Op) (rd rs rt : Reg) (x y : ℕ) (k : Colour) → slice_get (map bare o.instrs) i ≡ Some (instr.OpReg op rd rs rt) → held m rs.number ≡ col k x → held m rt.number ≡ col k y → Leads o 2 (spot i m 0 [] c w os) (spot (suc i) (with_held m rd.number (col k (apply op x y))) 0 [] c w os)
+  pub op_reg : (m : Registers) (c : Cells) (os : List Output) (op : Op) (rd rs rt : Reg) (x y : ℕ) (k : Colour) →
+      slice_get (map bare o.instrs) i ≡ Some (instr.OpReg op rd rs rt) → held m rs.number ≡ col k x → held m rt.number
+      ≡ col k y → Leads o 2 (spot i m 0 [] c w os) (spot (suc i) (with_held m rd.number (col k (apply op x y))) 0 [] c w
+      os)
   op_reg m c os op rd rs rt x y k at es et = two_quiet o _ i m 0 [] c w os _ at (λ I.
       let s = fetched_state i m 0 [] c I in
       ap (λ (h : Coloured). machine.writes rd h.colour (apply op h.word (held m rt.number).word) s w) es
@@ -158,25 +173,33 @@ module _ (o : Object) (w : List Wild) (i : ℕ) (short : i < 65537) where
       ∙ goes_by (with_held m rd.number (col k (apply op x y))) 0 [] c)
 
   -- an operation on a register and a word of one colour
-  pub op_word : (m : Registers) (c : Cells) (os : List Output) (op : Op) (rd rs : Reg) (x y : ℕ) (k : Colour) → slice_get (map bare o.instrs) i ≡ Some (instr.OpWord op rd rs (col k y)) → held m rs.number ≡ col k x → Leads o 2 (spot i m 0 [] c w os) (spot (suc i) (with_held m rd.number (col k (apply op x y))) 0 [] c w os)
+  pub op_word : (m : Registers) (c : Cells) (os : List Output) (op : Op) (rd rs : Reg) (x y : ℕ) (k : Colour) →
+      slice_get (map bare o.instrs) i ≡ Some (instr.OpWord op rd rs (col k y)) → held m rs.number ≡ col k x →
+      Leads o 2 (spot i m 0 [] c w os) (spot (suc i) (with_held m rd.number (col k (apply op x y))) 0 [] c w os)
   op_word m c os op rd rs x y k at es = two_quiet o _ i m 0 [] c w os _ at (λ I.
       ap (λ (h : Coloured). machine.writes rd h.colour (apply op h.word y) (fetched_state i m 0 [] c I) w) es
       ∙ goes_by (with_held m rd.number (col k (apply op x y))) 0 [] c)
 
   -- the address of the cell of a run that a register names
-  pub index : (m : Registers) (c : Cells) (os : List Output) (rd rs : Reg) (first n x : ℕ) (k : Colour) → slice_get (map bare o.instrs) i ≡ Some (instr.Idx rd rs first n) → held m rs.number ≡ col k x → Leads o 2 (spot i m 0 [] c w os) (spot (suc i) (with_held m rd.number (col k (cell_in_run first n x))) 0 [] c w os)
+  pub index : (m : Registers) (c : Cells) (os : List Output) (rd rs : Reg) (first n x : ℕ) (k : Colour) →
+      slice_get (map bare o.instrs) i ≡ Some (instr.Idx rd rs first n) → held m rs.number ≡ col k x →
+      Leads o 2 (spot i m 0 [] c w os) (spot (suc i) (with_held m rd.number (col k (cell_in_run first n x))) 0 [] c w
+      os)
   index m c os rd rs first n x k at es = two_quiet o _ i m 0 [] c w os _ at (λ I.
       ap (λ (h : Coloured). machine.writes rd h.colour (cell_in_run first n h.word) (fetched_state i m 0 [] c I) w) es
       ∙ goes_by (with_held m rd.number (col k (cell_in_run first n x))) 0 [] c)
 
   -- what stands in a cell is found where nothing is pending
-  finds : (k : Colour) (m : Registers) (c : Cells) (a : ℕ) (I : Instr) → machine.found k (fetched_state i m 0 [] c I) a ≡ cell_at c a
+  finds : (k : Colour) (m : Registers) (c : Cells) (a : ℕ) (I : Instr) → machine.found k (fetched_state i m 0 [] c I) a
+      ≡ cell_at c a
   unfolding newest_at
   finds Green m c a I = refl
   finds Blue m c a I = refl
 
   -- a load from a cell, where nothing is pending
-  pub load : (m : Registers) (c : Cells) (os : List Output) (rd rs : Reg) (a v : ℕ) (k : Colour) → slice_get (map bare o.instrs) i ≡ Some (instr.Ld k rd rs) → held m rs.number ≡ col k a → cell_at c a ≡ Some v → Leads o 2 (spot i m 0 [] c w os) (spot (suc i) (with_held m rd.number (col k v)) 0 [] c w os)
+  pub load : (m : Registers) (c : Cells) (os : List Output) (rd rs : Reg) (a v : ℕ) (k : Colour) →
+      slice_get (map bare o.instrs) i ≡ Some (instr.Ld k rd rs) → held m rs.number ≡ col k a → cell_at c a ≡ Some v →
+      Leads o 2 (spot i m 0 [] c w os) (spot (suc i) (with_held m rd.number (col k v)) 0 [] c w os)
   load m c os rd rs a v k at es there = two_quiet o _ i m 0 [] c w os _ at (λ I.
       let s = fetched_state i m 0 [] c I in
       ap (λ (h : Coloured). machine.load k rd (machine.found k s h.word) s w) es
@@ -184,7 +207,9 @@ module _ (o : Object) (w : List Wild) (i : ℕ) (short : i < 65537) where
       ∙ goes_by (with_held m rd.number (col k v)) 0 [] c)
 
   -- a green store, where nothing is pending
-  pub store_green : (m : Registers) (c : Cells) (os : List Output) (rd rs : Reg) (a v : ℕ) → slice_get (map bare o.instrs) i ≡ Some (instr.St Green rd rs) → held m rd.number ≡ col Green a → held m rs.number ≡ col Green v → Leads o 2 (spot i m 0 [] c w os) (spot (suc i) m 0 ((a, v) ∷ []) c w os)
+  pub store_green : (m : Registers) (c : Cells) (os : List Output) (rd rs : Reg) (a v : ℕ) →
+      slice_get (map bare o.instrs) i ≡ Some (instr.St Green rd rs) → held m rd.number ≡ col Green a → held m rs.number
+      ≡ col Green v → Leads o 2 (spot i m 0 [] c w os) (spot (suc i) m 0 ((a, v) ∷ []) c w os)
   store_green m c os rd rs a v at ed es = two_quiet o _ i m 0 [] c w os _ at (λ I.
       let s = fetched_state i m 0 [] c I in
       ap (λ (h : Coloured). machine.store_green h.word (held m rs.number).word s w) ed
@@ -192,36 +217,57 @@ module _ (o : Object) (w : List Wild) (i : ℕ) (short : i < 65537) where
       ∙ goes_by m 0 ((a, v) ∷ []) c)
 
   -- a blue store of the one pending entry, which is an output
-  pub store_blue : (m : Registers) (c : Cells) (os : List Output) (rd rs : Reg) (a v x : ℕ) → slice_get (map bare o.instrs) i ≡ Some (instr.St Blue rd rs) → held m rd.number ≡ col Blue a → held m rs.number ≡ col Blue v → cell_at c a ≡ Some x → Leads o 2 (spot i m 0 ((a, v) ∷ []) c w os) (spot (suc i) m 0 [] (with_cell c a v) w (os ++ record { addr = a; value = v } ∷ []))
-  store_blue m c os rd rs a v x at ed es there = two o _ i m 0 ((a, v) ∷ []) c w os (record { state = stands (suc (suc i)) m 0 [] (with_cell c a v); wild = w; output = Some (record { addr = a; value = v }) }) at (λ I.
+  pub store_blue : (m : Registers) (c : Cells) (os : List Output) (rd rs : Reg) (a v x : ℕ) →
+      slice_get (map bare o.instrs) i ≡ Some (instr.St Blue rd rs) → held m rd.number ≡ col Blue a → held m rs.number
+      ≡ col Blue v → cell_at c a ≡ Some x → Leads o 2 (spot i m 0 ((a, v) ∷ []) c w os)
+      (spot (suc i) m 0 [] (with_cell c a v) w (os ++ record { addr = a; value = v } ∷ []))
+  store_blue m c os rd rs a v x at ed es there = two o _ i m 0 ((a, v) ∷ []) c w os
+      (record {
+        state = stands (suc (suc i)) m 0 [] (with_cell c a v);
+        wild = w;
+        output = Some (record { addr = a; value = v });
+      }) at (λ I.
       let s = fetched_state i m 0 ((a, v) ∷ []) c I in
       ap (λ (h : Coloured). machine.store_blue h.word (held m rs.number).word s w) ed
       ∙ ap (λ (h : Coloured). machine.store_blue a h.word s w) es
-      ∙ ap (λ b. cond ((b && (v == v)) && is_some (cell_at c a)) (machine.commit a v s w) (detected s w)) (eq-eqb a a refl)
+      ∙ ap (λ b. cond ((b && (v == v)) && is_some (cell_at c a)) (machine.commit a v s w) (detected s w))
+      (eq-eqb a a refl)
       ∙ ap (λ b. cond (b && is_some (cell_at c a)) (machine.commit a v s w) (detected s w)) (eq-eqb v v refl)
       ∙ ap (λ z. cond (is_some z) (machine.commit a v s w) (detected s w)) there
-      ∙ ap (λ z. let t : Stepping = record { state = stands z m 0 [] (with_cell c a v); wild = w; output = Some (record { addr = a; value = v }) } in t) (next_small i short))
+      ∙ ap (λ z. let t : Stepping = record {
+        state = stands z m 0 [] (with_cell c a v);
+        wild = w;
+        output = Some (record { addr = a; value = v });
+      } in t) (next_small i short))
 
   -- a green jump, where d is 0
-  pub jump_green : (m : Registers) (c : Cells) (os : List Output) (rd : Reg) (a : ℕ) → slice_get (map bare o.instrs) i ≡ Some (instr.JmpG rd) → held m rd.number ≡ col Green a → Leads o 2 (spot i m 0 [] c w os) (spot (suc i) m a [] c w os)
+  pub jump_green : (m : Registers) (c : Cells) (os : List Output) (rd : Reg) (a : ℕ) → slice_get (map bare o.instrs) i
+      ≡ Some (instr.JmpG rd) → held m rd.number ≡ col Green a →
+      Leads o 2 (spot i m 0 [] c w os) (spot (suc i) m a [] c w os)
   jump_green m c os rd a at ed = two_quiet o _ i m 0 [] c w os _ at (λ I.
       ap (λ (h : Coloured). machine.jump_green h.word (fetched_state i m 0 [] c I) w) ed
       ∙ goes_by m a [] c)
 
   -- a blue jump to the address in d
-  jumps : (m : Registers) (c : Cells) (t : ℕ) (I : Instr) → machine.jump_blue (suc t) (fetched_state i m (suc t) [] c I) w ≡ quiet (stands (suc t) m 0 [] c) w
+  jumps : (m : Registers) (c : Cells) (t : ℕ) (I : Instr) →
+      machine.jump_blue (suc t) (fetched_state i m (suc t) [] c I) w ≡ quiet (stands (suc t) m 0 [] c) w
   jumps m c t I =
       let s = fetched_state i m (suc t) [] c I in
-      ap (λ b. cond (not b && (suc t == suc t)) (quiet (machine.transfers (suc t) s) w) (detected s w)) (ne_eqb (suc t) 0 (λ e. omega arith))
+      ap (λ b. cond (not b && (suc t == suc t)) (quiet (machine.transfers (suc t) s) w) (detected s w))
+      (ne_eqb (suc t) 0 (λ e. omega arith))
       ∙ ap (λ b. cond b (quiet (machine.transfers (suc t) s) w) (detected s w)) (eq-eqb (suc t) (suc t) refl)
 
   -- a blue jump, where d is its target
-  pub jump_blue : (m : Registers) (c : Cells) (os : List Output) (rd : Reg) (t : ℕ) → slice_get (map bare o.instrs) i ≡ Some (instr.JmpB rd empty) → held m rd.number ≡ col Blue (suc t) → Leads o 2 (spot i m (suc t) [] c w os) (spot t m 0 [] c w os)
+  pub jump_blue : (m : Registers) (c : Cells) (os : List Output) (rd : Reg) (t : ℕ) → slice_get (map bare o.instrs) i
+      ≡ Some (instr.JmpB rd empty) → held m rd.number ≡ col Blue (suc t) →
+      Leads o 2 (spot i m (suc t) [] c w os) (spot t m 0 [] c w os)
   jump_blue m c os rd t at ed = two_quiet o _ i m (suc t) [] c w os _ at (λ I.
       ap (λ (h : Coloured). machine.jump_blue h.word (fetched_state i m (suc t) [] c I) w) ed ∙ jumps m c t I)
 
   -- a green branch that is taken
-  pub branch_green_zero : (m : Registers) (c : Cells) (os : List Output) (rz rd : Reg) (a : ℕ) → slice_get (map bare o.instrs) i ≡ Some (instr.BzG rz rd) → held m rz.number ≡ col Green 0 → held m rd.number ≡ col Green a → Leads o 2 (spot i m 0 [] c w os) (spot (suc i) m a [] c w os)
+  pub branch_green_zero : (m : Registers) (c : Cells) (os : List Output) (rz rd : Reg) (a : ℕ) →
+      slice_get (map bare o.instrs) i ≡ Some (instr.BzG rz rd) → held m rz.number ≡ col Green 0 → held m rd.number
+      ≡ col Green a → Leads o 2 (spot i m 0 [] c w os) (spot (suc i) m a [] c w os)
   branch_green_zero m c os rz rd a at ez ed = two_quiet o _ i m 0 [] c w os _ at (λ I.
       let s = fetched_state i m 0 [] c I in
       ap (λ (h : Coloured). cond (h.word == 0) (machine.jump_green (held m rd.number).word s w) (machine.pass s w)) ez
@@ -229,15 +275,20 @@ module _ (o : Object) (w : List Wild) (i : ℕ) (short : i < 65537) where
       ∙ goes_by m a [] c)
 
   -- a green branch that is not
-  pub branch_green_other : (m : Registers) (c : Cells) (os : List Output) (rz rd : Reg) (x : ℕ) → slice_get (map bare o.instrs) i ≡ Some (instr.BzG rz rd) → held m rz.number ≡ col Green (suc x) → Leads o 2 (spot i m 0 [] c w os) (spot (suc i) m 0 [] c w os)
+  pub branch_green_other : (m : Registers) (c : Cells) (os : List Output) (rz rd : Reg) (x : ℕ) →
+      slice_get (map bare o.instrs) i ≡ Some (instr.BzG rz rd) → held m rz.number ≡ col Green (suc x) →
+      Leads o 2 (spot i m 0 [] c w os) (spot (suc i) m 0 [] c w os)
   branch_green_other m c os rz rd x at ez = two_quiet o _ i m 0 [] c w os _ at (λ I.
       let s = fetched_state i m 0 [] c I in
       ap (λ (h : Coloured). cond (h.word == 0) (machine.jump_green (held m rd.number).word s w) (machine.pass s w)) ez
-      ∙ ap (λ b. cond b (machine.jump_green (held m rd.number).word s w) (machine.pass s w)) (ne_eqb (suc x) 0 (λ e. omega arith))
+      ∙ ap (λ b. cond b (machine.jump_green (held m rd.number).word s w) (machine.pass s w))
+      (ne_eqb (suc x) 0 (λ e. omega arith))
       ∙ goes_by m 0 [] c)
 
   -- a blue branch that is taken
-  pub branch_blue_zero : (m : Registers) (c : Cells) (os : List Output) (rz rd : Reg) (t : ℕ) → slice_get (map bare o.instrs) i ≡ Some (instr.BzB rz rd empty) → held m rz.number ≡ col Blue 0 → held m rd.number ≡ col Blue (suc t) → Leads o 2 (spot i m (suc t) [] c w os) (spot t m 0 [] c w os)
+  pub branch_blue_zero : (m : Registers) (c : Cells) (os : List Output) (rz rd : Reg) (t : ℕ) →
+      slice_get (map bare o.instrs) i ≡ Some (instr.BzB rz rd empty) → held m rz.number ≡ col Blue 0 → held m rd.number
+      ≡ col Blue (suc t) → Leads o 2 (spot i m (suc t) [] c w os) (spot t m 0 [] c w os)
   branch_blue_zero m c os rz rd t at ez ed = two_quiet o _ i m (suc t) [] c w os _ at (λ I.
       let s = fetched_state i m (suc t) [] c I in
       ap (λ (h : Coloured). cond (h.word == 0) (machine.jump_blue (held m rd.number).word s w) (machine.pass s w)) ez
@@ -245,9 +296,12 @@ module _ (o : Object) (w : List Wild) (i : ℕ) (short : i < 65537) where
       ∙ jumps m c t I)
 
   -- a blue branch that is not
-  pub branch_blue_other : (m : Registers) (c : Cells) (os : List Output) (rz rd : Reg) (x : ℕ) → slice_get (map bare o.instrs) i ≡ Some (instr.BzB rz rd empty) → held m rz.number ≡ col Blue (suc x) → Leads o 2 (spot i m 0 [] c w os) (spot (suc i) m 0 [] c w os)
+  pub branch_blue_other : (m : Registers) (c : Cells) (os : List Output) (rz rd : Reg) (x : ℕ) →
+      slice_get (map bare o.instrs) i ≡ Some (instr.BzB rz rd empty) → held m rz.number ≡ col Blue (suc x) →
+      Leads o 2 (spot i m 0 [] c w os) (spot (suc i) m 0 [] c w os)
   branch_blue_other m c os rz rd x at ez = two_quiet o _ i m 0 [] c w os _ at (λ I.
       let s = fetched_state i m 0 [] c I in
       ap (λ (h : Coloured). cond (h.word == 0) (machine.jump_blue (held m rd.number).word s w) (machine.pass s w)) ez
-      ∙ ap (λ b. cond b (machine.jump_blue (held m rd.number).word s w) (machine.pass s w)) (ne_eqb (suc x) 0 (λ e. omega arith))
+      ∙ ap (λ b. cond b (machine.jump_blue (held m rd.number).word s w) (machine.pass s w))
+      (ne_eqb (suc x) 0 (λ e. omega arith))
       ∙ goes_by m 0 [] c)

@@ -1,5 +1,6 @@
 -- Where blocks begin, and the shape of well formed blocks.
-use Rattle.std.proofs.Common.{◌≡◌, ℕ, zero, suc, ◌+◌, ◌<◌, List, [], ◌∷◌, ◌++◌, map, length, slice_index, get_or, refl, sym, ap, ◌∙◌, subst, arith}
+use Rattle.std.proofs.Common.{◌≡◌, ℕ, zero, suc, ◌+◌, ◌<◌, List, [], ◌∷◌, ◌++◌, map, length, slice_index, get_or, refl}
+use Rattle.std.proofs.Common.{sym, ap, ◌∙◌, subst, arith}
 use Rattle.std.specs.List.{All}
 use Rattle.std.proofs.Math.ListN.{get_or-map}
 use Rattle.std.proofs.lemmas.List.Elements.{All-head, All-tail, All-cons, All-nil, All-from_get_or}
@@ -13,7 +14,8 @@ use Rattle.ft_dup.specs.Shape.{HasTarget, HasShape}
 use Rattle.ft_dup.specs.Images.{image, row_images, blocks_images, starts, starts_from, start_of, doubled}
 
 -- what holds of each value of a function holds at an element
-pub all_mapped : {X Y : Type 0} (f : X → Y) (P : Y → Type 0) (xs : List X) (i : ℕ) (x : X) → i < length xs → x ≡ get_or xs i x → All P (map f xs) → P (f x)
+pub all_mapped : {X Y : Type 0} (f : X → Y) (P : Y → Type 0) (xs : List X) (i : ℕ) (x : X) → i < length xs → x
+    ≡ get_or xs i x → All P (map f xs) → P (f x)
 all_mapped f P xs i x h e all =
     let there : i < length (map f xs) = omega (arith, length-map xs f) in
     subst P (get_or-map f xs i x ∙ ap f (sym e)) (all i (f x) there)
@@ -69,12 +71,15 @@ module _ (f g : ℕ → ℕ) (n : ℕ) (same : (b : ℕ) → b < n → f b ≡ g
       ∙ ap (λ l. row_images g b ++ l) (blocks_same bs (All-tail (All (HasTarget n)) b bs h))
 
 -- where the starts are the definition's, a target's start is there
-pub targets_there : (ss : List ℕ) (bs : Blocks) → ss ≡ starts bs → All (All (HasTarget (length bs))) bs → All (All (HasTarget (length ss))) bs
+pub targets_there : (ss : List ℕ) (bs : Blocks) → ss ≡ starts bs → All (All (HasTarget (length bs))) bs →
+    All (All (HasTarget (length ss))) bs
 targets_there ss bs e h = subst (λ n. All (All (HasTarget n)) bs) (sym (ap length e ∙ starts_length 0 bs)) h
 
 -- and the images by them are the doubled blocks
-pub images_there : (ss : List ℕ) (bs : Blocks) → ss ≡ starts bs → All (All (HasTarget (length bs))) bs → blocks_images (slice_index ss) bs ≡ doubled bs
-images_there ss bs e h = blocks_same (slice_index ss) (start_of bs) (length bs) (λ b lt. ap (λ l. slice_index l b) e ∙ start_at 0 bs b lt ∙ omega arith) bs h
+pub images_there : (ss : List ℕ) (bs : Blocks) → ss ≡ starts bs → All (All (HasTarget (length bs))) bs →
+    blocks_images (slice_index ss) bs ≡ doubled bs
+images_there ss bs e h = blocks_same (slice_index ss) (start_of bs) (length bs) (λ b lt. ap (λ l. slice_index l b) e
+    ∙ start_at 0 bs b lt ∙ omega arith) bs h
 
 -- THE SHAPE
 
@@ -92,9 +97,11 @@ target_of cells blocks (Go spare to) h = h
 target_of cells blocks Stop h = tt
 
 -- each step of a well formed row has its target
-row_targets : (vars cells blocks : ℕ) (k : Known) (is : List Step3) → RowIsWell vars cells blocks k is → All (HasTarget blocks) is
+row_targets : (vars cells blocks : ℕ) (k : Known) (is : List Step3) → RowIsWell vars cells blocks k is →
+    All (HasTarget blocks) is
 row_targets vars cells blocks k [] h = All-nil (HasTarget blocks)
-row_targets vars cells blocks k (i ∷ is) h = All-cons (HasTarget blocks) i is (target_of cells blocks i h.0) (row_targets vars cells blocks (known_after i k) is h.2)
+row_targets vars cells blocks k (i ∷ is) h = All-cons (HasTarget blocks) i is (target_of cells blocks i h.0)
+    (row_targets vars cells blocks (known_after i k) is h.2)
 
 -- the block of a number is the list's element
 pub block_is : (bs : Blocks) (b : ℕ) → b < length bs → block_of bs b ≡ get_or bs b []
@@ -106,7 +113,9 @@ block_is (x ∷ bs) (suc b) h = block_is bs b (omega arith)
 pub shape_of_well : (vars cells : ℕ) (bs : Blocks) → IsWell vars cells bs → HasShape bs
 shape_of_well vars cells bs h = record {
   pairs = h.pairs;
-  targets = All-from_get_or (All (HasTarget (length bs))) bs [] (λ b lt. subst (All (HasTarget (length bs))) (block_is bs b lt) (row_targets vars cells (length bs) (known_first vars b) (block_of bs b) (h.rows b lt)));
+  targets = All-from_get_or (All (HasTarget (length bs))) bs [] (λ b lt.
+      subst (All (HasTarget (length bs))) (block_is bs b lt)
+      (row_targets vars cells (length bs) (known_first vars b) (block_of bs b) (h.rows b lt)));
   ended = h.ended;
   short = h.short;
 }

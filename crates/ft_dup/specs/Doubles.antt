@@ -19,17 +19,10 @@ use Rattle.ft_dup.specs.Images.{green, blue, green_word, blue_word, empty, start
 
 -- the same instruction with no claim and no substitution
 abbrev pub bare : Instr → Instr
-bare (instr.OpReg o rd rs rt) = instr.OpReg o rd rs rt
-bare (instr.OpWord o rd rs v) = instr.OpWord o rd rs v
 bare (instr.Mov rd v b) = instr.Mov rd v int
-bare (instr.Ld c rd rs) = instr.Ld c rd rs
-bare (instr.St c rd rs) = instr.St c rd rs
-bare (instr.JmpG rd) = instr.JmpG rd
 bare (instr.JmpB rd t) = instr.JmpB rd empty
-bare (instr.BzG rz rd) = instr.BzG rz rd
 bare (instr.BzB rz rd t) = instr.BzB rz rd empty
-bare instr.Halt = instr.Halt
-bare (instr.Idx rd rs first m) = instr.Idx rd rs first m
+bare i = i
 
 -- the initial word of a cell
 abbrev pub init_of_cell : Cell → ℕ

@@ -3,7 +3,8 @@ use Rattle.std.proofs.Common.{◌≡◌, ℕ, List, [], ◌++◌, Option, Some, 
 use Rattle.std.specs.Io.KnownBytes.{append_known}
 use Rattle.ft_edge.specs.Told.{append_told}
 
-pub known_more : (known : Option (List ℕ)) (xs ys : List ℕ) → append_known (append_known known xs) ys ≡ append_known known (xs ++ ys)
+pub known_more : (known : Option (List ℕ)) (xs ys : List ℕ) → append_known (append_known known xs) ys
+    ≡ append_known known (xs ++ ys)
 known_more None xs ys = refl
 known_more (Some zs) xs ys = ap Some (append_assoc zs xs ys)
 
@@ -11,7 +12,8 @@ pub known_none : (known : Option (List ℕ)) → known ≡ append_known known []
 known_none None = refl
 known_none (Some zs) = ap Some (sym (append-nil zs))
 
-pub told_more : {X : Type 0} (told : Option (List X)) (xs ys : List X) → append_told (append_told told xs) ys ≡ append_told told (xs ++ ys)
+pub told_more : {X : Type 0} (told : Option (List X)) (xs ys : List X) → append_told (append_told told xs) ys
+    ≡ append_told told (xs ++ ys)
 told_more None xs ys = refl
 told_more (Some zs) xs ys = ap Some (append_assoc zs xs ys)
 

@@ -8,8 +8,11 @@ use Rattle.ft_edge.specs.declared.mem_shelf.Stored.{Stored}
 use Rattle.ft_edge.specs.Stored.{entry_of}
 
 -- the first file answers where its name passes, and else the rest does
-pub find_entry : (q : List ℕ) (s : Stored) (rest all : List Stored) (b : Bool) → all ≡ s ∷ rest → b ≡ pointwise nat_eq q (string_bytes s.name)
-    → find (slice_cmp nat_cmp) q (map entry_of all) ≡ cond b (Some s.bytes.items) (find (slice_cmp nat_cmp) q (map entry_of rest))
+pub find_entry : (q : List ℕ) (s : Stored) (rest all : List Stored) (b : Bool) → all ≡ s ∷ rest → b
+    ≡ pointwise nat_eq q (string_bytes s.name)
+    → find (slice_cmp nat_cmp) q (map entry_of all)
+    ≡ cond b (Some s.bytes.items) (find (slice_cmp nat_cmp) q (map entry_of rest))
 find_entry q s rest all b e t =
     ap (λ es. find (slice_cmp nat_cmp) q (map entry_of es)) e
-    ∙ ap (λ v. cond v (Some s.bytes.items) (find (slice_cmp nat_cmp) q (map entry_of rest))) (sym (t ∙ texts_ties q (string_bytes s.name)))
+    ∙ ap (λ v. cond v (Some s.bytes.items) (find (slice_cmp nat_cmp) q (map entry_of rest)))
+    (sym (t ∙ texts_ties q (string_bytes s.name)))

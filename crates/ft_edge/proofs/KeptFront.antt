@@ -10,6 +10,7 @@ kept_front (Some x) None c bs k (n, h) = absurd k
 kept_front (Some x) (Some y) None bs k (n, h) = absurd h
 kept_front (Some x) (Some y) (Some z) bs k (n, h) = (n, h ∙ ap (λ l. l ++ take n bs) k)
 
-pub front_after : {A E : Type 0} (r : Result A E) (a b c : Option (List ℕ)) (bs : List ℕ) → Keeps a b → OnErr r (AppendsFront b c bs) → OnErr r (AppendsFront a c bs)
+pub front_after : {A E : Type 0} (r : Result A E) (a b c : Option (List ℕ)) (bs : List ℕ) → Keeps a b →
+    OnErr r (AppendsFront b c bs) → OnErr r (AppendsFront a c bs)
 front_after (Ok x) a b c bs k h = h
 front_after (Err e) a b c bs k h = kept_front a b c bs k h

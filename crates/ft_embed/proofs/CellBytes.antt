@@ -1,5 +1,6 @@
 -- The bytes of an object, cut at the initial word of a cell, and the object with another word there.
-use Rattle.std.proofs.Common.{◌≡◌, ℕ, zero, suc, ◌+◌, ◌*◌, ◌≤◌, List, [], ◌∷◌, ◌++◌, length, take, drop, map, Some, slice_get, refl, sym, ap, subst, ◌∙◌, append_assoc, arith}
+use Rattle.std.proofs.Common.{◌≡◌, ℕ, zero, suc, ◌+◌, ◌*◌, ◌≤◌, List, [], ◌∷◌, ◌++◌, length, take, drop, map, Some}
+use Rattle.std.proofs.Common.{slice_get, refl, sym, ap, subst, ◌∙◌, append_assoc, arith}
 use Rattle.std.specs.List.{flat_map}
 use Rattle.std.specs.Int.{w8, w16, w32, w64}
 use Rattle.std.proofs.lemmas.List.{length-append}
@@ -15,19 +16,25 @@ use Rattle.ft_types.specs.declared.object.Cell.{Cell}
 use Rattle.ft_types.specs.Objects.{name_of}
 use Rattle.ft_format.specs.declared.version.Version.{Version}
 use Rattle.ft_format.specs.Versions.{magic}
-use Rattle.ft_format.specs.Layout.{bytes_of, written, spelled, header_layout, cell_layout, code_layout, type_layout, reg_layout, pair_layout, subst_layout}
+use Rattle.ft_format.specs.Layout.{bytes_of, written, spelled, header_layout, cell_layout, code_layout, type_layout}
+use Rattle.ft_format.specs.Layout.{reg_layout, pair_layout, subst_layout}
 use Rattle.ft_types.specs.NodeRows.{node_row}
-use Rattle.ft_format.specs.Rows.{base_code, base_type, cell_row, cell_rows, type_rows, reg_row, queue_row, block_row, instr_row, subst_row, all_regs, all_queue, all_names, spelling}
+use Rattle.ft_format.specs.Rows.{base_code, base_type, cell_row, cell_rows, type_rows, reg_row, queue_row, block_row}
+use Rattle.ft_format.specs.Rows.{instr_row, subst_row, all_regs, all_queue, all_names, spelling}
 use Rattle.ft_embed.specs.Cells.{begun_with, with_word, object_with_word}
 
 -- LISTS
 
 -- a list in three parts whose middle one is replaced
-replaced : (before middle after new : List ℕ) (at : ℕ) → length before ≡ at → length middle ≡ 8 → take at (before ++ (middle ++ after)) ++ (new ++ drop (at + 8) (before ++ (middle ++ after))) ≡ before ++ (new ++ after)
+replaced : (before middle after new : List ℕ) (at : ℕ) → length before ≡ at → length middle ≡ 8 →
+    take at (before ++ (middle ++ after)) ++ (new ++ drop (at + 8) (before ++ (middle ++ after))) ≡ before
+    ++ (new ++ after)
 replaced before middle after new at a m =
     let whole : List ℕ = before ++ (middle ++ after) in
     let t : take at whole ≡ before = ap (λ n. take n whole) (sym a) ∙ take-append_seam before (middle ++ after) in
-    let d : drop (at + 8) whole ≡ after = ap (λ n. drop (n + 8) whole) (sym a) ∙ drop-append-add before (middle ++ after) 8 ∙ ap (λ n. drop n (middle ++ after)) (sym m) ∙ drop-append_seam middle after in
+    let d : drop (at + 8) whole ≡ after = ap (λ n. drop (n + 8) whole) (sym a)
+    ∙ drop-append-add before (middle ++ after) 8 ∙ ap (λ n. drop n (middle ++ after)) (sym m)
+    ∙ drop-append_seam middle after in
     ap (λ l. l ++ (new ++ drop (at + 8) whole)) t ∙ ap (λ l. before ++ (new ++ l)) d
 
 regroup : (h b i a r : List ℕ) → h ++ ((b ++ (i ++ a)) ++ r) ≡ (h ++ b) ++ (i ++ (a ++ r))
@@ -45,14 +52,16 @@ record Cut (start k : ℕ) (cs : List Cell) (c : Cell) : Type 0 where
 
 -- the first half of a cell's record
 abbrev head_bytes : ℕ → Cell → List ℕ
-head_bytes past c = bytes_of w32 past ++ (bytes_of w8 c.basic.refs ++ (bytes_of w8 (base_code c.basic.base) ++ bytes_of w16 (base_type c.basic.base)))
+head_bytes past c = bytes_of w32 past ++ (bytes_of w8 c.basic.refs
+    ++ (bytes_of w8 (base_code c.basic.base) ++ bytes_of w16 (base_type c.basic.base)))
 
 length_head : (past : ℕ) (c : Cell) → length (head_bytes past c) ≡ 8
 unfolding bytes_of
 length_head past c = refl
 
 -- a cell's record in its halves
-halves : (past : ℕ) (c : Cell) (rest : List ℕ) → written cell_layout (cell_row past c) ++ rest ≡ head_bytes past c ++ (bytes_of w64 c.init ++ rest)
+halves : (past : ℕ) (c : Cell) (rest : List ℕ) → written cell_layout (cell_row past c) ++ rest ≡ head_bytes past c
+    ++ (bytes_of w64 c.init ++ rest)
 unfolding bytes_of written
 halves past c rest = refl
 
@@ -64,7 +73,13 @@ cut_here : (start : ℕ) (c : Cell) (cs : List Cell) → Cut start 0 (c ∷ cs) 
 cut_here start c cs =
     let past = start + length c.name in
     let rest = spelled cell_layout (cell_rows past cs) in
-    record { before = head_bytes past c; after = rest; long = length_head past c; old = halves past c rest; new = λ w. halves past (begun_with c w) rest }
+    record {
+      before = head_bytes past c;
+      after = rest;
+      long = length_head past c;
+      old = halves past c rest;
+      new = λ w. halves past (begun_with c w) rest;
+    }
 
 cut_at : (start k : ℕ) (cs : List Cell) (c : Cell) → slice_get cs k ≡ Some c → Cut start k cs c
 cut_at start k [] c e = absurd (cc)
@@ -104,7 +119,8 @@ length_kept (c ∷ cs) (suc k) w = ap suc (length_kept cs k w)
 -- the header, by how many cells and name bytes there are
 abbrev header_by : Version → Object → ℕ → ℕ → List ℕ
 header_by v o cells names =
-    written header_layout (magic v ∷ cells ∷ length o.nodes ∷ length o.types ∷ length (all_regs o) ∷ length (all_queue o)
+    written header_layout (magic v ∷ cells ∷ length o.nodes ∷ length o.types ∷ length (all_regs o) ∷ length
+    (all_queue o)
     ∷ length o.blocks ∷ length o.instrs ∷ length o.substs ∷ names ∷ o.entry ∷ [])
 
 length_header : (v : Version) (o : Object) (cells names : ℕ) → length (header_by v o cells names) ≡ 48
@@ -123,7 +139,8 @@ after_cells o names =
     ++ (spelled subst_layout (map subst_row o.substs)
     ++ names))))))
 
-in_parts : (v : Version) (o : Object) → spelling v o ≡ header_by v o (length o.cells) (length (all_names o)) ++ (spelled cell_layout (cell_rows 0 o.cells) ++ after_cells o (all_names o))
+in_parts : (v : Version) (o : Object) → spelling v o ≡ header_by v o (length o.cells) (length (all_names o))
+    ++ (spelled cell_layout (cell_rows 0 o.cells) ++ after_cells o (all_names o))
 unfolding spelling
 in_parts v o = refl
 
@@ -148,29 +165,40 @@ cut_whole v o k c e =
       before = header ++ r.before;
       after = r.after ++ rest;
       long = omega (arith, l, m, n);
-      old = in_parts v o ∙ ap (λ t. header ++ (t ++ rest)) r.old ∙ regroup header r.before (bytes_of w64 c.init) r.after rest;
+      old = in_parts v o ∙ ap (λ t. header ++ (t ++ rest)) r.old
+          ∙ regroup header r.before (bytes_of w64 c.init) r.after rest;
       new = λ w.
           let s = object_with_word o k w in
           let same = name_bytes_kept o.cells k w in
           in_parts v s
-          ∙ ap (λ ns. header_by v o (length s.cells) (length ns) ++ (spelled cell_layout (cell_rows 0 s.cells) ++ after_cells o ns)) same
-          ∙ ap (λ t. header_by v o t (length names) ++ (spelled cell_layout (cell_rows 0 s.cells) ++ rest)) (length_kept o.cells k w)
+          ∙ ap (λ ns. header_by v o (length s.cells) (length ns)
+          ++ (spelled cell_layout (cell_rows 0 s.cells) ++ after_cells o ns)) same
+          ∙ ap (λ t. header_by v o t (length names) ++ (spelled cell_layout (cell_rows 0 s.cells) ++ rest))
+          (length_kept o.cells k w)
           ∙ ap (λ t. header ++ (t ++ rest)) (r.new w) ∙ regroup header r.before (bytes_of w64 w) r.after rest;
     }
 
 -- THE RULES OF THE FORMAT
 
-all_set : (P : Cell → Type 0) (cs : List Cell) (k w : ℕ) → ((c : Cell) → P c → P (begun_with c w)) → All P cs → All P (with_word cs k w)
+all_set : (P : Cell → Type 0) (cs : List Cell) (k w : ℕ) → ((c : Cell) → P c → P (begun_with c w)) → All P cs →
+    All P (with_word cs k w)
 all_set P [] k w keeps h = h
-all_set P (c ∷ cs) zero w keeps h = All-cons P (begun_with c w) cs (keeps c (h 0 c (omega arith))) (λ j d lt. h (suc j) d (omega arith))
-all_set P (c ∷ cs) (suc k) w keeps h = All-cons P c (with_word cs k w) (h 0 c (omega arith)) (all_set P cs k w keeps (λ j d lt. h (suc j) d (omega arith)))
+all_set P (c ∷ cs) zero w keeps h = All-cons P (begun_with c w) cs (keeps c (h 0 c (omega arith))) (λ j d lt.
+    h (suc j) d (omega arith))
+all_set P (c ∷ cs) (suc k) w keeps h = All-cons P c (with_word cs k w) (h 0 c (omega arith))
+    (all_set P cs k w keeps (λ j d lt. h (suc j) d (omega arith)))
 
 spellable_set : (o : Object) (k w : ℕ) → IsWord w → IsSpellable o → IsSpellable (object_with_word o k w)
 spellable_set o k w word h =
     let l = length_kept o.cells k w in
     record {
       few_cells = (let g = h.few_cells in omega (arith, l, g));
-      cells = all_set (IsCell (length o.types)) o.cells k w (λ c r. record { name = r.name; name_length = r.name_length; basic = r.basic; init = word }) h.cells;
+      cells = all_set (IsCell (length o.types)) o.cells k w (λ c r. record {
+        name = r.name;
+        name_length = r.name_length;
+        basic = r.basic;
+        init = word;
+      }) h.cells;
       names_differ = subst (AllPairs (λ x y. x ≢ y)) (sym (names_kept o.cells k w)) h.names_differ;
       nodes = h.nodes;
       some_type = h.some_type;
@@ -205,7 +233,8 @@ unfolding bytes_of
 length_word w = refl
 
 -- the word of a cell that is there stands among the bytes
-pub word_there : (bytes : List ℕ) (v : Version) (o : Object) (k : ℕ) (c : Cell) → Spells bytes v o → slice_get o.cells k ≡ Some c → 56 + 16 * k + 8 ≤ length bytes
+pub word_there : (bytes : List ℕ) (v : Version) (o : Object) (k : ℕ) (c : Cell) → Spells bytes v o → slice_get o.cells k
+    ≡ Some c → 56 + 16 * k + 8 ≤ length bytes
 word_there bytes v o k c h e =
     let r = cut_whole v o k c e in
     let whole = ap length (h.spelled ∙ r.old) in
@@ -216,8 +245,10 @@ word_there bytes v o k c h e =
     omega (arith, whole, a, b, m, n)
 
 -- bytes of which the word of cell k is replaced spell the object with this word
-pub spells_set : (old new : List ℕ) (v : Version) (o : Object) (k w : ℕ) (c : Cell) → IsWord w → Spells old v o → slice_get o.cells k ≡ Some c
-    → new ≡ take (56 + 16 * k) old ++ (bytes_of w64 w ++ drop (56 + 16 * k + 8) old) → Spells new v (object_with_word o k w)
+pub spells_set : (old new : List ℕ) (v : Version) (o : Object) (k w : ℕ) (c : Cell) → IsWord w → Spells old v o →
+    slice_get o.cells k ≡ Some c
+    → new ≡ take (56 + 16 * k) old ++ (bytes_of w64 w ++ drop (56 + 16 * k + 8) old) →
+    Spells new v (object_with_word o k w)
 spells_set old new v o k w c word h e is =
     let r = cut_whole v o k c e in
     let at = 56 + 16 * k in
@@ -226,5 +257,6 @@ spells_set old new v o k w c word h e is =
       spellable = spellable_set o k w word h.spellable;
       has = supports_set v o k w h.has;
       spelled = is ∙ ap (λ l. take at l ++ (bytes_of w64 w ++ drop (at + 8) l)) from
-          ∙ replaced r.before (bytes_of w64 c.init) r.after (bytes_of w64 w) at r.long (length_word c.init) ∙ sym (r.new w);
+          ∙ replaced r.before (bytes_of w64 c.init) r.after (bytes_of w64 w) at r.long (length_word c.init)
+          ∙ sym (r.new w);
     }

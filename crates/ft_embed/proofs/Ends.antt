@@ -1,5 +1,6 @@
 -- How runs end.
-use Rattle.std.proofs.Common.{◌≡◌, ◌≢◌, ◌⊎◌, inl, inr, ℕ, ◌-◌, ◌<◌, ◌≤◌, List, length, Option, None, refl, ap, sym, subst, ◌∙◌, arith}
+use Rattle.std.proofs.Common.{◌≡◌, ◌≢◌, ◌⊎◌, inl, inr, ℕ, ◌<◌, ◌≤◌, List, length, Option, None, refl, ap, sym, subst}
+use Rattle.std.proofs.Common.{arith}
 use Rattle.ft_isa.specs.declared.plan.Strike.{Strike}
 use Rattle.ft_types.specs.declared.object.Object.{Object}
 use Rattle.ft_types.specs.Spellable.{IsSpellable}
@@ -10,9 +11,8 @@ use Rattle.ft_format.specs.Format.{Spells}
 use Rattle.ft_format.specs.Broken.{object_of, version_at}
 use Rattle.ft_semantics.specs.declared.status.Status.{Status}
 use Rattle.ft_semantics.specs.declared.status.Status.TheVariants.{Running, Done, Detected}
-use Rattle.ft_semantics.specs.Run.{Ran, run, outputs_after, status_after}
-use Rattle.ft_machine.proofs.Spanned.{rest_of}
-use Rattle.ft_machine.proofs.Runs.{HasStopped, run_stopped}
+use Rattle.ft_semantics.specs.Run.{Ran, outputs_after, status_after}
+use Rattle.ft_semantics.proofs.Runs.{HasStopped, run_stays}
 use Rattle.ft_tolerance.proofs.Masking.{tolerant}
 use Rattle.ft_tolerance.proofs.Whole.{never_detected}
 use Rattle.ft_embed.specs.declared.filling.CellOutput.{CellOutput}
@@ -31,26 +31,36 @@ cut_at steps taken count room s is all = cut refl is all
 no_room : (count room : ℕ) → count ≤ room → (count < room → ⊥) → count ≡ room
 no_room count room le none = omega (arith, le, none)
 
-pub full_at : (steps taken count room : ℕ) (s : Status) → s ≡ Running → (taken ≡ steps → ⊥) → count ≤ room → (s ≡ Running → count < room → taken ≡ steps) → Ends 14 steps taken count room s
-full_at steps taken count room s is other le all = full refl is (no_room count room le (λ less. other (all is less)))
+pub full_at : (steps taken count room : ℕ) (s : Status) → s ≡ Running → (taken ≡ steps → ⊥) → count ≤ room →
+    taken ≤ steps → (s ≡ Running → count < room → taken ≡ steps) → Ends 14 steps taken count room s
+full_at steps taken count room s is other le few all =
+    full refl is (no_room count room le (λ less. other (all is less))) (omega (arith, other, few))
 
 -- a run that has stopped is the run of all steps
-pub stopped_all : (o : Object) (strike : Option Strike) (w : List Wild) (n m : ℕ) → n ≤ m → HasStopped (status_after o strike w n) → SameAfter o strike w n m
+pub stopped_all : (o : Object) (strike : Option Strike) (w : List Wild) (n m : ℕ) → n ≤ m →
+    HasStopped (status_after o strike w n) → SameAfter o strike w n m
 stopped_all o strike w n m le h =
-    let same = sym (run_stopped o strike w n (m - n) h) ∙ ap (run o strike w) (rest_of n m le) in
+    let same = sym (run_stays o strike w n m le h) in
     record { outputs = ap (λ (r : Ran). r.outputs) same; status = ap (λ (r : Ran). r.state.status) same }
 
-pub all_of : (o : Object) (strike : Option Strike) (w : List Wild) (steps status taken count room : ℕ) → taken ≤ steps → Ends status steps taken count room (status_after o strike w taken) → status ≢ 14 → SameAfter o strike w taken steps
-all_of o strike w steps status taken count room le (done is s) other = stopped_all o strike w taken steps le (subst HasStopped (sym s) tt)
-all_of o strike w steps status taken count room le (detected is s) other = stopped_all o strike w taken steps le (subst HasStopped (sym s) tt)
-all_of o strike w steps status taken count room le (cut is s all) other = record { outputs = ap (outputs_after o strike w) all; status = ap (status_after o strike w) all }
-all_of o strike w steps status taken count room le (full is s all) other = absurd (other is)
+pub all_of : (o : Object) (strike : Option Strike) (w : List Wild) (steps status taken count room : ℕ) → taken ≤ steps →
+    Ends status steps taken count room (status_after o strike w taken) → status ≢ 14 → SameAfter o strike w taken steps
+all_of o strike w steps status taken count room le (done is s) other =
+    stopped_all o strike w taken steps le (subst HasStopped (sym s) tt)
+all_of o strike w steps status taken count room le (detected is s) other =
+    stopped_all o strike w taken steps le (subst HasStopped (sym s) tt)
+all_of o strike w steps status taken count room le (cut is s all) other =
+    record { outputs = ap (outputs_after o strike w) all; status = ap (status_after o strike w) all }
+all_of o strike w steps status taken count room le (full is s all left) other = absurd (other is)
 
 -- a run that was taken so far, of an accepted object
-pub runs_into : (o : Object) (strike : Option Strike) (w : List Wild) (steps status taken count : ℕ) (s : Status) (new : List CellOutput) → IsSpellable o → IsAccepted o → Takes o strike w steps taken s count new
-    → ((count room : ℕ) → count ≤ room → (s ≡ Running → count < room → taken ≡ steps) → Ends status steps taken count room s) → RunsInto o strike w steps status taken count new
+pub runs_into : (o : Object) (strike : Option Strike) (w : List Wild) (steps status taken count : ℕ) (s : Status)
+    (new : List CellOutput) → IsSpellable o → IsAccepted o → Takes o strike w steps taken s count new
+    → ((count room : ℕ) → count ≤ room → taken ≤ steps → (s ≡ Running → count < room → taken ≡ steps) →
+    Ends status steps taken count room s) → RunsInto o strike w steps status taken count new
 runs_into o strike w steps status taken count s new spellable accepted a ends =
-    let e = subst (Ends status steps taken count (length new)) a.status_is (ends count (length new) a.within a.all) in
+    let e = subst (Ends status steps taken count (length new)) a.status_is
+    (ends count (length new) a.within a.few a.all) in
     record {
       few = a.few;
       within = a.within;
@@ -58,13 +68,18 @@ runs_into o strike w steps status taken count s new spellable accepted a ends =
       ends = e;
       agrees = tolerant o strike w taken spellable accepted;
       all = all_of o strike w steps status taken count (length new) a.few e;
+      before = a.before;
     }
 
 -- bytes that were run
-pub runs_file : (bytes view fault wild : List ℕ) (strike : Option Strike) (w : List Wild) (steps status taken count : ℕ) (new : List CellOutput) → view ≡ bytes → Spells bytes (version_at bytes) (object_of view) → IsAccepted (object_of view) → IsFault fault strike → AreAnswers wild w
-    → RunsInto (object_of view) strike w steps status taken count new → RunsFile bytes fault wild steps status taken count new
+pub runs_file : (bytes view fault wild : List ℕ) (strike : Option Strike) (w : List Wild) (steps status taken count : ℕ)
+    (new : List CellOutput) → view ≡ bytes → Spells bytes (version_at bytes) (object_of view) →
+    IsAccepted (object_of view) → IsFault fault strike → AreAnswers wild w
+    → RunsInto (object_of view) strike w steps status taken count new →
+    RunsFile bytes fault wild steps status taken count new
 runs_file bytes view fault wild strike w steps status taken count new same spelled accepted is are runs =
-    let spelled' : Spells bytes (version_at bytes) (object_of bytes) = subst (λ v. Spells bytes (version_at bytes) (object_of v)) same spelled in
+    let spelled' : Spells bytes (version_at bytes) (object_of bytes) =
+    subst (λ v. Spells bytes (version_at bytes) (object_of v)) same spelled in
     let accepted' : IsAccepted (object_of bytes) = subst (λ v. IsAccepted (object_of v)) same accepted in
     record {
       file = record { spelled = spelled'; accepted = accepted' };

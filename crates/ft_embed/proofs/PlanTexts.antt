@@ -25,11 +25,13 @@ empty_answers (x ∷ xs) h = absurd (some_length (length xs) h)
 pub these : (text : List ℕ) (answers : List Wild) → IsWildText text answers → AreAnswers text answers
 these text answers h = these_answers h
 
-form_or_memory : (text : List ℕ) (e : WildError) → e ≢ NoMemory → IsWildError text e → (answers : List Wild) → IsWildText text answers → ⊥
+form_or_memory : (text : List ℕ) (e : WildError) → e ≢ NoMemory → IsWildError text e → (answers : List Wild) →
+    IsWildText text answers → ⊥
 form_or_memory text (Form at) named h answers = h.none answers
 form_or_memory text NoMemory named h answers = absurd (named refl)
 
 -- a text that is not empty, and is refused, says no answers
-pub none_said : (text : List ℕ) (e : WildError) (answers : List Wild) → (length text ≡ 0 → ⊥) → e ≢ NoMemory → IsWildError text e → AreAnswers text answers → ⊥
+pub none_said : (text : List ℕ) (e : WildError) (answers : List Wild) → (length text ≡ 0 → ⊥) → e ≢ NoMemory →
+    IsWildError text e → AreAnswers text answers → ⊥
 none_said text e answers some named h (no_answers is) = some (ap length is)
 none_said text e answers some named h (these_answers is) = form_or_memory text e named h answers is

@@ -11,7 +11,8 @@ use Rattle.ft_embed.proofs.CellBytes.{word_there, spells_set}
 use Rattle.ft_embed.proofs.OtherWords.{accepted_set, accepted_before}
 
 -- the word of a cell is replaced
-pub is_set : (old new : List ℕ) (k w : ℕ) → IsWord w → HasIntCell old k → new ≡ take (56 + 16 * k) old ++ (bytes_of w64 w ++ drop (56 + 16 * k + 8) old) → IsSet old new k w
+pub is_set : (old new : List ℕ) (k w : ℕ) → IsWord w → HasIntCell old k → new ≡ take (56 + 16 * k) old
+    ++ (bytes_of w64 w ++ drop (56 + 16 * k + 8) old) → IsSet old new k w
 is_set old new k w word h is =
     let o = object_of old in
     let v = version_at old in

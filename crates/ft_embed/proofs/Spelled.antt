@@ -16,23 +16,29 @@ module _ (bytes view : List ℕ) (same : view ≡ bytes) (spells : Spells bytes 
   no_cell k none = record { spelled = spelled; none = subst (λ v. length (object_of v).cells ≤ k) same none }
 
   module _ (old new : List ℕ) (made status : ℕ) where
-    pub given_text : Given (λ text. text ≡ text_of (object_of view)) old new made status → Given (IsText bytes) old new made status
+    pub given_text : Given (λ text. text ≡ text_of (object_of view)) old new made status →
+        Given (IsText bytes) old new made status
     given_text h = record {
       bytes = h.bytes;
       holds = record { spelled = spelled; is = h.holds ∙ ap (λ v. text_of (object_of v)) same };
       handed = h.handed;
     }
 
-    pub given_name : (k : ℕ) → Given (IsCellName (object_of view) k) old new made status → Given (IsNameOf bytes k) old new made status
+    pub given_name : (k : ℕ) → Given (IsCellName (object_of view) k) old new made status →
+        Given (IsNameOf bytes k) old new made status
     given_name k h = record {
       bytes = h.bytes;
       holds = record { spelled = spelled; is = subst (λ v. IsCellName (object_of v) k h.bytes) same h.holds };
       handed = h.handed;
     }
 
-    pub given_schedule : IsAccepted (object_of view) → Given (IsScheduleOf (object_of view)) old new made status → Given (IsScheduleOfFile bytes) old new made status
+    pub given_schedule : IsAccepted (object_of view) → Given (IsScheduleOf (object_of view)) old new made status →
+        Given (IsScheduleOfFile bytes) old new made status
     given_schedule accepted h = record {
       bytes = h.bytes;
-      holds = record { file = accepted_file bytes view same spells accepted; is = subst (λ v. IsScheduleOf (object_of v) h.bytes) same h.holds };
+      holds = record {
+        file = accepted_file bytes view same spells accepted;
+        is = subst (λ v. IsScheduleOf (object_of v) h.bytes) same h.holds;
+      };
       handed = h.handed;
     }

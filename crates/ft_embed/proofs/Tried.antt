@@ -20,23 +20,30 @@ use Rattle.ft_embed.specs.declared.trial.FaultVerdict.{FaultVerdict}
 use Rattle.ft_embed.specs.declared.trial.FaultTotals.{FaultTotals}
 use Rattle.ft_embed.specs.Plans.{AreAnswers}
 use Rattle.ft_embed.specs.Verdicts.{IsAcceptedFile}
-use Rattle.ft_embed.specs.Trials.{fault_verdict, fault_totals, Tries, TriesFile, TriesList, IsListRefused, bad_line, too_much, told_list}
+use Rattle.ft_embed.specs.Trials.{fault_verdict, fault_totals, Tries, TriesFile, TriesList, IsListRefused, bad_line}
+use Rattle.ft_embed.specs.Trials.{too_much, told_list}
 
 -- a line that is no fault
-pub list_line : (list : List ℕ) (steps : ℕ) (error : ListError) (line : ℕ) → error ≡ lists.Line line → IsListError list error → IsListRefused list steps (told_list 1 line)
+pub list_line : (list : List ℕ) (steps : ℕ) (error : ListError) (line : ℕ) → error ≡ lists.Line line →
+    IsListError list error → IsListRefused list steps (told_list 1 line)
 list_line list steps error line is h = bad_line line (subst (IsListError list) is h) refl
 
 -- too many steps in all
-pub list_much : (list : List ℕ) (faults : List Strike) (steps count : ℕ) → IsFaultList list faults → count ≡ length faults → 1000000000 < count * steps → IsListRefused list steps (told_list 3 (count * steps))
-list_much list faults steps count h is above = too_much faults h (subst (λ n. 1000000000 < n * steps) is above) (ap (λ n. told_list 3 (n * steps)) is)
+pub list_much : (list : List ℕ) (faults : List Strike) (steps count : ℕ) → IsFaultList list faults → count
+    ≡ length faults → 1000000000 < count * steps → IsListRefused list steps (told_list 3 (count * steps))
+list_much list faults steps count h is above = too_much faults h (subst (λ n. 1000000000 < n * steps) is above)
+    (ap (λ n. told_list 3 (n * steps)) is)
 
 -- how many verdicts there are
-pub as_many : (o : Object) (faults : List Strike) (w : List Wild) (steps : ℕ) (found : List Verdict) → AreVerdicts o faults w steps found → length found ≡ length faults
+pub as_many : (o : Object) (faults : List Strike) (w : List Wild) (steps : ℕ) (found : List Verdict) →
+    AreVerdicts o faults w steps found → length found ≡ length faults
 as_many o faults w steps found h = AllZip-long _ faults found h
 
 -- the verdicts of an accepted object's faults stand in an array
-pub tried : (o : Object) (faults : List Strike) (w : List Wild) (steps : ℕ) (found : List Verdict) (old new : List FaultVerdict) → IsSpellable o → IsAccepted o → AreVerdicts o faults w steps found
-    → length faults ≤ length old → length new ≡ length old → take (length found) new ≡ map fault_verdict found → Tries o faults w steps (fault_totals (length faults) (totals_of found)) new
+pub tried : (o : Object) (faults : List Strike) (w : List Wild) (steps : ℕ) (found : List Verdict)
+    (old new : List FaultVerdict) → IsSpellable o → IsAccepted o → AreVerdicts o faults w steps found
+    → length faults ≤ length old → length new ≡ length old → take (length found) new ≡ map fault_verdict found →
+    Tries o faults w steps (fault_totals (length faults) (totals_of found)) new
 tried o faults w steps found old new spellable accepted verdicts room same stand = record {
   found = found;
   verdicts = verdicts;
@@ -47,15 +54,19 @@ tried o faults w steps found old new spellable accepted verdicts room same stand
 }
 
 -- bytes whose object is accepted
-pub accepted_file : (bytes view : List ℕ) → view ≡ bytes → Spells bytes (version_at bytes) (object_of view) → IsAccepted (object_of view) → IsAcceptedFile bytes
+pub accepted_file : (bytes view : List ℕ) → view ≡ bytes → Spells bytes (version_at bytes) (object_of view) →
+    IsAccepted (object_of view) → IsAcceptedFile bytes
 accepted_file bytes view same spelled accepted = record {
   spelled = subst (λ v. Spells bytes (version_at bytes) (object_of v)) same spelled;
   accepted = subst (λ v. IsAccepted (object_of v)) same accepted;
 }
 
 -- the faults of a text were tried on the object of bytes
-pub tries_file : (bytes view list wild : List ℕ) (w : List Wild) (steps : ℕ) (totals : FaultTotals) (new : List FaultVerdict) → view ≡ bytes → Spells bytes (version_at bytes) (object_of view) → IsAccepted (object_of view)
-    → steps ≤ 1000000 → AreAnswers wild w → TriesList (object_of view) list w steps totals new → TriesFile bytes list wild steps totals new
+pub tries_file : (bytes view list wild : List ℕ) (w : List Wild) (steps : ℕ) (totals : FaultTotals)
+    (new : List FaultVerdict) → view ≡ bytes → Spells bytes (version_at bytes) (object_of view) →
+    IsAccepted (object_of view)
+    → steps ≤ 1000000 → AreAnswers wild w → TriesList (object_of view) list w steps totals new →
+    TriesFile bytes list wild steps totals new
 tries_file bytes view list wild w steps totals new same spelled accepted few are tries =
     let file = accepted_file bytes view same spelled accepted in
     record {

@@ -127,17 +127,22 @@ pub data IsUnlinked (given : List Module) (text : List ℕ) (u : Unlinked) : Typ
   ends_at_end : (linkage : LinkMap) → IsMap text linkage → (modules : List Object) → AddsAll given [] linkage.files modules
       → (r : LinkRefusal) → refusal_of linkage modules ≡ Some r → u ≡ unlinked r → IsUnlinked given text u
 
--- these bytes are the object that the map links of the modules, in version 2 of the format. It is accepted; without a
--- fault it runs as the modules do, and with one it does, too, or is detected
+-- these bytes are what a map links of modules that were added, in version 2 of the format. It is accepted; without a
+-- fault it
+-- runs as the modules do, and with one it does, too, or is detected
+pub record IsLinkedAll (linkage : LinkMap) (modules : List Object) (bytes : List ℕ) : Type 0 where
+  pub unrefused : refusal_of linkage modules ≡ None
+  pub object : Object
+  pub linked : IsLinked linkage modules object
+  pub spelled : Spells bytes Second object
+
+-- these bytes are what the map that the text is links of the modules that it names
 pub record IsLinkedOf (given : List Module) (text bytes : List ℕ) : Type 0 where
   pub linkage : LinkMap
   pub is_map : IsMap text linkage
   pub modules : List Object
   pub added : AddsAll given [] linkage.files modules
-  pub unrefused : refusal_of linkage modules ≡ None
-  pub object : Object
-  pub linked : IsLinked linkage modules object
-  pub spelled : Spells bytes Second object
+  pub all : IsLinkedAll linkage modules bytes
 
 -- FOR THE CODE
 
@@ -162,18 +167,6 @@ pub record IsAddedTo (given : List Module) (modules : List Object) (name : List 
   pub object : Object
   pub is : IsAdded given modules name object
   pub added : modules' ≡ modules ++ object ∷ []
-
--- modules that were added are linked, or are not: private to the code
-pub record IsLinkedAll (linkage : LinkMap) (modules : List Object) (bytes : List ℕ) : Type 0 where
-  pub unrefused : refusal_of linkage modules ≡ None
-  pub object : Object
-  pub linked : IsLinked linkage modules object
-  pub spelled : Spells bytes Second object
-
-pub record IsUnlinkedAll (linkage : LinkMap) (modules : List Object) (u : Unlinked) : Type 0 where
-  pub reason : LinkRefusal
-  pub refused : refusal_of linkage modules ≡ Some reason
-  pub unlinked_is : u ≡ unlinked reason
 
 -- these modules of a map were added; what the rest of its files comes to, all of its files come to: private to the code
 pub record HasAdded (given : List Module) (linkage : LinkMap) (modules : List Object) (rest : List (List ℕ)) : Type 0 where

@@ -1,5 +1,5 @@
 -- Outputs in an array of the caller.
-use Rattle.std.specs.Prelude.{◌≡◌, ◌≢◌, ℕ, ◌-◌, ◌<◌, ◌≤◌, List, ◌++◌, length, take, map, Option, None}
+use Rattle.std.specs.Prelude.{◌≡◌, ◌≢◌, ℕ, ◌+◌, ◌-◌, ◌<◌, ◌≤◌, List, ◌++◌, length, take, map, Option, None}
 use Rattle.ft_isa.specs.declared.output.Output.{Output}
 use Rattle.ft_isa.specs.declared.plan.Strike.{Strike}
 use Rattle.ft_isa.specs.declared.plan.Wild.{Wild}
@@ -30,11 +30,28 @@ GoesToCell (stepped.Commit output) = 1048576 ≤ output.addr
 GoesToCell stepped.Done = Unit {0}
 GoesToCell stepped.Detected = Unit {0}
 
--- n steps from a state on were taken, and their outputs stand in an array after those that stood there: private to the code
+-- a run with this status, of which so many outputs stand in an array with this much room, may take a step: it has not
+-- stopped, and the array is not full
+pub record MayGoOn (status : Status) (count room : ℕ) : Type 0 where
+  pub running : status ≡ Running
+  pub free : count < room
+
+-- n steps from a state on were taken, each only where there was room for one more output, and their outputs stand in an
+-- array
+-- after those that stood there: private to the code
 pub record Fills (o : Object) (s : State) (w : List Wild) (n : ℕ) (s' : State) (w' : List Wild) (from count : ℕ) (old new : List CellOutput) : Type 0 where
   pub state_is : s' ≡ (span o n s w).state
   pub wild_is : w' ≡ (span o n s w).wild
   pub outputs : take count new ≡ take from old ++ map cell_output (span o n s w).outputs
+  pub count_is : count ≡ from + length (span o n s w).outputs
+  pub before : (j : ℕ) → j < n → MayGoOn (span o j s w).state.status (from + length (span o j s w).outputs) (length old)
+
+-- a run under a plan might take each of so many steps: before it the run had not stopped, and its outputs left room in
+-- an
+-- array. So it took no step after its end, nor one after the array was full
+abbrev pub GoesUntil : Object → Option Strike → List Wild → ℕ → ℕ → Type 0
+GoesUntil o strike w taken room = (n : ℕ) → n < taken →
+    MayGoOn (status_after o strike w n) (length (outputs_after o strike w n)) room
 
 -- a run under a plan was taken for so many of at most `steps` steps: it has this status, and its outputs stand in the array;
 -- a run that goes on took all steps, or the array is full: private to the code
@@ -44,21 +61,25 @@ pub record Takes (o : Object) (strike : Option Strike) (w : List Wild) (steps ta
   pub outputs : take count new ≡ map cell_output (outputs_after o strike w taken)
   pub status_is : status ≡ status_after o strike w taken
   pub all : status ≡ Running → count < length new → taken ≡ steps
+  pub before : GoesUntil o strike w taken (length new)
 
--- why a run of at most so many steps took no more: it is done; it is detected; it took them all; or the array is full
+-- why a run of at most so many steps took no more: it is done; it is detected; it took them all; or it did not, and the
+-- array
+-- is full
 pub data Ends (status steps taken count room : ℕ) (s : Status) : Type 0 where
   done : status ≡ 0 → s ≡ Done → Ends status steps taken count room s
   detected : status ≡ 1 → s ≡ Detected → Ends status steps taken count room s
   cut : status ≡ 9 → s ≡ Running → taken ≡ steps → Ends status steps taken count room s
-  full : status ≡ 14 → s ≡ Running → count ≡ room → Ends status steps taken count room s
+  full : status ≡ 14 → s ≡ Running → count ≡ room → taken < steps → Ends status steps taken count room s
 
 -- two numbers of steps after which the outputs and the status of a run under a plan are the same
 pub record SameAfter (o : Object) (strike : Option Strike) (w : List Wild) (n m : ℕ) : Type 0 where
   pub outputs : outputs_after o strike w n ≡ outputs_after o strike w m
   pub status : status_after o strike w n ≡ status_after o strike w m
 
--- a run under a plan was taken for so many of at most `steps` steps: its outputs stand in the array, and one fault is masked
--- or detected. Where it ended otherwise than with a full array, it is the run of all the steps
+-- a run under a plan was taken for so many of at most `steps` steps, and no step beyond its end: its outputs stand in
+-- the array,
+-- and one fault is masked or detected. Where it ended otherwise than with a full array, it is the run of all the steps
 pub record RunsInto (o : Object) (strike : Option Strike) (w : List Wild) (steps status taken count : ℕ) (new : List CellOutput) : Type 0 where
   pub few : taken ≤ steps
   pub within : count ≤ length new
@@ -66,6 +87,7 @@ pub record RunsInto (o : Object) (strike : Option Strike) (w : List Wild) (steps
   pub ends : Ends status steps taken count (length new) (status_after o strike w taken)
   pub agrees : Agrees (outputs_after o strike w taken) (status_after o strike w taken) (outputs_after o None w taken) (status_after o None w taken)
   pub all : status ≢ 14 → SameAfter o strike w taken steps
+  pub before : GoesUntil o strike w taken (length new)
 
 -- what is told where nothing was run
 abbrev pub not_begun : Ran

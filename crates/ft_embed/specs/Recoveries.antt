@@ -9,7 +9,7 @@ use Rattle.ft_tolerance.specs.Soundness.{IsNeverDetected}
 use Rattle.ft_format.specs.Broken.{object_of}
 use Rattle.ft_recover.specs.Recovery.{restart_output}
 use Rattle.ft_embed.specs.declared.filling.CellOutput.{CellOutput}
-use Rattle.ft_embed.specs.Outputs.{cell_output, Ends, SameAfter}
+use Rattle.ft_embed.specs.Outputs.{cell_output, Ends, GoesUntil, SameAfter}
 use Rattle.ft_embed.specs.Plans.{IsFault, AreAnswers}
 use Rattle.ft_embed.specs.Verdicts.{IsAcceptedFile}
 
@@ -18,13 +18,15 @@ abbrev pub IsRestart : Option ℕ → ℕ → ℕ → Type 0
 IsRestart None restarts again = (restarts ≡ 0) × (again ≡ 0)
 IsRestart (Some n) restarts again = (restarts ≡ 1) × (again ≡ n)
 
--- a run under a plan took all steps, or as many as it could before it stopped or its outputs filled the room; where it was
--- detected, it is begun again
+-- a run under a plan took all steps, or as many as it could before it stopped or its outputs filled the room, and no
+-- more; where
+-- it was detected, it is begun again
 pub record FirstRun (o : Object) (strike : Option Strike) (w : List Wild) (steps room restarts again : ℕ) : Type 0 where
   pub taken : ℕ
   pub few : taken ≤ steps
   pub within : length (outputs_after o strike w taken) ≤ room
   pub all : status_after o strike w taken ≡ Running → length (outputs_after o strike w taken) < room → taken ≡ steps
+  pub before : GoesUntil o strike w taken room
   pub told : IsRestart (restart_output o strike w taken) restarts again
 
 -- a program was run under a plan, and begun again without the strike where it was detected: what is in the array, and how it
@@ -35,6 +37,7 @@ pub record RecoversInto (o : Object) (strike : Option Strike) (w : List Wild) (s
   pub outputs : take count new ≡ map cell_output (outputs_after o None w taken)
   pub ends : Ends status steps taken count (length new) (status_after o None w taken)
   pub all : status ≢ 14 → SameAfter o None w taken steps
+  pub before : GoesUntil o None w taken (length new)
   pub restart : status ≢ 14 → IsRestart (restart_output o strike w steps) restarts again
   pub first : FirstRun o strike w steps (length new) restarts again
 

@@ -12,7 +12,7 @@ use Rattle.ft_semantics.specs.Strike.{struck_before}
 use Rattle.ft_semantics.specs.Run.{state_after, status_after, outputs_after}
 use Rattle.ft_tolerance.specs.Soundness.{IsNeverDetected}
 use Rattle.ft_embed.specs.declared.filling.CellOutput.{CellOutput}
-use Rattle.ft_embed.specs.Outputs.{Ends, cell_output}
+use Rattle.ft_embed.specs.Outputs.{Ends, MayGoOn, cell_output}
 use Rattle.ft_embed.specs.Verdicts.{IsAcceptedFile}
 
 -- a run without answers to wild loads: the object, its strike, if there was one, and how many steps were taken
@@ -52,8 +52,16 @@ pub data IsLimit (steps taken most : ℕ) : Type 0 where
   all_steps : most ≡ steps → IsLimit steps taken most
   last_steps : taken + most ≡ 18446744073709551615 → most < steps → IsLimit steps taken most
 
--- a run went on: it took so many steps, and their outputs stand in an array; its status says why it took no more; and one
--- fault is masked or detected
+-- n steps after k might be taken, one by one: before each the run had not stopped, and the outputs of those before it
+-- left room
+abbrev pub GoesOnUntil : Object → Option Strike → ℕ → ℕ → ℕ → Type 0
+GoesOnUntil o strike k n room =
+    (j : ℕ) → j < n → MayGoOn (status_after o strike [] (k + j)) (length (outputs_after o strike [] (k + j)))
+    (length (outputs_after o strike [] k) + room)
+
+-- a run went on: it took so many steps and none beyond its end, and their outputs stand in an array; its status says
+-- why it
+-- took no more; and one fault is masked or detected
 pub record WentOn (r new : TaskRun) (status steps taken count : ℕ) (out : List CellOutput) : Type 0 where
   pub goes : new ≡ record { object = r.object; strike = r.strike; taken = r.taken + taken }
   pub within : count ≤ length out
@@ -62,6 +70,7 @@ pub record WentOn (r new : TaskRun) (status steps taken count : ℕ) (out : List
   pub limit : IsLimit steps r.taken most
   pub few : taken ≤ most
   pub no_room : length out ≡ 0 → taken ≡ 0
+  pub before : GoesOnUntil r.object r.strike r.taken taken (length out)
   pub ends : Ends status most taken count (length out) (status_after r.object r.strike [] (r.taken + taken))
   pub agrees : Agrees (outputs_after r.object r.strike [] (r.taken + taken)) (status_after r.object r.strike [] (r.taken + taken))
       (outputs_after r.object None [] (r.taken + taken)) (status_after r.object None [] (r.taken + taken))

@@ -12,6 +12,8 @@ use Rattle.ft_types.specs.declared.object.Object.{Object}
 use Rattle.ft_format.specs.declared.version.Version.TheVariants.{Second}
 use Rattle.ft_format.specs.Format.{Spells}
 use Rattle.ft_compile.specs.StandsFor.{StandsFor}
+use Rattle.ft_compile.specs.Emitted.{IsEmitted}
+use Rattle.ft_modules.specs.Linkable.{IsModule}
 use Rattle.ft_scope.specs.Resolved.{Program}
 use Rattle.ft_scope.specs.Outcome.{IsProgramOf, IsRefusalOf}
 use Rattle.ft_syntax.specs.declared.source_error.SourceError.{SourceError}
@@ -58,12 +60,16 @@ source_told source.NoMemory = 0
 abbrev pub told_source : SourceError → Refused
 told_source e = record { part = 5; number = source_number e; place = source_told e; index = 0 }
 
--- these bytes are an object in version 2 of the format that stands for the program that the text is
+-- these bytes are an object in version 2 of the format that stands for the program that the text is; it is that of a
+-- flow of
+-- the program, and a module that the linker takes
 pub record IsCompiled (text bytes : List ℕ) : Type 0 where
   pub program : Program
   pub is : IsProgramOf text program
   pub object : Object
   pub stands : StandsFor program object
+  pub emitted : IsEmitted program object
+  pub joins : IsModule object.cells object
   pub spelled : Spells bytes Second object
 
 -- the text is refused so

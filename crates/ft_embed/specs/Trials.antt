@@ -65,12 +65,12 @@ pub record TriesFile (bytes list wild : List ℕ) (steps : ℕ) (totals : FaultT
   pub tries : Tries (object_of bytes) faults answers steps totals new
   pub sound : IsNeverDetected (object_of bytes) answers
 
--- the text is a list of more faults than the array has room for, and their number is told
+-- the text is a list of more faults than the array has room for; their number is told, and none was tried
 pub record WantsRoom (list : List ℕ) (totals : FaultTotals) (old new : List FaultVerdict) : Type 0 where
   pub faults : List Strike
   pub are_faults : IsFaultList list faults
   pub more : length old < length faults
-  pub told : totals.count ≡ length faults
+  pub told : totals ≡ untried (length faults)
   pub kept : new ≡ old
 
 -- why a list is refused: the number of the refusal, and a line, the most faults, or the product that is above the limit

@@ -19,6 +19,7 @@ fn refuse_text(error: AsmError) -> Written
     ensures refused { (text : List ℕ) → IsRefusal text error → result.status ≡ 12 → IsAsmRefused text result.why }
     ensures broken { (text : List ℕ) → IsRefusal text error → result.status ≡ 7 → IsAsmBroken text result.why }
     ensures status { result.status ≢ 12 → result.status ≢ 7 → result.status ≡ 5 }
+    ensures unmade { result.made ≡ 0 }
     ensures unrefused { result.status ≢ 12 → result.status ≢ 7 → result.why ≡ nothing_told }
 {
     match error {
@@ -37,6 +38,8 @@ pub fn assemble_into(alloc: Global, text: &[u8], out: &mut [u8]) -> Written
     ensures given { result.status ≢ 5 → result.status ≢ 7 → result.status ≢ 12 → Given (IsAssembly text.now) out.old out.new result.made result.status }
     ensures refused { result.status ≡ 12 → IsAsmRefused text.now result.why }
     ensures broken { result.status ≡ 7 → IsAsmBroken text.now result.why }
+    ensures kept { result.status ≢ 0 → out.new ≡ out.old }
+    ensures unmade { result.status ≢ 0 → result.status ≢ 15 → result.made ≡ 0 }
     ensures unrefused { result.status ≢ 12 → result.status ≢ 7 → result.why ≡ nothing_told }
 {
     match assemble_bytes(alloc, text) {
@@ -50,6 +53,8 @@ fn text_into<P: Program>(alloc: Global, program: &P, out: &mut [u8]) -> Written
     requires { IsSpellable (P.object program.now) }
     ensures given { result.status ≢ 5 → Given (λ text. text ≡ text_of (P.object program.now)) out.old out.new result.made result.status }
     ensures other { result.status ≢ 7 }
+    ensures kept { result.status ≢ 0 → out.new ≡ out.old }
+    ensures unmade { result.status ≢ 0 → result.status ≢ 15 → result.made ≡ 0 }
     ensures unrefused { result.why ≡ nothing_told }
 {
     match disassemble(alloc, program) {
@@ -64,6 +69,8 @@ fn text_into<P: Program>(alloc: Global, program: &P, out: &mut [u8]) -> Written
 pub fn disassemble_into(alloc: Global, bytes: &[u8], out: &mut [u8]) -> Written
     ensures given { result.status ≢ 5 → result.status ≢ 7 → Given (IsText bytes.now) out.old out.new result.made result.status }
     ensures malformed { result.status ≡ 7 → IsMalformed bytes.now result.why }
+    ensures kept { result.status ≢ 0 → out.new ≡ out.old }
+    ensures unmade { result.status ≢ 0 → result.status ≢ 15 → result.made ≡ 0 }
     ensures unrefused { result.status ≢ 7 → result.why ≡ nothing_told }
 {
     match View::over(bytes) {

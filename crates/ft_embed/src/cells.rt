@@ -8,8 +8,8 @@ ghost use Rattle.ft_embed.specs.Cells.{HasIntCell, HasNoCell, HasOtherCell, IsSe
 ghost use Rattle.ft_embed.specs.Texts.{IsMalformed};
 ghost use Rattle.ft_embed.specs.Verdicts.{nothing as nothing_told};
 
-use crate::refused::{nothing, told_error};
-use crate::verdict::Verdict;
+use crate::refused::told_error;
+use crate::verdict::{Verdict, unrefused};
 use ft_isa::{Base, Basic};
 use ft_types::Program;
 use ft_view::View;
@@ -22,17 +22,6 @@ fn is_int(basic: Basic) -> bool
     match basic.base {
         Base::Int => basic.refs == 0,
         Base::Code(_) => false,
-    }
-}
-
-/// Nothing is refused, or for what has no place.
-fn without_place(status: u32) -> Verdict
-    ensures status { result.status ≡ status }
-    ensures unrefused { result.why ≡ nothing_told }
-{
-    Verdict {
-        status,
-        why: nothing(),
     }
 }
 
@@ -56,13 +45,13 @@ fn find_int_cell(bytes: &[u8], cell: u32) -> Verdict
         }
     };
     if cell >= view.counts().cells {
-        return without_place(16);
+        return unrefused(16);
     }
     let head = view.cell(cell);
     if !is_int(head.basic) {
-        return without_place(19);
+        return unrefused(19);
     }
-    without_place(0)
+    unrefused(0)
 }
 
 /// Writes a word at a place.

@@ -5,10 +5,10 @@ ghost use Rattle.ft_types.specs.Spellable.{IsSpellable};
 ghost use Rattle.ft_checker.specs.Judges.{Judges, IsRefusalOf};
 ghost use Rattle.ft_embed.specs.Verdicts.{IsAcceptedFile, Tells, judged, nothing as nothing_told, verdict_on};
 
-use crate::refused::{nothing, told_cell, told_entry, told_error, told_instr};
-use crate::verdict::Verdict;
+use crate::refused::{told_cell, told_entry, told_error, told_instr};
+use crate::verdict::{Verdict, unrefused};
 use ft_checker::{CheckError, Checked};
-use ft_steps::Steps;
+use ft_isa::Steps;
 use ft_types::Program;
 use ft_view::View;
 use std::alloc::Global;
@@ -68,10 +68,7 @@ pub(crate) fn refuse(error: CheckError) -> Verdict
             status: 8,
             why: told_instr(block, index, premise),
         },
-        CheckError::NoMemory => Verdict {
-            status: 5,
-            why: nothing(),
-        },
+        CheckError::NoMemory => unrefused(5),
     }
 }
 
@@ -82,10 +79,7 @@ fn judge_program<P: Program>(alloc: Global, program: &P) -> Verdict
     ensures unrefused { result.status ≢ 8 → result.why ≡ nothing_told }
 {
     match check(alloc, program) {
-        Ok(_) => Verdict {
-            status: 0,
-            why: nothing(),
-        },
+        Ok(_) => unrefused(0),
         Err(error) => refuse(error),
     }
 }

@@ -9,14 +9,16 @@ use crate::handing::{Written, hand_over, none_written, not_written};
 use crate::refused::told_source;
 use ft_compile::compile;
 use ft_object::encode;
+use ft_scope::one_text_has_one_outcome;
 use ft_syntax::SourceError;
 use std::alloc::Global;
 
-/// Compiles a source to the bytes of an object.
+/// Compiles a source to the bytes of an object. A text is one program, so all clauses of `compile` are about it.
 fn compile_bytes(alloc: Global, text: &[u8]) -> Result<Vec<u8>, SourceError>
     ensures ok { IfOk result (λ bytes. IsCompiled text.now bytes.items) }
     ensures err { IfErr result (λ e. e ≢ errors.NoMemory → IsRefusalOf text.now e) }
 {
+    one_text_has_one_outcome();
     let object = match compile(alloc, text) {
         Ok(object) => object,
         Err(error) => return Err(error),
@@ -32,6 +34,7 @@ fn refuse_source(error: SourceError) -> Written
     ensures told { result.status ≡ 6 → result.why ≡ told_source error }
     ensures named { result.status ≡ 6 → error ≢ errors.NoMemory }
     ensures status { result.status ≢ 6 → result.status ≡ 5 }
+    ensures unmade { result.made ≡ 0 }
     ensures unrefused { result.status ≢ 6 → result.why ≡ nothing_told }
 {
     if error == SourceError::NoMemory {
@@ -46,7 +49,8 @@ fn refuse_source(error: SourceError) -> Written
 pub fn compile_into(alloc: Global, text: &[u8], out: &mut [u8]) -> Written
     ensures given { result.status ≢ 5 → result.status ≢ 6 → Given (IsCompiled text.now) out.old out.new result.made result.status }
     ensures refused { result.status ≡ 6 → IsSourceRefused text.now result.why }
-    ensures kept { result.status ≡ 6 → out.new ≡ out.old }
+    ensures kept { result.status ≢ 0 → out.new ≡ out.old }
+    ensures unmade { result.status ≢ 0 → result.status ≢ 15 → result.made ≡ 0 }
     ensures unrefused { result.status ≢ 6 → result.why ≡ nothing_told }
 {
     match compile_bytes(alloc, text) {

@@ -1,5 +1,5 @@
 //! Bytes that are written into a buffer of the caller.
-ghost use Rattle.std.specs.Prelude.{◌≡◌};
+ghost use Rattle.std.specs.Prelude.{◌≡◌, ◌≢◌, ◌⊎◌};
 ghost use Rattle.ft_embed.specs.Texts.{HandsOver};
 ghost use Rattle.ft_embed.specs.Verdicts.{nothing as nothing_told};
 
@@ -19,6 +19,8 @@ pub struct Written {
 #[tactic(auto, using(crate::proofs::Judged::handed, crate::proofs::Judged::not_handed))]
 pub(crate) fn hand_over(bytes: &[u8], out: &mut [u8]) -> Written
     ensures handed { HandsOver bytes.now out.old out.new result.made result.status }
+    ensures kept { result.status ≢ 0 → out.new ≡ out.old }
+    ensures some { (result.status ≡ 0) ⊎ (result.status ≡ 15) }
     ensures unrefused { result.why ≡ nothing_told }
 {
     let made = bytes.len();

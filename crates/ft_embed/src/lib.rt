@@ -43,4 +43,4 @@ pub use task::Task;
 pub use trial::{FaultTotals, FaultVerdict};
 pub use trying::{TrialAnswer, campaign};
 pub use unlinked::{Module, Unlinked};
-pub use verdict::Verdict;
+pub use verdict::{Verdict, unrefused};

@@ -3,7 +3,8 @@ ghost use Rattle.std.specs.Prelude.{◌≡◌, ◌≢◌, ◌≤◌, ◌⊎◌, 
 ghost use Rattle.std.specs.Option.{option_map};
 ghost use Rattle.ft_types.specs.Spellable.{IsSpellable};
 ghost use Rattle.ft_link_map.specs.Sound.{IsSound};
-ghost use Rattle.ft_embed.specs.Links.{AddsAll, AddsObject, EndsAtModule, EndsAtObject, EndsInTurn, IsAddedTo, IsLinkedAll, IsLinkedOf, IsUnlinked, IsUnlinkedAll, bytes_of};
+ghost use Rattle.ft_linker.specs.Linking.{refusal_of};
+ghost use Rattle.ft_embed.specs.Links.{AddsAll, AddsObject, EndsAtModule, EndsAtObject, EndsInTurn, IsAddedTo, IsLinkedAll, IsLinkedOf, IsUnlinked, IsUnlinkedBy, bytes_of};
 ghost use Rattle.ft_embed.specs.Texts.{Given};
 ghost use Rattle.ft_embed.specs.Verdicts.{nothing as nothing_told};
 
@@ -121,7 +122,7 @@ fn link_added(alloc: Global, linker: Linker, linkage: &LinkMap) -> Result<Vec<u8
     requires sound { IsSound linkage.now }
     requires modules { length linker ≡ length linkage.now.files }
     ensures ok { IfOk result (λ bytes. IsLinkedAll linkage.now linker bytes.items) }
-    ensures err { IfErr result (λ u. u.status ≢ 5 → IsUnlinkedAll linkage.now linker u) }
+    ensures err { IfErr result (λ u. u.status ≢ 5 → IsUnlinkedBy (refusal_of linkage.now linker) u) }
     ensures some { IfErr result (λ u. (u.status ≢ 0) × (u.status ≢ 15)) }
     ensures unrefused { IfErr result (λ u. u.status ≡ 5 → u.why ≡ nothing_told) }
 {
@@ -173,6 +174,7 @@ pub fn link_into(alloc: Global, text: &[u8], given: &[Module], out: &mut [u8]) -
     ensures unlinked { result.written.status ≢ 0 → result.written.status ≢ 5 → result.written.status ≢ 15
         → IsUnlinked given.now text.now (record { status = result.written.status; «module» = result.«module»; why = result.written.why }) }
     ensures kept { result.written.status ≢ 0 → out.new ≡ out.old }
+    ensures unmade { result.written.status ≢ 0 → result.written.status ≢ 15 → result.written.made ≡ 0 }
     ensures unrefused { (result.written.status ≡ 0) ⊎ (result.written.status ≡ 5) ⊎ (result.written.status ≡ 15) → result.written.why ≡ nothing_told }
 {
     match link_bytes(alloc, text, given) {

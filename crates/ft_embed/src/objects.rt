@@ -38,6 +38,7 @@ fn upgrade_bytes(alloc: Global, bytes: &[u8]) -> Result<Vec<u8>, DecodeError>
 fn refuse_bytes(error: DecodeError) -> Written
     ensures told { (bytes : List ℕ) → IsWhy (broken bytes) error → result.status ≡ 7 → IsMalformed bytes result.why }
     ensures status { result.status ≢ 7 → result.status ≡ 5 }
+    ensures unmade { result.made ≡ 0 }
     ensures unrefused { result.status ≢ 7 → result.why ≡ nothing_told }
 {
     match error {
@@ -51,6 +52,8 @@ fn refuse_bytes(error: DecodeError) -> Written
 pub fn upgrade_into(alloc: Global, bytes: &[u8], out: &mut [u8]) -> Written
     ensures given { result.status ≢ 5 → result.status ≢ 7 → Given (IsUpgraded bytes.now) out.old out.new result.made result.status }
     ensures malformed { result.status ≡ 7 → IsMalformed bytes.now result.why }
+    ensures kept { result.status ≢ 0 → out.new ≡ out.old }
+    ensures unmade { result.status ≢ 0 → result.status ≢ 15 → result.made ≡ 0 }
     ensures unrefused { result.status ≢ 7 → result.why ≡ nothing_told }
 {
     match upgrade_bytes(alloc, bytes) {
@@ -66,6 +69,8 @@ pub fn name_into(bytes: &[u8], cell: u32, out: &mut [u8]) -> Written
     ensures given { result.status ≢ 7 → result.status ≢ 16 → Given (IsNameOf bytes.now cell) out.old out.new result.made result.status }
     ensures malformed { result.status ≡ 7 → IsMalformed bytes.now result.why }
     ensures none { result.status ≡ 16 → HasNoCell bytes.now cell }
+    ensures kept { result.status ≢ 0 → out.new ≡ out.old }
+    ensures unmade { result.status ≢ 0 → result.status ≢ 15 → result.made ≡ 0 }
     ensures unrefused { result.status ≢ 7 → result.why ≡ nothing_told }
 {
     match View::over(bytes) {
@@ -81,6 +86,8 @@ fn cell_name_into(view: &View, cell: u32, out: &mut [u8]) -> Written
     ensures given { result.status ≢ 16 → Given (IsCellName (object_of view.now) cell) out.old out.new result.made result.status }
     ensures none { result.status ≡ 16 → length (object_of view.now).cells ≤ cell }
     ensures other { result.status ≢ 7 }
+    ensures kept { result.status ≢ 0 → out.new ≡ out.old }
+    ensures unmade { result.status ≢ 0 → result.status ≢ 15 → result.made ≡ 0 }
     ensures unrefused { result.why ≡ nothing_told }
 {
     if cell >= view.counts().cells {
@@ -106,6 +113,8 @@ fn schedule_program<P: Program>(alloc: Global, program: &P, out: &mut [u8]) -> W
     ensures given { result.status ≢ 5 → result.status ≢ 8 → Given (IsScheduleOf (P.object program.now)) out.old out.new result.made result.status }
     ensures refused { result.status ≡ 8 → Tells result.status result.why (judged (refusal (P.object program.now))) }
     ensures other { result.status ≢ 7 }
+    ensures kept { result.status ≢ 0 → out.new ≡ out.old }
+    ensures unmade { result.status ≢ 0 → result.status ≢ 15 → result.made ≡ 0 }
     ensures accepted { result.status ≢ 5 → result.status ≢ 8 → IsAccepted (P.object program.now) }
     ensures unrefused { result.status ≢ 8 → result.why ≡ nothing_told }
 {
@@ -126,6 +135,8 @@ pub fn schedule_into(alloc: Global, bytes: &[u8], out: &mut [u8]) -> Written
     ensures given { result.status ≢ 5 → result.status ≢ 7 → result.status ≢ 8 → Given (IsScheduleOfFile bytes.now) out.old out.new result.made result.status }
     ensures malformed { result.status ≡ 7 → Tells result.status result.why (verdict_on bytes.now) }
     ensures refused { result.status ≡ 8 → Tells result.status result.why (verdict_on bytes.now) }
+    ensures kept { result.status ≢ 0 → out.new ≡ out.old }
+    ensures unmade { result.status ≢ 0 → result.status ≢ 15 → result.made ≡ 0 }
     ensures unrefused { result.status ≢ 7 → result.status ≢ 8 → result.why ≡ nothing_told }
 {
     match View::over(bytes) {

@@ -88,6 +88,7 @@ fn recover_program<P: Program>(
     ensures planned { result.status ≢ 2 }
     ensures unrefused { result.status ≢ 8 → result.why ≡ nothing_told }
     ensures unrun { (result.status ≡ 5) ⊎ (result.status ≡ 8) → result.ran ≡ not_begun }
+    ensures kept { (result.status ≡ 5) ⊎ (result.status ≡ 8) → out.new ≡ out.old }
 {
     match check(alloc, program) {
         Ok(_) => {}
@@ -117,6 +118,7 @@ fn recover_bytes(
     ensures planned { result.status ≢ 2 }
     ensures unrefused { result.status ≢ 7 → result.status ≢ 8 → result.why ≡ nothing_told }
     ensures unrun { (result.status ≡ 5) ⊎ (result.status ≡ 7) ⊎ (result.status ≡ 8) → result.ran ≡ not_begun }
+    ensures kept { (result.status ≡ 5) ⊎ (result.status ≡ 7) ⊎ (result.status ≡ 8) → out.new ≡ out.old }
 {
     match View::over(bytes) {
         Ok(view) => recover_program(alloc, &view, plan, steps, out),
@@ -146,6 +148,7 @@ pub fn recover(
     ensures refused { result.status ≡ 8 → Tells result.status result.why (verdict_on bytes.now) }
     ensures unrefused { result.status ≢ 7 → result.status ≢ 8 → result.why ≡ nothing_told }
     ensures unrun { (result.status ≡ 2) ⊎ (result.status ≡ 5) ⊎ (result.status ≡ 7) ⊎ (result.status ≡ 8) → result.ran ≡ not_begun }
+    ensures kept { (result.status ≡ 2) ⊎ (result.status ≡ 5) ⊎ (result.status ≡ 7) ⊎ (result.status ≡ 8) → out.new ≡ out.old }
 {
     let Ok(strike) = read_fault(fault) else {
         return no_run(2);

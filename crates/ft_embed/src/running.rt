@@ -15,8 +15,8 @@ use crate::answer::{RunAnswer, has_run, not_run};
 use crate::checking::{check, refuse};
 use crate::filling::{CellOutput, Filled, fill};
 use crate::plan_text::{read_answers, read_fault};
-use crate::refused::{nothing, told_error};
-use crate::verdict::Verdict;
+use crate::refused::told_error;
+use crate::verdict::{Verdict, unrefused};
 use ft_isa::{Plan, Strike, WildError};
 use ft_machine::{Machine, WildLeft};
 use ft_semantics::Status;
@@ -94,7 +94,7 @@ pub(crate) fn run_machine<P: Program>(
 /// where it took them all, and 14 where the array is full.
 #[tactic(auto, using(crate::proofs::Ends::done_at, crate::proofs::Ends::detected_at, crate::proofs::Ends::cut_at, crate::proofs::Ends::full_at))]
 pub(crate) fn end_of(status: Status, taken: u64, steps: u64) -> u32
-    ensures ends { (count room : ℕ) → count ≤ room → (status ≡ Status.Running → count < room → taken ≡ steps) → Ends result steps taken count room status }
+    ensures ends { (count room : ℕ) → count ≤ room → taken ≤ steps → (status ≡ Status.Running → count < room → taken ≡ steps) → Ends result steps taken count room status }
     ensures malformed { result ≢ 7 }
     ensures refused { result ≢ 8 }
     ensures planned { result ≢ 2 }
@@ -124,16 +124,14 @@ fn run_program<P: Program>(
     ensures once { IsOnce result.ran }
     ensures unrefused { result.status ≢ 8 → result.why ≡ nothing_told }
     ensures unrun { (result.status ≡ 5) ⊎ (result.status ≡ 8) → result.ran ≡ not_begun }
+    ensures kept { (result.status ≡ 5) ⊎ (result.status ≡ 8) → out.new ≡ out.old }
 {
     match check(alloc, program) {
         Ok(_) => {}
         Err(error) => return not_run(refuse(error)),
     }
     let Ok(mut machine) = Machine::new(alloc, program) else {
-        return not_run(Verdict {
-            status: 5,
-            why: nothing(),
-        });
+        return no_run(5);
     };
     let filled = run_machine(&mut machine, program, plan, steps, out);
     let status = end_of(machine.status(), filled.taken, steps);
@@ -156,6 +154,7 @@ fn run_bytes(
     ensures once { IsOnce result.ran }
     ensures unrefused { result.status ≢ 7 → result.status ≢ 8 → result.why ≡ nothing_told }
     ensures unrun { (result.status ≡ 5) ⊎ (result.status ≡ 7) ⊎ (result.status ≡ 8) → result.ran ≡ not_begun }
+    ensures kept { (result.status ≡ 5) ⊎ (result.status ≡ 7) ⊎ (result.status ≡ 8) → out.new ≡ out.old }
 {
     match View::over(bytes) {
         Ok(view) => run_program(alloc, &view, plan, steps, out),
@@ -173,10 +172,7 @@ pub(crate) fn no_run(status: u32) -> RunAnswer
     ensures unrefused { result.why ≡ nothing_told }
     ensures unrun { result.ran ≡ not_begun }
 {
-    not_run(Verdict {
-        status,
-        why: nothing(),
-    })
+    not_run(unrefused(status))
 }
 
 /// Checks the object that bytes spell, and runs it from its start for at most `steps` steps, under the fault
@@ -199,6 +195,7 @@ pub fn run(
     ensures once { IsOnce result.ran }
     ensures unrefused { result.status ≢ 7 → result.status ≢ 8 → result.why ≡ nothing_told }
     ensures unrun { (result.status ≡ 2) ⊎ (result.status ≡ 5) ⊎ (result.status ≡ 7) ⊎ (result.status ≡ 8) → result.ran ≡ not_begun }
+    ensures kept { (result.status ≡ 2) ⊎ (result.status ≡ 5) ⊎ (result.status ≡ 7) ⊎ (result.status ≡ 8) → out.new ≡ out.old }
 {
     let Ok(strike) = read_fault(fault) else {
         return no_run(2);

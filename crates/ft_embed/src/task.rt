@@ -7,18 +7,17 @@ ghost use Rattle.ft_semantics.specs.Strike.{is_there};
 ghost use Rattle.ft_semantics.specs.Run.{state_after};
 ghost use Rattle.ft_embed.specs.Outputs.{IsOnce};
 ghost use Rattle.ft_embed.specs.Tasks.{IsLimit, WentOn};
-ghost use Rattle.ft_embed.specs.Verdicts.{IsAcceptedFile, Tells, judged, verdict_on};
+ghost use Rattle.ft_embed.specs.Verdicts.{IsAcceptedFile, Tells, judged, nothing, verdict_on};
 
 use crate::answer::{RunAnswer, has_run};
 use crate::checking::{check, refuse};
 use crate::filling::{CellOutput, fill};
-use crate::refused::{nothing, told_error};
+use crate::refused::told_error;
 use crate::running::end_of;
-use crate::verdict::Verdict;
-use ft_copy::copy_object;
+use crate::verdict::{Verdict, unrefused};
 use ft_isa::{NoMemory, Site, Strike};
 use ft_machine::{Machine, WildLeft};
-use ft_types::{Object, Program};
+use ft_types::{Object, Program, copy_object};
 use ft_view::View;
 use std::alloc::Global;
 use std::marker::Model;
@@ -43,16 +42,6 @@ impl Model for Task {
     ghost invariant = { λ t. IsTask (record { object = t.object; strike = t.strike; taken = t.taken }) t.machine };
 }
 
-/// Out of memory.
-fn no_memory() -> Verdict
-    ensures { result.status ≡ 5 }
-{
-    Verdict {
-        status: 5,
-        why: nothing(),
-    }
-}
-
 /// How many of so many steps a run may take that has taken so many: all, or as many as can be counted.
 fn limit(steps: u64, taken: u64) -> u64
     ensures within { result + taken ≤ 18446744073709551615 }
@@ -70,16 +59,17 @@ impl Task {
         ensures accepted { IfOk result (λ t. IsAccepted (P.object program.now)) }
         ensures err { IfErr result (λ v. v.status ≢ 5 → Tells v.status v.why (judged (refusal (P.object program.now)))) }
         ensures some { IfErr result (λ v. v.status ≢ 0) }
+        ensures unrefused { IfErr result (λ v. v.status ≢ 7 → v.status ≢ 8 → v.why ≡ nothing) }
     {
         match check(alloc, program) {
             Ok(_) => {}
             Err(error) => return Err(refuse(error)),
         }
         let Ok(object) = copy_object(alloc, program) else {
-            return Err(no_memory());
+            return Err(unrefused(5));
         };
         let Ok(machine) = Machine::new(alloc, &object) else {
-            return Err(no_memory());
+            return Err(unrefused(5));
         };
         Ok(Task {
             object,
@@ -96,6 +86,7 @@ impl Task {
         ensures file { IfOk result (λ t. IsAcceptedFile bytes.now) }
         ensures err { IfErr result (λ v. v.status ≢ 5 → Tells v.status v.why (verdict_on bytes.now)) }
         ensures some { IfErr result (λ v. v.status ≢ 0) }
+        ensures unrefused { IfErr result (λ v. v.status ≢ 7 → v.status ≢ 8 → v.why ≡ nothing) }
     {
         match View::over(bytes) {
             Ok(view) => Task::of_program(alloc, &view),

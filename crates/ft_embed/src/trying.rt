@@ -15,8 +15,7 @@ use crate::refused::{Refused, nothing, told_error};
 use crate::trial::{FaultTotals, FaultVerdict, fault_totals, no_totals, put_verdicts};
 use crate::verdict::Verdict;
 use ft_campaign::{ListError, find_verdicts, read_faults, totals_of};
-use ft_isa::{NoMemory, Strike, Wild, WildError};
-use ft_steps::Steps;
+use ft_isa::{NoMemory, Steps, Strike, Wild, WildError};
 use ft_types::Program;
 use ft_view::View;
 use std::alloc::Global;
@@ -49,7 +48,6 @@ pub struct TrialAnswer {
 fn not_tried(status: u32, why: Refused, count: usize) -> TrialAnswer
     ensures status { result.status ≡ status }
     ensures why { result.why ≡ why }
-    ensures count { result.totals.count ≡ count }
     ensures totals { result.totals ≡ untried count }
 {
     TrialAnswer {
@@ -120,6 +118,7 @@ fn try_faults<P: Program>(
     requires room { length faults.now ≤ length out.old }
     ensures tries { result.status ≡ 0 → Tries (P.object program.now) faults.now trial.entry.wild.now trial.entry.steps result.totals out.new }
     ensures status { (result.status ≡ 0) ⊎ (result.status ≡ 5) }
+    ensures kept { result.status ≢ 0 → out.new ≡ out.old }
     ensures unrefused { result.why ≡ nothing_told }
     ensures untried { result.status ≢ 0 → result.totals ≡ untried 0 }
 {
@@ -156,7 +155,7 @@ fn try_list<P: Program>(
     ensures tries { result.status ≡ 0 → TriesList (P.object program.now) trial.entry.list.now trial.entry.wild.now trial.entry.steps result.totals out.new }
     ensures wants { result.status ≡ 15 → WantsRoom trial.entry.list.now result.totals out.old out.new }
     ensures bad_list { result.status ≡ 11 → IsListRefused trial.entry.list.now trial.entry.steps result.why }
-    ensures kept { result.status ≡ 11 → out.new ≡ out.old }
+    ensures kept { result.status ≢ 0 → out.new ≡ out.old }
     ensures status { result.status ≢ 5 → result.status ≢ 11 → result.status ≢ 15 → result.status ≡ 0 }
     ensures other { (result.status ≢ 2) × (result.status ≢ 7) × (result.status ≢ 8) }
     ensures unrefused { result.status ≢ 11 → result.why ≡ nothing_told }
@@ -193,6 +192,7 @@ fn try_program<P: Program>(
     ensures refused { result.status ≡ 8 → Tells result.status result.why (judged (refusal (P.object program.now))) }
     ensures status { result.status ≢ 5 → result.status ≢ 8 → result.status ≢ 11 → result.status ≢ 15 → result.status ≡ 0 }
     ensures other { (result.status ≢ 2) × (result.status ≢ 7) }
+    ensures kept { result.status ≢ 0 → out.new ≡ out.old }
     ensures unrefused { result.status ≢ 8 → result.status ≢ 11 → result.why ≡ nothing_told }
     ensures untried { result.status ≢ 0 → result.status ≢ 15 → result.totals ≡ untried 0 }
 {
@@ -216,6 +216,7 @@ fn try_bytes(alloc: Global, bytes: &[u8], trial: Trial, out: &mut [FaultVerdict]
     ensures refused { result.status ≡ 8 → Tells result.status result.why (verdict_on bytes.now) }
     ensures status { result.status ≢ 5 → result.status ≢ 7 → result.status ≢ 8 → result.status ≢ 11 → result.status ≢ 15 → result.status ≡ 0 }
     ensures planned { result.status ≢ 2 }
+    ensures kept { result.status ≢ 0 → out.new ≡ out.old }
     ensures unrefused { result.status ≢ 7 → result.status ≢ 8 → result.status ≢ 11 → result.why ≡ nothing_told }
     ensures untried { result.status ≢ 0 → result.status ≢ 15 → result.totals ≡ untried 0 }
 {
@@ -246,6 +247,7 @@ pub fn campaign(
     ensures refused { result.status ≡ 8 → Tells result.status result.why (verdict_on bytes.now) }
     ensures no_plan { result.status ≡ 2 → (answers : List Answer) → AreAnswers wild.now answers → steps ≤ 1000000 → ⊥ }
     ensures status { result.status ≢ 2 → result.status ≢ 5 → result.status ≢ 7 → result.status ≢ 8 → result.status ≢ 11 → result.status ≢ 15 → result.status ≡ 0 }
+    ensures kept { result.status ≢ 0 → out.new ≡ out.old }
     ensures unrefused { result.status ≢ 7 → result.status ≢ 8 → result.status ≢ 11 → result.why ≡ nothing_told }
     ensures untried { result.status ≢ 0 → result.status ≢ 15 → result.totals ≡ untried 0 }
 {

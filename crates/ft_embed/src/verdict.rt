@@ -1,5 +1,8 @@
 //! What is answered over the bytes of an object.
-use crate::refused::Refused;
+ghost use Rattle.std.specs.Prelude.{◌≡◌};
+ghost use Rattle.ft_embed.specs.Verdicts.{nothing as nothing_told};
+
+use crate::refused::{Refused, nothing};
 
 /// A status, and why the bytes are refused, where they are: 0 for an object that is accepted, 5 out of
 /// memory, 7 for bytes that spell no object, 8 for an object that is refused.
@@ -7,4 +10,15 @@ use crate::refused::Refused;
 pub struct Verdict {
     pub status: u32,
     pub why: Refused,
+}
+
+/// A status for which nothing is refused.
+pub fn unrefused(status: u32) -> Verdict
+    ensures status { result.status ≡ status }
+    ensures unrefused { result.why ≡ nothing_told }
+{
+    Verdict {
+        status,
+        why: nothing(),
+    }
 }

@@ -1,111 +1,81 @@
 -- An object whose numbers fit is read again from what is written for it, whether or not it obeys the rules.
-use Rattle.std.proofs.Common.{◌≡◌, ℕ, ◌+◌, ◌-◌, ◌^◌, ◌<◌, ◌≤◌, List, [], ◌∷◌, length, take, drop, map, refl, sym, ap, ◌∙◌, arith}
+use Rattle.std.proofs.Common.{◌≡◌, ℕ, ◌+◌, ◌-◌, ◌^◌, ◌<◌, List, [], ◌∷◌, length, take, drop, map, refl, sym, ap, ◌∙◌}
+use Rattle.std.proofs.Common.{arith}
 use Rattle.std.specs.Int.{Width}
 use Rattle.std.specs.List.{AllByRecursion, flat_map}
 use Rattle.std.proofs.lemmas.List.{length-append, drop-drop, drop_at, take_at}
 use Rattle.std.proofs.lemmas.List.Concat.{length-flat_map}
-use Rattle.ft_isa.specs.declared.basic.Base.{Base}
-use Rattle.ft_isa.specs.declared.basic.Base.TheVariants.{Int, Code}
-use Rattle.ft_isa.specs.declared.instr.Instr.{Instr}
-use Rattle.ft_isa.specs.declared.instr.Instr.TheVariants.{OpReg, OpWord, Mov, Ld, St, JmpG, JmpB, BzG, BzB, Halt, Idx}
-use Rattle.ft_static.specs.declared.node.Shape.{Shape}
-use Rattle.ft_isa.specs.declared.op.Op.{Op}
-use Rattle.ft_isa.specs.declared.op.Op.TheVariants.{Add, Sub, Mul, Ltu, Eq, And, Or, Xor, Shl, Shr}
 use Rattle.ft_isa.proofs.Lists.{all_append}
-use Rattle.ft_static.specs.declared.node.Shape.TheVariants.{Word, Var, Op as OpNode, Sel, Memory, Upd, Rem}
 use Rattle.ft_types.specs.declared.object.Object.{Object}
 use Rattle.ft_types.specs.declared.object.Cell.{Cell}
 use Rattle.ft_types.specs.declared.object.CodeType.{CodeType}
 use Rattle.ft_types.specs.declared.object.RegType.{RegType}
 use Rattle.ft_types.specs.Objects.{name_of, regs_of, queue_of}
-use Rattle.ft_types.specs.NodeRows.{op_code, high_half, low_half, shape_row, node_row}
+use Rattle.ft_types.specs.NodeRows.{node_row}
 use Rattle.ft_format.specs.declared.version.Version.{Version}
 use Rattle.ft_format.specs.Versions.{version_of}
 use Rattle.ft_format.specs.Layout.{rows, cell_layout, code_layout, type_layout, reg_layout, pair_layout, subst_layout}
-use Rattle.ft_format.specs.Rows.{colour_code, base_type, basic_number, cell_rows, type_rows, reg_row, queue_row, block_row, instr_row, subst_row, all_regs, all_queue, all_names, spelling}
+use Rattle.ft_format.specs.Rows.{cell_rows, type_rows, reg_row, queue_row, block_row, instr_row, subst_row, all_regs}
+use Rattle.ft_format.specs.Rows.{all_queue, all_names, spelling}
 use Rattle.ft_format.specs.Values.{cells_of, node_of, types_of, reg_type_of, pair_of, block_of, instr_of, subst_node_of}
-use Rattle.ft_format.specs.Broken.{cells_part, cells_read, nodes_read, regs_read, queue_read, types_read, blocks_read, instrs_read, substs_read, tables_read, version_at, object_of}
-use Rattle.ft_encode.specs.Fits.{Is8, Is32, FitsBase, FitsCell, FitsShape, FitsNode, FitsReg, FitsPair, FitsType, FitsBlock, FitsInstr, Fits}
+use Rattle.ft_format.specs.Broken.{cells_part, cells_read, nodes_read, regs_read, queue_read, types_read, blocks_read}
+use Rattle.ft_format.specs.Broken.{instrs_read, substs_read, tables_read, version_at, object_of}
+use Rattle.ft_format.specs.Fits.{Is32, FitsCell, FitsNode, FitsReg, FitsPair, FitsType, FitsBlock, FitsInstr, Fits}
 use Rattle.ft_format.proofs.Layouts.{Fit, AllFit}
-use Rattle.ft_format.proofs.Codes.{colour_back, colour_small, op_back, register_back, basic_back, base_small, word_back}
+use Rattle.ft_format.proofs.Codes.{colour_small, basic_back, base_small, type_fits}
 use Rattle.ft_format.proofs.Versions.{magic_small, names_magic}
-use Rattle.ft_format.proofs.Nodes.{fit_seven}
+use Rattle.ft_format.proofs.Nodes.{shape_fit, shape_back}
 use Rattle.ft_format.proofs.Types.{types_back}
 use Rattle.ft_format.proofs.Write.{header_for}
 use Rattle.ft_format.proofs.SmallRows.{reg_back}
-use Rattle.ft_format.proofs.Instrs.{refs_back, code_back, own_back}
+use Rattle.ft_format.proofs.Instrs.{instr_fit, instr_back}
 use Rattle.ft_encode.proofs.Sections.{SectionsFit, Sections, sections_are}
 
 -- LISTS
 
 -- the fields of records can hold the numbers of all values, as they can those of one
-rows_fit : {X : Type 0} (ws : List Width) (row : X → List ℕ) (P : X → Type 0) → ((x : X) → P x → Fit ws (row x)) → (xs : List X) → AllByRecursion P xs → AllFit ws (map row xs)
+rows_fit : {X : Type 0} (ws : List Width) (row : X → List ℕ) (P : X → Type 0) → ((x : X) → P x → Fit ws (row x)) →
+    (xs : List X) → AllByRecursion P xs → AllFit ws (map row xs)
 rows_fit ws row P one [] h = tt
 rows_fit ws row P one (x ∷ xs) h = (one x h.0, rows_fit ws row P one xs h.1)
 
 -- all values are read again, as one is
-rows_back : {X : Type 0} (read : List ℕ → X) (row : X → List ℕ) (P : X → Type 0) → ((x : X) → P x → read (row x) ≡ x) → (xs : List X) → AllByRecursion P xs → map read (map row xs) ≡ xs
+rows_back : {X : Type 0} (read : List ℕ → X) (row : X → List ℕ) (P : X → Type 0) → ((x : X) → P x → read (row x) ≡ x) →
+    (xs : List X) → AllByRecursion P xs → map read (map row xs) ≡ xs
 rows_back read row P one [] h = refl
-rows_back read row P one (x ∷ xs) h = ap (λ y. y ∷ map read (map row xs)) (one x h.0) ∙ ap (λ ys. x ∷ ys) (rows_back read row P one xs h.1)
+rows_back read row P one (x ∷ xs) h = ap (λ y. y ∷ map read (map row xs)) (one x h.0)
+    ∙ ap (λ ys. x ∷ ys) (rows_back read row P one xs h.1)
 
 -- CELLS
 
-type_fits : (b : Base) → FitsBase b → base_type b < 2 ^ 16
-type_fits Int h = omega arith
-type_fits (Code t) h = h
-
-cells_fit : (start : ℕ) (cs : List Cell) → start + length (flat_map name_of cs) < 2 ^ 32 → AllByRecursion FitsCell cs → AllFit cell_layout (cell_rows start cs)
+cells_fit : (start : ℕ) (cs : List Cell) → start + length (flat_map name_of cs) < 2 ^ 32 → AllByRecursion FitsCell cs →
+    AllFit cell_layout (cell_rows start cs)
 cells_fit start [] few h = tt
 cells_fit start (c ∷ cs) few h =
     let long = length-append c.name (flat_map name_of cs) in
     let past : start + length c.name < 2 ^ 32 = omega arith in
-    let rest : start + length c.name + length (flat_map name_of cs) < 2 ^ 32 = omega arith in
-    ((past, (h.0.0.0, (omega (arith, base_small c.basic.base), (type_fits c.basic.base h.0.0.1, (h.0.1, tt))))), cells_fit (start + length c.name) cs rest h.1)
+    let rest : start + length c.name + length (flat_map name_of cs) < 2 ^ 32 = omega arith in (
+      (past, (h.0.0.0, (omega (arith, base_small c.basic.base), (type_fits c.basic.base h.0.0.1, (h.0.1, tt))))),
+      cells_fit (start + length c.name) cs rest h.1,
+    )
 
-cells_back : (names : List ℕ) (start : ℕ) (cs : List Cell) → drop start names ≡ flat_map name_of cs → cells_of names start (cell_rows start cs) ≡ cs
+cells_back : (names : List ℕ) (start : ℕ) (cs : List Cell) → drop start names ≡ flat_map name_of cs →
+    cells_of names start (cell_rows start cs) ≡ cs
 cells_back names start [] e = refl
 cells_back names start (c ∷ cs) e =
     let past = start + length c.name in
     let size : past - start ≡ length c.name = omega arith in
-    let rest : drop past names ≡ flat_map name_of cs = sym (drop-drop (length c.name) start names) ∙ ap (drop (length c.name)) e ∙ drop_at c.name (flat_map name_of cs) (length c.name) refl in
-    let name : take (past - start) (drop start names) ≡ c.name = ap (λ n. take n (drop start names)) size ∙ ap (take (length c.name)) e ∙ take_at c.name (flat_map name_of cs) (length c.name) refl in
+    let rest : drop past names ≡ flat_map name_of cs = sym (drop-drop (length c.name) start names)
+    ∙ ap (drop (length c.name)) e ∙ drop_at c.name (flat_map name_of cs) (length c.name) refl in
+    let name : take (past - start) (drop start names) ≡ c.name = ap (λ n. take n (drop start names)) size
+    ∙ ap (take (length c.name)) e ∙ take_at c.name (flat_map name_of cs) (length c.name) refl in
     rw (name, basic_back c.basic, cells_back names past cs rest) refl
-
--- NODES
-
-op_small : (op : Op) → op_code op ≤ 9
-op_small Add = omega arith
-op_small Sub = omega arith
-op_small Mul = omega arith
-op_small Ltu = omega arith
-op_small Eq = omega arith
-op_small And = omega arith
-op_small Or = omega arith
-op_small Xor = omega arith
-op_small Shl = omega arith
-op_small Shr = omega arith
-
-shape_fits : (scope : ℕ) (s : Shape) → Is8 scope → FitsShape s → Fit code_layout (shape_row scope s)
-shape_fits scope (Word w) k h = fit_seven 0 0 scope 0 0 (high_half w) (low_half w) (omega arith) (omega arith) k (omega arith) (omega arith) (omega (arith, h)) (omega arith)
-shape_fits scope (Var i) k h = fit_seven 1 0 scope 0 i 0 0 (omega arith) (omega arith) k (omega arith) (omega (arith, h)) (omega arith) (omega arith)
-shape_fits scope (OpNode op a b) k h = fit_seven 2 (op_code op) scope 0 a b 0 (omega arith) (omega (arith, op_small op)) k (omega arith) h.0 h.1 (omega arith)
-shape_fits scope (Sel memory at) k h = fit_seven 3 0 scope 0 memory at 0 (omega arith) (omega arith) k (omega arith) h.0 h.1 (omega arith)
-shape_fits scope Memory k h = fit_seven 4 0 scope 0 0 0 0 (omega arith) (omega arith) k (omega arith) (omega arith) (omega arith) (omega arith)
-shape_fits scope (Upd memory at value) k h = fit_seven 5 0 scope 0 memory at value (omega arith) (omega arith) k (omega arith) h.0 h.1 h.2
-shape_fits scope (Rem a m) k h = fit_seven 6 0 scope 0 a m 0 (omega arith) (omega arith) k (omega arith) h.0 h.1 (omega arith)
-
-shape_back : (scope : ℕ) (s : Shape) → node_of (shape_row scope s) ≡ record { scope = scope; shape = s }
-shape_back scope (Word w) = rw (word_back w) refl
-shape_back scope (Var i) = refl
-shape_back scope (OpNode op a b) = rw (op_back op) refl
-shape_back scope (Sel memory at) = refl
-shape_back scope Memory = refl
-shape_back scope (Upd memory at value) = refl
-shape_back scope (Rem a m) = refl
 
 -- TYPES AND THEIR ROWS
 
-types_fit : (start queue_start : ℕ) (ts : List CodeType) → start + length (flat_map regs_of ts) < 2 ^ 32 → queue_start + length (flat_map queue_of ts) < 2 ^ 32 → AllByRecursion FitsType ts → AllFit type_layout (type_rows start queue_start ts)
+types_fit : (start queue_start : ℕ) (ts : List CodeType) → start + length (flat_map regs_of ts) < 2 ^ 32 →
+    queue_start + length (flat_map queue_of ts) < 2 ^ 32 → AllByRecursion FitsType ts →
+    AllFit type_layout (type_rows start queue_start ts)
 types_fit start queue_start [] r q h = tt
 types_fit start queue_start (t ∷ ts) r q h =
     let long = length-append t.regs (flat_map regs_of ts) in
@@ -119,8 +89,13 @@ types_fit start queue_start (t ∷ ts) r q h =
     )
 
 reg_fits : (r : RegType) → FitsReg r → Fit reg_layout (reg_row r)
-reg_fits r h =
-    (omega (arith, r.reg.in_range), (omega (arith, colour_small r.colour), (omega arith, (h.0.0, (omega (arith, base_small r.basic.base), (type_fits r.basic.base h.0.1, (h.1, tt)))))))
+reg_fits r h = (
+  omega (arith, r.reg.in_range),
+  (
+    omega (arith, colour_small r.colour),
+    (omega arith, (h.0.0, (omega (arith, base_small r.basic.base), (type_fits r.basic.base h.0.1, (h.1, tt))))),
+  ),
+)
 
 all_regs_fit : (ts : List CodeType) → AllByRecursion FitsType ts → AllByRecursion FitsReg (flat_map regs_of ts)
 all_regs_fit [] h = tt
@@ -129,37 +104,6 @@ all_regs_fit (t ∷ ts) h = all_append FitsReg t.regs (flat_map regs_of ts) h.0.
 all_queue_fit : (ts : List CodeType) → AllByRecursion FitsType ts → AllByRecursion FitsPair (flat_map queue_of ts)
 all_queue_fit [] h = tt
 all_queue_fit (t ∷ ts) h = all_append FitsPair t.queue (flat_map queue_of ts) h.0.queue (all_queue_fit ts h.1)
-
--- INSTRUCTIONS
-
-instr_fits : (i : Instr) → FitsInstr i → Fit code_layout (instr_row i)
-instr_fits (OpReg op rd rs rt) h = fit_seven 0 rd.number rs.number rt.number (op_code op) 0 0 (omega arith) (omega (arith, rd.in_range)) (omega (arith, rs.in_range)) (omega (arith, rt.in_range)) (omega (arith, op_small op)) (omega arith) (omega arith)
-instr_fits (OpWord op rd rs value) h = fit_seven 1 rd.number rs.number (colour_code value.colour) (op_code op) (high_half value.word) (low_half value.word) (omega arith) (omega (arith, rd.in_range)) (omega (arith, rs.in_range)) (omega (arith, colour_small value.colour)) (omega (arith, op_small op)) (omega (arith, h)) (omega arith)
-instr_fits (Mov rd value basic) h = fit_seven 2 rd.number 0 (colour_code value.colour) (basic_number basic) (high_half value.word) (low_half value.word) (omega arith) (omega (arith, rd.in_range)) (omega arith) (omega (arith, colour_small value.colour)) (omega (arith, base_small basic.base, type_fits basic.base h.1.1, h.1.0)) (omega (arith, h.0)) (omega arith)
-instr_fits (Ld colour rd rs) h = fit_seven 3 rd.number rs.number (colour_code colour) 0 0 0 (omega arith) (omega (arith, rd.in_range)) (omega (arith, rs.in_range)) (omega (arith, colour_small colour)) (omega arith) (omega arith) (omega arith)
-instr_fits (St colour rd rs) h = fit_seven 4 rd.number rs.number (colour_code colour) 0 0 0 (omega arith) (omega (arith, rd.in_range)) (omega (arith, rs.in_range)) (omega (arith, colour_small colour)) (omega arith) (omega arith) (omega arith)
-instr_fits (JmpG rd) h = fit_seven 5 rd.number 0 0 0 0 0 (omega arith) (omega (arith, rd.in_range)) (omega arith) (omega arith) (omega arith) (omega arith) (omega arith)
-instr_fits (JmpB rd s) h = fit_seven 5 rd.number 0 1 s.first s.past s.memory (omega arith) (omega (arith, rd.in_range)) (omega arith) (omega arith) h.0 h.1 h.2
-instr_fits (BzG rz rd) h = fit_seven 6 rz.number rd.number 0 0 0 0 (omega arith) (omega (arith, rz.in_range)) (omega (arith, rd.in_range)) (omega arith) (omega arith) (omega arith) (omega arith)
-instr_fits (BzB rz rd s) h = fit_seven 6 rz.number rd.number 1 s.first s.past s.memory (omega arith) (omega (arith, rz.in_range)) (omega (arith, rd.in_range)) (omega arith) h.0 h.1 h.2
-instr_fits Halt h = fit_seven 7 0 0 0 0 0 0 (omega arith) (omega arith) (omega arith) (omega arith) (omega arith) (omega arith) (omega arith)
-instr_fits (Idx rd rs first m) h = fit_seven 8 rd.number rs.number 0 first 0 m (omega arith) (omega (arith, rd.in_range)) (omega (arith, rs.in_range)) (omega arith) h.0 (omega arith) h.1
-
-instr_back : (i : Instr) → FitsInstr i → instr_of (instr_row i) ≡ i
-instr_back (OpReg op rd rs rt) h = rw (op_back op, register_back rd, register_back rs, register_back rt) refl
-instr_back (OpWord op rd rs value) h = rw (op_back op, register_back rd, register_back rs, colour_back value.colour, word_back value.word) refl
-instr_back (Mov rd value basic) h =
-    let small = base_small basic.base in
-    let own = type_fits basic.base h.1.1 in
-    rw (register_back rd, colour_back value.colour, word_back value.word, refs_back basic small own, code_back basic small own, own_back basic small own, basic_back basic) refl
-instr_back (Ld colour rd rs) h = rw (colour_back colour, register_back rd, register_back rs) refl
-instr_back (St colour rd rs) h = rw (colour_back colour, register_back rd, register_back rs) refl
-instr_back (JmpG rd) h = ap JmpG (register_back rd)
-instr_back (JmpB rd s) h = ap (λ r. JmpB r s) (register_back rd)
-instr_back (BzG rz rd) h = rw (register_back rz, register_back rd) refl
-instr_back (BzB rz rd s) h = rw (register_back rz, register_back rd) refl
-instr_back Halt h = refl
-instr_back (Idx rd rs first m) h = rw (register_back rd, register_back rs) refl
 
 -- OBJECTS
 
@@ -170,30 +114,49 @@ sections_fit v o f =
     let queue : length (all_queue o) < 2 ^ 32 = omega (arith, length-flat_map queue_of o.types, n.queue) in
     let names : length (all_names o) < 2 ^ 32 = omega (arith, length-flat_map name_of o.cells, n.names) in
     record {
-      header = (magic_small v, (n.cells, (n.nodes, (n.types, (regs, (queue, (n.blocks, (n.instrs, (n.substs, (names, (f.entry, tt)))))))))));
+      header = (
+        magic_small v,
+        (
+          n.cells,
+          (
+            n.nodes,
+            (n.types, (regs, (queue, (n.blocks, (n.instrs, (n.substs, (names, (f.entry, tt)))))))),
+          ),
+        ),
+      );
       cells = cells_fit 0 o.cells (omega arith) f.cells;
-      nodes = rows_fit code_layout node_row FitsNode (λ x h. shape_fits x.scope x.shape h.0 h.1) o.nodes f.nodes;
+      nodes = rows_fit code_layout node_row FitsNode (λ x h. shape_fit x.scope x.shape h.0 h.1) o.nodes f.nodes;
       types = types_fit 0 0 o.types (omega arith) (omega arith) f.types;
       regs = rows_fit reg_layout reg_row FitsReg reg_fits (all_regs o) (all_regs_fit o.types f.types);
-      queue = rows_fit pair_layout queue_row FitsPair (λ q h. (h.0, (h.1, tt))) (all_queue o) (all_queue_fit o.types f.types);
+      queue = rows_fit pair_layout queue_row FitsPair (λ q h. (h.0, (h.1, tt))) (all_queue o)
+          (all_queue_fit o.types f.types);
       blocks = rows_fit pair_layout block_row FitsBlock (λ b h. (h.0, (h.1, tt))) o.blocks f.blocks;
-      instrs = rows_fit code_layout instr_row FitsInstr instr_fits o.instrs f.instrs;
+      instrs = rows_fit code_layout instr_row FitsInstr instr_fit o.instrs f.instrs;
       substs = rows_fit subst_layout subst_row Is32 (λ s h. (h, tt)) o.substs f.substs;
     }
 
-tables_back : (bytes : List ℕ) (v : Version) (o : Object) → Fits o → Sections bytes v o → tables_read (header_for v o) bytes ≡ o
+tables_back : (bytes : List ℕ) (v : Version) (o : Object) → Fits o → Sections bytes v o →
+    tables_read (header_for v o) bytes ≡ o
 unfolding tables_read
 tables_back bytes v o f s =
     let h = header_for v o in
-    let cells_are : cells_read h bytes ≡ o.cells = ap (λ l. cells_of l 0 (rows cell_layout h.cells (cells_part bytes))) s.names ∙ ap (cells_of (all_names o) 0) s.cells ∙ cells_back (all_names o) 0 o.cells refl in
-    let nodes_are : nodes_read h bytes ≡ o.nodes = ap (map node_of) s.nodes ∙ rows_back node_of node_row FitsNode (λ x k. shape_back x.scope x.shape) o.nodes f.nodes in
-    let regs_are : regs_read h bytes ≡ all_regs o = ap (map reg_type_of) s.regs ∙ rows_back reg_type_of reg_row FitsReg (λ r k. reg_back r) (all_regs o) (all_regs_fit o.types f.types) in
-    let queue_are : queue_read h bytes ≡ all_queue o = ap (map pair_of) s.queue ∙ rows_back pair_of queue_row FitsPair (λ q k. refl) (all_queue o) (all_queue_fit o.types f.types) in
-    let types_are : types_read h bytes ≡ o.types = ap (λ l. types_of 0 0 l (regs_read h bytes) (queue_read h bytes)) s.types ∙ ap (λ l. types_of 0 0 (type_rows 0 0 o.types) l (queue_read h bytes)) regs_are
+    let cells_are : cells_read h bytes ≡ o.cells = ap (λ l. cells_of l 0 (rows cell_layout h.cells (cells_part bytes)))
+    s.names ∙ ap (cells_of (all_names o) 0) s.cells ∙ cells_back (all_names o) 0 o.cells refl in
+    let nodes_are : nodes_read h bytes ≡ o.nodes = ap (map node_of) s.nodes
+    ∙ rows_back node_of node_row FitsNode (λ x k. shape_back x.scope x.shape) o.nodes f.nodes in
+    let regs_are : regs_read h bytes ≡ all_regs o = ap (map reg_type_of) s.regs
+    ∙ rows_back reg_type_of reg_row FitsReg (λ r k. reg_back r) (all_regs o) (all_regs_fit o.types f.types) in
+    let queue_are : queue_read h bytes ≡ all_queue o = ap (map pair_of) s.queue
+    ∙ rows_back pair_of queue_row FitsPair (λ q k. refl) (all_queue o) (all_queue_fit o.types f.types) in
+    let types_are : types_read h bytes ≡ o.types = ap (λ l. types_of 0 0 l (regs_read h bytes) (queue_read h bytes))
+    s.types ∙ ap (λ l. types_of 0 0 (type_rows 0 0 o.types) l (queue_read h bytes)) regs_are
     ∙ ap (λ l. types_of 0 0 (type_rows 0 0 o.types) (all_regs o) l) queue_are ∙ types_back 0 0 o.types in
-    let blocks_are : blocks_read h bytes ≡ o.blocks = ap (map block_of) s.blocks ∙ rows_back block_of block_row FitsBlock (λ b k. refl) o.blocks f.blocks in
-    let instrs_are : instrs_read h bytes ≡ o.instrs = ap (map instr_of) s.instrs ∙ rows_back instr_of instr_row FitsInstr instr_back o.instrs f.instrs in
-    let substs_are : substs_read h bytes ≡ o.substs = ap (map subst_node_of) s.substs ∙ rows_back subst_node_of subst_row Is32 (λ n k. refl) o.substs f.substs in
+    let blocks_are : blocks_read h bytes ≡ o.blocks = ap (map block_of) s.blocks
+    ∙ rows_back block_of block_row FitsBlock (λ b k. refl) o.blocks f.blocks in
+    let instrs_are : instrs_read h bytes ≡ o.instrs = ap (map instr_of) s.instrs
+    ∙ rows_back instr_of instr_row FitsInstr instr_back o.instrs f.instrs in
+    let substs_are : substs_read h bytes ≡ o.substs = ap (map subst_node_of) s.substs
+    ∙ rows_back subst_node_of subst_row Is32 (λ n k. refl) o.substs f.substs in
     rw (cells_are, nodes_are, types_are, blocks_are, instrs_are, substs_are) refl
 
 -- the object is read again

@@ -7,7 +7,7 @@ use Rattle.ft_types.specs.declared.object.Object.{Object}
 use Rattle.ft_types.specs.declared.object.Cell.{Cell}
 use Rattle.ft_types.specs.Objects.{name_of}
 use Rattle.ft_types.specs.Spellable.{IsSpellable}
-use Rattle.ft_encode.specs.Fits.{HasCounts}
+use Rattle.ft_format.specs.Fits.{HasCounts}
 use Rattle.ft_format.specs.declared.version.Version.{Version}
 use Rattle.ft_format.specs.declared.version.Version.TheVariants.{Second}
 use Rattle.ft_format.specs.Broken.{broken, object_of}
@@ -39,18 +39,23 @@ module _ (o : Object) where
   spells : (bytes : List ℕ) → IsSpellable o → bytes ≡ spelling Second o → Spells bytes Second o
   spells bytes h e = record { spellable = h; has = has_all o h; spelled = e }
 
-  pub unbroken : (r : Result (Vec ℕ Global) NoMemory) → IsSpellable o → IsSpelling r → IfOk r (λ bytes. broken bytes.items ≡ None)
+  pub unbroken : (r : Result (Vec ℕ Global) NoMemory) → IsSpellable o → IsSpelling r →
+      IfOk r (λ bytes. broken bytes.items ≡ None)
   unbroken (Ok v) h e = spells_unbroken v.items Second o (spells v.items h e)
   unbroken (Err x) h e = tt
 
-  pub back : (r : Result (Vec ℕ Global) NoMemory) → IsSpellable o → IsSpelling r → IfOk r (λ bytes. Spells bytes.items Second o × (object_of bytes.items ≡ o))
+  pub back : (r : Result (Vec ℕ Global) NoMemory) → IsSpellable o → IsSpelling r →
+      IfOk r (λ bytes. Spells bytes.items Second o × (object_of bytes.items ≡ o))
   back (Ok v) h e = let s = spells v.items h e in (s, spells_read v.items Second o s)
   back (Err x) h e = tt
 
-  pub one : (r : Result (Vec ℕ Global) NoMemory) → IsSpellable o → IsSpelling r → IfOk r (λ bytes. (other : List ℕ) → Spells other Second o → other ≡ bytes.items)
+  pub one : (r : Result (Vec ℕ Global) NoMemory) → IsSpellable o → IsSpelling r →
+      IfOk r (λ bytes. (other : List ℕ) → Spells other Second o → other ≡ bytes.items)
   one (Ok v) h e = λ other p. p.spelled ∙ sym e
   one (Err x) h e = tt
 
-  pub apart : (r : Result (Vec ℕ Global) NoMemory) → IsSpellable o → IsSpelling r → IfOk r (λ bytes. (rest : List ℕ) (v : Version) (other : Object) → Spells (bytes.items ++ rest) v other → rest ≡ [])
+  pub apart : (r : Result (Vec ℕ Global) NoMemory) → IsSpellable o → IsSpelling r →
+      IfOk r (λ bytes. (rest : List ℕ) (v : Version) (other : Object) → Spells (bytes.items ++ rest) v other → rest
+      ≡ [])
   apart (Ok v) h e = λ rest w other q. spells_apart v.items rest Second w o other (spells v.items h e) q
   apart (Err x) h e = tt

@@ -7,7 +7,7 @@ ghost use Rattle.ft_format.specs.Format.{AreBytes};
 ghost use Rattle.ft_format.specs.Rows.{spelling};
 ghost use Rattle.ft_format.specs.declared.version.Version.{Version};
 ghost use Rattle.ft_format.specs.declared.version.Version.TheVariants.{Second};
-ghost use Rattle.ft_encode.specs.Fits.{Fits};
+ghost use Rattle.ft_format.specs.Fits.{Fits};
 
 /// An object that fits into the records is read again from what is written for it, whether or not it obeys the rules.
 pub fn fitting_objects_are_read()

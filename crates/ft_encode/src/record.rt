@@ -1,7 +1,7 @@
 //! Records that are written one after the other.
 ghost use Rattle.std.specs.Prelude.{◌≡◌, ◌∷◌, ◌++◌, [], OnOk};
 ghost use Rattle.std.specs.List.{flat_map};
-ghost use Rattle.ft_types.specs.NodeRows.{op_code, high_half, low_half, shape_row};
+ghost use Rattle.ft_types.specs.NodeRows.{high_half, low_half, shape_row};
 ghost use Rattle.ft_format.specs.Layout.{written};
 ghost use Rattle.ft_format.specs.Fields.{code_numbers, node_numbers};
 ghost use Rattle.ft_format.specs.Rows.{colour_code, base_code, base_type, basic_number, instr_row};
@@ -11,7 +11,7 @@ ghost use Rattle.ft_encode.specs.Written.{subst_bytes};
 use ft_format::{CodeRow, NodeRow, PairRow, RegRow, SubstRow, put_pair};
 use ft_isa::{Base, Basic, Colour, Coloured, Instr, NoMemory, Reg, Subst};
 use ft_static::{Node, Shape};
-use ft_types::{Block, RegType, op_code};
+use ft_types::{Block, RegType};
 
 /// What is written in a record of its own.
 pub(crate) trait Record {
@@ -94,7 +94,7 @@ fn shape_row(scope: u8, shape: Shape) -> NodeRow
     let (kind, op, a, b, c) = match shape {
         Shape::Word(word) => (0, 0, 0, high_half(word), low_half(word)),
         Shape::Var(i) => (1, 0, u32::from(i), 0, 0),
-        Shape::Op { op, a, b } => (2, op_code(op), a, b, 0),
+        Shape::Op { op, a, b } => (2, op.code(), a, b, 0),
         Shape::Sel { memory, at } => (3, 0, memory, at, 0),
         Shape::Memory => (4, 0, 0, 0, 0),
         Shape::Upd { memory, at, value } => (5, 0, memory, at, value),
@@ -212,7 +212,7 @@ fn word_row(kind: u8, rd: Reg, b: u8, value: Coloured, x: u32) -> CodeRow
     )
 }
 
-/// The numbers of an instruction.
+/// The numbers of an instruction's record.
 fn instr_row(instr: Instr) -> CodeRow
     ensures { code_numbers result ≡ instr_row instr }
 {
@@ -223,12 +223,12 @@ fn instr_row(instr: Instr) -> CodeRow
                 rd.number(),
                 rs.number(),
                 rt.number(),
-                u32::from(op_code(op)),
+                u32::from(op.code()),
                 0,
             )
         }
         Instr::OpWord { op, rd, rs, value } => {
-            word_row(1, rd, rs.number(), value, u32::from(op_code(op)))
+            word_row(1, rd, rs.number(), value, u32::from(op.code()))
         }
         Instr::Mov { rd, value, basic } => word_row(2, rd, 0, value, basic_number(basic)),
         Instr::Ld { colour, rd, rs } => {

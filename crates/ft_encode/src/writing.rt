@@ -6,7 +6,7 @@ ghost use Rattle.ft_types.specs.Objects.{name_of, regs_of, queue_of};
 ghost use Rattle.ft_types.specs.Spellable.{IsSpellable};
 ghost use Rattle.ft_format.specs.Layout.{spelled, cell_layout, type_layout};
 ghost use Rattle.ft_format.specs.Broken.{broken, object_of, total};
-ghost use Rattle.ft_encode.specs.Fits.{HasCounts};
+ghost use Rattle.ft_format.specs.Fits.{HasCounts};
 ghost use Rattle.ft_format.specs.Rows.{cell_rows, type_rows, header_row, spelling};
 ghost use Rattle.ft_format.specs.Fields.{header_numbers};
 ghost use Rattle.ft_format.specs.Format.{Spells};

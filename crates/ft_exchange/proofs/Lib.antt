@@ -1,6 +1,5 @@
 pub mod Lists
 pub mod BlockRanges
-pub mod SameRows
 pub mod Permits
 pub mod Crossing
 pub mod QueueLengths

@@ -1,5 +1,6 @@
 -- Lists with two neighbours exchanged.
-use Rattle.std.proofs.Common.{◌≡◌, ℕ, zero, suc, ◌+◌, ◌-◌, ◌<◌, ◌≤◌, List, [], ◌∷◌, length, take, drop, Some, None, slice_get, refl, sym, ap, ◌∙◌, subst, arith}
+use Rattle.std.proofs.Common.{◌≡◌, ℕ, zero, suc, ◌+◌, ◌-◌, ◌<◌, ◌≤◌, List, [], ◌∷◌, length, take, drop, Some, None}
+use Rattle.std.proofs.Common.{slice_get, refl, sym, ap, ◌∙◌, subst, arith}
 use Rattle.std.specs.Prelude.{All}
 use Rattle.std.specs.List.{slice_range}
 use Rattle.std.proofs.lemmas.Option.{slice_get_within, slice_get-get_or, get_or_from_slice_get}
@@ -49,12 +50,15 @@ take_before (suc m) (i ∷ is) zero h = absurd (omega arith)
 take_before (suc m) (i ∷ is) (suc k) h = ap (λ z. i ∷ z) (take_before m is k (omega arith))
 
 -- a part in which the exchange is
-pub range_around : (is : List Instr) (n k a e : ℕ) → n ≡ a + k → n + 2 ≤ e → slice_range (exchanged is n) a e ≡ exchanged (slice_range is a e) k
-range_around is n k a e p h = ap (take (e - a)) (drop_before a is n k p) ∙ take_around (e - a) (drop a is) k (omega arith)
+pub range_around : (is : List Instr) (n k a e : ℕ) → n ≡ a + k → n + 2 ≤ e → slice_range (exchanged is n) a e
+    ≡ exchanged (slice_range is a e) k
+range_around is n k a e p h = ap (take (e - a)) (drop_before a is n k p)
+    ∙ take_around (e - a) (drop a is) k (omega arith)
 
 -- a part before the exchange
 pub range_before : (is : List Instr) (n a e : ℕ) → a ≤ n → e ≤ n → slice_range (exchanged is n) a e ≡ slice_range is a e
-range_before is n a e h l = ap (take (e - a)) (drop_before a is n (n - a) (omega arith)) ∙ take_before (e - a) (drop a is) (n - a) (omega arith)
+range_before is n a e h l = ap (take (e - a)) (drop_before a is n (n - a) (omega arith))
+    ∙ take_before (e - a) (drop a is) (n - a) (omega arith)
 
 -- a part after the exchange
 pub range_after : (is : List Instr) (n a e : ℕ) → n + 2 ≤ a → slice_range (exchanged is n) a e ≡ slice_range is a e
@@ -63,20 +67,23 @@ range_after is n a e h = ap (take (e - a)) (drop_after a is n h)
 -- ELEMENTS
 
 -- the elements of a part are those of the list
-get-take : (m : ℕ) (is : List Instr) (k : ℕ) (i : Instr) → slice_get (take m is) k ≡ Some i → (k < m) × (slice_get is k ≡ Some i)
+get-take : (m : ℕ) (is : List Instr) (k : ℕ) (i : Instr) → slice_get (take m is) k ≡ Some i → (k < m)
+    × (slice_get is k ≡ Some i)
 get-take zero is k i e = cc
 get-take (suc m) [] k i e = cc
 get-take (suc m) (x ∷ is) zero i e = (omega arith, e)
 get-take (suc m) (x ∷ is) (suc k) i e = let h = get-take m is k i e in (let l = h.0 in omega arith, h.1)
 
 -- an element of a part: its place in the list, which is before the part's end
-pub get-range : (is : List Instr) (a e k : ℕ) (i : Instr) → slice_get (slice_range is a e) k ≡ Some i → (a + k < e) × (slice_get is (a + k) ≡ Some i)
+pub get-range : (is : List Instr) (a e k : ℕ) (i : Instr) → slice_get (slice_range is a e) k ≡ Some i → (a + k < e)
+    × (slice_get is (a + k) ≡ Some i)
 get-range is a e k i f =
     let g = get-take (e - a) (drop a is) k i f in
     (let l = g.0 in omega arith, sym (get_dropped a is k) ∙ g.1)
 
 -- each element of the new list stood in the old
-pub from_exchanged : (is : List Instr) (n k : ℕ) (x : Instr) → slice_get (exchanged is n) k ≡ Some x → (j : ℕ) × (slice_get is j ≡ Some x)
+pub from_exchanged : (is : List Instr) (n k : ℕ) (x : Instr) → slice_get (exchanged is n) k ≡ Some x → (j : ℕ)
+    × (slice_get is j ≡ Some x)
 from_exchanged [] n k x e = cc
 from_exchanged (i ∷ is) (suc n) zero x e = (0, e)
 from_exchanged (i ∷ is) (suc n) (suc k) x e = let h = from_exchanged is n k x e in (suc h.0, h.1)
@@ -93,7 +100,8 @@ all_exchanged P is n h k d lt =
     subst P (get_or_from_slice_get is f.0 _ d f.1) (h f.0 d (slice_get_within is f.0 _ f.1))
 
 -- the substitutions are the same, where the two instructions carry none
-pub substs_exchanged : (is : List Instr) (n : ℕ) (a b : Instr) → slice_get is n ≡ Some a → slice_get is (suc n) ≡ Some b → subst_of a ≡ None → subst_of b ≡ None → substs_of (exchanged is n) ≡ substs_of is
+pub substs_exchanged : (is : List Instr) (n : ℕ) (a b : Instr) → slice_get is n ≡ Some a → slice_get is (suc n)
+    ≡ Some b → subst_of a ≡ None → subst_of b ≡ None → substs_of (exchanged is n) ≡ substs_of is
 substs_exchanged [] n a b ea eb na nb = refl
 substs_exchanged (i ∷ is) (suc n) a b ea eb na nb = ap (before (subst_of i)) (substs_exchanged is n a b ea eb na nb)
 substs_exchanged (i ∷ []) zero a b ea eb na nb = refl
@@ -105,19 +113,22 @@ substs_exchanged (i ∷ j ∷ is) zero a b ea eb na nb =
     (λ x. before (nj x) (before (ni x) (substs_of is))) ∙ sym (λ x. before (ni x) (before (nj x) (substs_of is)))
 
 -- the elements of the new list
-pub get_first : (is : List Instr) (n : ℕ) (a b : Instr) → slice_get is n ≡ Some a → slice_get is (suc n) ≡ Some b → slice_get (exchanged is n) n ≡ Some b
+pub get_first : (is : List Instr) (n : ℕ) (a b : Instr) → slice_get is n ≡ Some a → slice_get is (suc n) ≡ Some b →
+    slice_get (exchanged is n) n ≡ Some b
 get_first [] n a b ea eb = cc
 get_first (i ∷ is) (suc n) a b ea eb = get_first is n a b ea eb
 get_first (i ∷ []) zero a b ea eb = cc
 get_first (i ∷ j ∷ is) zero a b ea eb = eb
 
-pub get_second : (is : List Instr) (n : ℕ) (a b : Instr) → slice_get is n ≡ Some a → slice_get is (suc n) ≡ Some b → slice_get (exchanged is n) (suc n) ≡ Some a
+pub get_second : (is : List Instr) (n : ℕ) (a b : Instr) → slice_get is n ≡ Some a → slice_get is (suc n) ≡ Some b →
+    slice_get (exchanged is n) (suc n) ≡ Some a
 get_second [] n a b ea eb = cc
 get_second (i ∷ is) (suc n) a b ea eb = get_second is n a b ea eb
 get_second (i ∷ []) zero a b ea eb = cc
 get_second (i ∷ j ∷ is) zero a b ea eb = ea
 
-pub get_other : (is : List Instr) (n k : ℕ) → (k ≡ n → ⊥) → (k ≡ suc n → ⊥) → slice_get (exchanged is n) k ≡ slice_get is k
+pub get_other : (is : List Instr) (n k : ℕ) → (k ≡ n → ⊥) → (k ≡ suc n → ⊥) → slice_get (exchanged is n) k
+    ≡ slice_get is k
 get_other [] n k h l = refl
 get_other (i ∷ is) (suc n) zero h l = refl
 get_other (i ∷ is) (suc n) (suc k) h l = get_other is n k (λ e. h (ap suc e)) (λ e. l (ap suc e))

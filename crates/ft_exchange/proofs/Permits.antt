@@ -5,48 +5,55 @@ use Rattle.ft_isa.specs.declared.colour.Colour.{Colour}
 use Rattle.ft_isa.specs.declared.colour.Colour.TheVariants.{Green, Blue}
 use Rattle.ft_isa.specs.declared.reg.Reg.{Reg}
 use Rattle.ft_isa.specs.declared.instr.Instr.{Instr}
-use Rattle.ft_isa.specs.declared.instr.Instr.TheVariants.{OpReg, OpWord, Mov, Ld, St, JmpG, JmpB, BzG, BzB, Halt, Idx}
-use Rattle.ft_exchange.specs.Exchange.{is_fixed, is_leading, is_trailing, written, reads, is_register, leaves_alone, has_room, may_exchange}
+use Rattle.ft_isa.specs.declared.instr.Instr.TheVariants.{Ld, St}
+use Rattle.ft_isa.specs.Instructions.{is_fixed, is_leading, written, reads, is_register}
+use Rattle.ft_isa.proofs.Instructions.{Kind, fixed, store, write, kind_of, leading_is_free}
+use Rattle.ft_exchange.specs.Exchange.{is_trailing, leaves_alone, has_room, may_exchange}
 
 -- a trailing instruction writes a register, or is a blue store
 pub data Trailing : Instr → Type 0 where
-  trailing_write : {i : Instr} (r : ℕ) → written i ≡ Some r → ((k : Colour) (rd rs : Reg) → i ≡ Ld k rd rs → k ≡ Blue) → Trailing i
+  trailing_write : {i : Instr} (r : ℕ) → written i ≡ Some r → ((k : Colour) (rd rs : Reg) → i ≡ Ld k rd rs → k ≡ Blue) →
+      Trailing i
   trailing_store : (rd rs : Reg) → Trailing (St Blue rd rs)
 
 -- a leading one writes a register, or is a green store
 pub data Leading : Instr → Type 0 where
-  leading_write : {i : Instr} (r : ℕ) → written i ≡ Some r → ((k : Colour) (rd rs : Reg) → i ≡ Ld k rd rs → k ≡ Green) → Leading i
+  leading_write : {i : Instr} (r : ℕ) → written i ≡ Some r → ((k : Colour) (rd rs : Reg) → i ≡ Ld k rd rs → k ≡ Green) →
+      Leading i
   leading_store : (rd rs : Reg) → Leading (St Green rd rs)
 
+-- a load that trails is blue, and one that leads green
+pub trailing_load : (i : Instr) (k : Colour) (rd rs : Reg) → is_trailing i ≡ true → i ≡ Ld k rd rs → k ≡ Blue
+trailing_load i k rd rs h e = by_colour k (subst (λ (z : Instr). is_trailing z ≡ true) e h)
+  where
+    by_colour : (c : Colour) → is_trailing (Ld c rd rs) ≡ true → c ≡ Blue
+    by_colour Green h = cc
+    by_colour Blue h = refl
+
+pub leading_load : (i : Instr) (k : Colour) (rd rs : Reg) → is_leading i ≡ true → i ≡ Ld k rd rs → k ≡ Green
+leading_load i k rd rs h e = by_colour k (subst (λ (z : Instr). is_leading z ≡ true) e h)
+  where
+    by_colour : (c : Colour) → is_leading (Ld c rd rs) ≡ true → c ≡ Green
+    by_colour Green h = refl
+    by_colour Blue h = cc
+
 pub trailing : (i : Instr) → is_trailing i ≡ true → Trailing i
-trailing (OpReg op rd rs rt) h = trailing_write rd.number refl (λ k a b e. cc)
-trailing (OpWord op rd rs value) h = trailing_write rd.number refl (λ k a b e. cc)
-trailing (Mov rd value basic) h = trailing_write rd.number refl (λ k a b e. cc)
-trailing (Ld Green rd rs) h = cc
-trailing (Ld Blue rd rs) h = trailing_write rd.number refl (λ k a b e. cc)
-trailing (St Green rd rs) h = cc
-trailing (St Blue rd rs) h = trailing_store rd rs
-trailing (JmpG rd) h = cc
-trailing (JmpB rd u) h = cc
-trailing (BzG rz rd) h = cc
-trailing (BzB rz rd u) h = cc
-trailing Halt h = cc
-trailing (Idx rd rs first m) h = trailing_write rd.number refl (λ k a b e. cc)
+trailing i h = by_kind (kind_of i) h
+  where
+    by_kind : {i : Instr} → Kind i → is_trailing i ≡ true → Trailing i
+    by_kind {i = i} (fixed f n) h = (let free : is_fixed i ≡ false = not-true (is_fixed i) (and_parts _ _ h).0 in cc)
+    by_kind (store Green rd rs) h = cc
+    by_kind (store Blue rd rs) h = trailing_store rd rs
+    by_kind {i = i} (write r f w) h = trailing_write r w (λ k rd rs e. trailing_load i k rd rs h e)
 
 pub leading : (i : Instr) → is_leading i ≡ true → Leading i
-leading (OpReg op rd rs rt) h = leading_write rd.number refl (λ k a b e. cc)
-leading (OpWord op rd rs value) h = leading_write rd.number refl (λ k a b e. cc)
-leading (Mov rd value basic) h = leading_write rd.number refl (λ k a b e. cc)
-leading (Ld Green rd rs) h = leading_write rd.number refl (λ k a b e. cc)
-leading (Ld Blue rd rs) h = cc
-leading (St Green rd rs) h = leading_store rd rs
-leading (St Blue rd rs) h = cc
-leading (JmpG rd) h = cc
-leading (JmpB rd u) h = cc
-leading (BzG rz rd) h = cc
-leading (BzB rz rd u) h = cc
-leading Halt h = cc
-leading (Idx rd rs first m) h = leading_write rd.number refl (λ k a b e. cc)
+leading i h = by_kind (kind_of i) h
+  where
+    by_kind : {i : Instr} → Kind i → is_leading i ≡ true → Leading i
+    by_kind (fixed f n) h = cc
+    by_kind (store Green rd rs) h = leading_store rd rs
+    by_kind (store Blue rd rs) h = cc
+    by_kind {i = i} (write r f w) h = leading_write r w (λ k rd rs e. leading_load i k rd rs h e)
 
 -- what a permitted exchange says
 pub record Permits (n : ℕ) (first second : Instr) : Type 0 where
@@ -59,19 +66,6 @@ pub record Permits (n : ℕ) (first second : Instr) : Type 0 where
   pub second_alone : leaves_alone second (written first) ≡ true
   pub first_alone : leaves_alone first (written second) ≡ true
   pub room : has_room first second n ≡ true
-
-leading_free : (i : Instr) → is_leading i ≡ true → is_fixed i ≡ false
-leading_free (OpReg op rd rs rt) h = refl
-leading_free (OpWord op rd rs value) h = refl
-leading_free (Mov rd value basic) h = refl
-leading_free (Ld k rd rs) h = refl
-leading_free (St k rd rs) h = refl
-leading_free (JmpG rd) h = cc
-leading_free (JmpB rd u) h = cc
-leading_free (BzG rz rd) h = cc
-leading_free (BzB rz rd u) h = cc
-leading_free Halt h = cc
-leading_free (Idx rd rs first m) h = refl
 
 pub permits : (n : ℕ) (first second : Instr) → may_exchange n first second ≡ true → Permits n first second
 permits n first second h =
@@ -86,7 +80,7 @@ permits n first second h =
       first_trails = s.0;
       second_leads = s.1;
       first_free = not-true (is_fixed first) t.0;
-      second_free = leading_free second s.1;
+      second_free = leading_is_free second s.1;
       second_alone = r.1;
       first_alone = q.1;
       room = p.1;
@@ -107,8 +101,10 @@ pub not_read : (i : Instr) (w : Option ℕ) (r : ℕ) → w ≡ Some r → leave
 not_read i w r e h = or_left_false (reads i r) (is_register (written i) r) (subst (λ u. leaves_alone i u ≡ true) e h)
 
 -- and doesn't write it
-pub not_written : (i : Instr) (w : Option ℕ) (q r : ℕ) → w ≡ Some r → written i ≡ Some q → leaves_alone i w ≡ true → (q == r) ≡ false
-not_written i w q r e f h = subst (λ u. is_register u r ≡ false) f (or_right_false (reads i r) (is_register (written i) r) (subst (λ u. leaves_alone i u ≡ true) e h))
+pub not_written : (i : Instr) (w : Option ℕ) (q r : ℕ) → w ≡ Some r → written i ≡ Some q → leaves_alone i w ≡ true →
+    (q == r) ≡ false
+not_written i w q r e f h = subst (λ u. is_register u r
+    ≡ false) f (or_right_false (reads i r) (is_register (written i) r) (subst (λ u. leaves_alone i u ≡ true) e h))
 
 -- so what it reads is another
 pub read_other : (i : Instr) (r q : ℕ) → reads i r ≡ false → reads i q ≡ true → (q == r) ≡ false
@@ -116,19 +112,5 @@ read_other i r q no_read h = by_test (q == r) refl
   where
     by_test : (b : Bool) → (q == r) ≡ b → (q == r) ≡ false
     by_test false e = e
-    by_test true e = (let same : q ≡ r = eqb-true q r e in let g : reads i r ≡ true = subst (λ z. reads i z ≡ true) same h in cc)
-
--- a load that trails is blue, and one that leads green
-pub trailing_load : (i : Instr) (k : Colour) (rd rs : Reg) → is_trailing i ≡ true → i ≡ Ld k rd rs → k ≡ Blue
-trailing_load i k rd rs h e = by_colour k (subst (λ (z : Instr). is_trailing z ≡ true) e h)
-  where
-    by_colour : (c : Colour) → is_trailing (Ld c rd rs) ≡ true → c ≡ Blue
-    by_colour Green h = cc
-    by_colour Blue h = refl
-
-pub leading_load : (i : Instr) (k : Colour) (rd rs : Reg) → is_leading i ≡ true → i ≡ Ld k rd rs → k ≡ Green
-leading_load i k rd rs h e = by_colour k (subst (λ (z : Instr). is_leading z ≡ true) e h)
-  where
-    by_colour : (c : Colour) → is_leading (Ld c rd rs) ≡ true → c ≡ Green
-    by_colour Green h = refl
-    by_colour Blue h = cc
+    by_test true e = (let same : q ≡ r = eqb-true q r e in
+        let g : reads i r ≡ true = subst (λ z. reads i z ≡ true) same h in cc)

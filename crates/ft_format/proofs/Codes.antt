@@ -1,5 +1,6 @@
 -- Fields of records: tests that hold, codes, registers, basic types and words, both ways.
-use Rattle.std.proofs.Common.{◌≡◌, ℕ, zero, suc, ◌+◌, ◌^◌, ◌<◌, ◌≤◌, Bool, true, false, None, Some, refl, sym, ap, arith}
+use Rattle.std.proofs.Common.{◌≡◌, ℕ, zero, suc, ◌+◌, ◌^◌, ◌<◌, ◌≤◌, Bool, true, false, None, Some, refl, sym, ap}
+use Rattle.std.proofs.Common.{arith}
 use Rattle.std.specs.Prelude.{◌==◌, nat_lt, nat_le}
 use Rattle.std.proofs.lemmas.Bool.{true≢false, lt-ltb}
 use Rattle.std.proofs.lemmas.Bool.Decides.{nat_tests}
@@ -9,21 +10,24 @@ use Rattle.ft_isa.specs.declared.reg.Reg.{Reg}
 use Rattle.ft_isa.specs.declared.colour.Colour.{Colour}
 use Rattle.ft_isa.specs.declared.colour.Colour.TheVariants.{Green, Blue}
 use Rattle.ft_isa.specs.declared.op.Op.{Op}
-use Rattle.ft_isa.specs.declared.op.Op.TheVariants.{Add, Sub, Mul, Ltu, Eq, And, Or, Xor, Shl, Shr}
 use Rattle.ft_isa.specs.declared.basic.Base.{Base}
 use Rattle.ft_isa.specs.declared.basic.Base.TheVariants.{Int, Code}
 use Rattle.ft_isa.specs.declared.basic.Basic.{Basic}
 use Rattle.ft_isa.specs.Registers.{reg_if}
 use Rattle.ft_types.specs.Spellable.{IsBase, IsBasic}
-use Rattle.ft_types.specs.NodeRows.{op_code, high_half, low_half, joined}
+use Rattle.ft_isa.specs.Operations.{op_code, op_of}
+use Rattle.ft_isa.proofs.Operations.{code_again}
+use Rattle.ft_types.specs.NodeRows.{high_half, low_half, joined}
 use Rattle.ft_format.specs.declared.object_error.ObjectError.{ObjectError}
 use Rattle.ft_format.specs.declared.object_error.ObjectError.TheVariants as errors
-use Rattle.ft_format.specs.Rules.{must, ◌next◌, colour_broken, op_broken, register_broken, code_type_broken, basic_broken}
+use Rattle.ft_format.specs.Rules.{must, ◌next◌, zero_broken, colour_broken, op_broken, register_broken}
+use Rattle.ft_format.specs.Rules.{code_type_broken, basic_broken}
 use Rattle.ft_format.specs.Rows.{colour_code, base_code, base_type}
-use Rattle.ft_format.specs.Values.{or_first, register_of, colour_of, op_of, base_of, basic_type_of}
+use Rattle.ft_format.specs.Values.{or_first, register_of, colour_of, base_of, basic_type_of}
 use Rattle.ft_format.specs.declared.version.Version.{Version}
 use Rattle.ft_format.specs.Versions.{last_op}
 use Rattle.ft_format.specs.Format.{SupportsOp}
+use Rattle.ft_format.specs.Fits.{FitsBase, FitsBasic}
 use Rattle.ft_format.proofs.Unbroken.{held, both}
 use Rattle.ft_format.proofs.Versions.{few_ops}
 
@@ -36,6 +40,9 @@ lt_held n m e h = grind (arith, nat_tests, held (nat_lt n m) e h)
 
 pub eq_held : (n m : ℕ) (e : ObjectError) → must (n == m) e ≡ None → n ≡ m
 eq_held n m e h = grind (arith, nat_tests, held (n == m) e h)
+
+pub zero_again : (at n : ℕ) → zero_broken at n ≡ None → 0 ≡ n
+zero_again at n h = sym (eq_held n 0 (errors.Pad at) h)
 
 pub le_true : (n m : ℕ) → n ≤ m → nat_le n m ≡ true
 le_true n m h = grind (arith, nat_tests)
@@ -94,19 +101,6 @@ colour_small Green = omega arith
 colour_small Blue = omega arith
 
 -- operations
-code_again : (n : ℕ) → n ≤ 9 → op_code (op_of n) ≡ n
-code_again zero h = refl
-code_again (suc zero) h = refl
-code_again (suc (suc zero)) h = refl
-code_again (suc (suc (suc zero))) h = refl
-code_again (suc (suc (suc (suc zero)))) h = refl
-code_again (suc (suc (suc (suc (suc zero))))) h = refl
-code_again (suc (suc (suc (suc (suc (suc zero)))))) h = refl
-code_again (suc (suc (suc (suc (suc (suc (suc zero))))))) h = refl
-code_again (suc (suc (suc (suc (suc (suc (suc (suc zero)))))))) h = refl
-code_again (suc (suc (suc (suc (suc (suc (suc (suc (suc zero))))))))) h = refl
-code_again (suc (suc (suc (suc (suc (suc (suc (suc (suc (suc n)))))))))) h = absurd (omega arith)
-
 -- what the code of an operation that breaks no rule stands for
 pub record OpAgain (v : Version) (n : ℕ) : Type 0 where
   pub code : op_code (op_of n) ≡ n
@@ -118,23 +112,12 @@ op_again v at n h =
     let code : op_code (op_of n) ≡ n = code_again n (omega (arith, few, few_ops v)) in
     record { code = code; has = rw code few }
 
-pub op_back : (o : Op) → op_of (op_code o) ≡ o
-op_back Add = refl
-op_back Sub = refl
-op_back Mul = refl
-op_back Ltu = refl
-op_back Eq = refl
-op_back And = refl
-op_back Or = refl
-op_back Xor = refl
-op_back Shl = refl
-op_back Shr = refl
-
 pub op_fine : (v : Version) (at : ℕ) (o : Op) → SupportsOp v o → op_broken v at (op_code o) ≡ None
 op_fine v at o h = rw (le_true (op_code o) (last_op v) h) refl
 
 -- registers
-same_reg : (n : ℕ) (h : n < 64) (b : Bool) (e : nat_lt n 64 ≡ b) → b ≡ true → reg_if n b e ≡ Some (record { number = n; in_range = h })
+same_reg : (n : ℕ) (h : n < 64) (b : Bool) (e : nat_lt n 64 ≡ b) → b ≡ true → reg_if n b e
+    ≡ Some (record { number = n; in_range = h })
 same_reg n h true e t = ap (λ p. Some (record { number = n; in_range = p })) (le_prop (ltb-true n 64 e) h)
 same_reg n h false e t = absurd (true≢false (sym t))
 
@@ -155,22 +138,33 @@ pub record BasicAgain (types refs base code_type : ℕ) : Type 0 where
   pub code : base_code (base_of base code_type) ≡ base
   pub own : base_type (base_of base code_type) ≡ code_type
 
-code_type_again : (types at refs : ℕ) → refs ≤ 8 → (base : ℕ) → base ≤ 1 → (code_type : ℕ) → code_type_broken types at base code_type ≡ None → BasicAgain types refs base code_type
-code_type_again types at refs few = up_to_1 (λ base. (code_type : ℕ) → code_type_broken types at base code_type ≡ None → BasicAgain types refs base code_type)
+code_type_again : (types at refs : ℕ) → refs ≤ 8 → (base : ℕ) → base ≤ 1 → (code_type : ℕ) →
+    code_type_broken types at base code_type ≡ None → BasicAgain types refs base code_type
+code_type_again types at refs few = up_to_1 (λ base. (code_type : ℕ) → code_type_broken types at base code_type ≡ None →
+    BasicAgain types refs base code_type)
     (λ t h. record { basic = record { refs = few; base = tt }; code = refl; own = sym (eq_held t 0 (errors.Pad at) h) })
-    (λ t h. record { basic = record { refs = few; base = lt_held t types (errors.Index at) h }; code = refl; own = refl })
+    (λ t h. record {
+      basic = record { refs = few; base = lt_held t types (errors.Index at) h };
+      code = refl;
+      own = refl;
+    })
 
-pub basic_again : (types at refs base code_type : ℕ) → basic_broken types at refs base code_type ≡ None → BasicAgain types refs base code_type
+pub basic_again : (types at refs base code_type : ℕ) → basic_broken types at refs base code_type ≡ None →
+    BasicAgain types refs base code_type
 basic_again types at refs base code_type h =
-    let a = both (must (nat_le refs 8) (errors.Kind at)) (must (nat_le base 1) (errors.Kind (at + 1)) next code_type_broken types (at + 2) base code_type) h in
+    let a = both (must (nat_le refs 8) (errors.Kind at))
+    (must (nat_le base 1) (errors.Kind (at + 1)) next code_type_broken types (at + 2) base code_type) h in
     let b = both (must (nat_le base 1) (errors.Kind (at + 1))) (code_type_broken types (at + 2) base code_type) a.1 in
-    code_type_again types (at + 2) refs (le_held refs 8 (errors.Kind at) a.0) base (le_held base 1 (errors.Kind (at + 1)) b.0) code_type b.1
+    code_type_again types (at + 2) refs (le_held refs 8 (errors.Kind at) a.0) base
+    (le_held base 1 (errors.Kind (at + 1)) b.0) code_type b.1
 
-basic_parts : (types at refs : ℕ) (base : Base) → nat_le refs 8 ≡ true → IsBase types base → basic_broken types at refs (base_code base) (base_type base) ≡ None
+basic_parts : (types at refs : ℕ) (base : Base) → nat_le refs 8 ≡ true → IsBase types base →
+    basic_broken types at refs (base_code base) (base_type base) ≡ None
 basic_parts types at refs Int few h = rw few refl
 basic_parts types at refs (Code t) few h = rw (few, lt_true t types h) refl
 
-pub basic_fine : (types at : ℕ) (b : Basic) → IsBasic types b → basic_broken types at b.refs (base_code b.base) (base_type b.base) ≡ None
+pub basic_fine : (types at : ℕ) (b : Basic) → IsBasic types b →
+    basic_broken types at b.refs (base_code b.base) (base_type b.base) ≡ None
 basic_fine types at b h = basic_parts types at b.refs b.base (le_true b.refs 8 h.refs) h.base
 
 pub base_back : (b : Base) → base_of (base_code b) (base_type b) ≡ b
@@ -188,6 +182,18 @@ base_small (Code t) = omega arith
 pub type_small : (types : ℕ) (b : Base) → types ≤ 4096 → IsBase types b → base_type b < 2 ^ 16
 type_small types Int m h = omega arith
 type_small types (Code t) m h = omega arith
+
+-- what obeys the rules fits its fields
+base_fits : (types : ℕ) (b : Base) → types ≤ 4096 → IsBase types b → FitsBase b
+base_fits types Int m h = tt
+base_fits types (Code t) m h = omega arith
+
+pub basic_fits : (types : ℕ) (b : Basic) → types ≤ 4096 → IsBasic types b → FitsBasic b
+basic_fits types b m h = let few = h.refs in (omega arith, base_fits types b.base m h.base)
+
+pub type_fits : (b : Base) → FitsBase b → base_type b < 2 ^ 16
+type_fits Int h = omega arith
+type_fits (Code t) h = h
 
 -- words in two halves
 pub high_back : (high low : ℕ) → low < 2 ^ 32 → high_half (joined high low) ≡ high

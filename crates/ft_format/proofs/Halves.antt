@@ -20,7 +20,8 @@ halves high low fits =
     cc
 
 -- four numbers of one byte are the bytes of the number that they make
-front : (a b c d : ℕ) → a < 256 → b < 256 → c < 256 → d < 256 → bytes_of w32 (a * 2 ^ 24 + b * 2 ^ 16 + c * 2 ^ 8 + d) ≡ bytes_of w8 a ++ bytes_of w8 b ++ bytes_of w8 c ++ bytes_of w8 d
+front : (a b c d : ℕ) → a < 256 → b < 256 → c < 256 → d < 256 → bytes_of w32 (a * 2 ^ 24 + b * 2 ^ 16 + c * 2 ^ 8 + d)
+    ≡ bytes_of w8 a ++ bytes_of w8 b ++ bytes_of w8 c ++ bytes_of w8 d
 unfolding bytes_of
 front a b c d fa fb fc fd =
     let f = a * 2 ^ 24 + b * 2 ^ 16 + c * 2 ^ 8 + d in
@@ -32,8 +33,13 @@ front a b c d fa fb fc fd =
 
 -- the record of a node or an instruction is its two words
 pub words_written : (k a b c x high low : ℕ) → k < 256 → a < 256 → b < 256 → c < 256 → x < 2 ^ 32 → low < 2 ^ 32 →
-    bytes_of w64 (row_words (k ∷ a ∷ b ∷ c ∷ x ∷ high ∷ low ∷ [])).0 ++ bytes_of w64 (row_words (k ∷ a ∷ b ∷ c ∷ x ∷ high ∷ low ∷ [])).1
+    bytes_of w64 (row_words (k ∷ a ∷ b ∷ c ∷ x ∷ high ∷ low ∷ [])).0
+    ++ bytes_of w64 (row_words (k ∷ a ∷ b ∷ c ∷ x ∷ high ∷ low ∷ [])).1
     ≡ written code_layout (k ∷ a ∷ b ∷ c ∷ x ∷ high ∷ low ∷ [])
 unfolding written
 words_written k a b c x high low fk fa fb fc fx fl =
-    rw (halves (k * 2 ^ 24 + a * 2 ^ 16 + b * 2 ^ 8 + c) x fx, halves high low fl, front k a b c fk fa fb fc) (simp (append_assoc, append-nil) refl)
+    rw (
+      halves (k * 2 ^ 24 + a * 2 ^ 16 + b * 2 ^ 8 + c) x fx,
+      halves high low fl,
+      front k a b c fk fa fb fc,
+    ) (simp (append_assoc, append-nil) refl)

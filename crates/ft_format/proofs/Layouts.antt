@@ -1,8 +1,11 @@
 -- Records of bytes and their numbers, both ways.
-use Rattle.std.proofs.Common.{◌≡◌, ℕ, zero, suc, ◌+◌, ◌*◌, ◌^◌, ◌<◌, ◌≤◌, List, [], ◌∷◌, ◌++◌, length, take, drop, refl, sym, ap, ◌∙◌, append_assoc, arith}
+use Rattle.std.proofs.Common.{◌≡◌, ℕ, zero, suc, ◌+◌, ◌*◌, ◌^◌, ◌<◌, ◌≤◌, List, [], ◌∷◌, ◌++◌, length, take, drop, refl}
+use Rattle.std.proofs.Common.{sym, ap, ◌∙◌, append_assoc, arith}
 use Rattle.std.specs.Int.{Width, w8, w16, w32, w64, w128, byte_len, from_be_bytes, to_be_bytes}
-use Rattle.std.proofs.lemmas.List.{length-append, length-drop, length-take-le, take-take, take_at, drop_at, drop-drop, append-nil, get_or-drop}
-use Rattle.std.proofs.lemmas.Nat.{be_bytes_2, be_bytes_4, be_bytes_8, from_be_bytes-to_be_bytes_2, from_be_bytes-to_be_bytes_4, from_be_bytes-to_be_bytes_8}
+use Rattle.std.proofs.lemmas.List.{length-append, length-drop, length-take-le, take-take, take_at, drop_at, drop-drop}
+use Rattle.std.proofs.lemmas.List.{append-nil, get_or-drop}
+use Rattle.std.proofs.lemmas.Nat.{be_bytes_2, be_bytes_4, be_bytes_8, from_be_bytes-to_be_bytes_2}
+use Rattle.std.proofs.lemmas.Nat.{from_be_bytes-to_be_bytes_4, from_be_bytes-to_be_bytes_8}
 use Rattle.ft_format.specs.Format.{AreBytes}
 use Rattle.ft_format.specs.Layout.{number_of, bytes_of, size, numbers, written, rows, spelled}
 
@@ -77,7 +80,8 @@ one_byte (b ∷ bs) h le =
     ap (λ n. n ∷ []) (omega (arith, h 0))
 
 -- bytes are the bytes of their number
-number_again : (w : Width) (bs : List ℕ) → IsNarrow w → AreBytes bs → byte_len w ≤ length bs → bytes_of w (number_of w bs) ≡ take (byte_len w) bs
+number_again : (w : Width) (bs : List ℕ) → IsNarrow w → AreBytes bs → byte_len w ≤ length bs →
+    bytes_of w (number_of w bs) ≡ take (byte_len w) bs
 unfolding number_of bytes_of
 number_again w8 bs s h le = one_byte bs h le
 number_again w16 bs s h le = be_bytes_2 (take 2 bs) _ (length-take-le 2 bs le) (bytes_before 2 bs h) refl
@@ -97,7 +101,10 @@ number_fits w128 bs s h = absurd s
 pub numbers_fit : (ws : List Width) (bs : List ℕ) → AreNarrow ws → AreBytes bs → Fit ws (numbers ws bs)
 unfolding numbers
 numbers_fit [] bs s h = tt
-numbers_fit (w ∷ ws) bs s h = (number_fits w bs s.0 h, numbers_fit ws (drop (byte_len w) bs) s.1 (bytes_after (byte_len w) bs h))
+numbers_fit (w ∷ ws) bs s h = (
+  number_fits w bs s.0 h,
+  numbers_fit ws (drop (byte_len w) bs) s.1 (bytes_after (byte_len w) bs h),
+)
 
 -- numbers that are written are read, whatever follows them
 pub numbers_back : (ws : List Width) (ns rest : List ℕ) → Fit ws ns → numbers ws (written ws ns ++ rest) ≡ ns
@@ -106,7 +113,12 @@ numbers_back [] [] rest h = refl
 numbers_back [] (n ∷ ns) rest h = absurd h
 numbers_back (w ∷ ws) [] rest h = absurd h
 numbers_back (w ∷ ws) (n ∷ ns) rest h =
-    rw (append_assoc (bytes_of w n) (written ws ns) rest, number_back w n (written ws ns ++ rest) h.0, after_number w n (written ws ns ++ rest) h.0, numbers_back ws ns rest h.1) refl
+    rw (
+      append_assoc (bytes_of w n) (written ws ns) rest,
+      number_back w n (written ws ns ++ rest) h.0,
+      after_number w n (written ws ns ++ rest) h.0,
+      numbers_back ws ns rest h.1,
+    ) refl
 
 pub length_written : (ws : List Width) (ns : List ℕ) → Fit ws ns → length (written ws ns) ≡ size ws
 unfolding written
@@ -124,20 +136,24 @@ take_none (suc n) = refl
 take_plus : (m n : ℕ) (xs : List ℕ) → take m xs ++ take n (drop m xs) ≡ take (m + n) xs
 take_plus zero n xs = let e : 0 + n ≡ n = omega arith in rw e refl
 take_plus (suc m) n [] = let e : suc m + n ≡ suc (m + n) = omega arith in rw e (take_none n)
-take_plus (suc m) n (x ∷ xs) = let e : suc m + n ≡ suc (m + n) = omega arith in rw e (ap (λ l. x ∷ l) (take_plus m n xs))
+take_plus (suc m) n (x ∷ xs) = let e : suc m + n ≡ suc (m + n) = omega arith in
+    rw e (ap (λ l. x ∷ l) (take_plus m n xs))
 
 -- bytes are written of their numbers
-pub numbers_again : (ws : List Width) (bs : List ℕ) → AreNarrow ws → AreBytes bs → size ws ≤ length bs → written ws (numbers ws bs) ≡ take (size ws) bs
+pub numbers_again : (ws : List Width) (bs : List ℕ) → AreNarrow ws → AreBytes bs → size ws ≤ length bs →
+    written ws (numbers ws bs) ≡ take (size ws) bs
 unfolding numbers written
 numbers_again [] bs s h le = refl
 numbers_again (w ∷ ws) bs s h le =
     let rest = drop (byte_len w) bs in
     let first : byte_len w ≤ length bs = omega arith in
     let left : size ws ≤ length rest = omega (arith, length-drop (byte_len w) bs) in
-    rw (number_again w bs s.0 h first, numbers_again ws rest s.1 (bytes_after (byte_len w) bs h) left) (take_plus (byte_len w) (size ws) bs)
+    rw (number_again w bs s.0 h first, numbers_again ws rest s.1 (bytes_after (byte_len w) bs h) left)
+    (take_plus (byte_len w) (size ws) bs)
 
 -- so many records, one more
-pub rows_more : (ws : List Width) (m n : ℕ) (bs : List ℕ) → m ≡ suc n → rows ws m bs ≡ numbers ws (take (size ws) bs) ∷ rows ws n (drop (size ws) bs)
+pub rows_more : (ws : List Width) (m n : ℕ) (bs : List ℕ) → m ≡ suc n → rows ws m bs
+    ≡ numbers ws (take (size ws) bs) ∷ rows ws n (drop (size ws) bs)
 unfolding rows
 rows_more ws m n bs e = rw e refl
 
@@ -158,24 +174,43 @@ AllFit ws (r ∷ rs) = Fit ws r × AllFit ws rs
 pub rows_fit : (ws : List Width) (n : ℕ) (bs : List ℕ) → AreNarrow ws → AreBytes bs → AllFit ws (rows ws n bs)
 unfolding rows
 rows_fit ws zero bs s h = tt
-rows_fit ws (suc n) bs s h = (numbers_fit ws (take (size ws) bs) s (bytes_before (size ws) bs h), rows_fit ws n (drop (size ws) bs) s (bytes_after (size ws) bs h))
+rows_fit ws (suc n) bs s h = (
+  numbers_fit ws (take (size ws) bs) s (bytes_before (size ws) bs h),
+  rows_fit ws n (drop (size ws) bs) s (bytes_after (size ws) bs h),
+)
 
 -- records that are written are read, whatever follows them
-pub rows_back : (ws : List Width) (rs : List (List ℕ)) (rest : List ℕ) → AllFit ws rs → rows ws (length rs) (spelled ws rs ++ rest) ≡ rs
+pub rows_back : (ws : List Width) (rs : List (List ℕ)) (rest : List ℕ) → AllFit ws rs →
+    rows ws (length rs) (spelled ws rs ++ rest) ≡ rs
 unfolding rows
 rows_back ws [] rest h = refl
 rows_back ws (r ∷ rs) rest h =
     let long = length_written ws r h.0 in
-    let first : take (size ws) (written ws r ++ (spelled ws rs ++ rest)) ≡ written ws r ++ [] = take_at (written ws r) (spelled ws rs ++ rest) (size ws) long ∙ sym (append-nil (written ws r)) in
-    let left : drop (size ws) (written ws r ++ (spelled ws rs ++ rest)) ≡ spelled ws rs ++ rest = drop_at (written ws r) (spelled ws rs ++ rest) (size ws) long in
-    rw (append_assoc (written ws r) (spelled ws rs) rest, first, left, numbers_back ws r [] h.0, rows_back ws rs rest h.1) refl
+    let first : take (size ws) (written ws r ++ (spelled ws rs ++ rest)) ≡ written ws r
+    ++ [] = take_at (written ws r) (spelled ws rs ++ rest) (size ws) long ∙ sym (append-nil (written ws r)) in
+    let left : drop (size ws) (written ws r ++ (spelled ws rs ++ rest)) ≡ spelled ws rs
+    ++ rest = drop_at (written ws r) (spelled ws rs ++ rest) (size ws) long in
+    rw (
+      append_assoc (written ws r) (spelled ws rs) rest,
+      first,
+      left,
+      numbers_back ws r [] h.0,
+      rows_back ws rs rest h.1,
+    ) refl
 
-pub length_spelled : (ws : List Width) (rs : List (List ℕ)) → AllFit ws rs → length (spelled ws rs) ≡ size ws * length rs
+pub length_spelled : (ws : List Width) (rs : List (List ℕ)) → AllFit ws rs → length (spelled ws rs)
+    ≡ size ws * length rs
 length_spelled ws [] h = omega arith
-length_spelled ws (r ∷ rs) h = omega (arith, length-append (written ws r) (spelled ws rs), length_written ws r h.0, length_spelled ws rs h.1)
+length_spelled ws (r ∷ rs) h = omega (
+  arith,
+  length-append (written ws r) (spelled ws rs),
+  length_written ws r h.0,
+  length_spelled ws rs h.1,
+)
 
 -- bytes are written of the numbers of their records
-pub rows_again : (ws : List Width) (n : ℕ) (bs : List ℕ) → AreNarrow ws → AreBytes bs → size ws * n ≤ length bs → spelled ws (rows ws n bs) ≡ take (size ws * n) bs
+pub rows_again : (ws : List Width) (n : ℕ) (bs : List ℕ) → AreNarrow ws → AreBytes bs → size ws * n ≤ length bs →
+    spelled ws (rows ws n bs) ≡ take (size ws * n) bs
 unfolding rows
 rows_again ws zero bs s h le = let e : size ws * 0 ≡ 0 = omega arith in rw e refl
 rows_again ws (suc n) bs s h le =
@@ -184,11 +219,13 @@ rows_again ws (suc n) bs s h le =
     let left : size ws * n ≤ length rest = omega (arith, length-drop (size ws) bs) in
     let all : size ws * suc n ≡ size ws + size ws * n = omega arith in
     let row : written ws (numbers ws (take (size ws) bs)) ≡ take (size ws) bs =
-    numbers_again ws (take (size ws) bs) s (bytes_before (size ws) bs h) (omega (arith, length-take-le (size ws) bs first)) ∙ take-take (size ws) (size ws) bs (omega arith) in
+    numbers_again ws (take (size ws) bs) s (bytes_before (size ws) bs h)
+    (omega (arith, length-take-le (size ws) bs first)) ∙ take-take (size ws) (size ws) bs (omega arith) in
     rw (row, rows_again ws n rest s (bytes_after (size ws) bs h) left, all) (take_plus (size ws) (size ws * n) bs)
 
 -- some records, and then others
-pub rows_plus : (ws : List Width) (a b : ℕ) (bs : List ℕ) → rows ws (a + b) bs ≡ rows ws a bs ++ rows ws b (drop (size ws * a) bs)
+pub rows_plus : (ws : List Width) (a b : ℕ) (bs : List ℕ) → rows ws (a + b) bs ≡ rows ws a bs
+    ++ rows ws b (drop (size ws * a) bs)
 unfolding rows
 rows_plus ws zero b bs =
     let e : 0 + b ≡ b = omega arith in
@@ -197,4 +234,5 @@ rows_plus ws zero b bs =
 rows_plus ws (suc a) b bs =
     let e : suc a + b ≡ suc (a + b) = omega arith in
     let k : size ws * suc a ≡ size ws + size ws * a = omega arith in
-    rw (e, k, ← drop-drop (size ws * a) (size ws) bs) (ap (λ l. numbers ws (take (size ws) bs) ∷ l) (rows_plus ws a b (drop (size ws) bs)))
+    rw (e, k, ← drop-drop (size ws * a) (size ws) bs)
+    (ap (λ l. numbers ws (take (size ws) bs) ∷ l) (rows_plus ws a b (drop (size ws) bs)))

@@ -1,5 +1,6 @@
 -- A loop over records: what the rest gives from here is what all of them give.
-use Rattle.std.proofs.Common.{◌≡◌, ℕ, suc, List, [], ◌∷◌, ◌++◌, ◌+◌, ◌*◌, take, drop, Option, None, Some, sym, ap, ◌∙◌, append_assoc, arith}
+use Rattle.std.proofs.Common.{◌≡◌, ℕ, suc, List, [], ◌∷◌, ◌++◌, ◌+◌, ◌*◌, take, drop, Option, None, Some, sym, ap, ◌∙◌}
+use Rattle.std.proofs.Common.{append_assoc, arith}
 use Rattle.std.specs.Int.{Width}
 use Rattle.std.proofs.lemmas.List.{append-nil, drop-drop}
 use Rattle.ft_format.specs.declared.object_error.ObjectError.{ObjectError}
@@ -8,42 +9,51 @@ use Rattle.ft_format.specs.Rules.{◌next◌}
 use Rattle.ft_format.proofs.Layouts.{rows_more, rows_none}
 
 -- the rows from here on, by the first of them
-first_row : (ws : List Width) (m n : ℕ) (bs row : List ℕ) → m ≡ suc n → row ≡ numbers ws (take (size ws) bs) → rows ws m bs ≡ row ∷ rows ws n (drop (size ws) bs)
+first_row : (ws : List Width) (m n : ℕ) (bs row : List ℕ) → m ≡ suc n → row ≡ numbers ws (take (size ws) bs) →
+    rows ws m bs ≡ row ∷ rows ws n (drop (size ws) bs)
 first_row ws m n bs row e is = rows_more ws m n bs e ∙ ap (λ r. r ∷ rows ws n (drop (size ws) bs)) (sym is)
 
 -- a record that breaks no rule leaves it to the others
-pub goes : (ws : List Width) (m n : ℕ) (bs row : List ℕ) (rule broken : Option ObjectError) (judge after : List (List ℕ) → Option ObjectError)
-    → m ≡ suc n → row ≡ numbers ws (take (size ws) bs) → ((rest : List (List ℕ)) → judge (row ∷ rest) ≡ rule next after rest) → rule ≡ None
+pub goes : (ws : List Width) (m n : ℕ) (bs row : List ℕ) (rule broken : Option ObjectError)
+    (judge after : List (List ℕ) → Option ObjectError)
+    → m ≡ suc n → row ≡ numbers ws (take (size ws) bs) →
+    ((rest : List (List ℕ)) → judge (row ∷ rest) ≡ rule next after rest) → rule ≡ None
     → judge (rows ws m bs) ≡ broken → after (rows ws n (drop (size ws) bs)) ≡ broken
 goes ws m n bs row rule broken judge after e is more none h =
     let rest = rows ws n (drop (size ws) bs) in
     sym (ap judge (first_row ws m n bs row e is) ∙ more rest ∙ ap (λ r. r next after rest) none) ∙ h
 
 -- a record that breaks a rule is the first that does
-pub stops : (ws : List Width) (m n : ℕ) (bs row : List ℕ) (rule broken : Option ObjectError) (why : ObjectError) (judge after : List (List ℕ) → Option ObjectError)
-    → m ≡ suc n → row ≡ numbers ws (take (size ws) bs) → ((rest : List (List ℕ)) → judge (row ∷ rest) ≡ rule next after rest) → rule ≡ Some why
+pub stops : (ws : List Width) (m n : ℕ) (bs row : List ℕ) (rule broken : Option ObjectError) (why : ObjectError)
+    (judge after : List (List ℕ) → Option ObjectError)
+    → m ≡ suc n → row ≡ numbers ws (take (size ws) bs) →
+    ((rest : List (List ℕ)) → judge (row ∷ rest) ≡ rule next after rest) → rule ≡ Some why
     → judge (rows ws m bs) ≡ broken → broken ≡ Some why
 stops ws m n bs row rule broken why judge after e is more some h =
     let rest = rows ws n (drop (size ws) bs) in
     sym h ∙ ap judge (first_row ws m n bs row e is) ∙ more rest ∙ ap (λ r. r next after rest) some
 
 -- no record is left
-pub ends : (ws : List Width) (m : ℕ) (bs : List ℕ) (broken last : Option ObjectError) (judge : List (List ℕ) → Option ObjectError)
+pub ends : (ws : List Width) (m : ℕ) (bs : List ℕ) (broken last : Option ObjectError) (judge : List (List ℕ) →
+    Option ObjectError)
     → m ≡ 0 → judge [] ≡ last → judge (rows ws m bs) ≡ broken → broken ≡ last
 ends ws m bs broken last judge e none h = sym h ∙ ap judge (rows_none ws m bs e) ∙ none
 
 -- a value that was read, and those that the others give
-pub gives : {A : Type 0} (ws : List Width) (m n : ℕ) (bs row : List ℕ) (done all : List A) (v : A) (values after : List (List ℕ) → List A)
+pub gives : {A : Type 0} (ws : List Width) (m n : ℕ) (bs row : List ℕ) (done all : List A) (v : A)
+    (values after : List (List ℕ) → List A)
     → m ≡ suc n → row ≡ numbers ws (take (size ws) bs) → ((rest : List (List ℕ)) → values (row ∷ rest) ≡ v ∷ after rest)
     → done ++ values (rows ws m bs) ≡ all → (done ++ v ∷ []) ++ after (rows ws n (drop (size ws) bs)) ≡ all
 gives ws m n bs row done all v values after e is more h =
     let rest = rows ws n (drop (size ws) bs) in
-    append_assoc done (v ∷ []) (after rest) ∙ ap (λ l. done ++ l) (sym (ap values (first_row ws m n bs row e is) ∙ more rest)) ∙ h
+    append_assoc done (v ∷ []) (after rest) ∙ ap (λ l. done
+    ++ l) (sym (ap values (first_row ws m n bs row e is) ∙ more rest)) ∙ h
 
 -- all values were read
 pub given : {A : Type 0} (ws : List Width) (m : ℕ) (bs : List ℕ) (done all : List A) (values : List (List ℕ) → List A)
     → m ≡ 0 → values [] ≡ [] → done ++ values (rows ws m bs) ≡ all → done ≡ all
-given ws m bs done all values e none h = sym (append-nil done) ∙ ap (λ l. done ++ l) (sym (ap values (rows_none ws m bs e) ∙ none)) ∙ h
+given ws m bs done all values e none h = sym (append-nil done)
+    ∙ ap (λ l. done ++ l) (sym (ap values (rows_none ws m bs e) ∙ none)) ∙ h
 
 -- what another value than a row tells, of all rows
 pub follows : {A : Type 0} (ws : List Width) (m n : ℕ) (bs row : List ℕ) (all : A) (tells after : List (List ℕ) → A)
@@ -54,7 +64,8 @@ follows ws m n bs row all tells after e is more h =
     sym (ap tells (first_row ws m n bs row e is) ∙ more rest) ∙ h
 
 -- the bytes after so many records of a size, one record later
-pub past_more : (size i : ℕ) (bytes rest : List ℕ) → rest ≡ drop (size * i) bytes → drop size rest ≡ drop (size * (i + 1)) bytes
+pub past_more : (size i : ℕ) (bytes rest : List ℕ) → rest ≡ drop (size * i) bytes → drop size rest
+    ≡ drop (size * (i + 1)) bytes
 past_more size i bytes rest h =
     let k : size * (i + 1) ≡ size * i + size = omega arith in
     rw (h, k) (drop-drop size (size * i) bytes)

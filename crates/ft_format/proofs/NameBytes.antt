@@ -15,14 +15,21 @@ use Rattle.ft_format.proofs.Shapes.{shape_5}
 use Rattle.ft_format.proofs.Unbroken.{both}
 
 -- a name that breaks no rule ends within the name bytes, and has no more bytes than its end allows
-name_within : (h : Header) (names : List ℕ) (start at : ℕ) (row : List ℕ) → length row ≡ 5 → cell_broken h start at row ≡ None
+name_within : (h : Header) (names : List ℕ) (start at : ℕ) (row : List ℕ) → length row ≡ 5 → cell_broken h start at row
+    ≡ None
     → (start < past_of row) × (past_of row ≤ h.names) × (length (cell_of names start row).name ≤ past_of row - start)
 name_within h names start at row five =
-    shape_5 (λ r. cell_broken h start at r ≡ None → (start < past_of r) × (past_of r ≤ h.names) × (length (cell_of names start r).name ≤ past_of r - start))
-    (λ a b c d e none. (grind (arith, nat_tests), grind (arith, nat_tests), omega (arith, length-take (a - start) (drop start names)))) row five
+    shape_5 (λ r. cell_broken h start at r ≡ None → (start < past_of r) × (past_of r ≤ h.names)
+    × (length (cell_of names start r).name ≤ past_of r - start))
+    (λ a b c d e none. (
+      grind (arith, nat_tests),
+      grind (arith, nat_tests),
+      omega (arith, length-take (a - start) (drop start names)),
+    )) row five
 
 -- the names of cells that break no rule end within the name bytes
-pub names_within : (h : Header) (names : List ℕ) (n : ℕ) (bs : List ℕ) (start at : ℕ) → cells_broken h start at (rows cell_layout n bs) ≡ None → start ≤ h.names
+pub names_within : (h : Header) (names : List ℕ) (n : ℕ) (bs : List ℕ) (start at : ℕ) →
+    cells_broken h start at (rows cell_layout n bs) ≡ None → start ≤ h.names
     → sum_by (λ x. length (name_of x)) (cells_of names start (rows cell_layout n bs)) + start ≤ h.names
 unfolding rows numbers cells_broken
 names_within h names zero bs start at none le = omega arith
@@ -32,4 +39,12 @@ names_within h names (suc n) bs start at none le =
     let parts = both (cell_broken h start at row) (cells_broken h (past_of row) (at + 16) rest) none in
     let here = name_within h names start at row refl parts.0 in
     let after = names_within h names n (drop 16 bs) (past_of row) (at + 16) parts.1 here.1 in
-    omega (arith, here.0, here.1, here.2, after, sum_by-cons (λ (x : Cell). length (name_of x)) (cell_of names start row) (cells_of names (past_of row) rest))
+    omega (
+      arith,
+      here.0,
+      here.1,
+      here.2,
+      after,
+      sum_by-cons (λ (x : Cell).
+          length (name_of x)) (cell_of names start row) (cells_of names (past_of row) rest),
+    )

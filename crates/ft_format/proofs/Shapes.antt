@@ -2,7 +2,8 @@
 use Rattle.std.proofs.Common.{◌≡◌, ℕ, List, [], ◌∷◌, length, arith}
 
 -- a list of 5 numbers
-pub shape_5 : (P : List ℕ → Type 0) → ((a b c d e : ℕ) → P (a ∷ b ∷ c ∷ d ∷ e ∷ [])) → (row : List ℕ) → length row ≡ 5 → P row
+pub shape_5 : (P : List ℕ → Type 0) → ((a b c d e : ℕ) → P (a ∷ b ∷ c ∷ d ∷ e ∷ [])) → (row : List ℕ) → length row ≡ 5 →
+    P row
 shape_5 P make [] same = absurd (omega arith)
 shape_5 P make (a ∷ []) same = absurd (omega arith)
 shape_5 P make (a ∷ b ∷ []) same = absurd (omega arith)
@@ -12,7 +13,8 @@ shape_5 P make (a ∷ b ∷ c ∷ d ∷ e ∷ []) same = make a b c d e
 shape_5 P make (a ∷ b ∷ c ∷ d ∷ e ∷ x ∷ xs) same = absurd (omega arith)
 
 -- a list of 7 numbers
-pub shape_7 : (P : List ℕ → Type 0) → ((a b c d e f g : ℕ) → P (a ∷ b ∷ c ∷ d ∷ e ∷ f ∷ g ∷ [])) → (row : List ℕ) → length row ≡ 7 → P row
+pub shape_7 : (P : List ℕ → Type 0) → ((a b c d e f g : ℕ) → P (a ∷ b ∷ c ∷ d ∷ e ∷ f ∷ g ∷ [])) → (row : List ℕ) →
+    length row ≡ 7 → P row
 shape_7 P make [] same = absurd (omega arith)
 shape_7 P make (a ∷ []) same = absurd (omega arith)
 shape_7 P make (a ∷ b ∷ []) same = absurd (omega arith)

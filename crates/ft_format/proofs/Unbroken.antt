@@ -1,5 +1,6 @@
 -- What follows where no rule is broken.
-use Rattle.std.proofs.Common.{◌≡◌, Bool, true, false, Option, None, Some, refl}
+use Rattle.std.proofs.Common.{◌≡◌, Bool, true, false, List, [], ◌∷◌, Option, None, Some, refl}
+use Rattle.std.specs.List.{AllByRecursion}
 use Rattle.ft_format.specs.declared.object_error.ObjectError.{ObjectError}
 use Rattle.ft_format.specs.Rules.{must, ◌next◌}
 
@@ -12,6 +13,20 @@ held false e h = absurd (cc)
 pub both : (a b : Option ObjectError) → (a next b) ≡ None → (a ≡ None) × (b ≡ None)
 both None b h = (refl, h)
 both (Some e) b h = absurd (cc)
+
+-- rules one after the other, of which none is broken
+abbrev pub chain : List (Option ObjectError) → Option ObjectError
+chain [] = None
+chain (r ∷ []) = r
+chain (r ∷ s ∷ rs) = r next chain (s ∷ rs)
+
+abbrev pub AreHeld : List (Option ObjectError) → Type 0
+AreHeld rs = AllByRecursion (λ r. r ≡ None) rs
+
+pub each : (rs : List (Option ObjectError)) → chain rs ≡ None → AreHeld rs
+each [] n = tt
+each (r ∷ []) n = (n, tt)
+each (r ∷ s ∷ rs) n = let two = both r (chain (s ∷ rs)) n in (two.0, each (s ∷ rs) two.1)
 
 -- none of the rules after three is broken
 pub after_three : (a b c rest : Option ObjectError) → (a next b next c next rest) ≡ None → rest ≡ None

@@ -5,12 +5,13 @@ use Rattle.std.specs.List.{All, list_all, sum_by}
 use Rattle.std.proofs.lemmas.Bool.Decides.{nat_tests}
 use Rattle.std.proofs.lemmas.List.Sums.{sum_by-le}
 use Rattle.std.proofs.lemmas.Bool.{and_parts}
+use Rattle.ft_isa.specs.Operations.{last_op_code}
 use Rattle.ft_isa.specs.declared.op.Op.{Op}
-use Rattle.ft_isa.specs.declared.op.Op.TheVariants.{Add, Sub, Mul, Ltu, Eq, And, Or, Xor, Shl, Shr}
+use Rattle.ft_isa.specs.declared.op.Op.TheVariants.{Add}
 use Rattle.ft_isa.specs.declared.instr.Instr.{Instr}
-use Rattle.ft_isa.specs.declared.instr.Instr.TheVariants.{OpReg, OpWord, Mov, Ld, St, JmpG, JmpB, BzG, BzB, Halt, Idx}
+use Rattle.ft_isa.specs.declared.instr.Instr.TheVariants.{OpReg, OpWord, Idx}
 use Rattle.ft_static.specs.declared.node.Shape.{Shape}
-use Rattle.ft_static.specs.declared.node.Shape.TheVariants.{Word, Var, Op as OpNode, Sel, Memory, Upd, Rem}
+use Rattle.ft_static.specs.declared.node.Shape.TheVariants.{Op as OpNode, Rem}
 use Rattle.ft_types.specs.declared.object.Object.{Object}
 use Rattle.ft_types.specs.declared.object.Cell.{Cell}
 use Rattle.ft_types.specs.Objects.{name_of}
@@ -18,11 +19,12 @@ use Rattle.ft_types.specs.Spellable.{is_letter, is_digit, is_bracket, is_name_by
 use Rattle.ft_format.specs.declared.header.Header.{Header}
 use Rattle.ft_format.specs.declared.version.Version.{Version}
 use Rattle.ft_format.specs.declared.version.Version.TheVariants.{First, Second}
-use Rattle.ft_format.specs.Versions.{magic, is_magic, version_of, last_op, last_node_kind, last_instr_kind, longest_name, most_name_bytes, may_follow}
+use Rattle.ft_format.specs.Versions.{magic, is_magic, version_of, last_op, last_node_kind, last_instr_kind}
+use Rattle.ft_format.specs.Versions.{longest_name, most_name_bytes, may_follow}
 use Rattle.ft_format.specs.Format.{SupportsOp, SupportsShape, SupportsInstr, SupportsName, Supports}
 
 -- bounds of what a version has
-pub few_ops : (v : Version) → last_op v ≤ 9
+pub few_ops : (v : Version) → last_op v ≤ last_op_code
 few_ops First = omega arith
 few_ops Second = omega arith
 
@@ -61,7 +63,8 @@ magic_is First = refl
 magic_is Second = refl
 
 -- the version that a magic number names
-named_by : (n : ℕ) (first second : Bool) → (n == magic First) ≡ first → (n == magic Second) ≡ second → (first || second) ≡ true → n ≡ magic (if first then First else Second)
+named_by : (n : ℕ) (first second : Bool) → (n == magic First) ≡ first → (n == magic Second) ≡ second → (first || second)
+    ≡ true → n ≡ magic (if first then First else Second)
 named_by n true second p q h = grind (arith, nat_tests)
 named_by n false true p q h = grind (arith, nat_tests)
 named_by n false false p q h = absurd (cc)
@@ -87,53 +90,46 @@ is_byte_of_name : (v : Version) (b : ℕ) → may_follow v b ≡ true → is_nam
 is_byte_of_name First b h = left_of (is_letter b) (is_digit b) (is_bracket b) h
 is_byte_of_name Second b h = h
 
-pub are_bytes_of_name : (v : Version) (bs : List ℕ) → list_all (may_follow v) bs ≡ true → list_all is_name_byte bs ≡ true
+pub are_bytes_of_name : (v : Version) (bs : List ℕ) → list_all (may_follow v) bs ≡ true → list_all is_name_byte bs
+    ≡ true
 are_bytes_of_name v [] h = refl
-are_bytes_of_name v (b ∷ bs) h = let two = and_parts (may_follow v b) (list_all (may_follow v) bs) h in rw (is_byte_of_name v b two.0, are_bytes_of_name v bs two.1) refl
+are_bytes_of_name v (b ∷ bs) h = let two = and_parts (may_follow v b) (list_all (may_follow v) bs) h in
+    rw (is_byte_of_name v b two.0, are_bytes_of_name v bs two.1) refl
 
 -- how many bytes the names of cells have
-pub few_names : (v : Version) (cs : List Cell) → length cs ≤ 1024 → All (SupportsName v) cs → sum_by (λ c. length (name_of c)) cs ≤ most_name_bytes v
-few_names First cs few h = omega (arith, sum_by-le (λ (x : Cell). length (name_of x)) 32 cs (λ k d lt. (h k d lt).short))
-few_names Second cs few h = omega (arith, sum_by-le (λ (x : Cell). length (name_of x)) 40 cs (λ k d lt. (h k d lt).short))
+pub few_names : (v : Version) (cs : List Cell) → length cs ≤ 1024 → All (SupportsName v) cs →
+    sum_by (λ c. length (name_of c)) cs ≤ most_name_bytes v
+few_names First cs few h = omega (
+  arith,
+  sum_by-le (λ (x : Cell). length (name_of x)) 32 cs (λ k d lt.
+      (h k d lt).short),
+)
+few_names Second cs few h = omega (
+  arith,
+  sum_by-le (λ (x : Cell). length (name_of x)) 40 cs (λ k d lt.
+      (h k d lt).short),
+)
 
 -- version 2 has all that an object may have
-has_op : (op : Op) → SupportsOp Second op
+pub has_op : (op : Op) → SupportsOp Second op
 has_op Add = omega arith
-has_op Sub = omega arith
-has_op Mul = omega arith
-has_op Ltu = omega arith
-has_op Eq = omega arith
-has_op And = omega arith
-has_op Or = omega arith
-has_op Xor = omega arith
-has_op Shl = omega arith
-has_op Shr = omega arith
+has_op op = omega arith
 
 has_shape : (s : Shape) → SupportsShape Second s
-has_shape (Word w) = tt
-has_shape (Var i) = tt
 has_shape (OpNode op a b) = has_op op
-has_shape (Sel memory at) = tt
-has_shape Memory = tt
-has_shape (Upd memory at value) = tt
 has_shape (Rem a m) = omega arith
+has_shape _ = tt
 
 has_instr : (i : Instr) → SupportsInstr Second i
 has_instr (OpReg op rd rs rt) = has_op op
 has_instr (OpWord op rd rs value) = has_op op
-has_instr (Mov rd value basic) = tt
-has_instr (Ld colour rd rs) = tt
-has_instr (St colour rd rs) = tt
-has_instr (JmpG rd) = tt
-has_instr (JmpB rd subst) = tt
-has_instr (BzG rz rd) = tt
-has_instr (BzB rz rd subst) = tt
-has_instr Halt = tt
 has_instr (Idx rd rs first m) = omega arith
+has_instr _ = tt
 
 bytes_of_name : (name : List ℕ) → is_name name ≡ true → list_all (may_follow Second) name ≡ true
 bytes_of_name [] h = refl
-bytes_of_name (b ∷ bs) h = let two = and_parts (is_letter b) (list_all is_name_byte bs) h in rw (letter_follows Second b two.0, two.1) refl
+bytes_of_name (b ∷ bs) h = let two = and_parts (is_letter b) (list_all is_name_byte bs) h in
+    rw (letter_follows Second b two.0, two.1) refl
 
 has_name : (types : ℕ) (c : Cell) → IsCell types c → SupportsName Second c
 has_name types c h = record { short = h.name_length; bytes = bytes_of_name c.name h.name }

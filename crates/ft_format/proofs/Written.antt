@@ -5,7 +5,10 @@ use Rattle.ft_format.specs.Puts.{Puts}
 
 -- a piece, and then the rest
 pub before : {x y z a rest : List ℕ} → Puts x y a → Puts y z rest → Puts x z (a ++ rest)
-before {x = x} {a = a} {rest = rest} p q = record { added = q.added ∙ ap (λ l. l ++ rest) p.added ∙ append_assoc x a rest }
+before {x = x} {a = a} {rest = rest} p q = record {
+  added = q.added ∙ ap (λ l. l ++ rest) p.added
+      ∙ append_assoc x a rest;
+}
 
 -- the last piece
 pub last : {x y a : List ℕ} → Puts x y a → Puts x y (a ++ [])

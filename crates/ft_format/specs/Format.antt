@@ -3,13 +3,13 @@ use Rattle.std.specs.Prelude.{◌≡◌, ℕ, ◌<◌, ◌≤◌, true, List, le
 use Rattle.std.specs.List.{list_all}
 use Rattle.ft_isa.specs.declared.op.Op.{Op}
 use Rattle.ft_isa.specs.declared.instr.Instr.{Instr}
-use Rattle.ft_isa.specs.declared.instr.Instr.TheVariants.{OpReg, OpWord, Mov, Ld, St, JmpG, JmpB, BzG, BzB, Halt, Idx}
+use Rattle.ft_isa.specs.declared.instr.Instr.TheVariants.{OpReg, OpWord, Idx}
 use Rattle.ft_static.specs.declared.node.Node.{Node}
 use Rattle.ft_static.specs.declared.node.Shape.{Shape}
-use Rattle.ft_static.specs.declared.node.Shape.TheVariants.{Word, Var, Op as OpNode, Sel, Memory, Upd, Rem}
+use Rattle.ft_static.specs.declared.node.Shape.TheVariants.{Op as OpNode, Rem}
 use Rattle.ft_types.specs.declared.object.Object.{Object}
 use Rattle.ft_types.specs.declared.object.Cell.{Cell}
-use Rattle.ft_types.specs.NodeRows.{op_code}
+use Rattle.ft_isa.specs.Operations.{op_code}
 use Rattle.ft_types.specs.Spellable.{IsSpellable}
 use Rattle.ft_format.specs.declared.version.Version.{Version}
 use Rattle.ft_format.specs.Versions.{last_op, last_node_kind, last_instr_kind, longest_name, may_follow}
@@ -21,13 +21,9 @@ SupportsOp v op = op_code op ≤ last_op v
 
 -- a version has nodes of this shape; a remainder is of kind 6
 abbrev pub SupportsShape : Version → Shape → Type 0
-SupportsShape v (Word w) = Unit {0}
-SupportsShape v (Var i) = Unit {0}
 SupportsShape v (OpNode op a b) = SupportsOp v op
-SupportsShape v (Sel memory at) = Unit {0}
-SupportsShape v Memory = Unit {0}
-SupportsShape v (Upd memory at value) = Unit {0}
 SupportsShape v (Rem a m) = 6 ≤ last_node_kind v
+SupportsShape v _ = Unit {0}
 
 -- a version has this node
 abbrev pub SupportsNode : Version → Node → Type 0
@@ -37,15 +33,8 @@ SupportsNode v n = SupportsShape v n.shape
 abbrev pub SupportsInstr : Version → Instr → Type 0
 SupportsInstr v (OpReg op rd rs rt) = SupportsOp v op
 SupportsInstr v (OpWord op rd rs value) = SupportsOp v op
-SupportsInstr v (Mov rd value basic) = Unit {0}
-SupportsInstr v (Ld colour rd rs) = Unit {0}
-SupportsInstr v (St colour rd rs) = Unit {0}
-SupportsInstr v (JmpG rd) = Unit {0}
-SupportsInstr v (JmpB rd subst) = Unit {0}
-SupportsInstr v (BzG rz rd) = Unit {0}
-SupportsInstr v (BzB rz rd subst) = Unit {0}
-SupportsInstr v Halt = Unit {0}
 SupportsInstr v (Idx rd rs first m) = 8 ≤ last_instr_kind v
+SupportsInstr v _ = Unit {0}
 
 -- a version has cells of this name
 pub record SupportsName (v : Version) (c : Cell) : Type 0 where

@@ -3,6 +3,7 @@ pub mod Versions
 pub mod Rows
 pub mod Rules
 pub mod Values
+pub mod Fits
 pub mod Broken
 pub mod Format
 pub mod Fields

@@ -14,7 +14,8 @@ use Rattle.ft_types.specs.declared.object.Block.{Block}
 use Rattle.ft_types.specs.declared.object.CodeType.{CodeType}
 use Rattle.ft_types.specs.declared.object.RegType.{RegType}
 use Rattle.ft_types.specs.Objects.{name_of, regs_of, queue_of}
-use Rattle.ft_types.specs.NodeRows.{op_code, high_half, low_half, node_row}
+use Rattle.ft_isa.specs.Operations.{op_code}
+use Rattle.ft_types.specs.NodeRows.{high_half, low_half, node_row}
 use Rattle.ft_format.specs.declared.version.Version.{Version}
 use Rattle.ft_format.specs.Versions.{magic}
 use Rattle.ft_format.specs.Layout.{written, spelled, header_layout, cell_layout, code_layout, type_layout, reg_layout, pair_layout, subst_layout}

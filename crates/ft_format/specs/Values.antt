@@ -2,13 +2,12 @@
 use Rattle.std.specs.Prelude.{ℕ, ◌-◌, ◌/◌, ◌%◌, ◌^◌, ◌==◌, List, [], ◌∷◌, take, drop, Option, Some, None, if◌then◌else◌}
 use Rattle.std.proofs.Common.{refl}
 use borrow.Author.Tests.{ltb-true}
+use Rattle.ft_isa.specs.Operations.{op_of}
 use Rattle.ft_isa.specs.Registers.{reg_of}
 use Rattle.ft_isa.specs.declared.reg.Reg.{Reg}
 use Rattle.ft_isa.specs.declared.colour.Colour.{Colour}
 use Rattle.ft_isa.specs.declared.colour.Colour.TheVariants.{Green, Blue}
 use Rattle.ft_isa.specs.declared.colour.Coloured.{Coloured}
-use Rattle.ft_isa.specs.declared.op.Op.{Op}
-use Rattle.ft_isa.specs.declared.op.Op.TheVariants.{Add, Sub, Mul, Ltu, Eq, And, Or, Xor, Shl, Shr}
 use Rattle.ft_isa.specs.declared.basic.Base.{Base}
 use Rattle.ft_isa.specs.declared.basic.Base.TheVariants.{Int, Code}
 use Rattle.ft_isa.specs.declared.basic.Basic.{Basic}
@@ -41,20 +40,6 @@ register_of n = or_first (reg_of n)
 -- the colour of a code
 abbrev pub colour_of : ℕ → Colour
 colour_of n = if n == 0 then Green else Blue
-
--- the operation of a code
-abbrev pub op_of : ℕ → Op
-op_of n =
-    if n == 0 then Add
-    else (if n == 1 then Sub
-    else (if n == 2 then Mul
-    else (if n == 3 then Ltu
-    else (if n == 4 then Eq
-    else (if n == 5 then And
-    else (if n == 6 then Or
-    else (if n == 7 then Xor
-    else (if n == 8 then Shl
-    else Shr))))))))
 
 -- a base, by its code and its code type
 abbrev pub base_of : ℕ → ℕ → Base

@@ -3,6 +3,7 @@ pub mod Branches
 pub mod Readers
 pub mod NumberRead
 pub mod Registers
+pub mod Instructions
 pub mod SiteRead
 pub mod StrikeRead
 pub mod WildRead

@@ -1,5 +1,7 @@
 -- What stands at a place of a list: in its parts, after a push, after a function, and what all places share.
-use Rattle.std.proofs.Common.{◌≡◌, ◌⊎◌, inl, inr, ℕ, zero, suc, ◌+◌, ◌-◌, ◌<◌, ◌≤◌, Bool, true, false, cond, List, [], ◌∷◌, ◌++◌, length, map, take, drop, slice_get, slice_range, Some, None, refl, ap, subst, ◌∙◌, arith}
+use Rattle.std.proofs.Common.{◌≡◌, ◌⊎◌, inl, inr, ℕ, zero, suc, ◌+◌, ◌-◌, ◌<◌, ◌≤◌, Bool, true, false, cond, List, []}
+use Rattle.std.proofs.Common.{◌∷◌, ◌++◌, length, map, take, drop, slice_get, slice_range, Some, None, refl, ap, subst}
+use Rattle.std.proofs.Common.{◌∙◌, arith}
 use Rattle.std.specs.Prelude.{All, find}
 use Rattle.std.specs.List.{AllByRecursion, list_all}
 use Rattle.std.proofs.lemmas.List.{length-append}
@@ -21,13 +23,15 @@ get_front (x ∷ xs) ys zero lt = refl
 get_front (x ∷ xs) ys (suc k) lt = get_front xs ys k (omega arith)
 
 -- what is at a place stays there before more
-pub there_front : {X : Type 0} (xs ys : List X) (k : ℕ) (x : X) → slice_get xs k ≡ Some x → slice_get (xs ++ ys) k ≡ Some x
+pub there_front : {X : Type 0} (xs ys : List X) (k : ℕ) (x : X) → slice_get xs k ≡ Some x → slice_get (xs ++ ys) k
+    ≡ Some x
 there_front [] ys k x e = cc
 there_front (y ∷ xs) ys zero x e = e
 there_front (y ∷ xs) ys (suc k) x e = there_front xs ys k x e
 
 -- after a push an element is an earlier one or the last one
-pub there_pushed : {X : Type 0} (xs : List X) (y : X) (k : ℕ) (x : X) → slice_get (xs ++ y ∷ []) k ≡ Some x → (slice_get xs k ≡ Some x) ⊎ ((k ≡ length xs) × (y ≡ x))
+pub there_pushed : {X : Type 0} (xs : List X) (y : X) (k : ℕ) (x : X) → slice_get (xs ++ y ∷ []) k ≡ Some x →
+    (slice_get xs k ≡ Some x) ⊎ ((k ≡ length xs) × (y ≡ x))
 there_pushed [] y zero x e = inr (refl, (let f : y ≡ x = cc in f))
 there_pushed [] y (suc k) x e = cc
 there_pushed (z ∷ zs) y zero x e = inl e
@@ -38,7 +42,8 @@ pub length_pushed : {X : Type 0} (xs : List X) (y : X) → length (xs ++ y ∷ [
 length_pushed xs y = length-append xs (y ∷ []) ∙ omega arith
 
 -- the place of an element after a function
-pub there_mapped : {X Y : Type 0} (f : X → Y) (xs : List X) (k : ℕ) (x : X) → slice_get xs k ≡ Some x → slice_get (map f xs) k ≡ Some (f x)
+pub there_mapped : {X Y : Type 0} (f : X → Y) (xs : List X) (k : ℕ) (x : X) → slice_get xs k ≡ Some x →
+    slice_get (map f xs) k ≡ Some (f x)
 there_mapped f [] k x e = cc
 there_mapped f (y ∷ xs) zero x e = let same : y ≡ x = cc in ap (λ z. Some (f z)) same
 there_mapped f (y ∷ xs) (suc k) x e = there_mapped f xs k x e
@@ -56,7 +61,8 @@ pub drop_next : {X : Type 0} (xs : List X) (k : ℕ) (x : X) → slice_get xs k 
 drop_next xs k x e = drop_there xs k x e ∙ (let n : suc k ≡ k + 1 = omega arith in ap (λ j. x ∷ drop j xs) n)
 
 -- a list up to the place of an element and with it
-pub take_there : {X : Type 0} (xs : List X) (k : ℕ) (x : X) → slice_get xs k ≡ Some x → take (suc k) xs ≡ take k xs ++ x ∷ []
+pub take_there : {X : Type 0} (xs : List X) (k : ℕ) (x : X) → slice_get xs k ≡ Some x → take (suc k) xs ≡ take k xs
+    ++ x ∷ []
 take_there [] k x e = cc
 take_there (y ∷ xs) zero x e = (let same : y ≡ x = cc in ap (λ z. z ∷ []) same)
 take_there (y ∷ xs) (suc k) x e = ap (λ z. y ∷ z) (take_there xs k x e)
@@ -89,16 +95,19 @@ pub all_of_one : {X : Type 0} (P : X → Type 0) (x : X) → P x → All P (x �
 all_of_one P x h = All-cons P x [] h (All-nil P)
 
 -- what holds of all of two lists holds of all of them together
-pub all_append : {X : Type 0} (P : X → Type 0) (xs ys : List X) → AllByRecursion P xs → AllByRecursion P ys → AllByRecursion P (xs ++ ys)
+pub all_append : {X : Type 0} (P : X → Type 0) (xs ys : List X) → AllByRecursion P xs → AllByRecursion P ys →
+    AllByRecursion P (xs ++ ys)
 all_append P [] ys h i = i
 all_append P (x ∷ xs) ys h i = (h.0, all_append P xs ys h.1 i)
 
 -- a test that the element at each place passes is passed by all
-pub all_pass : {X : Type 0} (p : X → Bool) (xs : List X) → ((k : ℕ) (x : X) → slice_get xs k ≡ Some x → p x ≡ true) → list_all p xs ≡ true
+pub all_pass : {X : Type 0} (p : X → Bool) (xs : List X) → ((k : ℕ) (x : X) → slice_get xs k ≡ Some x → p x ≡ true) →
+    list_all p xs ≡ true
 all_pass p [] h = refl
 all_pass p (y ∷ xs) h = rw (h 0 y refl) (all_pass p xs (λ k x e. h (suc k) x e))
 
 -- a test that the element at no place passes finds nothing
-pub none_pass : {X : Type 0} (p : X → Bool) (xs : List X) → ((k : ℕ) (x : X) → slice_get xs k ≡ Some x → p x ≡ false) → find p xs ≡ None
+pub none_pass : {X : Type 0} (p : X → Bool) (xs : List X) → ((k : ℕ) (x : X) → slice_get xs k ≡ Some x → p x ≡ false) →
+    find p xs ≡ None
 none_pass p [] h = refl
 none_pass p (x ∷ xs) h = ap (λ b. cond b (Some x) (find p xs)) (h 0 x refl) ∙ none_pass p xs (λ k y e. h (suc k) y e)

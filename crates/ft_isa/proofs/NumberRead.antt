@@ -1,5 +1,7 @@
 -- Numbers are read digit by digit.
-use Rattle.std.proofs.Common.{◌≡◌, ℕ, ◌+◌, ◌-◌, ◌*◌, ◌/◌, ◌%◌, ◌^◌, ◌<◌, ◌≤◌, true, ◌&&◌, not, List, [], ◌∷◌, ◌++◌, Option, Some, None, decimal, nat_lt, nat_le, eqb, sym, ap, ◌∙◌, subst, arith, if◌then◌else◌}
+use Rattle.std.proofs.Common.{◌≡◌, ℕ, ◌+◌, ◌-◌, ◌*◌, ◌/◌, ◌%◌, ◌^◌, ◌<◌, ◌≤◌, true, ◌&&◌, not, List, [], ◌∷◌, ◌++◌}
+use Rattle.std.proofs.Common.{Option, Some, None, decimal, nat_lt, nat_le, eqb, sym, ap, ◌∙◌, subst, arith}
+use Rattle.std.proofs.Common.{if◌then◌else◌}
 use Rattle.std.specs.Option.{option_map, option_and_then}
 use Rattle.std.proofs.lemmas.Bool.{and_parts, and_from, leb-true, le-leb, ltb-true, lt-ltb, not-true, eqb-false, ne_eqb}
 use Rattle.std.proofs.lemmas.Fmt.{decimal_digit, decimal_step, decimal_by_steps}
@@ -16,7 +18,8 @@ is_digit-true b e =
 
 -- each of the ten bytes is a digit
 pub is_digit-from : (d : ℕ) → d < 10 → is_digit (48 + d) ≡ true
-is_digit-from d h = and_from (nat_le 48 (48 + d)) (nat_le (48 + d) 57) (le-leb 48 (48 + d) (omega arith)) (le-leb (48 + d) 57 (omega arith))
+is_digit-from d h = and_from (nat_le 48 (48 + d)) (nat_le (48 + d) 57) (le-leb 48 (48 + d) (omega arith))
+    (le-leb (48 + d) 57 (omega arith))
 
 -- what was read of a number
 abbrev pub number_told : Option ℕ → List ℕ
@@ -36,10 +39,13 @@ next_number number byte = option_map Some (with_digit number byte)
 pub taken_digit : (number : Option ℕ) (b n : ℕ) → with_digit number b ≡ Some n → (48 ≤ b) × (b ≤ 57)
 taken_digit None b n e = is_digit-true b (if_some (is_digit b) (b - 48) n e).0
 taken_digit (Some m) b n e =
-    is_digit-true b (and_parts (is_digit b) (not (eqb m 0)) (and_parts (is_digit b && not (eqb m 0)) (nat_lt (m * 10 + (b - 48)) (2 ^ 64)) (if_some (is_digit b && not (eqb m 0) && nat_lt (m * 10 + (b - 48)) (2 ^ 64)) (m * 10 + (b - 48)) n e).0).0).0
+    is_digit-true b (and_parts (is_digit b) (not (eqb m 0))
+    (and_parts (is_digit b && not (eqb m 0)) (nat_lt (m * 10 + (b - 48)) (2 ^ 64))
+    (if_some (is_digit b && not (eqb m 0) && nat_lt (m * 10 + (b - 48)) (2 ^ 64)) (m * 10 + (b - 48)) n e).0).0).0
 
 -- a number with one more digit is written with that digit at its end, and is a word
-pub more_digits : (number : Option ℕ) (b n : ℕ) → IsNumberRead number → with_digit number b ≡ Some n → (decimal n ≡ number_told number ++ b ∷ []) × IsWord n
+pub more_digits : (number : Option ℕ) (b n : ℕ) → IsNumberRead number → with_digit number b ≡ Some n →
+    (decimal n ≡ number_told number ++ b ∷ []) × IsWord n
 more_digits None b n g e =
     let t = if_some (is_digit b) (b - 48) n e in
     let d = is_digit-true b t.0 in
@@ -73,7 +79,8 @@ last_digit n ten word =
     let value : n / 10 * 10 + (48 + n % 10 - 48) ≡ n = omega arith in
     let below : n / 10 * 10 + (48 + n % 10 - 48) < 2 ^ 64 = omega arith in
     let nonzero : not (eqb (n / 10) 0) ≡ true = ap not (ne_eqb (n / 10) 0 (λ e. omega arith)) in
-    let test : (is_digit (48 + n % 10) && not (eqb (n / 10) 0) && nat_lt (n / 10 * 10 + (48 + n % 10 - 48)) (2 ^ 64)) ≡ true =
+    let test : (is_digit (48 + n % 10) && not (eqb (n / 10) 0) && nat_lt (n / 10 * 10 + (48 + n % 10 - 48)) (2 ^ 64))
+    ≡ true =
     and_from (is_digit (48 + n % 10) && not (eqb (n / 10) 0)) (nat_lt (n / 10 * 10 + (48 + n % 10 - 48)) (2 ^ 64))
     (and_from (is_digit (48 + n % 10)) (not (eqb (n / 10) 0)) (is_digit-from (n % 10) (omega arith)) nonzero)
     (lt-ltb (n / 10 * 10 + (48 + n % 10 - 48)) (2 ^ 64) below) in

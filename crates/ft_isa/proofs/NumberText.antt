@@ -13,7 +13,8 @@ use Rattle.ft_isa.proofs.Readers.{IsReader}
 abbrev pub whole_number : Option ℕ → Option ℕ
 whole_number number = number
 
-number_step : (s t : Option ℕ) (b : ℕ) → IsNumberRead s → next_number s b ≡ Some t → (number_told t ≡ number_told s ++ b ∷ []) × IsNumberRead t
+number_step : (s t : Option ℕ) (b : ℕ) → IsNumberRead s → next_number s b ≡ Some t →
+    (number_told t ≡ number_told s ++ b ∷ []) × IsNumberRead t
 number_step s t b good e =
     let made = of_map Some (with_digit s b) t e in
     let more = more_digits s b made.0 good made.1.0 in
@@ -27,8 +28,10 @@ number_goes_on : (s : Option ℕ) → IsNumberRead s → IsViable IsNumberText (
 number_goes_on None good = (0, (decimal 0, (lit< tt, refl)))
 number_goes_on (Some n) good = (n, ([], (good, append-nil (decimal n))))
 
-number_complete : (xs : List ℕ) (n : ℕ) → IsNumberText xs n → option_and_then whole_number (state_after next_number None xs) ≡ Some n
-number_complete xs n h = ap (λ ys. option_and_then whole_number (state_after next_number None ys)) h.1 ∙ ap (option_and_then whole_number) (reads_decimal n h.0)
+number_complete : (xs : List ℕ) (n : ℕ) → IsNumberText xs n →
+    option_and_then whole_number (state_after next_number None xs) ≡ Some n
+number_complete xs n h = ap (λ ys. option_and_then whole_number (state_after next_number None ys)) h.1
+    ∙ ap (option_and_then whole_number) (reads_decimal n h.0)
 
 -- the reader of number texts tells what it read
 pub number_reader : IsReader next_number whole_number None number_told IsNumberRead IsNumberText

@@ -1,5 +1,6 @@
 -- Sites are read byte by byte.
-use Rattle.std.proofs.Common.{◌≡◌, ℕ, ◌+◌, ◌-◌, ◌/◌, ◌%◌, ◌<◌, false, ◌&&◌, List, [], ◌∷◌, ◌++◌, Option, Some, None, decimal, codes, nat_le, eqb, refl, ap, ◌∙◌, subst, inl, inr, arith, if◌then◌else◌}
+use Rattle.std.proofs.Common.{◌≡◌, ℕ, ◌+◌, ◌-◌, ◌/◌, ◌%◌, ◌<◌, false, ◌&&◌, List, [], ◌∷◌, ◌++◌, Option, Some, None}
+use Rattle.std.proofs.Common.{decimal, codes, nat_le, eqb, refl, ap, ◌∙◌, subst, inl, inr, arith, if◌then◌else◌}
 use Rattle.std.specs.Option.{option_map, option_and_then}
 use Rattle.std.proofs.lemmas.Bool.{and_parts, and_from, leb-true, le-leb, ne_eqb, cases_lt}
 use Rattle.std.proofs.lemmas.Fmt.{decimal_digit, decimal_step}
@@ -38,7 +39,9 @@ abbrev pub GoesOn : List ℕ → ℕ → SiteRead → Type 0
 GoesOn told b after = (site_told after ≡ told ++ b ∷ []) × IsSiteRead after
 
 -- a queue place is one digit below 8
-place_read : (front : List ℕ) (site : ℕ → Site) → ((place : ℕ) → site_text (site place) ≡ front ++ decimal place) → ((place : ℕ) → place < 8 → IsSite (site place)) → (b : ℕ) (after : SiteRead) → queue_place site b ≡ Some after → GoesOn front b after
+place_read : (front : List ℕ) (site : ℕ → Site) → ((place : ℕ) → site_text (site place) ≡ front ++ decimal place) →
+    ((place : ℕ) → place < 8 → IsSite (site place)) → (b : ℕ) (after : SiteRead) → queue_place site b ≡ Some after →
+    GoesOn front b after
 place_read front site written is_site b after e =
     let t = if_some (nat_le 48 b && nat_le b 55) (sites.Whole (site (b - 48))) after e in
     let parts = and_parts (nat_le 48 b) (nat_le b 55) t.0 in
@@ -50,15 +53,19 @@ place_read front site written is_site b after e =
     (written (b - 48) ∙ ap (λ ds. front ++ ds) (digit ∙ ap (λ x. x ∷ []) same), is_site (b - 48) (omega arith))
 
 -- a register's number with one more digit
-register_read : (number : Option ℕ) (b : ℕ) (after : SiteRead) → IsNumberRead number → with_register_digit number b ≡ Some after → GoesOn (codes "r" ++ number_told number) b after
+register_read : (number : Option ℕ) (b : ℕ) (after : SiteRead) → IsNumberRead number → with_register_digit number b
+    ≡ Some after → GoesOn (codes "r" ++ number_told number) b after
 register_read number b after g e =
     let made = of_map (λ (reg : Reg). sites.Whole (R reg)) (option_and_then reg_of (with_digit number b)) after e in
-    let go : with_digit number b ≡ with_digit number b → option_and_then reg_of (with_digit number b) ≡ Some made.0 → decimal made.0.number ≡ number_told number ++ b ∷ [] =
-    elim (with_digit number b) as (λ o. with_digit number b ≡ o → option_and_then reg_of o ≡ Some made.0 → decimal made.0.number ≡ number_told number ++ b ∷ []) [
+    let go : with_digit number b ≡ with_digit number b → option_and_then reg_of (with_digit number b) ≡ Some made.0 →
+    decimal made.0.number ≡ number_told number ++ b ∷ [] =
+    elim (with_digit number b) as (λ o. with_digit number b ≡ o → option_and_then reg_of o ≡ Some made.0 →
+    decimal made.0.number ≡ number_told number ++ b ∷ []) [
       | None ↦ λ p q. absurd cc
       | Some n ↦ λ p q. ap decimal (number-reg_of n made.0 q) ∙ (more_digits number b n g p).0
     ] in
-    subst (λ (s : SiteRead). GoesOn (codes "r" ++ number_told number) b s) made.1.1 (ap (λ ds. 114 ∷ ds) (go refl made.1.0), tt)
+    subst (λ (s : SiteRead). GoesOn (codes "r" ++ number_told number) b s) made.1.1
+    (ap (λ ds. 114 ∷ ds) (go refl made.1.0), tt)
 
 -- what is told after one more byte of a site
 pub site_step : (s t : SiteRead) (b : ℕ) → IsSiteRead s → next_site s b ≡ Some t → GoesOn (site_told s) b t
@@ -77,7 +84,8 @@ site_step sites.Q t b g e =
 site_step sites.Qa t b g e = place_read (codes "qa") QAddr (λ place. refl) (λ place h. h) b t e
 site_step sites.Qv t b g e = place_read (codes "qv") QVal (λ place. refl) (λ place h. h) b t e
 site_step sites.R t b g e = register_read None b t tt e
-site_step (sites.Whole (R reg)) t b g e = register_read (Some reg.number) b t (let below : reg.number < 64 = reg.in_range in omega arith) e
+site_step (sites.Whole (R reg)) t b g e = register_read (Some reg.number) b t (let below : reg.number < 64 =
+    reg.in_range in omega arith) e
 site_step (sites.Whole D) t b g e = absurd cc
 site_step (sites.Whole PcG) t b g e = absurd cc
 site_step (sites.Whole PcB) t b g e = absurd cc
@@ -102,19 +110,25 @@ no_colon (sites.Whole (QVal place)) = refl
 
 -- a byte by which a site goes on is no colon
 pub site_byte : (s t : SiteRead) (b : ℕ) → next_site s b ≡ Some t → eqb b 58 ≡ false
-site_byte s t b e = ne_eqb b 58 (λ f. let none = no_colon s in let some = subst (λ (x : ℕ). next_site s x ≡ Some t) f e in cc)
+site_byte s t b e = ne_eqb b 58 (λ f. let none = no_colon s in
+    let some = subst (λ (x : ℕ). next_site s x ≡ Some t) f e in cc)
 
 -- the digit of a queue place is read
-reads_place : (site : ℕ → Site) (place : ℕ) → place < 8 → queue_place site (48 + place) ≡ Some (sites.Whole (site place))
+reads_place : (site : ℕ → Site) (place : ℕ) → place < 8 → queue_place site (48 + place)
+    ≡ Some (sites.Whole (site place))
 reads_place site place h =
     let same : 48 + place - 48 ≡ place = omega arith in
-    ap (λ t. if t then Some (sites.Whole (site (48 + place - 48))) else None) (and_from (nat_le 48 (48 + place)) (nat_le (48 + place) 55) (le-leb 48 (48 + place) (omega arith)) (le-leb (48 + place) 55 (omega arith)))
+    ap (λ t. if t then Some (sites.Whole (site (48 + place - 48)))
+    else None) (and_from (nat_le 48 (48 + place)) (nat_le (48 + place) 55) (le-leb 48 (48 + place) (omega arith))
+    (le-leb (48 + place) 55 (omega arith)))
     ∙ ap (λ x. Some (sites.Whole (site x))) same
 
 -- the last digit of a register's number is read
-reads_register_digit : (number : Option ℕ) (b : ℕ) (reg : Reg) → with_digit number b ≡ Some reg.number → with_register_digit number b ≡ Some (sites.Whole (R reg))
+reads_register_digit : (number : Option ℕ) (b : ℕ) (reg : Reg) → with_digit number b ≡ Some reg.number →
+    with_register_digit number b ≡ Some (sites.Whole (R reg))
 reads_register_digit number b reg e =
-    ap (λ o. option_map (λ (r : Reg). sites.Whole (R r)) (option_and_then reg_of o)) e ∙ ap (option_map (λ (r : Reg). sites.Whole (R r))) (reg_of-number reg)
+    ap (λ o. option_map (λ (r : Reg). sites.Whole (R r)) (option_and_then reg_of o)) e
+    ∙ ap (option_map (λ (r : Reg). sites.Whole (R r))) (reg_of-number reg)
 
 -- the number of a register is read
 reads_register : (reg : Reg) → state_after next_site sites.R (decimal reg.number) ≡ Some (sites.Whole (R reg))
@@ -123,30 +137,40 @@ reads_register reg =
     elim (cases_lt reg.number 10) [
       | inl one ↦
           ap (state_after next_site sites.R) (decimal_digit reg.number one)
-          ∙ state_after-byte next_site sites.R (sites.Whole (R reg)) (48 + reg.number) [] (reads_register_digit None (48 + reg.number) reg (first_digit reg.number one))
+          ∙ state_after-byte next_site sites.R (sites.Whole (R reg)) (48 + reg.number) []
+          (reads_register_digit None (48 + reg.number) reg (first_digit reg.number one))
       | inr two ↦
           let small : reg.number / 10 < 10 = omega arith in
           let front : Reg = record { number = reg.number / 10; in_range = omega arith } in
-          let digits : decimal reg.number ≡ decimal (reg.number / 10) ++ (48 + reg.number % 10) ∷ [] = decimal_step reg.number two (omega arith) in
+          let digits : decimal reg.number ≡ decimal (reg.number / 10) ++ (48 + reg.number % 10) ∷ [] =
+          decimal_step reg.number two (omega arith) in
           let first : decimal (reg.number / 10) ≡ (48 + reg.number / 10) ∷ [] = decimal_digit (reg.number / 10) small in
           ap (state_after next_site sites.R) (digits ∙ ap (λ ds. ds ++ (48 + reg.number % 10) ∷ []) first)
-          ∙ state_after-byte next_site sites.R (sites.Whole (R front)) (48 + reg.number / 10) ((48 + reg.number % 10) ∷ []) (reads_register_digit None (48 + reg.number / 10) front (first_digit (reg.number / 10) small))
-          ∙ state_after-byte next_site (sites.Whole (R front)) (sites.Whole (R reg)) (48 + reg.number % 10) [] (reads_register_digit (Some (reg.number / 10)) (48 + reg.number % 10) reg (last_digit reg.number two (omega arith)))
+          ∙ state_after-byte next_site sites.R (sites.Whole (R front)) (48 + reg.number / 10)
+          ((48 + reg.number % 10) ∷ []) (reads_register_digit None (48 + reg.number / 10) front
+          (first_digit (reg.number / 10) small))
+          ∙ state_after-byte next_site (sites.Whole (R front)) (sites.Whole (R reg)) (48 + reg.number % 10) []
+          (reads_register_digit (Some (reg.number / 10)) (48 + reg.number % 10) reg
+          (last_digit reg.number two (omega arith)))
     ]
 
 -- the text of a site is read as that site
-pub reads_site : (site : Site) → IsSite site → state_after next_site sites.Empty (site_text site) ≡ Some (sites.Whole site)
+pub reads_site : (site : Site) → IsSite site → state_after next_site sites.Empty (site_text site)
+    ≡ Some (sites.Whole site)
 reads_site (R reg) g = reads_register reg
 reads_site D g = refl
 reads_site PcG g = refl
 reads_site PcB g = refl
 reads_site (QAddr place) g =
-    ap (state_after next_site sites.Qa) (decimal_digit place (omega arith)) ∙ state_after-byte next_site sites.Qa (sites.Whole (QAddr place)) (48 + place) [] (reads_place QAddr place g)
+    ap (state_after next_site sites.Qa) (decimal_digit place (omega arith))
+    ∙ state_after-byte next_site sites.Qa (sites.Whole (QAddr place)) (48 + place) [] (reads_place QAddr place g)
 reads_site (QVal place) g =
-    ap (state_after next_site sites.Qv) (decimal_digit place (omega arith)) ∙ state_after-byte next_site sites.Qv (sites.Whole (QVal place)) (48 + place) [] (reads_place QVal place g)
+    ap (state_after next_site sites.Qv) (decimal_digit place (omega arith))
+    ∙ state_after-byte next_site sites.Qv (sites.Whole (QVal place)) (48 + place) [] (reads_place QVal place g)
 
 -- what was read of a site goes on to the text of some site
-pub site_goes_on : (s : SiteRead) → IsSiteRead s → (site : Site) × ((rest : List ℕ) × (IsSite site × (site_told s ++ rest ≡ site_text site)))
+pub site_goes_on : (s : SiteRead) → IsSiteRead s → (site : Site)
+    × ((rest : List ℕ) × (IsSite site × (site_told s ++ rest ≡ site_text site)))
 site_goes_on sites.Empty g = (D, (codes "d", (tt, refl)))
 site_goes_on sites.P g = (PcG, (codes "cg", (tt, refl)))
 site_goes_on sites.Pc g = (PcG, (codes "g", (tt, refl)))
@@ -180,9 +204,18 @@ site_viable : (s : SiteRead) → IsSiteRead s → IsViable IsSiteText (site_told
 site_viable s g = (let on = site_goes_on s g in (on.0, (on.1.0, on.1.1)))
 
 -- the text of a site is read as that site
-site_complete : (text : List ℕ) (site : Site) → IsSiteText text site → option_and_then whole_site (state_after next_site sites.Empty text) ≡ Some site
-site_complete text site h = ap (λ t. option_and_then whole_site (state_after next_site sites.Empty t)) h.1 ∙ ap (option_and_then whole_site) (reads_site site h.0)
+site_complete : (text : List ℕ) (site : Site) → IsSiteText text site →
+    option_and_then whole_site (state_after next_site sites.Empty text) ≡ Some site
+site_complete text site h = ap (λ t. option_and_then whole_site (state_after next_site sites.Empty t)) h.1
+    ∙ ap (option_and_then whole_site) (reads_site site h.0)
 
 -- sites are read byte by byte
 pub site_reader : IsReader next_site whole_site sites.Empty site_told IsSiteRead IsSiteText
-site_reader = record { begins = refl; good = tt; step = λ s t b g e. site_step s t b g e; ends = site_ends; goes_on = site_viable; complete = site_complete }
+site_reader = record {
+  begins = refl;
+  good = tt;
+  step = λ s t b g e. site_step s t b g e;
+  ends = site_ends;
+  goes_on = site_viable;
+  complete = site_complete;
+}

@@ -1,5 +1,7 @@
 -- Wild answers are read byte by byte.
-use Rattle.std.proofs.Common.{◌≡◌, ℕ, ◌+◌, ◌<◌, ◌≤◌, false, List, [], ◌∷◌, ◌++◌, length, Option, Some, None, decimal, codes, eqb, nat_lt, refl, sym, ap, ◌∙◌, subst, inl, inr, arith, append_assoc, if◌then◌else◌}
+use Rattle.std.proofs.Common.{◌≡◌, ℕ, ◌+◌, ◌<◌, ◌≤◌, false, List, [], ◌∷◌, ◌++◌, length, Option, Some, None, decimal}
+use Rattle.std.proofs.Common.{codes, eqb, nat_lt, refl, sym, ap, ◌∙◌, subst, inl, inr, arith, append_assoc}
+use Rattle.std.proofs.Common.{if◌then◌else◌}
 use Rattle.std.specs.Option.{option_map, option_and_then}
 use Rattle.std.specs.List.{AllByRecursion}
 use Rattle.std.proofs.lemmas.Bool.{eqb-true, eq-eqb, ne_eqb, ltb-true, lt-ltb, le-ltb}
@@ -44,7 +46,8 @@ answer_step (answers.Number word) t b g e =
     subst (λ (s : AnswerRead). GoesOn (decimal word) b s) made.1.1 (more_digits (Some word) b made.0 g made.1.0)
 answer_step answers.S t b g e = of_letter (GoesOn (codes "s")) b 116 answers.St t None (refl, tt) (λ f. absurd cc) e
 answer_step answers.St t b g e = of_letter (GoesOn (codes "st")) b 111 answers.Sto t None (refl, tt) (λ f. absurd cc) e
-answer_step answers.Sto t b g e = of_letter (GoesOn (codes "sto")) b 112 answers.Stop t None (refl, tt) (λ f. absurd cc) e
+answer_step answers.Sto t b g e = of_letter (GoesOn (codes "sto")) b 112 answers.Stop t None (refl, tt) (λ f.
+    absurd cc) e
 answer_step answers.Stop t b g e = absurd cc
 
 -- no wild answer goes on by a comma
@@ -57,7 +60,8 @@ no_comma answers.Sto = refl
 no_comma answers.Stop = refl
 
 -- a wild answer that was read whole is told by its text
-answer_ends : (s : AnswerRead) (answer : Wild) → IsAnswerRead s → whole_answer s ≡ Some answer → (answer_told s ≡ answer_text answer) × IsAnswer answer
+answer_ends : (s : AnswerRead) (answer : Wild) → IsAnswerRead s → whole_answer s ≡ Some answer →
+    (answer_told s ≡ answer_text answer) × IsAnswer answer
 answer_ends answers.Empty answer g e = absurd cc
 answer_ends (answers.Number word) answer g e =
     let same : wilds.Word word ≡ answer = cc in
@@ -70,7 +74,8 @@ answer_ends answers.Stop answer g e =
     subst (λ (w : Wild). (codes "stop" ≡ answer_text w) × IsAnswer w) same (refl, tt)
 
 -- what was read of a wild answer goes on to the text of some answer
-answer_goes_on : (s : AnswerRead) → IsAnswerRead s → (answer : Wild) × ((rest : List ℕ) × (IsAnswer answer × (answer_told s ++ rest ≡ answer_text answer)))
+answer_goes_on : (s : AnswerRead) → IsAnswerRead s → (answer : Wild)
+    × ((rest : List ℕ) × (IsAnswer answer × (answer_told s ++ rest ≡ answer_text answer)))
 answer_goes_on answers.Empty g = (wilds.Stop, (codes "stop", (tt, refl)))
 answer_goes_on (answers.Number word) g = (wilds.Word word, ([], (g, append-nil (decimal word))))
 answer_goes_on answers.S g = (wilds.Stop, (codes "top", (tt, refl)))
@@ -84,7 +89,8 @@ number_state None = answers.Empty
 number_state (Some word) = answers.Number word
 
 -- a number is read as a number is
-number_inside : (m n : Option ℕ) (b : ℕ) → next_number m b ≡ Some n → next_answer (number_state m) b ≡ Some (number_state n)
+number_inside : (m n : Option ℕ) (b : ℕ) → next_number m b ≡ Some n → next_answer (number_state m) b
+    ≡ Some (number_state n)
 number_inside None n b e =
     let made = of_map {A = ℕ} Some (with_digit None b) n e in
     let digit = taken_digit None b made.0 made.1.0 in
@@ -101,8 +107,10 @@ answer_state (wilds.Word word) = answers.Number word
 answer_state wilds.Stop = answers.Stop
 
 -- the text of a wild answer is read as that answer
-reads_answer : (answer : Wild) → IsAnswer answer → state_after next_answer answers.Empty (answer_text answer) ≡ Some (answer_state answer)
-reads_answer (wilds.Word word) g = state_after-inside next_number next_answer number_state number_inside None (Some word) (decimal word) (reads_decimal word g)
+reads_answer : (answer : Wild) → IsAnswer answer → state_after next_answer answers.Empty (answer_text answer)
+    ≡ Some (answer_state answer)
+reads_answer (wilds.Word word) g = state_after-inside next_number next_answer number_state number_inside None
+    (Some word) (decimal word) (reads_decimal word g)
 reads_answer wilds.Stop g = refl
 
 -- the answer of its state
@@ -128,47 +136,62 @@ abbrev pub wild_at : List Wild → AnswerRead → WildRead
 wild_at done part = record { done = done; part = part }
 
 -- one more answer before its comma
-passed_text_push : (done : List Wild) (answer : Wild) → passed_text (done ++ answer ∷ []) ≡ passed_text done ++ (answer_text answer ++ codes ",")
+passed_text_push : (done : List Wild) (answer : Wild) → passed_text (done ++ answer ∷ []) ≡ passed_text done
+    ++ (answer_text answer ++ codes ",")
 passed_text_push [] answer = append-nil (answer_text answer ++ codes ",")
 passed_text_push (first ∷ done) answer =
-    ap (λ ds. answer_text first ++ codes "," ++ ds) (passed_text_push done answer) ∙ sym (append_assoc (answer_text first ++ codes ",") (passed_text done) (answer_text answer ++ codes ","))
+    ap (λ ds. answer_text first ++ codes "," ++ ds) (passed_text_push done answer)
+    ∙ sym (append_assoc (answer_text first ++ codes ",") (passed_text done) (answer_text answer ++ codes ","))
 
 -- a comma before each is a comma after each but the last
-more_answers_push : (done : List Wild) (answer : Wild) → more_answers_text (done ++ answer ∷ []) ≡ codes "," ++ (passed_text done ++ answer_text answer)
+more_answers_push : (done : List Wild) (answer : Wild) → more_answers_text (done ++ answer ∷ []) ≡ codes ","
+    ++ (passed_text done ++ answer_text answer)
 more_answers_push [] answer = append-nil (codes "," ++ answer_text answer)
 more_answers_push (first ∷ done) answer =
     ap (λ ds. codes "," ++ answer_text first ++ ds) (more_answers_push done answer) ∙ simp append_assoc
 
 -- the text of wild answers, by its last one
-wild_text_push : (done : List Wild) (answer : Wild) → wild_text (done ++ answer ∷ []) ≡ passed_text done ++ answer_text answer
+wild_text_push : (done : List Wild) (answer : Wild) → wild_text (done ++ answer ∷ []) ≡ passed_text done
+    ++ answer_text answer
 wild_text_push [] answer = append-nil (answer_text answer)
-wild_text_push (first ∷ done) answer = ap (λ ds. answer_text first ++ ds) (more_answers_push done answer) ∙ simp append_assoc
+wild_text_push (first ∷ done) answer = ap (λ ds. answer_text first ++ ds) (more_answers_push done answer)
+    ∙ simp append_assoc
 
 -- one more answer that has a text
-all_push : (done : List Wild) (answer : Wild) → AllByRecursion IsAnswer done → IsAnswer answer → AllByRecursion IsAnswer (done ++ answer ∷ [])
+all_push : (done : List Wild) (answer : Wild) → AllByRecursion IsAnswer done → IsAnswer answer →
+    AllByRecursion IsAnswer (done ++ answer ∷ [])
 all_push [] answer all here = (here, tt)
 all_push (first ∷ done) answer all here = (all.0, all_push done answer all.1 here)
 
 -- answers that leave room, and one more, have a text
-are_answers : (done : List Wild) (answer : Wild) → length done < 4096 → AllByRecursion IsAnswer done → IsAnswer answer → AreAnswers (done ++ answer ∷ [])
+are_answers : (done : List Wild) (answer : Wild) → length done < 4096 → AllByRecursion IsAnswer done → IsAnswer answer →
+    AreAnswers (done ++ answer ∷ [])
 are_answers done answer room all here =
     let longer = length_push done answer in
     (omega arith, omega arith, all_push done answer all here)
 
 -- what is told after one more byte of wild answers
-wild_step : (s t : WildRead) (b : ℕ) → IsWildRead s → next_wild s b ≡ Some t → (wild_told t ≡ wild_told s ++ b ∷ []) × IsWildRead t
+wild_step : (s t : WildRead) (b : ℕ) → IsWildRead s → next_wild s b ≡ Some t → (wild_told t ≡ wild_told s ++ b ∷ [])
+    × IsWildRead t
 wild_step s t b g e =
     let Told : ℕ → WildRead → Type 0 = λ x u. (wild_told u ≡ wild_told s ++ x ∷ []) × IsWildRead u in
-    elim (of_branch (eqb b 44) (if nat_lt (length s.done + 1) 4096 then option_map (λ answer. wild_at (s.done ++ answer ∷ []) answers.Empty) (whole_answer s.part) else None) (option_map (λ part. wild_at s.done part) (next_answer s.part b)) t e) [
+    elim (of_branch (eqb b 44) (if nat_lt (length s.done + 1) 4096
+    then option_map (λ answer. wild_at (s.done ++ answer ∷ []) answers.Empty) (whole_answer s.part)
+    else None) (option_map (λ part. wild_at s.done part) (next_answer s.part b)) t e) [
       | inl comma ↦
-          elim (of_branch (nat_lt (length s.done + 1) 4096) (option_map (λ answer. wild_at (s.done ++ answer ∷ []) answers.Empty) (whole_answer s.part)) None t comma.1) [
+          elim (of_branch (nat_lt (length s.done + 1) 4096)
+          (option_map (λ answer. wild_at (s.done ++ answer ∷ []) answers.Empty) (whole_answer s.part)) None t comma.1) [
             | inl room ↦
-                let made = of_map (λ answer. wild_at (s.done ++ answer ∷ []) answers.Empty) (whole_answer s.part) t room.1 in
+                let made = of_map (λ answer. wild_at (s.done ++ answer ∷ []) answers.Empty) (whole_answer s.part) t
+                room.1 in
                 let ended = answer_ends s.part made.0 g.2 made.1.0 in
                 let below = ltb-true (length s.done + 1) 4096 room.0 in
                 let longer = length_push s.done made.0 in
-                let told : passed_text (s.done ++ made.0 ∷ []) ++ [] ≡ passed_text s.done ++ answer_told s.part ++ codes "," =
-                append-nil (passed_text (s.done ++ made.0 ∷ [])) ∙ passed_text_push s.done made.0 ∙ ap (λ ds. passed_text s.done ++ (ds ++ codes ",")) (sym ended.0) ∙ sym (append_assoc (passed_text s.done) (answer_told s.part) (codes ",")) in
+                let told : passed_text (s.done ++ made.0 ∷ []) ++ [] ≡ passed_text s.done ++ answer_told s.part
+                ++ codes "," =
+                append-nil (passed_text (s.done ++ made.0 ∷ [])) ∙ passed_text_push s.done made.0
+                ∙ ap (λ ds. passed_text s.done ++ (ds ++ codes ",")) (sym ended.0)
+                ∙ sym (append_assoc (passed_text s.done) (answer_told s.part) (codes ",")) in
                 subst (λ (x : ℕ). Told x t) (sym (eqb-true b 44 comma.0))
                 (subst (Told 44) made.1.1 (told, (omega arith, all_push s.done made.0 g.1 ended.1, tt)))
             | inr none ↦ absurd cc
@@ -176,8 +199,11 @@ wild_step s t b g e =
       | inr byte ↦
           let made = of_map (λ part. wild_at s.done part) (next_answer s.part b) t byte in
           let more = answer_step s.part made.0 b g.2 made.1.0 in
-          subst (Told b) made.1.1
-          (ap (λ ds. passed_text s.done ++ ds) more.0 ∙ sym (append_assoc (passed_text s.done) (answer_told s.part) (b ∷ [])), (g.0, g.1, more.1))
+          subst (Told b) made.1.1 (
+            ap (λ ds. passed_text s.done ++ ds) more.0
+                ∙ sym (append_assoc (passed_text s.done) (answer_told s.part) (b ∷ [])),
+            (g.0, g.1, more.1),
+          )
     ]
 
 -- wild answers that were read whole are told by their text
@@ -185,8 +211,11 @@ wild_ends : (s : WildRead) (list : List Wild) → IsWildRead s → whole_wild s 
 wild_ends s list g e =
     let made = of_map (λ answer. s.done ++ answer ∷ []) (whole_answer s.part) list e in
     let ended = answer_ends s.part made.0 g.2 made.1.0 in
-    subst (λ (ws : List Wild). IsWildText (wild_told s) ws) made.1.1
-    (are_answers s.done made.0 g.0 g.1 ended.1, ap (λ ds. passed_text s.done ++ ds) ended.0 ∙ sym (wild_text_push s.done made.0))
+    subst (λ (ws : List Wild). IsWildText (wild_told s) ws) made.1.1 (
+      are_answers s.done made.0 g.0 g.1 ended.1,
+      ap (λ ds. passed_text s.done ++ ds) ended.0
+          ∙ sym (wild_text_push s.done made.0),
+    )
 
 -- what was read of wild answers goes on to the text of some
 wild_goes_on : (s : WildRead) → IsWildRead s → IsViable IsWildText (wild_told s)
@@ -197,55 +226,80 @@ wild_goes_on s g =
         last.1.0,
         (
           are_answers s.done last.0 g.0 g.1 last.1.1.0,
-          append_assoc (passed_text s.done) (answer_told s.part) last.1.0 ∙ ap (λ ds. passed_text s.done ++ ds) last.1.1.1 ∙ sym (wild_text_push s.done last.0),
+          append_assoc (passed_text s.done) (answer_told s.part) last.1.0
+              ∙ ap (λ ds. passed_text s.done ++ ds) last.1.1.1 ∙ sym (wild_text_push s.done last.0),
         ),
       ),
     )
 
 -- a comma past the last answer that there is room for
-pub no_room : (done : List Wild) (part : AnswerRead) (b : ℕ) → b ≡ 44 → 4096 ≤ length done + 1 → next_wild (wild_at done part) b ≡ None
+pub no_room : (done : List Wild) (part : AnswerRead) (b : ℕ) → b ≡ 44 → 4096 ≤ length done + 1 →
+    next_wild (wild_at done part) b ≡ None
 no_room done part b comma full =
-    ap (λ c. if c then (if nat_lt (length done + 1) 4096 then option_map (λ answer. wild_at (done ++ answer ∷ []) answers.Empty) (whole_answer part) else None) else option_map (λ s. wild_at done s) (next_answer part b)) (eq-eqb b 44 comma)
-    ∙ ap (λ c. if c then option_map (λ answer. wild_at (done ++ answer ∷ []) answers.Empty) (whole_answer part) else None) (le-ltb (length done + 1) 4096 full)
+    ap (λ c. if c then (if nat_lt (length done + 1) 4096
+    then option_map (λ answer. wild_at (done ++ answer ∷ []) answers.Empty) (whole_answer part) else None)
+    else option_map (λ s. wild_at done s) (next_answer part b)) (eq-eqb b 44 comma)
+    ∙ ap (λ c. if c then option_map (λ answer. wild_at (done ++ answer ∷ []) answers.Empty) (whole_answer part)
+    else None) (le-ltb (length done + 1) 4096 full)
 
 -- a comma after an answer, where there is room for one more
-pub next_at_comma : (done : List Wild) (part : AnswerRead) (b : ℕ) → b ≡ 44 → length done + 1 < 4096 → next_wild (wild_at done part) b ≡ option_map (λ answer. wild_at (done ++ answer ∷ []) answers.Empty) (whole_answer part)
+pub next_at_comma : (done : List Wild) (part : AnswerRead) (b : ℕ) → b ≡ 44 → length done + 1 < 4096 →
+    next_wild (wild_at done part) b ≡ option_map (λ answer. wild_at (done ++ answer ∷ []) answers.Empty)
+    (whole_answer part)
 next_at_comma done part b comma room =
-    ap (λ c. if c then (if nat_lt (length done + 1) 4096 then option_map (λ answer. wild_at (done ++ answer ∷ []) answers.Empty) (whole_answer part) else None) else option_map (λ s. wild_at done s) (next_answer part b)) (eq-eqb b 44 comma)
-    ∙ ap (λ c. if c then option_map (λ answer. wild_at (done ++ answer ∷ []) answers.Empty) (whole_answer part) else None) (lt-ltb (length done + 1) 4096 room)
+    ap (λ c. if c then (if nat_lt (length done + 1) 4096
+    then option_map (λ answer. wild_at (done ++ answer ∷ []) answers.Empty) (whole_answer part) else None)
+    else option_map (λ s. wild_at done s) (next_answer part b)) (eq-eqb b 44 comma)
+    ∙ ap (λ c. if c then option_map (λ answer. wild_at (done ++ answer ∷ []) answers.Empty) (whole_answer part)
+    else None) (lt-ltb (length done + 1) 4096 room)
 
 -- a byte that is no comma
-pub next_in_part : (done : List Wild) (part : AnswerRead) (b : ℕ) → (b ≡ 44 → ⊥) → next_wild (wild_at done part) b ≡ option_map (λ s. wild_at done s) (next_answer part b)
+pub next_in_part : (done : List Wild) (part : AnswerRead) (b : ℕ) → (b ≡ 44 → ⊥) → next_wild (wild_at done part) b
+    ≡ option_map (λ s. wild_at done s) (next_answer part b)
 next_in_part done part b other =
-    ap (λ c. if c then (if nat_lt (length done + 1) 4096 then option_map (λ answer. wild_at (done ++ answer ∷ []) answers.Empty) (whole_answer part) else None) else option_map (λ s. wild_at done s) (next_answer part b)) (ne_eqb b 44 other)
+    ap (λ c. if c then (if nat_lt (length done + 1) 4096
+    then option_map (λ answer. wild_at (done ++ answer ∷ []) answers.Empty) (whole_answer part) else None)
+    else option_map (λ s. wild_at done s) (next_answer part b)) (ne_eqb b 44 other)
 
 -- an answer is read after others as it is alone
-answer_inside : (done : List Wild) (s t : AnswerRead) (b : ℕ) → next_answer s b ≡ Some t → next_wild (wild_at done s) b ≡ Some (wild_at done t)
+answer_inside : (done : List Wild) (s t : AnswerRead) (b : ℕ) → next_answer s b ≡ Some t → next_wild (wild_at done s) b
+    ≡ Some (wild_at done t)
 answer_inside done s t b e =
-    next_in_part done s b (λ f. let none = no_comma s in let some = subst (λ (x : ℕ). next_answer s x ≡ Some t) f e in cc)
+    next_in_part done s b (λ f. let none = no_comma s in let some = subst (λ (x : ℕ). next_answer s x ≡ Some t) f e in
+    cc)
     ∙ ap (option_map (λ part. wild_at done part)) e
 
 -- the text of an answer is read after others
-reads_part : (done : List Wild) (answer : Wild) → IsAnswer answer → state_after next_wild (wild_at done answers.Empty) (answer_text answer) ≡ Some (wild_at done (answer_state answer))
-reads_part done answer here = state_after-inside next_answer next_wild (wild_at done) (answer_inside done) answers.Empty (answer_state answer) (answer_text answer) (reads_answer answer here)
+reads_part : (done : List Wild) (answer : Wild) → IsAnswer answer →
+    state_after next_wild (wild_at done answers.Empty) (answer_text answer) ≡ Some (wild_at done (answer_state answer))
+reads_part done answer here = state_after-inside next_answer next_wild (wild_at done) (answer_inside done) answers.Empty
+    (answer_state answer) (answer_text answer) (reads_answer answer here)
 
 -- the text of answers after others is read as all of them
-reads_rest : (done : List Wild) (answer : Wild) (rest : List Wild) → IsAnswer answer → AllByRecursion IsAnswer rest → length done + length (answer ∷ rest) ≤ 4096 → option_and_then whole_wild (state_after next_wild (wild_at done answers.Empty) (answer_text answer ++ more_answers_text rest)) ≡ Some (done ++ answer ∷ rest)
+reads_rest : (done : List Wild) (answer : Wild) (rest : List Wild) → IsAnswer answer → AllByRecursion IsAnswer rest →
+    length done + length (answer ∷ rest) ≤ 4096 → option_and_then whole_wild
+    (state_after next_wild (wild_at done answers.Empty) (answer_text answer ++ more_answers_text rest))
+    ≡ Some (done ++ answer ∷ rest)
 reads_rest done answer [] here all room =
-    ap (λ ds. option_and_then whole_wild (state_after next_wild (wild_at done answers.Empty) ds)) (append-nil (answer_text answer))
+    ap (λ ds. option_and_then whole_wild (state_after next_wild (wild_at done answers.Empty) ds))
+    (append-nil (answer_text answer))
     ∙ ap (option_and_then whole_wild) (reads_part done answer here)
     ∙ ap (option_map (λ w. done ++ w ∷ [])) (whole_state answer)
 reads_rest done answer (second ∷ rest) here all room =
     let longer = length_push done answer in
     let after = answer_text second ++ more_answers_text rest in
     ap (option_and_then whole_wild)
-    (state_after-on next_wild (wild_at done answers.Empty) (wild_at done (answer_state answer)) (answer_text answer) (44 ∷ (answer_text second ++ more_answers_text rest)) (reads_part done answer here)
-    ∙ state_after-byte next_wild (wild_at done (answer_state answer)) (wild_at (done ++ answer ∷ []) answers.Empty) 44 (answer_text second ++ more_answers_text rest) (next_at_comma done (answer_state answer) 44 refl (omega arith) ∙ ap (option_map (λ w. wild_at (done ++ w ∷ []) answers.Empty)) (whole_state answer)))
+    (state_after-on next_wild (wild_at done answers.Empty) (wild_at done (answer_state answer)) (answer_text answer)
+    (44 ∷ (answer_text second ++ more_answers_text rest)) (reads_part done answer here)
+    ∙ state_after-byte next_wild (wild_at done (answer_state answer)) (wild_at (done ++ answer ∷ []) answers.Empty) 44
+    (answer_text second ++ more_answers_text rest) (next_at_comma done (answer_state answer) 44 refl (omega arith)
+    ∙ ap (option_map (λ w. wild_at (done ++ w ∷ []) answers.Empty)) (whole_state answer)))
     ∙ reads_rest (done ++ answer ∷ []) second rest all.0 all.1 (omega arith)
     ∙ ap Some (append_assoc done (answer ∷ []) (second ∷ rest))
 
 -- the text of wild answers is read as those answers
-wild_complete : (text : List ℕ) (list : List Wild) → IsWildText text list → option_and_then whole_wild (state_after next_wild (wild_at [] answers.Empty) text) ≡ Some list
+wild_complete : (text : List ℕ) (list : List Wild) → IsWildText text list →
+    option_and_then whole_wild (state_after next_wild (wild_at [] answers.Empty) text) ≡ Some list
 wild_complete text [] h = absurd (omega (arith, h.0.0))
 wild_complete text (answer ∷ rest) h =
     ap (λ ds. option_and_then whole_wild (state_after next_wild (wild_at [] answers.Empty) ds)) h.1

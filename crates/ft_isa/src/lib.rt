@@ -1,9 +1,10 @@
 //! The words, instructions and plans of the machine.
 //!
-//! The crate promises that operations are arithmetic modulo 2^64, bit by bit or shifts, that a
-//! register's number is below 64, that an output's line is its cell's name and its value in decimal
-//! digits, and that the texts of sites, strikes and wild answers are read exactly. Its definitions:
-//! `specs/Words.antt`, `specs/Registers.antt`, `specs/PlanText.antt`.
+//! The crate promises that operations are arithmetic modulo 2^64, bit by bit or shifts, that one table
+//! gives their codes and words, that a register's number is below 64, that an output's line is its
+//! cell's name and its value in decimal digits, and that the texts of sites, strikes and wild answers
+//! are read exactly. Its definitions: `specs/Words.antt`, `specs/Operations.antt`,
+//! `specs/Registers.antt`, `specs/PlanText.antt`.
 #![tactic(auto)]
 
 mod basic;
@@ -16,6 +17,7 @@ mod output;
 mod plan;
 mod reg;
 mod site_text;
+mod steps;
 mod strike_text;
 mod wild_text;
 
@@ -29,6 +31,7 @@ pub use output::{FIRST_CELL, LINE_ROOM, Output, VALUE_ROOM, write_line};
 pub use plan::{Plan, Site, Strike, Wild};
 pub use reg::Reg;
 pub use site_text::read_site;
+pub use steps::Steps;
 pub use strike_text::{Form, read_strike};
 pub use wild_text::{WildError, read_wild};
 

@@ -1,5 +1,6 @@
 //! Operations on words.
 ghost use Rattle.std.specs.Prelude.{◌≡◌};
+ghost use Rattle.std.specs.Str.{bytes_eq};
 ghost use Rattle.ft_isa.specs.Words.{apply};
 
 /// An operation on two words.
@@ -25,6 +26,110 @@ pub enum Op {
     Shl,
     /// The first word divided by 2 to the second, rounded down: 0 where the second is 64 or more.
     Shr,
+}
+
+impl Op {
+    ghost use Rattle.ft_isa.specs.Operations.{op_code, op_of, op_word, op_in};
+
+    /// The operation's code in records.
+    pub fn code(self) -> u8
+        ensures { result ≡ op_code self }
+    {
+        match self {
+            Op::Add => 0,
+            Op::Sub => 1,
+            Op::Mul => 2,
+            Op::Ltu => 3,
+            Op::Eq => 4,
+            Op::And => 5,
+            Op::Or => 6,
+            Op::Xor => 7,
+            Op::Shl => 8,
+            Op::Shr => 9,
+        }
+    }
+
+    /// The operation of a code, where any above 8 is `shr`.
+    #[inline(always)]
+    pub fn of_code(code: u32) -> Op
+        ensures { result ≡ op_of code }
+    {
+        match code {
+            0 => Op::Add,
+            1 => Op::Sub,
+            2 => Op::Mul,
+            3 => Op::Ltu,
+            4 => Op::Eq,
+            5 => Op::And,
+            6 => Op::Or,
+            7 => Op::Xor,
+            8 => Op::Shl,
+            _ => Op::Shr,
+        }
+    }
+
+    /// The operation's word in assembly texts.
+    pub fn word(self) -> &'static [u8]
+        ensures { result.now ≡ op_word self }
+    {
+        match self {
+            Op::Add => b"add",
+            Op::Sub => b"sub",
+            Op::Mul => b"mul",
+            Op::Ltu => b"ltu",
+            Op::Eq => b"eq",
+            Op::And => b"and",
+            Op::Or => b"or",
+            Op::Xor => b"xor",
+            Op::Shl => b"shl",
+            Op::Shr => b"shr",
+        }
+    }
+
+    /// The operation of a word; `None` where the word is no operation's.
+    #[tactic(auto, unfolding(crate::specs::Operations::op_in))]
+    pub fn of_word(word: &[u8]) -> Option<Op>
+        ensures { result ≡ op_in word.now }
+    {
+        if is_same(word, b"add") {
+            return Some(Op::Add);
+        }
+        if is_same(word, b"sub") {
+            return Some(Op::Sub);
+        }
+        if is_same(word, b"mul") {
+            return Some(Op::Mul);
+        }
+        if is_same(word, b"ltu") {
+            return Some(Op::Ltu);
+        }
+        if is_same(word, b"eq") {
+            return Some(Op::Eq);
+        }
+        if is_same(word, b"and") {
+            return Some(Op::And);
+        }
+        if is_same(word, b"or") {
+            return Some(Op::Or);
+        }
+        if is_same(word, b"xor") {
+            return Some(Op::Xor);
+        }
+        if is_same(word, b"shl") {
+            return Some(Op::Shl);
+        }
+        if is_same(word, b"shr") {
+            return Some(Op::Shr);
+        }
+        None
+    }
+}
+
+/// Whether two words are the same.
+fn is_same(a: &[u8], b: &[u8]) -> bool
+    ensures { result ≡ bytes_eq a.now b.now }
+{
+    a == b
 }
 
 /// What the operation gives of two words.

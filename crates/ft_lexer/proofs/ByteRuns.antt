@@ -1,5 +1,6 @@
 -- A run of bytes of one kind, byte by byte.
-use Rattle.std.proofs.Common.{◌≡◌, ℕ, ◌+◌, ◌-◌, ◌*◌, ◌<◌, ◌≤◌, true, false, List, [], ◌∷◌, ◌++◌, length, get_or, take, drop, refl, sym, ap, ◌∙◌, subst, arith, drop-cons, length-take-le, add-one}
+use Rattle.std.proofs.Common.{◌≡◌, ℕ, ◌+◌, ◌-◌, ◌*◌, ◌<◌, ◌≤◌, true, false, List, [], ◌∷◌, ◌++◌, length, get_or, take}
+use Rattle.std.proofs.Common.{drop, refl, sym, ap, ◌∙◌, subst, arith, drop-cons, length-take-le, add-one}
 use Rattle.std.specs.Prelude.{nat_le}
 use Rattle.std.proofs.Math.Seq.{take-suc}
 use Rattle.ft_lexer.specs.Numeral.{numeral}
@@ -19,14 +20,16 @@ short : (n : ℕ) → n < 32 → nat_le 32 n ≡ false
 short n h = grind arith
 
 -- the name goes on with the next byte
-one_name : (start at : ℕ) (t : List ℕ) (b : ℕ) (bs : List ℕ) → length t < 32 → is_name_byte b ≡ true → scan_from (name start t) at (b ∷ bs) ≡ scan_from (name start (t ++ b ∷ [])) (at + 1) bs
+one_name : (start at : ℕ) (t : List ℕ) (b : ℕ) (bs : List ℕ) → length t < 32 → is_name_byte b ≡ true →
+    scan_from (name start t) at (b ∷ bs) ≡ scan_from (name start (t ++ b ∷ [])) (at + 1) bs
 one_name start at t b bs h g =
     let more = scan_from (name start (t ++ b ∷ [])) (at + 1) bs in
     let end = ends (name start t) (begins at b (λ n. scan_from n (at + 1) bs)) in
     ap (λ v. in_name v (nat_le 32 (length t)) at more end) g ∙ ap (λ v. in_name true v at more end) (short (length t) h)
 
 pub name_step : (text : List ℕ) (n start at : ℕ) → n < length text → n < 32 → is_name_byte (get_or text n 0) ≡ true →
-    scan_from (name start (take n text)) (at + n) (drop n text) ≡ scan_from (name start (take (n + 1) text)) (at + (n + 1)) (drop (n + 1) text)
+    scan_from (name start (take n text)) (at + n) (drop n text)
+    ≡ scan_from (name start (take (n + 1) text)) (at + (n + 1)) (drop (n + 1) text)
 name_step text n start at h small is =
     let len : length (take n text) ≡ n = length-take-le n text (omega arith) in
     let place : at + n + 1 ≡ at + (n + 1) = omega arith in
@@ -35,14 +38,17 @@ name_step text n start at h small is =
     ∙ ap (λ v. scan_from (name start v) (at + n + 1) (drop (n + 1) text)) (next_take text n h)
     ∙ ap (λ v. scan_from (name start (take (n + 1) text)) v (drop (n + 1) text)) place
 
-pub name_stop : (text : List ℕ) (n : ℕ) → n < length text → is_name_byte (get_or text n 0) ≡ false → EndsName (drop n text)
+pub name_stop : (text : List ℕ) (n : ℕ) → n < length text → is_name_byte (get_or text n 0) ≡ false →
+    EndsName (drop n text)
 name_stop text n h is = subst EndsName (sym (next_drop text n h)) is
 
-one_number : (start at : ℕ) (t : List ℕ) (b : ℕ) (bs : List ℕ) → is_digit b ≡ true → scan_from (number start t) at (b ∷ bs) ≡ scan_from (number start (t ++ b ∷ [])) (at + 1) bs
+one_number : (start at : ℕ) (t : List ℕ) (b : ℕ) (bs : List ℕ) → is_digit b ≡ true →
+    scan_from (number start t) at (b ∷ bs) ≡ scan_from (number start (t ++ b ∷ [])) (at + 1) bs
 one_number start at t b bs g = rw g refl
 
 pub number_step : (text : List ℕ) (n start at : ℕ) → n < length text → is_digit (get_or text n 0) ≡ true →
-    scan_from (number start (take n text)) (at + n) (drop n text) ≡ scan_from (number start (take (n + 1) text)) (at + (n + 1)) (drop (n + 1) text)
+    scan_from (number start (take n text)) (at + n) (drop n text)
+    ≡ scan_from (number start (take (n + 1) text)) (at + (n + 1)) (drop (n + 1) text)
 number_step text n start at h is =
     let place : at + n + 1 ≡ at + (n + 1) = omega arith in
     ap (scan_from (number start (take n text)) (at + n)) (next_drop text n h)
@@ -50,7 +56,8 @@ number_step text n start at h is =
     ∙ ap (λ v. scan_from (number start v) (at + n + 1) (drop (n + 1) text)) (next_take text n h)
     ∙ ap (λ v. scan_from (number start (take (n + 1) text)) v (drop (n + 1) text)) place
 
-pub number_stop : (text : List ℕ) (n : ℕ) → n < length text → is_digit (get_or text n 0) ≡ false → EndsNumber (drop n text)
+pub number_stop : (text : List ℕ) (n : ℕ) → n < length text → is_digit (get_or text n 0) ≡ false →
+    EndsNumber (drop n text)
 number_stop text n h is = subst EndsNumber (sym (next_drop text n h)) is
 
 -- more digits make no smaller number
@@ -58,10 +65,12 @@ pub numeral_grows : (n : ℕ) (ds : List ℕ) → n ≤ numeral n ds
 numeral_grows n [] = omega arith
 numeral_grows n (d ∷ ds) = omega (arith, numeral_grows (n * 10 + (d - 48)) ds)
 
-pub numeral_step : (text : List ℕ) (i n : ℕ) → i < length text → numeral n (drop i text) ≡ numeral (n * 10 + (get_or text i 0 - 48)) (drop (i + 1) text)
+pub numeral_step : (text : List ℕ) (i n : ℕ) → i < length text → numeral n (drop i text)
+    ≡ numeral (n * 10 + (get_or text i 0 - 48)) (drop (i + 1) text)
 numeral_step text i n h = ap (numeral n) (next_drop text i h)
 
-one_long : (start at : ℕ) (t : List ℕ) (b : ℕ) (bs : List ℕ) → length t ≡ 32 → is_name_byte b ≡ true → scan_from (name start t) at (b ∷ bs) ≡ wrong (Byte at)
+one_long : (start at : ℕ) (t : List ℕ) (b : ℕ) (bs : List ℕ) → length t ≡ 32 → is_name_byte b ≡ true →
+    scan_from (name start t) at (b ∷ bs) ≡ wrong (Byte at)
 one_long start at t b bs h g =
     let more = scan_from (name start (t ++ b ∷ [])) (at + 1) bs in
     let end = ends (name start t) (begins at b (λ n. scan_from n (at + 1) bs)) in
@@ -71,5 +80,6 @@ pub name_long : (text : List ℕ) (n start at : ℕ) → n ≡ 32 → n < length
     scan_from (name start (take n text)) (at + n) (drop n text) ≡ wrong (Byte (at + 32))
 name_long text n start at e h is =
     ap (scan_from (name start (take n text)) (at + n)) (next_drop text n h)
-    ∙ one_long start (at + n) (take n text) (get_or text n 0) (drop (n + 1) text) (length-take-le n text (omega arith) ∙ e) is
+    ∙ one_long start (at + n) (take n text) (get_or text n 0) (drop (n + 1) text) (length-take-le n text (omega arith)
+    ∙ e) is
     ∙ ap (λ v. wrong (Byte (at + v))) e

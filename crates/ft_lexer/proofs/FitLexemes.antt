@@ -1,5 +1,6 @@
 -- The names and numbers of a text are fit: a name has at most 32 bytes, and a number is below 2^64.
-use Rattle.std.proofs.Common.{◌≡◌, ℕ, ◌+◌, ◌^◌, ◌<◌, ◌≤◌, Bool, true, false, ◌&&◌, ◌==◌, List, [], ◌∷◌, ◌++◌, length, Option, Some, None, refl, ◌∙◌, subst, arith, length-append}
+use Rattle.std.proofs.Common.{◌≡◌, ℕ, ◌+◌, ◌^◌, ◌<◌, ◌≤◌, Bool, true, false, ◌&&◌, ◌==◌, List, [], ◌∷◌, ◌++◌, length}
+use Rattle.std.proofs.Common.{Option, Some, None, refl, ◌∙◌, subst, arith, length-append}
 use Rattle.std.specs.Prelude.{Result, Ok, Err, if◌then◌else◌, nat_le, nat_lt, codes}
 use Rattle.std.specs.List.{list_all}
 use Rattle.std.specs.Str.{bytes_eq}
@@ -10,7 +11,8 @@ use Rattle.ft_lexer.specs.declared.kind.Kind.TheVariants as kinds
 use Rattle.ft_lexer.specs.declared.lex_error.LexError.{LexError}
 use Rattle.ft_lexer.specs.Bytes.{is_blank, is_digit, is_letter, is_name_byte, word_kind, sign_kind, pair_kind}
 use Rattle.ft_lexer.specs.Numeral.{numeral}
-use Rattle.ft_lexer.specs.Scan.{Lexeme, Scan, over, wrong, token, Mode, gap, comment, name, number, once, number_token, ends, sign_at, sign_from, begins, in_name, reads, scan_from, scan, with_token, all_of}
+use Rattle.ft_lexer.specs.Scan.{Lexeme, Scan, over, wrong, token, Mode, gap, comment, name, number, once, number_token}
+use Rattle.ft_lexer.specs.Scan.{ends, sign_at, sign_from, begins, in_name, reads, scan_from, scan, with_token, all_of}
 
 -- a letter and then bytes of names
 abbrev pub is_word : List ℕ → Bool
@@ -23,7 +25,8 @@ word_more [] b e f = cc
 word_more (c ∷ cs) b e f =
     let p = and_parts (is_letter c) (list_all is_name_byte cs) e in
     and_from (is_letter c) (list_all is_name_byte (cs ++ b ∷ [])) p.0
-    (list_all-append is_name_byte cs (b ∷ []) ∙ and_from (list_all is_name_byte cs) (is_name_byte b && true) p.1 (and_from (is_name_byte b) true f refl))
+    (list_all-append is_name_byte cs (b ∷ []) ∙ and_from (list_all is_name_byte cs) (is_name_byte b
+    && true) p.1 (and_from (is_name_byte b) true f refl))
 
 -- a text of a name: at most 32 bytes
 pub record IsNameText (t : List ℕ) : Type 0 where
@@ -58,7 +61,10 @@ IsNoNumber _ = Unit {0}
 
 -- a lexeme that is neither name nor number is fit
 plain_fits : (k : Kind) (t : List ℕ) (at : ℕ) → IsPlain k → IsFit (record { kind = k; text = t; at = at })
-plain_fits k t at h = record { name_fits = λ e. absurd (subst IsPlain e h); number_fits = λ e. absurd (subst IsPlain e h) }
+plain_fits k t at h = record {
+  name_fits = λ e. absurd (subst IsPlain e h);
+  number_fits = λ e. absurd (subst IsPlain e h);
+}
 
 -- a choice of two such scans is one
 if_fits : (c : Bool) (x y : Scan) → AreFit x → AreFit y → AreFit (if c then x else y)
@@ -66,7 +72,9 @@ if_fits true x y h k = h
 if_fits false x y h k = k
 
 -- the kinds of words are other ones
-word_choice : (a b c d e : Bool) → IsNoNumber (if a then kinds.Cell else (if b then kinds.Var else (if c then kinds.While else (if d then kinds.If else (if e then kinds.Else else kinds.Name)))))
+word_choice : (a b c d e : Bool) → IsNoNumber (if a then kinds.Cell
+    else (if b then kinds.Var else (if c then kinds.While
+    else (if d then kinds.If else (if e then kinds.Else else kinds.Name)))))
 word_choice true b c d e = tt
 word_choice false true c d e = tt
 word_choice false false true d e = tt
@@ -77,7 +85,8 @@ word_choice false false false false false = tt
 -- so the kind of a word is another
 word_kind_plain : (t : List ℕ) → IsNoNumber (word_kind t)
 unfolding word_kind
-word_kind_plain t = word_choice (bytes_eq t (codes "cell")) (bytes_eq t (codes "var")) (bytes_eq t (codes "while")) (bytes_eq t (codes "if")) (bytes_eq t (codes "else"))
+word_kind_plain t = word_choice (bytes_eq t (codes "cell")) (bytes_eq t (codes "var")) (bytes_eq t (codes "while"))
+    (bytes_eq t (codes "if")) (bytes_eq t (codes "else"))
 
 -- nothing, or the kind of neither a name nor a number
 abbrev IsPlainSign : Option Kind → Type 0
@@ -142,8 +151,12 @@ MayEnd (number start t) = Unit {0}
 MayEnd (once k start b) = IsPlain k
 
 -- a number that is told is a word
-number_token_fits : (b : Bool) (start : ℕ) (t : List ℕ) (rest : Scan) → nat_lt (numeral 0 t) (2 ^ 64) ≡ b → AreFit rest → AreFit (number_token b start t rest)
-number_token_fits true start t rest e h = token_fits (record { name_fits = λ f. absurd (no f); number_fits = λ f. ltb-true (numeral 0 t) (2 ^ 64) e }) h
+number_token_fits : (b : Bool) (start : ℕ) (t : List ℕ) (rest : Scan) → nat_lt (numeral 0 t) (2 ^ 64) ≡ b →
+    AreFit rest → AreFit (number_token b start t rest)
+number_token_fits true start t rest e h = token_fits (record {
+  name_fits = λ f. absurd (no f);
+  number_fits = λ f. ltb-true (numeral 0 t) (2 ^ 64) e;
+}) h
   where
     no : kinds.Number ≡ kinds.Name → ⊥
     no f = cc
@@ -158,17 +171,22 @@ sign_fits (Some k) at b rest p h = token_fits (plain_fits k (b ∷ []) at p) h
 ends_fits : (m : Mode) (rest : Scan) → MayEnd m → AreFit rest → AreFit (ends m rest)
 ends_fits gap rest m h = h
 ends_fits comment rest m h = h
-ends_fits (name start t) rest m h = token_fits (record { name_fits = λ e. record { word = m.0; short = m.1 }; number_fits = λ e. absurd (subst IsNoNumber e (word_kind_plain t)) }) h
+ends_fits (name start t) rest m h = token_fits (record {
+  name_fits = λ e. record { word = m.0; short = m.1 };
+  number_fits = λ e. absurd (subst IsNoNumber e (word_kind_plain t));
+}) h
 ends_fits (number start t) rest m h = number_token_fits (nat_lt (numeral 0 t) (2 ^ 64)) start t rest refl h
 ends_fits (once k start b) rest m h = sign_fits (sign_kind b) start b rest (sign_kind_plain b) h
 
 -- what a sign begins leaves a fit scan
-sign_from_fits : (o : Option Kind) (at b : ℕ) (after : Mode → Scan) → IsPlainSign o → ((n : Mode) → MayEnd n → AreFit (after n)) → AreFit (sign_from o at b after)
+sign_from_fits : (o : Option Kind) (at b : ℕ) (after : Mode → Scan) → IsPlainSign o →
+    ((n : Mode) → MayEnd n → AreFit (after n)) → AreFit (sign_from o at b after)
 sign_from_fits None at b after p h = sign_fits (sign_kind b) at b (after gap) (sign_kind_plain b) (h gap tt)
 sign_from_fits (Some k) at b after p h = h (once k at b) p
 
 -- a choice of five such scans is one
-begins_choice : (a b c d : Bool) (u v w x y : Scan) → AreFit u → AreFit v → (c ≡ true → AreFit w) → AreFit x → AreFit y → AreFit (if a then u else (if b then v else (if c then w else (if d then x else y))))
+begins_choice : (a b c d : Bool) (u v w x y : Scan) → AreFit u → AreFit v → (c ≡ true → AreFit w) → AreFit x →
+    AreFit y → AreFit (if a then u else (if b then v else (if c then w else (if d then x else y))))
 begins_choice true b c d u v w x y hu hv hw hx hy = hu
 begins_choice false true c d u v w x y hu hv hw hx hy = hv
 begins_choice false false true d u v w x y hu hv hw hx hy = hw refl
@@ -178,26 +196,40 @@ begins_choice false false false false u v w x y hu hv hw hx hy = hy
 -- what a byte begins leaves a fit scan
 begins_fits : (at b : ℕ) (after : Mode → Scan) → ((n : Mode) → MayEnd n → AreFit (after n)) → AreFit (begins at b after)
 begins_fits at b after h =
-    begins_choice (is_blank b) (b == 35) (is_letter b) (is_digit b) (after gap) (after comment) (after (name at (b ∷ []))) (after (number at (b ∷ []))) (sign_from (pair_kind b) at b after)
-    (h gap tt) (h comment tt) (λ e. h (name at (b ∷ [])) (and_from (is_letter b) true e refl, omega arith)) (h (number at (b ∷ [])) tt)
+    begins_choice (is_blank b) (b == 35) (is_letter b) (is_digit b) (after gap) (after comment)
+    (after (name at (b ∷ []))) (after (number at (b ∷ []))) (sign_from (pair_kind b) at b after)
+    (h gap tt) (h comment tt) (λ e. h (name at (b ∷ [])) (and_from (is_letter b) true e refl, omega arith))
+    (h (number at (b ∷ [])) tt)
     (sign_from_fits (pair_kind b) at b after (pair_kind_plain b) h)
 
 -- so does a byte after a name
-in_name_fits : (goes long : Bool) (at : ℕ) (more end : Scan) → (goes ≡ true → long ≡ false → AreFit more) → AreFit end → AreFit (in_name goes long at more end)
+in_name_fits : (goes long : Bool) (at : ℕ) (more end : Scan) → (goes ≡ true → long ≡ false → AreFit more) → AreFit end →
+    AreFit (in_name goes long at more end)
 in_name_fits false long at more end h k = k
 in_name_fits true false at more end h k = h refl refl
 in_name_fits true true at more end h k = wrong_fits
 
 -- so does each byte
-reads_fits : (m : Mode) (at b : ℕ) (after : Mode → Scan) (other : Scan) → MayEnd m → ((n : Mode) → MayEnd n → AreFit (after n)) → AreFit other → AreFit (reads m at b after other)
+reads_fits : (m : Mode) (at b : ℕ) (after : Mode → Scan) (other : Scan) → MayEnd m →
+    ((n : Mode) → MayEnd n → AreFit (after n)) → AreFit other → AreFit (reads m at b after other)
 reads_fits gap at b after other m h k = k
 reads_fits comment at b after other m h k = if_fits (b == 10) (after gap) (after comment) (h gap tt) (h comment tt)
 reads_fits (name start t) at b after other m h k =
-    in_name_fits (is_name_byte b) (nat_le 32 (length t)) at (after (name start (t ++ b ∷ []))) (ends (name start t) other)
-    (λ e f. h (name start (t ++ b ∷ [])) (word_more t b m.0 e, (let l = length-append t (b ∷ []) in let g = leb-false 32 (length t) f in omega arith)))
+    in_name_fits (is_name_byte b) (nat_le 32 (length t)) at (after (name start (t ++ b ∷ [])))
+    (ends (name start t) other)
+    (λ e f. h (name start (t ++ b ∷ [])) (
+      word_more t b m.0 e,
+      (let l = length-append t (b ∷ []) in
+          let g = leb-false 32 (length t) f in omega arith),
+    ))
     (ends_fits (name start t) other m k)
-reads_fits (number start t) at b after other m h k = if_fits (is_digit b) (after (number start (t ++ b ∷ []))) (ends (number start t) other) (h (number start (t ++ b ∷ [])) tt) (ends_fits (number start t) other tt k)
-reads_fits (once q start first) at b after other m h k = if_fits (b == first) (token (record { kind = q; text = first ∷ b ∷ []; at = start }) (after gap)) (ends (once q start first) other) (token_fits (plain_fits q (first ∷ b ∷ []) start m) (h gap tt)) (ends_fits (once q start first) other m k)
+reads_fits (number start t) at b after other m h k =
+    if_fits (is_digit b) (after (number start (t ++ b ∷ []))) (ends (number start t) other)
+    (h (number start (t ++ b ∷ [])) tt) (ends_fits (number start t) other tt k)
+reads_fits (once q start first) at b after other m h k =
+    if_fits (b == first) (token (record { kind = q; text = first ∷ b ∷ []; at = start }) (after gap))
+    (ends (once q start first) other) (token_fits (plain_fits q (first ∷ b ∷ []) start m) (h gap tt))
+    (ends_fits (once q start first) other m k)
 
 -- all tokens of a scan are fit
 scan_fits : (m : Mode) (at : ℕ) (bs : List ℕ) → MayEnd m → AreFit (scan_from m at bs)
@@ -221,7 +253,8 @@ lexemes_fit (wrong x) ts h e = absurd (no e)
     no f = cc
 lexemes_fit (token l rest) ts h e = go (all_of rest) refl e (λ us f. lexemes_fit rest us (token_parts l rest h).1 f)
   where
-    go : (r : Result (List Lexeme) LexError) → all_of rest ≡ r → with_token l r ≡ Ok ts → ((us : List Lexeme) → all_of rest ≡ Ok us → AllFit us) → AllFit ts
+    go : (r : Result (List Lexeme) LexError) → all_of rest ≡ r → with_token l r ≡ Ok ts →
+        ((us : List Lexeme) → all_of rest ≡ Ok us → AllFit us) → AllFit ts
     go (Ok us) f g rec = let q : l ∷ us ≡ ts = cc in subst AllFit q ((token_parts l rest h).0, rec us f)
     go (Err x) f g rec = cc
 

@@ -1,8 +1,10 @@
 -- A line says something: it is written in a form, or in none.
-use Rattle.std.proofs.Common.{◌≡◌, inl, inr, ℕ, ◌^◌, Bool, true, false, List, [], ◌∷◌, ◌++◌, decimal, codes, refl, ap, sym, ◌∙◌, arith}
+use Rattle.std.proofs.Common.{◌≡◌, inl, inr, ℕ, ◌^◌, Bool, true, false, List, [], ◌∷◌, ◌++◌, decimal, codes, refl, ap}
+use Rattle.std.proofs.Common.{sym, ◌∙◌, arith}
 use Rattle.std.specs.List.{AllZip}
 use Rattle.std.proofs.lemmas.Bool.{true≢false}
-use Rattle.ft_text.proofs.Decided.{IsDecided, IsOf, after_piece, BothGood, with_space, two_words, IsBelow, below_found, itself}
+use Rattle.ft_text.proofs.Decided.{IsDecided, IsOf, after_piece, BothGood, with_space, two_words, IsBelow, below_found}
+use Rattle.ft_text.proofs.Decided.{itself}
 use Rattle.ft_link_map.specs.MapLines.{MapLine, Module, Export, Import, Bad, is_file, is_block_name, IsWritten, Says}
 use Rattle.ft_link_map.proofs.Spaces.{name_no_space}
 
@@ -26,8 +28,10 @@ test_found : (test : List ℕ → Bool) (text : List ℕ) → IsDecided (IsOf (P
 test_found test text = tested test text (test text) refl
 
 -- a name and a block
-ask_found : (text : List ℕ) → IsDecided (IsOf (BothGood (Passes is_block_name) (IsBelow (2 ^ 32))) (with_space itself decimal) text)
-ask_found text = two_words (Passes is_block_name) itself (IsBelow (2 ^ 32)) decimal name_no_space (test_found is_block_name) block_found text
+ask_found : (text : List ℕ) → IsDecided (IsOf (BothGood (Passes is_block_name) (IsBelow (2 ^ 32)))
+    (with_space itself decimal) text)
+ask_found text = two_words (Passes is_block_name) itself (IsBelow (2 ^ 32)) decimal name_no_space
+    (test_found is_block_name) block_found text
 
 -- LINES
 
@@ -37,10 +41,13 @@ IsFileAfter piece line = IsOf (Passes is_file) (λ file. piece ++ itself file) l
 
 -- a piece, a name and a block
 abbrev IsAskAfter : List ℕ → List ℕ → List ℕ × ℕ → Type 0
-IsAskAfter piece line = IsOf (BothGood (Passes is_block_name) (IsBelow (2 ^ 32))) (λ p. piece ++ with_space itself decimal p) line
+IsAskAfter piece line = IsOf (BothGood (Passes is_block_name) (IsBelow (2 ^ 32))) (λ p. piece
+    ++ with_space itself decimal p) line
 
 -- a line of no form says nothing
-no_form : (line : List ℕ) → ((file : List ℕ) → ¬ (IsFileAfter (codes "module ") line file)) → ((p : List ℕ × ℕ) → ¬ (IsAskAfter (codes "export ") line p)) → ((p : List ℕ × ℕ) → ¬ (IsAskAfter (codes "import ") line p))
+no_form : (line : List ℕ) → ((file : List ℕ) → ¬ (IsFileAfter (codes "module ") line file)) →
+    ((p : List ℕ × ℕ) → ¬ (IsAskAfter (codes "export ") line p)) →
+    ((p : List ℕ × ℕ) → ¬ (IsAskAfter (codes "import ") line p))
     → (l : MapLine) → ¬ (IsWritten l line)
 no_form line m e i (Module file) h = m file h
 no_form line m e i (Export name block) h = e (name, block) ((h.0, h.1), h.2)
@@ -48,7 +55,9 @@ no_form line m e i (Import name block) h = i (name, block) ((h.0, h.1), h.2)
 no_form line m e i Bad h = h
 
 -- the forms are tried one after the other
-by_forms : (line : List ℕ) → IsDecided (IsFileAfter (codes "module ") line) → IsDecided (IsAskAfter (codes "export ") line) → IsDecided (IsAskAfter (codes "import ") line) → (l : MapLine) × Says line l
+by_forms : (line : List ℕ) → IsDecided (IsFileAfter (codes "module ") line) →
+    IsDecided (IsAskAfter (codes "export ") line) → IsDecided (IsAskAfter (codes "import ") line) → (l : MapLine)
+    × Says line l
 by_forms line (inl x) e i = (Module x.0, x.1)
 by_forms line (inr m) (inl x) i = (Export x.0.0 x.0.1, (x.1.0.0, x.1.0.1, x.1.1))
 by_forms line (inr m) (inr e) (inl x) = (Import x.0.0 x.0.1, (x.1.0.0, x.1.0.1, x.1.1))
@@ -58,8 +67,10 @@ by_forms line (inr m) (inr e) (inr i) = (Bad, no_form line m e i)
 some_line : (line : List ℕ) → (l : MapLine) × Says line l
 some_line line =
     by_forms line (after_piece (Passes is_file) itself (test_found is_file) (codes "module ") line)
-    (after_piece (BothGood (Passes is_block_name) (IsBelow (2 ^ 32))) (with_space itself decimal) ask_found (codes "export ") line)
-    (after_piece (BothGood (Passes is_block_name) (IsBelow (2 ^ 32))) (with_space itself decimal) ask_found (codes "import ") line)
+    (after_piece (BothGood (Passes is_block_name) (IsBelow (2 ^ 32))) (with_space itself decimal) ask_found
+    (codes "export ") line)
+    (after_piece (BothGood (Passes is_block_name) (IsBelow (2 ^ 32))) (with_space itself decimal) ask_found
+    (codes "import ") line)
 
 -- lines say a list
 pub some_list : (lines : List (List ℕ)) → (ls : List MapLine) × AllZip Says lines ls

@@ -21,4 +21,5 @@ same_number a b = grind arith
 
 -- two places are the same where the modules and the numbers are
 pub same_place : (a b m n : ℕ) → is_eq (ordering_then (nat_cmp a m) (nat_cmp b n)) ≡ ((a == m) && (b == n))
-same_place a b m n = first_of_two (nat_cmp a m) (nat_cmp b n) ∙ ap (λ x. x && is_eq (nat_cmp b n)) (same_number a m) ∙ ap (λ x. (a == m) && x) (same_number b n)
+same_place a b m n = first_of_two (nat_cmp a m) (nat_cmp b n) ∙ ap (λ x. x && is_eq (nat_cmp b n)) (same_number a m)
+    ∙ ap (λ x. (a == m) && x) (same_number b n)

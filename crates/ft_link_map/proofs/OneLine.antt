@@ -1,5 +1,6 @@
 -- A line says one thing.
-use Rattle.std.proofs.Common.{◌≡◌, ◌⊎◌, inl, inr, ⊎_elim, ℕ, ◌^◌, ◌<◌, ◌==◌, true, List, [], ◌∷◌, ◌++◌, decimal, codes, refl, ap, sym, ◌∙◌, arith}
+use Rattle.std.proofs.Common.{◌≡◌, ◌⊎◌, inl, inr, ⊎_elim, ℕ, ◌^◌, ◌<◌, ◌==◌, true, List, [], ◌∷◌, ◌++◌, decimal, codes}
+use Rattle.std.proofs.Common.{refl, ap, sym, ◌∙◌, arith}
 use Rattle.std.specs.Prelude.{if◌then◌else◌}
 use Rattle.std.specs.List.{AllZip}
 use Rattle.std.proofs.lemmas.List.{append_cancel_left}
@@ -9,9 +10,11 @@ use Rattle.ft_link_map.specs.MapLines.{MapLine, Module, Export, Import, Bad, is_
 use Rattle.ft_link_map.proofs.Spaces.{name_no_space}
 
 -- a name and a block are written in one way
-one_ask : (a b : List ℕ) (n m : ℕ) → is_block_name a ≡ true → is_block_name b ≡ true → n < 2 ^ 32 → m < 2 ^ 32 → a ++ codes " " ++ decimal n ≡ b ++ codes " " ++ decimal m → (a ≡ b) × (n ≡ m)
+one_ask : (a b : List ℕ) (n m : ℕ) → is_block_name a ≡ true → is_block_name b ≡ true → n < 2 ^ 32 → m < 2 ^ 32 → a
+    ++ codes " " ++ decimal n ≡ b ++ codes " " ++ decimal m → (a ≡ b) × (n ≡ m)
 one_ask a b n m ha hb hn hm e =
-    let parts = one_split (a ++ codes " " ++ decimal n) a (decimal n) b (decimal m) (name_no_space a ha) (name_no_space b hb) refl e in
+    let parts = one_split (a ++ codes " " ++ decimal n) a (decimal n) b (decimal m) (name_no_space a ha)
+    (name_no_space b hb) refl e in
     (parts.0, decimal_injective n m (omega (arith, hn)) (omega (arith, hm)) parts.1)
 
 -- which form a line may have, by its first byte
@@ -50,7 +53,8 @@ one_written : (line : List ℕ) (l k : MapLine) → IsWritten l line → IsWritt
 one_written line l k h i = same_form line l k (sym (form_is l line h) ∙ form_is k line i) h i
 
 -- a line is what is written, or nothing is written so
-told : (line : List ℕ) (l : MapLine) → Says line l → IsWritten l line ⊎ ((l ≡ Bad) × ((k : MapLine) → ¬ (IsWritten k line)))
+told : (line : List ℕ) (l : MapLine) → Says line l →
+    IsWritten l line ⊎ ((l ≡ Bad) × ((k : MapLine) → ¬ (IsWritten k line)))
 told line Bad h = inr (refl, h)
 told line (Module file) h = inl h
 told line (Export name block) h = inl h
@@ -61,9 +65,11 @@ pub one_line : (line : List ℕ) (l k : MapLine) → Says line l → Says line k
 one_line line l k h i =
     ⊎_elim
     (λ (text : IsWritten l line).
-    ⊎_elim (λ (other : IsWritten k line). one_written line l k text other) (λ (bad : (k ≡ Bad) × ((e : MapLine) → ¬ (IsWritten e line))). absurd (bad.1 l text)) (told line k i))
+    ⊎_elim (λ (other : IsWritten k line). one_written line l k text other)
+    (λ (bad : (k ≡ Bad) × ((e : MapLine) → ¬ (IsWritten e line))). absurd (bad.1 l text)) (told line k i))
     (λ (bad : (l ≡ Bad) × ((e : MapLine) → ¬ (IsWritten e line))).
-    ⊎_elim (λ (other : IsWritten k line). absurd (bad.1 k other)) (λ (too : (k ≡ Bad) × ((e : MapLine) → ¬ (IsWritten e line))). bad.0 ∙ sym too.0) (told line k i))
+    ⊎_elim (λ (other : IsWritten k line). absurd (bad.1 k other))
+    (λ (too : (k ≡ Bad) × ((e : MapLine) → ¬ (IsWritten e line))). bad.0 ∙ sym too.0) (told line k i))
     (told line l h)
 
 -- lines say one list
@@ -73,4 +79,5 @@ one_list [] [] (k ∷ ks) h i = absurd i
 one_list [] (l ∷ ls) ks h i = absurd h
 one_list (t ∷ ts) [] ks h i = absurd h
 one_list (t ∷ ts) (l ∷ ls) [] h i = absurd i
-one_list (t ∷ ts) (l ∷ ls) (k ∷ ks) h i = ap (λ x. x ∷ ls) (one_line t l k h.0 i.0) ∙ ap (λ xs. k ∷ xs) (one_list ts ls ks h.1 i.1)
+one_list (t ∷ ts) (l ∷ ls) (k ∷ ks) h i = ap (λ x. x ∷ ls) (one_line t l k h.0 i.0)
+    ∙ ap (λ xs. k ∷ xs) (one_list ts ls ks h.1 i.1)

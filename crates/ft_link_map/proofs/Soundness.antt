@@ -1,5 +1,6 @@
 -- A map that no line is refused for is sound.
-use Rattle.std.proofs.Common.{◌≡◌, ℕ, suc, ◌<◌, ◌≤◌, ◌==◌, ◌&&◌, Bool, true, false, List, [], ◌∷◌, ◌++◌, length, get_or, Option, Some, None, nat_lt, refl, sym, ◌∙◌, subst, arith}
+use Rattle.std.proofs.Common.{◌≡◌, ℕ, suc, ◌<◌, ◌≤◌, ◌==◌, ◌&&◌, Bool, true, false, List, [], ◌∷◌, ◌++◌, length, get_or}
+use Rattle.std.proofs.Common.{Option, Some, None, nat_lt, refl, sym, ◌∙◌, subst, arith}
 use Rattle.std.specs.Prelude.{All, if◌then◌else◌}
 use Rattle.std.specs.List.{AllPairs, AllByRecursion, list_any}
 use Rattle.std.specs.Str.{bytes_eq}
@@ -11,7 +12,8 @@ use Rattle.std.proofs.lemmas.Slice.Eq.{bytes_eq-Decides}
 use Rattle.ft_link_map.specs.declared.link_map.Ask.{Ask}
 use Rattle.ft_link_map.specs.declared.link_map.LinkMap.{LinkMap}
 use Rattle.ft_link_map.specs.MapLines.{MapLine, Module, Export, Import, Bad}
-use Rattle.ft_link_map.specs.MapAnswers.{no_lines, asked, with_line, with_lines, may_stand, first_bad, has_name, has_block, repeats, first_twice, Is, answered, answer_of}
+use Rattle.ft_link_map.specs.MapAnswers.{no_lines, asked, with_line, with_lines, may_stand, first_bad, has_name}
+use Rattle.ft_link_map.specs.MapAnswers.{has_block, repeats, first_twice, Is, answered, answer_of}
 use Rattle.ft_link_map.specs.Sound.{IsOfModules, IsAbove, HaveTwoNames, HaveTwoLines, NameTwoBlocks, IsSound}
 
 -- TESTS
@@ -26,11 +28,14 @@ none_passes p xs h = All-from_recursion (λ x. p x ≡ false) xs (none_by p xs h
 
 -- where no export has a name, each export's name is another
 other_names : (asks : List Ask) (a : Ask) → has_name asks a.name ≡ false → All (λ (x : Ask). HaveTwoNames x a) asks
-other_names asks a h = λ k d lt e. true≢false (sym ((bytes_eq-Decides _ _).1 e) ∙ none_passes (λ (x : Ask). bytes_eq x.name a.name) asks h k d lt)
+other_names asks a h = λ k d lt e. true≢false (sym ((bytes_eq-Decides _ _).1 e)
+    ∙ none_passes (λ (x : Ask). bytes_eq x.name a.name) asks h k d lt)
 
 -- where none names a block, each names another one
-other_blocks : (asks : List Ask) (a : Ask) → has_block asks a.module a.block ≡ false → All (λ (x : Ask). NameTwoBlocks x a) asks
-other_blocks asks a h = λ k d lt e. true≢false (sym (and_from _ _ (eq-eqb _ _ e.same_module) (eq-eqb _ _ e.same_block)) ∙ none_passes (λ (x : Ask). (x.module == a.module) && (x.block == a.block)) asks h k d lt)
+other_blocks : (asks : List Ask) (a : Ask) → has_block asks a.module a.block ≡ false →
+    All (λ (x : Ask). NameTwoBlocks x a) asks
+other_blocks asks a h = λ k d lt e. true≢false (sym (and_from _ _ (eq-eqb _ _ e.same_module) (eq-eqb _ _ e.same_block))
+    ∙ none_passes (λ (x : Ask). (x.module == a.module) && (x.block == a.block)) asks h k d lt)
 
 -- two blocks differ either way round
 back : (a b : Ask) → NameTwoBlocks a b → NameTwoBlocks b a
@@ -73,18 +78,22 @@ apart : (n : ℕ) (asks : List Ask) (a : Ask) → All (IsBy n) asks → a.line �
 apart n asks a h e = λ i d lt same. absurd (omega (arith, e, same, h i d lt))
 
 -- the first lines are not the next one
-apart_back : (n : ℕ) (asks : List Ask) (a : Ask) → All (IsBy n) asks → a.line ≡ suc n → All (λ (x : Ask). HaveTwoLines x a) asks
+apart_back : (n : ℕ) (asks : List Ask) (a : Ask) → All (IsBy n) asks → a.line ≡ suc n →
+    All (λ (x : Ask). HaveTwoLines x a) asks
 apart_back n asks a h e = λ i d lt same. absurd (omega (arith, e, same, h i d lt))
 
 -- a module more
-fair_module : (m : LinkMap) (count : ℕ) (file : List ℕ) → IsFair m count → nat_lt (length m.files) 64 ≡ true → IsFair (with_line m (suc count) (Module file)) (suc count)
+fair_module : (m : LinkMap) (count : ℕ) (file : List ℕ) → IsFair m count → nat_lt (length m.files) 64 ≡ true →
+    IsFair (with_line m (suc count) (Module file)) (suc count)
 fair_module m count file h few =
     let below : length m.files < 64 = ltb-true _ _ few in
     let grown = length-append m.files (file ∷ []) in
     record {
       few_files = omega (arith, below, grown);
-      export_modules = of_more (length m.files) (length (m.files ++ file ∷ [])) (omega (arith, grown)) m.exports h.export_modules;
-      import_modules = of_more (length m.files) (length (m.files ++ file ∷ [])) (omega (arith, grown)) m.imports h.import_modules;
+      export_modules = of_more (length m.files) (length (m.files ++ file ∷ [])) (omega (arith, grown)) m.exports
+          h.export_modules;
+      import_modules = of_more (length m.files) (length (m.files ++ file ∷ [])) (omega (arith, grown)) m.imports
+          h.import_modules;
       export_lines = h.export_lines;
       import_lines = h.import_lines;
       exports_by = by_more count (suc count) (omega arith) m.exports h.exports_by;
@@ -96,7 +105,8 @@ fair_module m count file h few =
     }
 
 -- an export more
-fair_export : (m : LinkMap) (count : ℕ) (name : List ℕ) (block : ℕ) → IsFair m count → nat_lt 0 (length m.files) ≡ true → repeats m (Export name block) ≡ false → IsFair (with_line m (suc count) (Export name block)) (suc count)
+fair_export : (m : LinkMap) (count : ℕ) (name : List ℕ) (block : ℕ) → IsFair m count → nat_lt 0 (length m.files)
+    ≡ true → repeats m (Export name block) ≡ false → IsFair (with_line m (suc count) (Export name block)) (suc count)
 fair_export m count name block h some new =
     let a : Ask = asked m (suc count) name block in
     let there : 0 < length m.files = ltb-true _ _ some in
@@ -107,16 +117,20 @@ fair_export m count name block h some new =
       import_modules = h.import_modules;
       export_lines = all_pairs_push IsAbove m.exports a h.export_lines (above count m.exports a h.exports_by refl);
       import_lines = h.import_lines;
-      exports_by = All-push (IsBy (suc count)) m.exports a (by_more count (suc count) (omega arith) m.exports h.exports_by) (omega arith);
+      exports_by = All-push (IsBy (suc count)) m.exports a
+          (by_more count (suc count) (omega arith) m.exports h.exports_by) (omega arith);
       imports_by = by_more count (suc count) (omega arith) m.imports h.imports_by;
-      lines_apart = All-push (λ (e : Ask). All (HaveTwoLines e) m.imports) m.exports a h.lines_apart (apart count m.imports a h.imports_by refl);
+      lines_apart = All-push (λ (e : Ask). All (HaveTwoLines e) m.imports) m.exports a h.lines_apart
+          (apart count m.imports a h.imports_by refl);
       names_apart = all_pairs_push HaveTwoNames m.exports a h.names_apart (other_names m.exports a fresh.0);
       imports_apart = h.imports_apart;
-      sides_apart = All-push (λ (e : Ask). All (NameTwoBlocks e) m.imports) m.exports a h.sides_apart (λ i d lt. back (get_or m.imports i d) a (other_blocks m.imports a fresh.1 i d lt));
+      sides_apart = All-push (λ (e : Ask). All (NameTwoBlocks e) m.imports) m.exports a h.sides_apart (λ i d lt.
+          back (get_or m.imports i d) a (other_blocks m.imports a fresh.1 i d lt));
     }
 
 -- an import more
-fair_import : (m : LinkMap) (count : ℕ) (name : List ℕ) (block : ℕ) → IsFair m count → nat_lt 0 (length m.files) ≡ true → repeats m (Import name block) ≡ false → IsFair (with_line m (suc count) (Import name block)) (suc count)
+fair_import : (m : LinkMap) (count : ℕ) (name : List ℕ) (block : ℕ) → IsFair m count → nat_lt 0 (length m.files)
+    ≡ true → repeats m (Import name block) ≡ false → IsFair (with_line m (suc count) (Import name block)) (suc count)
 fair_import m count name block h some new =
     let a : Ask = asked m (suc count) name block in
     let there : 0 < length m.files = ltb-true _ _ some in
@@ -128,15 +142,19 @@ fair_import m count name block h some new =
       export_lines = h.export_lines;
       import_lines = all_pairs_push IsAbove m.imports a h.import_lines (above count m.imports a h.imports_by refl);
       exports_by = by_more count (suc count) (omega arith) m.exports h.exports_by;
-      imports_by = All-push (IsBy (suc count)) m.imports a (by_more count (suc count) (omega arith) m.imports h.imports_by) (omega arith);
-      lines_apart = λ i d lt. All-push (HaveTwoLines (get_or m.exports i d)) m.imports a (h.lines_apart i d lt) (apart_back count m.exports a h.exports_by refl i d lt);
+      imports_by = All-push (IsBy (suc count)) m.imports a
+          (by_more count (suc count) (omega arith) m.imports h.imports_by) (omega arith);
+      lines_apart = λ i d lt. All-push (HaveTwoLines (get_or m.exports i d)) m.imports a (h.lines_apart i d lt)
+          (apart_back count m.exports a h.exports_by refl i d lt);
       names_apart = h.names_apart;
       imports_apart = all_pairs_push NameTwoBlocks m.imports a h.imports_apart (other_blocks m.imports a fresh.1);
-      sides_apart = λ i d lt. All-push (NameTwoBlocks (get_or m.exports i d)) m.imports a (h.sides_apart i d lt) (other_blocks m.exports a fresh.0 i d lt);
+      sides_apart = λ i d lt. All-push (NameTwoBlocks (get_or m.exports i d)) m.imports a (h.sides_apart i d lt)
+          (other_blocks m.exports a fresh.0 i d lt);
     }
 
 -- a line more
-fair_next : (m : LinkMap) (count : ℕ) (l : MapLine) → IsFair m count → may_stand m l ≡ true → repeats m l ≡ false → IsFair (with_line m (suc count) l) (suc count)
+fair_next : (m : LinkMap) (count : ℕ) (l : MapLine) → IsFair m count → may_stand m l ≡ true → repeats m l ≡ false →
+    IsFair (with_line m (suc count) l) (suc count)
 fair_next m count (Module file) h may new = fair_module m count file h may
 fair_next m count (Export name block) h may new = fair_export m count name block h may new
 fair_next m count (Import name block) h may new = fair_import m count name block h may new
@@ -160,7 +178,8 @@ ended true n h = refl
 ended false n h = absurd cc
 
 -- the map of all lines is sound, where nothing is refused
-sound_after : (ls : List MapLine) (m : LinkMap) (count : ℕ) → IsFair m count → first_bad m count ls ≡ None → first_twice m count ls ≡ None → IsSound (with_lines m count ls)
+sound_after : (ls : List MapLine) (m : LinkMap) (count : ℕ) → IsFair m count → first_bad m count ls ≡ None →
+    first_twice m count ls ≡ None → IsSound (with_lines m count ls)
 sound_after [] m count h good new =
     let there : 0 < length m.files = ltb-true _ _ (ended (nat_lt 0 (length m.files)) (suc count) good) in
     record {
@@ -197,7 +216,8 @@ fair_none = record {
 }
 
 -- where the answer is a map, nothing is refused
-by_answers : (bad twice : Option ℕ) (m n : LinkMap) → answered bad twice m ≡ Is n → (bad ≡ None) × (twice ≡ None) × (m ≡ n)
+by_answers : (bad twice : Option ℕ) (m n : LinkMap) → answered bad twice m ≡ Is n → (bad ≡ None) × (twice ≡ None)
+    × (m ≡ n)
 by_answers (Some k) twice m n e = absurd cc
 by_answers None (Some k) m n e = absurd cc
 by_answers None None m n e = (refl, refl, (cc))

@@ -1,5 +1,6 @@
 -- One more module: the totals, and what was added.
-use Rattle.std.proofs.Common.{◌≡◌, ℕ, zero, suc, ◌+◌, ◌≤◌, ◌<◌, ◌^◌, true, List, [], ◌∷◌, ◌++◌, length, slice_get, Option, Some, None, refl, sym, ap, ◌∙◌, subst, arith}
+use Rattle.std.proofs.Common.{◌≡◌, ℕ, zero, suc, ◌+◌, ◌≤◌, ◌<◌, ◌^◌, true, List, [], ◌∷◌, ◌++◌, length, slice_get}
+use Rattle.std.proofs.Common.{Option, Some, None, refl, sym, ap, ◌∙◌, subst, arith}
 use Rattle.std.specs.Prelude.{All, ◌&&◌, sum_by}
 use Rattle.std.specs.List.{list_all}
 use Rattle.std.specs.Option.{option_or, option_map}
@@ -10,7 +11,8 @@ use Rattle.ft_types.specs.declared.object.Object.{Object}
 use Rattle.ft_types.specs.Spellable.{IsSpellable, reg_row_count, queue_row_count}
 use Rattle.ft_typing.specs.Accepted.{IsAccepted}
 use Rattle.ft_modules.specs.Linkable.{AreFew}
-use Rattle.ft_modules.specs.LinkRefusals.{LinkRefusal, Cells, CodeOf, Rows, TooBig, are_few, first_walk_fault, has_plain_rows, is_plain_cell, modules_refusal, same_cells, unless}
+use Rattle.ft_modules.specs.LinkRefusals.{LinkRefusal, Cells, CodeOf, Rows, TooBig, are_few, first_walk_fault}
+use Rattle.ft_modules.specs.LinkRefusals.{has_plain_rows, is_plain_cell, modules_refusal, same_cells, unless}
 use Rattle.ft_modules.proofs.Deciding.{few_are, or_none}
 use Rattle.ft_modules.proofs.Elements.{all_of}
 use Rattle.ft_modules.proofs.InTurn.{in_turn}
@@ -25,8 +27,26 @@ use Rattle.ft_modules.proofs.Exact.{unless_true}
 pub sum_more : (f : Object → ℕ) (ms : List Object) (o : Object) → sum_by f ms + f o ≡ sum_by f (ms ++ o ∷ [])
 sum_more f ms o = let a = sum_by-append f ms (o ∷ []) in let c = sum_by-cons f o [] in omega (arith, a, c)
 
-pub totals_more : (t : Totals) (ms : List Object) (o : Object) → t ≡ totals_of ms → ◌≡◌ {A = Totals} (record { nodes = t.nodes + length o.nodes; types = t.types + length o.types; reg_rows = t.reg_rows + reg_row_count o.types; queue_rows = t.queue_rows + queue_row_count o.types; blocks = t.blocks + length o.blocks; instrs = t.instrs + length o.instrs; substs = t.substs + length o.substs }) (totals_of (ms ++ o ∷ []))
-totals_more t ms o e = ap (λ (u : Totals). let r : Totals = record { nodes = u.nodes + length o.nodes; types = u.types + length o.types; reg_rows = u.reg_rows + reg_row_count o.types; queue_rows = u.queue_rows + queue_row_count o.types; blocks = u.blocks + length o.blocks; instrs = u.instrs + length o.instrs; substs = u.substs + length o.substs } in r) e
+pub totals_more : (t : Totals) (ms : List Object) (o : Object) → t ≡ totals_of ms →
+    ◌≡◌ {A = Totals} (record {
+      nodes = t.nodes + length o.nodes;
+      types = t.types + length o.types;
+      reg_rows = t.reg_rows + reg_row_count o.types;
+      queue_rows = t.queue_rows + queue_row_count o.types;
+      blocks = t.blocks + length o.blocks;
+      instrs = t.instrs + length o.instrs;
+      substs = t.substs + length o.substs;
+    })
+    (totals_of (ms ++ o ∷ []))
+totals_more t ms o e = ap (λ (u : Totals). let r : Totals = record {
+  nodes = u.nodes + length o.nodes;
+  types = u.types + length o.types;
+  reg_rows = u.reg_rows + reg_row_count o.types;
+  queue_rows = u.queue_rows + queue_row_count o.types;
+  blocks = u.blocks + length o.blocks;
+  instrs = u.instrs + length o.instrs;
+  substs = u.substs + length o.substs;
+} in r) e
     ∙ (λ i. record {
       nodes = sum_more (λ (x : Object). length x.nodes) ms o i;
       types = sum_more (λ (x : Object). length x.types) ms o i;
@@ -38,7 +58,15 @@ totals_more t ms o e = ap (λ (u : Totals). let r : Totals = record { nodes = u.
     })
 
 pub has_few_of : (t : Totals) (ms : List Object) → t ≡ totals_of ms → AreFew ms → HasFew t
-has_few_of t ms e h = subst HasFew (sym e) (record { nodes = h.nodes; types = h.types; reg_rows = h.reg_rows; queue_rows = h.queue_rows; blocks = h.blocks; instrs = h.instrs; substs = h.substs })
+has_few_of t ms e h = subst HasFew (sym e) (record {
+  nodes = h.nodes;
+  types = h.types;
+  reg_rows = h.reg_rows;
+  queue_rows = h.queue_rows;
+  blocks = h.blocks;
+  instrs = h.instrs;
+  substs = h.substs;
+})
 
 pub few_by_totals : (t : Totals) (ms : List Object) → t ≡ totals_of ms → has_few t ≡ are_few ms
 unfolding are_few
@@ -69,19 +97,24 @@ last_part (Some x) b c d e = cc
 passes_few : (ms : List Object) (o : Object) → added_refusal ms o ≡ None → are_few (ms ++ o ∷ []) ≡ true
 passes_few ms o e =
     unless_true (are_few (ms ++ o ∷ [])) (TooBig (length ms))
-    (last_part (unless (same_cells o.cells (cells_of ms o) && list_all is_plain_cell o.cells) (Cells (length ms))) (unless (list_all has_plain_rows o.types) (Rows (length ms))) (option_map (λ f. CodeOf (length ms) f.0 f.1) (first_walk_fault o 0 o.blocks)) (unless (are_few (ms ++ o ∷ [])) (TooBig (length ms))) e)
+    (last_part (unless (same_cells o.cells (cells_of ms o) && list_all is_plain_cell o.cells) (Cells (length ms)))
+    (unless (list_all has_plain_rows o.types) (Rows (length ms)))
+    (option_map (λ f. CodeOf (length ms) f.0 f.1) (first_walk_fault o 0 o.blocks))
+    (unless (are_few (ms ++ o ∷ [])) (TooBig (length ms))) e)
 
 -- a list of one element
 one_at : {X : Type 0} (P : X → Type 0) (x : X) → P x → (k : ℕ) (y : X) → slice_get (x ∷ []) k ≡ Some y → P y
 one_at P x h zero y e = let same : x ≡ y = cc in subst P same h
 one_at P x h (suc k) y e = cc
 
-turns_more : (ms : List Object) (o : Object) → turns_refusal ms ≡ None → added_refusal ms o ≡ None → turns_refusal (ms ++ o ∷ []) ≡ None
+turns_more : (ms : List Object) (o : Object) → turns_refusal ms ≡ None → added_refusal ms o ≡ None →
+    turns_refusal (ms ++ o ∷ []) ≡ None
 unfolding modules_refusal
 turns_more [] o h e = in_turn o.cells [] o ∙ e
 turns_more (f ∷ fs) o h e = in_turn f.cells (f ∷ fs) o ∙ or_none _ _ h e
 
-pub added_more : (ms : List Object) (o : Object) → AreAdded ms → IsSpellable o → IsAccepted o → added_refusal ms o ≡ None → AreAdded (ms ++ o ∷ [])
+pub added_more : (ms : List Object) (o : Object) → AreAdded ms → IsSpellable o → IsAccepted o → added_refusal ms o
+    ≡ None → AreAdded (ms ++ o ∷ [])
 added_more ms o h s a e = record {
   spelled = All-append IsSpellable ms (o ∷ []) h.spelled (all_of_one IsSpellable o s);
   accepted = All-append IsAccepted ms (o ∷ []) h.accepted (all_of_one IsAccepted o a);
@@ -94,5 +127,13 @@ none_added = record {
   spelled = all_of IsSpellable [] (λ k x e. cc);
   accepted = all_of IsAccepted [] (λ k x e. cc);
   unrefused = refl;
-  few = record { nodes = omega arith; types = omega arith; reg_rows = omega arith; queue_rows = omega arith; blocks = omega arith; instrs = omega arith; substs = omega arith };
+  few = record {
+    nodes = omega arith;
+    types = omega arith;
+    reg_rows = omega arith;
+    queue_rows = omega arith;
+    blocks = omega arith;
+    instrs = omega arith;
+    substs = omega arith;
+  };
 }

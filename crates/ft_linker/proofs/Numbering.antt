@@ -1,5 +1,6 @@
 -- One more node is numbered.
-use Rattle.std.proofs.Common.{◌≡◌, ℕ, ◌+◌, ◌<◌, ◌≤◌, Bool, true, false, cond, if◌then◌else◌, List, [], ◌∷◌, ◌++◌, length, slice_get, Option, Some, None, refl, sym, ap, ◌∙◌, subst, arith, length-append}
+use Rattle.std.proofs.Common.{◌≡◌, ℕ, ◌+◌, ◌<◌, ◌≤◌, Bool, true, false, cond, if◌then◌else◌, List, [], ◌∷◌, ◌++◌}
+use Rattle.std.proofs.Common.{length, slice_get, Option, Some, None, refl, sym, ap, ◌∙◌, subst, arith, length-append}
 use Rattle.std.specs.Prelude.{unwrap_or}
 use Rattle.std.proofs.lemmas.Bool.{cases_lt}
 use Rattle.std.proofs.lemmas.List.{get_or_append_left, get_or_push}
@@ -17,7 +18,8 @@ use Rattle.ft_linker.specs.declared.key.Key.{Key}
 use Rattle.ft_linker.specs.declared.key.Key.TheVariants as key
 use Rattle.ft_linker.specs.Keys.{key_as}
 use Rattle.ft_linker.specs.Numbers.{AreKnown, AreNumbered}
-use Rattle.ft_modules.proofs.Deciding.{op_again, op_of}
+use Rattle.ft_isa.specs.Operations.{op_of}
+use Rattle.ft_isa.proofs.Operations.{op_back}
 
 -- KEYS
 
@@ -35,7 +37,7 @@ shape_again : (s : Shape) → shape_as (key_as s) ≡ s
 unfolding shape_as
 shape_again (shape.Word w) = refl
 shape_again (shape.Var i) = refl
-shape_again (shape.Op o a b) = ap (λ p. shape.Op p a b) (op_again o)
+shape_again (shape.Op o a b) = ap (λ p. shape.Op p a b) (op_back o)
 shape_again (shape.Sel m a) = refl
 shape_again shape.Memory = refl
 shape_again (shape.Upd m a v) = refl
@@ -55,13 +57,17 @@ number_last : (cs : List ℕ) (c : ℕ) → number_in (cs ++ c ∷ []) (length c
 number_last cs c = get_or_push cs c 0 (length cs) refl
 
 -- so a key stays of which the parts are earlier
-key_more : (cs : List ℕ) (c n : ℕ) (s : Shape) → HasPartsBelow n s → n ≤ length cs → key_of (cs ++ c ∷ []) s ≡ key_of cs s
+key_more : (cs : List ℕ) (c n : ℕ) (s : Shape) → HasPartsBelow n s → n ≤ length cs → key_of (cs ++ c ∷ []) s
+    ≡ key_of cs s
 key_more cs c n (shape.Word w) h le = refl
 key_more cs c n (shape.Var i) h le = refl
-key_more cs c n (shape.Op o a b) h le = λ i. shape.Op o (number_more cs c a (omega (arith, h.0, le)) i) (number_more cs c b (omega (arith, h.1, le)) i)
-key_more cs c n (shape.Sel m a) h le = λ i. shape.Sel (number_more cs c m (omega (arith, h.0, le)) i) (number_more cs c a (omega (arith, h.1, le)) i)
+key_more cs c n (shape.Op o a b) h le = λ i. shape.Op o (number_more cs c a (omega (arith, h.0, le)) i)
+    (number_more cs c b (omega (arith, h.1, le)) i)
+key_more cs c n (shape.Sel m a) h le = λ i. shape.Sel (number_more cs c m (omega (arith, h.0, le)) i)
+    (number_more cs c a (omega (arith, h.1, le)) i)
 key_more cs c n shape.Memory h le = refl
-key_more cs c n (shape.Upd m a v) h le = λ i. shape.Upd (number_more cs c m (omega (arith, h.0, le)) i) (number_more cs c a (omega (arith, h.1, le)) i) (number_more cs c v (omega (arith, h.2, le)) i)
+key_more cs c n (shape.Upd m a v) h le = λ i. shape.Upd (number_more cs c m (omega (arith, h.0, le)) i)
+    (number_more cs c a (omega (arith, h.1, le)) i) (number_more cs c v (omega (arith, h.2, le)) i)
 key_more cs c n (shape.Rem a m) h le = λ i. shape.Rem (number_more cs c a (omega (arith, h, le)) i) m
 
 -- ONE MORE
@@ -109,11 +115,13 @@ module _ (nodes : List Node) (cs : List ℕ) (n c : ℕ) (y : Node) (known next 
   known_new : next last_key ≡ Some c
   known_new = put last_key ∙ ap (λ b. cond b (Some c) (known last_key)) own
 
-  each_next : (i : ℕ) (z : Node) → i < n + 1 → slice_get nodes i ≡ Some z → next (key_as (key_of ds z.shape)) ≡ Some (number_in ds i)
+  each_next : (i : ℕ) (z : Node) → i < n + 1 → slice_get nodes i ≡ Some z → next (key_as (key_of ds z.shape))
+      ≡ Some (number_in ds i)
   each_next i z lt e = elim (cases_lt i n) [
     | inl below ↦
         ap (λ k. next (key_as k)) (key_same i z (omega (arith, below)) e)
-        ∙ known_by (test (key_as (key_of cs z.shape))) (key_as (key_of cs z.shape)) (number_in cs i) refl (h.each i z below e)
+        ∙ known_by (test (key_as (key_of cs z.shape))) (key_as (key_of cs z.shape)) (number_in cs i) refl
+        (h.each i z below e)
         ∙ ap Some (sym (number_same i below))
     | inr above ↦
         let here : i ≡ n = omega (arith, lt, above) in
@@ -144,24 +152,28 @@ module _ (nodes : List Node) (cs : List ℕ) (n c : ℕ) (y : Node) (known next 
   first_by true k d t e =
       let one : c ≡ d = some_one c d (sym (put k ∙ ap (λ b. cond b (Some c) (known k)) t) ∙ e) in
       let at : unwrap_or (known last_key) n ≡ d = sym is ∙ one in
-      subst (λ (j : ℕ). First k j) at (subst (λ (q : Key). First q (unwrap_or (known last_key) n)) (sym (only k t)) (first_new (known last_key) refl))
+      subst (λ (j : ℕ). First k j) at (subst (λ (q : Key). First q (unwrap_or (known last_key) n)) (sym (only k t))
+      (first_new (known last_key) refl))
   first_by false k d t e = first_old k d (sym (put k ∙ ap (λ b. cond b (Some c) (known k)) t) ∙ e)
 
   first_next : (k : Key) (d : ℕ) → next k ≡ Some d → First k d
   first_next k d e = first_by (test k) k d refl e
 
   -- numbers are equal exactly where keys are
-  numbers_of_keys : (i j : ℕ) (u z : Node) → i < n + 1 → j < n + 1 → slice_get nodes i ≡ Some u → slice_get nodes j ≡ Some z → number_in ds i ≡ number_in ds j → key_of ds u.shape ≡ key_of ds z.shape
+  numbers_of_keys : (i j : ℕ) (u z : Node) → i < n + 1 → j < n + 1 → slice_get nodes i ≡ Some u → slice_get nodes j
+      ≡ Some z → number_in ds i ≡ number_in ds j → key_of ds u.shape ≡ key_of ds z.shape
   unfolding First
   numbers_of_keys i j u z li lj e f same =
       let a = first_next (key_as (key_of ds u.shape)) (number_in ds i) (each_next i u li e) in
       let b = first_next (key_as (key_of ds z.shape)) (number_in ds j) (each_next j z lj f) in
-      let there_b : slice_get nodes (number_in ds i) ≡ Some b.0 = subst (λ (k : ℕ). slice_get nodes k ≡ Some b.0) (sym same) b.2 in
+      let there_b : slice_get nodes (number_in ds i)
+      ≡ Some b.0 = subst (λ (k : ℕ). slice_get nodes k ≡ Some b.0) (sym same) b.2 in
       let one : Some a.0 ≡ Some b.0 = sym a.2 ∙ there_b in
       let node : a.0 ≡ b.0 = cc in
       one_shape _ _ (sym a.3 ∙ ap (λ (w : Node). key_as (key_of ds w.shape)) node ∙ b.3)
 
-  keys_of_numbers : (i j : ℕ) (u z : Node) → i < n + 1 → j < n + 1 → slice_get nodes i ≡ Some u → slice_get nodes j ≡ Some z → key_of ds u.shape ≡ key_of ds z.shape → number_in ds i ≡ number_in ds j
+  keys_of_numbers : (i j : ℕ) (u z : Node) → i < n + 1 → j < n + 1 → slice_get nodes i ≡ Some u → slice_get nodes j
+      ≡ Some z → key_of ds u.shape ≡ key_of ds z.shape → number_in ds i ≡ number_in ds j
   keys_of_numbers i j u z li lj e f same =
       some_one _ _ (sym (each_next i u li e) ∙ ap (λ k. next (key_as k)) same ∙ each_next j z lj f)
 
@@ -172,7 +184,8 @@ module _ (nodes : List Node) (cs : List ℕ) (n c : ℕ) (y : Node) (known next 
       (λ e. t.0 (sym (number_same i li) ∙ e ∙ number_same j lj), λ e. number_same i li ∙ t.1 e ∙ sym (number_same j lj))
 
   there_up_to : (i : ℕ) → i < n + 1 → (z : Node) × (slice_get nodes i ≡ Some z)
-  there_up_to i lt = let within = slice_get_within nodes n y there in (get_or nodes i y, slice_get-get_or nodes i y (omega (arith, lt, within)))
+  there_up_to i lt = let within = slice_get_within nodes n y there in
+      (get_or nodes i y, slice_get-get_or nodes i y (omega (arith, lt, within)))
 
   trees_next : AreTreeNumbers nodes ds (n + 1)
   trees_next i j li lj =
@@ -191,7 +204,8 @@ module _ (nodes : List Node) (cs : List ℕ) (n c : ℕ) (y : Node) (known next 
   }
 
 -- no node is numbered yet
-pub known_none : (nodes : List Node) (cs : List ℕ) (known : Key → Option ℕ) → cs ≡ [] → ((q : Key) → known q ≡ None) → AreKnown nodes cs 0 known
+pub known_none : (nodes : List Node) (cs : List ℕ) (known : Key → Option ℕ) → cs ≡ [] → ((q : Key) → known q ≡ None) →
+    AreKnown nodes cs 0 known
 known_none nodes cs known e h = record {
   count = ap length e;
   trees = λ i j li lj. absurd (omega (arith, li));
@@ -200,11 +214,16 @@ known_none nodes cs known e h = record {
 }
 
 -- the number of nodes is the length of their list
-pub all_known : (nodes : List Node) (cs : List ℕ) (n : ℕ) (known : Key → Option ℕ) → AreKnown nodes cs n known → n ≡ length nodes → AreNumbered nodes cs
+pub all_known : (nodes : List Node) (cs : List ℕ) (n : ℕ) (known : Key → Option ℕ) → AreKnown nodes cs n known → n
+    ≡ length nodes → AreNumbered nodes cs
 all_known nodes cs n known h e = record { count = h.count ∙ e; trees = subst (AreTreeNumbers nodes cs) e h.trees }
 
 -- one more node, with a longer list that is told by an equation
-pub known_next : (nodes : List Node) (cs ds : List ℕ) (n c : ℕ) (y : Node) (known next : Key → Option ℕ) (test : Key → Bool) (k : Key) → AreNodes nodes → AreKnown nodes cs n known → slice_get nodes n ≡ Some y → k ≡ key_as (key_of cs y.shape) → c ≡ unwrap_or (known k) n → ((q : Key) → next q ≡ cond (test q) (Some c) (known q)) → ((q : Key) → test q ≡ true → q ≡ k) → test k ≡ true → ds ≡ cs ++ c ∷ [] → AreKnown nodes ds (n + 1) next
+pub known_next : (nodes : List Node) (cs ds : List ℕ) (n c : ℕ) (y : Node) (known next : Key → Option ℕ) (test : Key →
+    Bool) (k : Key) → AreNodes nodes → AreKnown nodes cs n known → slice_get nodes n ≡ Some y → k
+    ≡ key_as (key_of cs y.shape) → c ≡ unwrap_or (known k) n → ((q : Key) → next q ≡ cond (test q) (Some c) (known q)) →
+    ((q : Key) → test q ≡ true → q ≡ k) → test k ≡ true → ds ≡ cs ++ c ∷ [] → AreKnown nodes ds (n + 1) next
 known_next nodes cs ds n c y known next test k are h there e is put only own longer =
     subst (λ (z : List ℕ). AreKnown nodes z (n + 1) next) (sym longer)
-    (known_more nodes cs n c y known next test are h there (is ∙ ap (λ q. unwrap_or (known q) n) e) put (λ q t. only q t ∙ e) (subst (λ q. test q ≡ true) e own))
+    (known_more nodes cs n c y known next test are h there (is ∙ ap (λ q. unwrap_or (known q) n) e) put (λ q t. only q t
+    ∙ e) (subst (λ q. test q ≡ true) e own))

@@ -1,5 +1,6 @@
 -- What linking comes to: the refusal by its parts, and what is so of the linked object.
-use Rattle.std.proofs.Common.{◌≡◌, ℕ, zero, suc, ◌≤◌, List, [], ◌∷◌, length, map, slice_get, Option, Some, None, refl, sym, ap, ◌∙◌, subst, arith}
+use Rattle.std.proofs.Common.{◌≡◌, ℕ, zero, suc, ◌≤◌, List, [], ◌∷◌, length, map, slice_get, Option, Some, None, refl}
+use Rattle.std.proofs.Common.{sym, ap, ◌∙◌, subst, arith}
 use Rattle.std.specs.Prelude.{All}
 use Rattle.std.specs.Option.{option_map, option_or}
 use Rattle.ft_isa.proofs.Lists.{all_there}
@@ -22,32 +23,42 @@ use Rattle.ft_linker.specs.declared.joins.Join.{Join}
 
 -- the refusals that come after those of the modules
 abbrev pub later_refusal : LinkMap → List Object → Option LinkRefusal
-later_refusal linkage ms = option_or (option_map NoBlock (lower_line (first_without ms linkage.exports) (first_without ms linkage.imports))) (imports_refusal ms linkage.exports linkage.imports)
+later_refusal linkage ms = option_or (option_map NoBlock
+    (lower_line (first_without ms linkage.exports) (first_without ms linkage.imports)))
+    (imports_refusal ms linkage.exports linkage.imports)
 
 -- modules that were added are refused for these alone
-pub refusal_is : (linkage : LinkMap) (ms : List Object) → AreAdded ms → 1 ≤ length ms → refusal_of linkage ms ≡ later_refusal linkage ms
+pub refusal_is : (linkage : LinkMap) (ms : List Object) → AreAdded ms → 1 ≤ length ms → refusal_of linkage ms
+    ≡ later_refusal linkage ms
 refusal_is linkage [] h some = absurd (omega (arith, some))
 refusal_is linkage (f ∷ fs) h some = ap (λ z. option_or z (later_refusal linkage (f ∷ fs))) h.unrefused
 
 -- linkable where nothing is refused
-linkable_when : (linkage : LinkMap) (f : Object) (fs : List Object) → AreAdded (f ∷ fs) → refusal_of linkage (f ∷ fs) ≡ None → AreLinkable linkage f fs
-linkable_when linkage f fs h e = (linkable_exactly linkage f fs (λ m o there. (all_there IsSpellable (f ∷ fs) m o h.spelled there, all_there IsAccepted (f ∷ fs) m o h.accepted there))).1 e
+linkable_when : (linkage : LinkMap) (f : Object) (fs : List Object) → AreAdded (f ∷ fs) → refusal_of linkage (f ∷ fs)
+    ≡ None → AreLinkable linkage f fs
+linkable_when linkage f fs h e = (linkable_exactly linkage f fs (λ m o there.
+    (all_there IsSpellable (f ∷ fs) m o h.spelled there, all_there IsAccepted (f ∷ fs) m o h.accepted there))).1 e
 
 -- both blocks of a join are there
 both_there : (ms : List Object) (j : Join) → IsJoined ms (link_as j) → HasBoth ms j
 both_there ms j h = record { from = h.from; to = h.to }
 
-join_at : (js : List Join) (n : ℕ) (j : Join) → slice_get js n ≡ Some j → slice_get (map link_as js) n ≡ Some (link_as j)
+join_at : (js : List Join) (n : ℕ) (j : Join) → slice_get js n ≡ Some j → slice_get (map link_as js) n
+    ≡ Some (link_as j)
 join_at [] n j e = cc
 join_at (x ∷ js) zero j e = let same : x ≡ j = cc in ap (λ (z : Join). Some (link_as z)) same
 join_at (x ∷ js) (suc n) j e = join_at js n j e
 
-pub joins_there : (linkage : LinkMap) (ms : List Object) (js : List Join) → AreAdded ms → 1 ≤ length ms → refusal_of linkage ms ≡ None → map link_as js ≡ links linkage → All (HasBoth ms) js
+pub joins_there : (linkage : LinkMap) (ms : List Object) (js : List Join) → AreAdded ms → 1 ≤ length ms →
+    refusal_of linkage ms ≡ None → map link_as js ≡ links linkage → All (HasBoth ms) js
 joins_there linkage [] js h some e same = absurd (omega (arith, some))
 joins_there linkage (f ∷ fs) js h some e same = all_of (HasBoth (f ∷ fs)) js (λ n j there.
-    both_there (f ∷ fs) j (all_there (IsJoined (f ∷ fs)) (links linkage) n (link_as j) (linkable_when linkage f fs h e).joined (ap (λ z. slice_get z n) (sym same) ∙ join_at js n j there)))
+    both_there (f ∷ fs) j (all_there (IsJoined (f ∷ fs)) (links linkage) n (link_as j)
+    (linkable_when linkage f fs h e).joined (ap (λ z. slice_get z n) (sym same) ∙ join_at js n j there)))
 
-pub is_linked : (linkage : LinkMap) (ms : List Object) (o : Object) → AreAdded ms → 1 ≤ length ms → refusal_of linkage ms ≡ None → ((f : Object) (fs : List Object) → ms ≡ f ∷ fs → o ≡ linked linkage f fs) → IsLinked linkage ms o
+pub is_linked : (linkage : LinkMap) (ms : List Object) (o : Object) → AreAdded ms → 1 ≤ length ms →
+    refusal_of linkage ms ≡ None → ((f : Object) (fs : List Object) → ms ≡ f ∷ fs → o ≡ linked linkage f fs) →
+    IsLinked linkage ms o
 is_linked linkage [] o h some e is = absurd (omega (arith, some))
 is_linked linkage (f ∷ fs) o h some e is =
     let k = linkable_when linkage f fs h e in

@@ -1,5 +1,6 @@
 -- Modules that were added can be laid, and their nodes compared.
-use Rattle.std.proofs.Common.{◌≡◌, ℕ, ◌+◌, ◌<◌, ◌≤◌, List, length, slice_get, get_or, Some, refl, sym, ◌∙◌, subst, arith}
+use Rattle.std.proofs.Common.{◌≡◌, ℕ, ◌+◌, ◌<◌, ◌≤◌, List, length, slice_get, get_or, Some, refl, sym, ◌∙◌, subst}
+use Rattle.std.proofs.Common.{arith}
 use Rattle.std.specs.Prelude.{sum_by}
 use Rattle.std.proofs.lemmas.List.{length-map}
 use Rattle.std.proofs.lemmas.Option.{slice_get-get_or}
@@ -31,12 +32,14 @@ use Rattle.ft_linker.specs.Linking.{AreAdded}
 moves_of : (o : Object) → IsSpellable o → IsAccepted o → HasTypedMoves o
 moves_of o s a = λ n rd v b e.
     let p = instr_in_block o n (Mov rd v b) s e in
-    typed_moves o (start_context o p.1.code_type) (block_instrs o p.0) p.2 (Mov rd v b) (a.blocks p.0 p.1 p.3) p.4 rd v b refl
+    typed_moves o (start_context o p.1.code_type) (block_instrs o p.0) p.2 (Mov rd v b) (a.blocks p.0 p.1 p.3) p.4 rd v
+    b refl
 
 pub can_be_laid : (ms : List Object) → AreAdded ms → CanBeLaid ms
 can_be_laid ms h = record {
   spelled = h.spelled;
-  typed = all_of HasTypedMoves ms (λ k o e. moves_of o (all_there IsSpellable ms k o h.spelled e) (all_there IsAccepted ms k o h.accepted e));
+  typed = all_of HasTypedMoves ms (λ k o e. moves_of o (all_there IsSpellable ms k o h.spelled e)
+      (all_there IsAccepted ms k o h.accepted e));
   few = h.few;
 }
 
@@ -51,20 +54,26 @@ module _ (ms : List Object) (h : AreAdded ms) where
   all_are_nodes = laid_nodes ms each_spelled h.few.nodes
 
   all_long : length all_nodes ≡ sum_by (λ (o : Object). length o.nodes) ms
-  all_long = laid_length nodes_part (λ (o : Object). length o.nodes) (λ k o. length-map o.nodes (raised_node k.nodes)) nothing_before ms
+  all_long = laid_length nodes_part (λ (o : Object). length o.nodes) (λ k o. length-map o.nodes (raised_node k.nodes))
+      nothing_before ms
 
-  within : (m : ℕ) (o : Object) → slice_get ms m ≡ Some o → (before_module nothing_before ms m).nodes + length o.nodes ≤ length all_nodes
+  within : (m : ℕ) (o : Object) → slice_get ms m ≡ Some o →
+      (before_module nothing_before ms m).nodes + length o.nodes ≤ length all_nodes
   within m o e =
       let low = before_low (λ k. k.nodes) (λ (x : Object). length x.nodes) (λ k x. refl) nothing_before ms m o e in
       let long = all_long in
       omega (arith, low, long)
 
-  tree_same : (m n : ℕ) (o : Object) → slice_get ms m ≡ Some o → n < length o.nodes → tree_at all_nodes ((before_module nothing_before ms m).nodes + n) ≡ tree_at o.nodes n
+  tree_same : (m n : ℕ) (o : Object) → slice_get ms m ≡ Some o → n < length o.nodes →
+      tree_at all_nodes ((before_module nothing_before ms m).nodes + n) ≡ tree_at o.nodes n
   tree_same m n o e lt =
       let word_node : Node = record { scope = 0; shape = shape.Word 0 } in
-      laid_tree ms each_spelled h.few.nodes m n o (get_or o.nodes n word_node) e (slice_get-get_or o.nodes n word_node lt)
+      laid_tree ms each_spelled h.few.nodes m n o (get_or o.nodes n word_node) e
+      (slice_get-get_or o.nodes n word_node lt)
 
-  compared_all : (cs : List ℕ) → AreNumbered all_nodes cs → (m n : ℕ) (o x : Object) → slice_get ms m ≡ Some o → slice_get ms n ≡ Some x → AreCompared cs o (before_module nothing_before ms m).nodes x (before_module nothing_before ms n).nodes
+  compared_all : (cs : List ℕ) → AreNumbered all_nodes cs → (m n : ℕ) (o x : Object) → slice_get ms m ≡ Some o →
+      slice_get ms n ≡ Some x → AreCompared cs o (before_module nothing_before ms m).nodes x
+      (before_module nothing_before ms n).nodes
   compared_all cs numbered m n o x e f =
       let count = numbered.count in
       let from = within m o e in
@@ -73,8 +82,12 @@ module _ (ms : List Object) (h : AreAdded ms) where
         from = omega (arith, count, from);
         to = omega (arith, count, to);
         same = λ i j li lj.
-            let t = numbered.trees ((before_module nothing_before ms m).nodes + i) ((before_module nothing_before ms n).nodes + j) (omega (arith, from, li)) (omega (arith, to, lj)) in
-            (λ s. sym (tree_same m i o e li) ∙ t.0 s ∙ tree_same n j x f lj, λ s. t.1 (tree_same m i o e li ∙ s ∙ sym (tree_same n j x f lj)));
+            let t = numbered.trees ((before_module nothing_before ms m).nodes + i)
+            ((before_module nothing_before ms n).nodes + j) (omega (arith, from, li)) (omega (arith, to, lj)) in (
+              λ s. sym (tree_same m i o e li) ∙ t.0 s ∙ tree_same n j x f lj,
+              λ s.
+                  t.1 (tree_same m i o e li ∙ s ∙ sym (tree_same n j x f lj)),
+            );
       }
 
   pub are_ready : (l : Laid) (cs : List ℕ) → AreLaid ms l → AreNumbered l.nodes.items cs → AreReady ms l cs

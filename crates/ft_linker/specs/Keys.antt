@@ -3,7 +3,7 @@ use Rattle.std.specs.Prelude.{ℕ, Option}
 use Rattle.std.specs.BTreeMap.{BTreeMap, get}
 use Rattle.ft_static.specs.declared.node.Shape.{Shape}
 use Rattle.ft_static.specs.declared.node.Shape.TheVariants as shape
-use Rattle.ft_types.specs.NodeRows.{op_code}
+use Rattle.ft_isa.specs.Operations.{op_code}
 use Rattle.ft_linker.specs.declared.key.Key.{Key}
 use Rattle.ft_linker.specs.declared.key.Key.TheVariants as key
 use Rattle.ft_linker.specs.contracts.key.KeyOrd.TheImpl as key_order

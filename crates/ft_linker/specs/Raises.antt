@@ -4,7 +4,7 @@ use Rattle.ft_isa.specs.declared.basic.Base.{Base}
 use Rattle.ft_isa.specs.declared.basic.Base.TheVariants.{Int, Code}
 use Rattle.ft_isa.specs.declared.instr.Subst.{Subst}
 use Rattle.ft_isa.specs.declared.instr.Instr.{Instr}
-use Rattle.ft_isa.specs.declared.instr.Instr.TheVariants.{OpReg, OpWord, Mov, Ld, St, JmpG, JmpB, BzG, BzB, Halt, Idx}
+use Rattle.ft_isa.specs.declared.instr.Instr.TheVariants.{Mov, JmpB, BzB}
 use Rattle.ft_static.specs.declared.node.Node.{Node}
 use Rattle.ft_static.specs.declared.node.Shape.{Shape}
 use Rattle.ft_static.specs.declared.node.Shape.TheVariants as shape
@@ -62,14 +62,7 @@ CanRaiseOver k w (suc n) base = Unit {0}
 
 -- an instruction
 abbrev pub CanRaise : Before → Instr → Type 0
-CanRaise k (OpReg op rd rs rt) = Unit {0}
-CanRaise k (OpWord op rd rs value) = Unit {0}
 CanRaise k (Mov rd value basic) = CanRaiseOver k value.word basic.refs basic.base
-CanRaise k (Ld colour rd rs) = Unit {0}
-CanRaise k (St colour rd rs) = Unit {0}
-CanRaise k (JmpG rd) = Unit {0}
 CanRaise k (JmpB rd subst) = CanRaiseSubst k subst
-CanRaise k (BzG rz rd) = Unit {0}
 CanRaise k (BzB rz rd subst) = CanRaiseSubst k subst
-CanRaise k Halt = Unit {0}
-CanRaise k (Idx rd rs first m) = Unit {0}
+CanRaise k i = Unit {0}

@@ -10,9 +10,8 @@ ghost use Rattle.ft_linker.specs.declared.joins.Join.{Join};
 
 use crate::joins::{changes_of, entry_of, joined};
 use crate::laying::Laid;
-use ft_copy::copy_cells;
 use ft_link_map::LinkMap;
-use ft_types::{Cell, Object, Table};
+use ft_types::{Cell, Object, Table, copy_cells};
 use std::alloc::{AllocError, Global};
 
 /// A copy of the first object's cells.
@@ -40,21 +39,28 @@ pub fn put_together(
     requires joins { (js : List Join) → map link_as js ≡ links linkage.now → All (HasBoth objects.now) js }
     ensures { IfOk result (λ o. (first : Module) (others : List Module) → objects.now ≡ first ∷ others → o ≡ linked linkage.now first others) }
 {
+    let Laid {
+        starts,
+        nodes,
+        types,
+        blocks,
+        mut instrs,
+        substs,
+    } = laid;
     let joins = joined(alloc, linkage)?;
-    let starts = laid.starts.as_slice();
+    let starts = starts.as_slice();
     let links = joins.as_slice();
-    let code = laid.instrs.as_slice();
     let changes = changes_of(alloc, objects, starts, links)?;
-    let instrs = changes.change(alloc, code)?;
+    changes.change(instrs.as_mut_slice());
     let entry = entry_of(objects, starts, links);
     let cells = first_cells(alloc, objects)?;
     Ok(Object {
         cells,
-        nodes: Table::from_vec(laid.nodes),
-        types: Table::from_vec(laid.types),
-        blocks: Table::from_vec(laid.blocks),
+        nodes: Table::from_vec(nodes),
+        types: Table::from_vec(types),
+        blocks: Table::from_vec(blocks),
         instrs: Table::from_vec(instrs),
-        substs: Table::from_vec(laid.substs),
+        substs: Table::from_vec(substs),
         entry,
     })
 }

@@ -1,5 +1,5 @@
 //! Moves of imported blocks' addresses.
-ghost use Rattle.std.specs.Prelude.{◌≡◌, [], ◌∷◌, List, Some, IfOk, OnOk, map};
+ghost use Rattle.std.specs.Prelude.{◌≡◌, [], ◌∷◌, List, Some, OnOk, map};
 ghost use Rattle.std.specs.Option.{option_map};
 ghost use Rattle.ft_modules.specs.Linked.{Change, change_at, changed_instr};
 
@@ -77,15 +77,12 @@ impl Changes {
         }
     }
 
-    /// Instructions with their moves changed.
-    pub fn change(&self, alloc: Global, instrs: &[Instr]) -> Result<Vec<Instr>, AllocError>
-        ensures { IfOk result (λ v. (cs : List Change) → Holds self.now cs → v.items ≡ map (changed_instr cs) instrs.now) }
+    /// Changes the moves of instructions.
+    pub fn change(&self, instrs: &mut [Instr])
+        ensures { (cs : List Change) → Holds self.now cs → instrs.new ≡ map (changed_instr cs) instrs.old }
     {
-        let mut changed = Vec::with_capacity(alloc, instrs.len())?;
-        for i in 0..instrs.len() {
-            let instr = instrs[i];
-            changed.push(self.change_instr(instr))?;
+        for instr in instrs.iter_mut() {
+            *instr = self.change_instr(*instr);
         }
-        Ok(changed)
     }
 }

@@ -7,10 +7,9 @@ ghost use Rattle.ft_linker.specs.Linking.{IsLinked, added_refusal, refusal_of};
 use crate::link_error::LinkError;
 use crate::modules::Modules;
 use ft_checker::Checked;
-use ft_copy::copy_object;
 use ft_isa::NoMemory;
 use ft_link_map::LinkMap;
-use ft_types::{Object, Program};
+use ft_types::{Object, Program, copy_object};
 use std::alloc::Global;
 use std::marker::Model;
 

@@ -11,7 +11,6 @@ ghost use Rattle.std.specs.BTreeMap.{is_at};
 
 use crate::key::Key;
 use ft_static::{Node, Shape};
-use ft_types::op_code;
 use std::alloc::{AllocError, Global};
 use std::collections::BTreeMap;
 
@@ -31,7 +30,7 @@ fn key_of(numbers: &[u32], shape: Shape) -> Key
     match shape {
         Shape::Word(word) => Key::Word(word),
         Shape::Var(i) => Key::Var(i),
-        Shape::Op { op, a, b } => Key::Op(op_code(op), number(numbers, a), number(numbers, b)),
+        Shape::Op { op, a, b } => Key::Op(op.code(), number(numbers, a), number(numbers, b)),
         Shape::Sel { memory, at } => Key::Sel(number(numbers, memory), number(numbers, at)),
         Shape::Memory => Key::Memory,
         Shape::Upd { memory, at, value } => Key::Upd(

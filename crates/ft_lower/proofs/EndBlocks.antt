@@ -2,7 +2,8 @@
 use Rattle.std.proofs.Common.{◌≡◌, ℕ, zero, suc, ◌+◌, List, [], ◌∷◌, ◌++◌, refl, ap, ◌∙◌, arith}
 use Rattle.ft_scope.specs.declared.slot.Slot.{Slot}
 use Rattle.ft_scope.specs.declared.slot.Slot.TheVariants.{Cell, Var, Run}
-use Rattle.ft_syntax.specs.Plain.{Expression, literal, name, indexed, operation, StatementList, none, assign, assign_at, loop, choose}
+use Rattle.ft_syntax.specs.Plain.{Expression, literal, name, indexed, operation, StatementList, none, assign, assign_at}
+use Rattle.ft_syntax.specs.Plain.{loop, choose}
 use Rattle.ft_lower.specs.declared.step3.Step3.{Step3}
 use Rattle.ft_lower.specs.declared.step3.Step3.TheVariants.{Put, Op, Go}
 use Rattle.ft_lower.specs.Flow.{Place, on, first}
@@ -49,7 +50,8 @@ zeros_block zero p = refl
 zeros_block (suc k) p = block_append p (zeros k) (Put k 0 ∷ []) ∙ zeros_block k p
 
 -- statements end as many blocks as they begin
-pub statements_block : (st : StatementList Slot) (n b : ℕ) (p : Place) → p.block ≡ b → (after p (statement_steps n b st)).block ≡ b + block_count st
+pub statements_block : (st : StatementList Slot) (n b : ℕ) (p : Place) → p.block ≡ b →
+    (after p (statement_steps n b st)).block ≡ b + block_count st
 statements_block none n b p e = e ∙ omega arith
 statements_block (assign to x rest) n b p e =
     let p1 = after p (expression_steps (n + 1) x) in
@@ -60,7 +62,8 @@ statements_block (assign_at to i x rest) n b p e =
     let p2 = after p1 (expression_steps (n + 2) x) in
     block_append p (expression_steps (n + 1) i) _
     ∙ block_append p1 (expression_steps (n + 2) x) (write n to ∷ statement_steps n b rest)
-    ∙ statements_block rest n b (next (write n to) p2) (write_block n to p2 ∙ expression_block x (n + 2) p1 ∙ expression_block i (n + 1) p ∙ e)
+    ∙ statements_block rest n b (next (write n to) p2) (write_block n to p2 ∙ expression_block x (n + 2) p1
+    ∙ expression_block i (n + 1) p ∙ e)
 statements_block (loop x body rest) n b p e =
     let p1 = first (suc p.block) in
     let p2 = after p1 (expression_steps (n + 1) x) in
@@ -71,7 +74,8 @@ statements_block (loop x body rest) n b p e =
     let e4 : p4.block ≡ b + 1 + block_count body = statements_block body n (b + 1) p3 e3 in
     let e5 : p5.block ≡ b + 2 + block_count body = omega arith in
     block_append p1 (expression_steps (n + 1) x) _
-    ∙ block_append p3 (statement_steps n (b + 1) body) (Go n (b + 1) ∷ statement_steps n (b + 2 + block_count body) rest)
+    ∙ block_append p3 (statement_steps n (b + 1) body) (Go n (b + 1) ∷ statement_steps n (b + 2 + block_count body)
+    rest)
     ∙ statements_block rest n (b + 2 + block_count body) p5 e5
     ∙ omega arith
 statements_block (choose x s t rest) n b p e =
@@ -87,7 +91,8 @@ statements_block (choose x s t rest) n b p e =
     let e5 : p5.block ≡ b + 1 + block_count s + block_count t = statements_block t n (b + 1 + block_count s) p4 e4 in
     let e6 : p6.block ≡ m = omega arith in
     block_append p (expression_steps (n + 1) x) _
-    ∙ block_append p2 (statement_steps n b s) (Go n m ∷ (statement_steps n (b + 1 + block_count s) t ++ (Go n m ∷ statement_steps n m rest)))
+    ∙ block_append p2 (statement_steps n b s) (Go n m ∷ (statement_steps n (b + 1 + block_count s) t
+    ++ (Go n m ∷ statement_steps n m rest)))
     ∙ block_append p4 (statement_steps n (b + 1 + block_count s) t) (Go n m ∷ statement_steps n m rest)
     ∙ statements_block rest n m p6 e6
     ∙ omega arith

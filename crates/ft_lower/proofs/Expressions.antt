@@ -1,5 +1,6 @@
 -- What the steps of an expression do.
-use Rattle.std.proofs.Common.{◌≡◌, ◌≢◌, ℕ, ◌+◌, ◌<◌, ◌≤◌, false, cond, [], ◌∷◌, ◌++◌, length, Some, refl, sym, ap, ◌∙◌, subst, arith, slice_index}
+use Rattle.std.proofs.Common.{◌≡◌, ◌≢◌, ℕ, ◌+◌, ◌<◌, ◌≤◌, false, cond, [], ◌∷◌, ◌++◌, length, Some, refl, sym, ap, ◌∙◌}
+use Rattle.std.proofs.Common.{subst, arith, slice_index}
 use Rattle.std.proofs.lemmas.Bool.{ne_eqb, eq-eqb}
 use Rattle.ft_isa.specs.Words.{apply}
 use Rattle.ft_scope.specs.declared.slot.Slot.{Slot}
@@ -36,7 +37,8 @@ pub same_pair : (t v : ℕ) (f : FlowState) → (with_pair t v f).pairs t ≡ v
 same_pair t v f = ap (λ b. cond b v (f.pairs t)) (eq-eqb t t refl)
 
 -- a pair that holds no variable is written
-pub put_like : (n t v : ℕ) (p : Place) (s : State) (f : FlowState) → n ≤ t → Like n p s f → Like n (on p) s (goes_on (with_pair t v f))
+pub put_like : (n t v : ℕ) (p : Place) (s : State) (f : FlowState) → n ≤ t → Like n p s f →
+    Like n (on p) s (goes_on (with_pair t v f))
 put_like n t v p s f le l = record {
   vars = λ x h. other_pair t v f x (λ e. omega arith) ∙ l.vars x h;
   many = l.many;
@@ -47,7 +49,8 @@ put_like n t v p s f le l = record {
 }
 
 -- the same at a jump
-pub put_first : (n t v b : ℕ) (p : Place) (s : State) (f : FlowState) → n ≤ t → Like n p s f → Like n (first b) s (goes_to b (with_pair t v f))
+pub put_first : (n t v b : ℕ) (p : Place) (s : State) (f : FlowState) → n ≤ t → Like n p s f →
+    Like n (first b) s (goes_to b (with_pair t v f))
 put_first n t v b p s f le l = record {
   vars = λ x h. other_pair t v f x (λ e. omega arith) ∙ l.vars x h;
   many = l.many;
@@ -58,33 +61,42 @@ put_first n t v b p s f le l = record {
 }
 
 -- one step, whose effect is known
-pub reach_act : (bs : Blocks) (n : ℕ) (p : Place) (s : State) (f g : FlowState) (i : Step3) → Like n p s f → step_at bs p ≡ Some i → act i f ≡ g → Reaches bs 1 f g
-reach_act bs n p s f g i l at e = subst (λ h. Reaches bs 1 f h) e (reach_one bs f i l.running (ap (step_at bs) l.place ∙ at))
+pub reach_act : (bs : Blocks) (n : ℕ) (p : Place) (s : State) (f g : FlowState) (i : Step3) → Like n p s f →
+    step_at bs p ≡ Some i → act i f ≡ g → Reaches bs 1 f g
+reach_act bs n p s f g i l at e = subst (λ h. Reaches bs 1 f h) e (reach_one bs f i l.running (ap (step_at bs) l.place
+    ∙ at))
 
 -- pair t holds the value, and the pairs below are as they were
-pub record Valued (bs : Blocks) (n : ℕ) (p : Place) (t : ℕ) (e : Expression Slot) (s : State) (f : FlowState) : Type 0 where
-  pub end : FlowState
-  pub reaches : Reaches bs (expression_nodes e) f end
-  pub like : Like n p s end
-  pub value : end.pairs t ≡ value e s.vars s.cells
-  pub lower : (q : ℕ) → q < t → end.pairs q ≡ f.pairs q
+pub record Valued (bs : Blocks) (n : ℕ) (p : Place) (t : ℕ) (e : Expression Slot) (s : State) (f : FlowState) : Type 0
+  where
+    pub end : FlowState
+    pub reaches : Reaches bs (expression_nodes e) f end
+    pub like : Like n p s end
+    pub value : end.pairs t ≡ value e s.vars s.cells
+    pub lower : (q : ℕ) → q < t → end.pairs q ≡ f.pairs q
 
 module _ (bs : Blocks) (n m : ℕ) (s : State) where
   -- a step that puts a word to pair t
-  one : (t v : ℕ) (e : Expression Slot) (i : Step3) (p : Place) (f : FlowState) → n ≤ t → expression_nodes e ≡ 1 → step_at bs p ≡ Some i → act i f ≡ goes_on (with_pair t v f) → v ≡ value e s.vars s.cells → Like n p s f → Valued bs n (on p) t e s f
+  one : (t v : ℕ) (e : Expression Slot) (i : Step3) (p : Place) (f : FlowState) → n ≤ t → expression_nodes e ≡ 1 →
+      step_at bs p ≡ Some i → act i f ≡ goes_on (with_pair t v f) → v ≡ value e s.vars s.cells → Like n p s f →
+      Valued bs n (on p) t e s f
   one t v e i p f le k at eq is l = record {
     end = goes_on (with_pair t v f);
-    reaches = subst (λ j. Reaches bs j f (goes_on (with_pair t v f))) (sym k) (reach_act bs n p s f (goes_on (with_pair t v f)) i l at eq);
+    reaches = subst (λ j. Reaches bs j f (goes_on (with_pair t v f))) (sym k)
+        (reach_act bs n p s f (goes_on (with_pair t v f)) i l at eq);
     like = put_like n t v p s f le l;
     value = same_pair t v f ∙ is;
     lower = λ q h. other_pair t v f q (λ e. omega arith);
   }
 
   -- an expression's steps leave its word in pair t, in as many steps as it has nodes
-  pub expression_run : (e : Expression Slot) (t : ℕ) (p : Place) (f : FlowState) → n ≤ t → ExpressionFits m n e → HasAt bs p (expression_steps t e) → Like n p s f → Valued bs n (after p (expression_steps t e)) t e s f
+  pub expression_run : (e : Expression Slot) (t : ℕ) (p : Place) (f : FlowState) → n ≤ t → ExpressionFits m n e →
+      HasAt bs p (expression_steps t e) → Like n p s f → Valued bs n (after p (expression_steps t e)) t e s f
   expression_run (literal w) t p f le ok has l = one t w (literal w) (Put t w) p f le refl has.0 refl refl l
-  expression_run (name (Var x)) t p f le ok has l = one t (f.pairs x) (name (Var x)) (Copy t x) p f le refl has.0 refl (l.vars x ok) l
-  expression_run (name (Cell c)) t p f le ok has l = one t (slice_index f.cells c) (name (Cell c)) (Load t c) p f le refl has.0 refl (ap (λ cs. slice_index cs c) l.cells) l
+  expression_run (name (Var x)) t p f le ok has l = one t (f.pairs x) (name (Var x)) (Copy t x) p f le refl has.0 refl
+      (l.vars x ok) l
+  expression_run (name (Cell c)) t p f le ok has l = one t (slice_index f.cells c) (name (Cell c)) (Load t c) p f le
+      refl has.0 refl (ap (λ cs. slice_index cs c) l.cells) l
   expression_run (name (Run c k)) t p f le ok has l = absurd ok
   expression_run (indexed (Var x) e) t p f le ok has l = absurd ok.0
   expression_run (indexed (Cell c) e) t p f le ok has l = absurd ok.0
@@ -99,9 +111,11 @@ module _ (bs : Blocks) (n m : ℕ) (s : State) where
       let last : on p1 ≡ after p (ce ++ i ∷ []) = sym (after-append p ce (i ∷ [])) in
       record {
         end = g;
-        reaches = reach_trans bs (expression_nodes e) 1 f E.end g E.reaches (reach_act bs n p1 s E.end g i E.like (has_back bs p ce (i ∷ []) has).0 refl);
+        reaches = reach_trans bs (expression_nodes e) 1 f E.end g E.reaches
+            (reach_act bs n p1 s E.end g i E.like (has_back bs p ce (i ∷ []) has).0 refl);
         like = moved n (on p1) _ s g last (put_like n t v p1 s E.end le E.like);
-        value = same_pair t v E.end ∙ ap (λ cs. slice_index cs (cell_of_run c k w)) E.like.cells ∙ ap (λ x. slice_index s.cells (cell_of_run c k x)) E.value;
+        value = same_pair t v E.end ∙ ap (λ cs. slice_index cs (cell_of_run c k w)) E.like.cells
+            ∙ ap (λ x. slice_index s.cells (cell_of_run c k x)) E.value;
         lower = λ q h. other_pair t v E.end q (λ e. omega arith) ∙ E.lower q h;
       }
   expression_run (operation o a b) t p f le ok has l =
@@ -116,11 +130,15 @@ module _ (bs : Blocks) (n m : ℕ) (s : State) where
       let v = apply o (B.end.pairs t) (B.end.pairs (t + 1)) in
       let g = goes_on (with_pair t v B.end) in
       let at = (has_back bs p1 cb (i ∷ []) rest).0 in
-      let last : on p2 ≡ after p (ca ++ (cb ++ i ∷ [])) = sym (after-append p ca (cb ++ i ∷ []) ∙ after-append p1 cb (i ∷ [])) in
+      let last : on p2 ≡ after p (ca ++ (cb ++ i ∷ [])) = sym (after-append p ca (cb ++ i ∷ [])
+      ∙ after-append p1 cb (i ∷ [])) in
       record {
         end = g;
-        reaches = reach_trans bs (expression_nodes a + expression_nodes b) 1 f B.end g (reach_trans bs (expression_nodes a) (expression_nodes b) f A.end B.end A.reaches B.reaches) (reach_act bs n p2 s B.end g i B.like at refl);
+        reaches = reach_trans bs (expression_nodes a + expression_nodes b) 1 f B.end g
+            (reach_trans bs (expression_nodes a) (expression_nodes b) f A.end B.end A.reaches B.reaches)
+            (reach_act bs n p2 s B.end g i B.like at refl);
         like = moved n (on p2) _ s g last (put_like n t v p2 s B.end le B.like);
-        value = same_pair t v B.end ∙ ap (λ x. apply o x (B.end.pairs (t + 1))) (B.lower t (omega arith) ∙ A.value) ∙ ap (apply o (value a s.vars s.cells)) B.value;
+        value = same_pair t v B.end ∙ ap (λ x. apply o x (B.end.pairs (t + 1))) (B.lower t (omega arith) ∙ A.value)
+            ∙ ap (apply o (value a s.vars s.cells)) B.value;
         lower = λ q h. other_pair t v B.end q (λ e. omega arith) ∙ B.lower q (omega arith) ∙ A.lower q h;
       }

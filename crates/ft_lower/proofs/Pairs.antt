@@ -2,7 +2,8 @@
 use Rattle.std.proofs.Common.{ℕ, zero, suc, ◌+◌, ◌<◌, ◌≤◌, Bool, true, false, List, [], ◌∷◌, ◌++◌, length, arith}
 use Rattle.std.specs.List.{All}
 use Rattle.std.proofs.lemmas.List.Elements.{All-nil, All-cons, All-head, All-tail, All-append, All-push}
-use Rattle.ft_syntax.specs.Plain.{Expression, literal, name, indexed, operation, StatementList, none, assign, assign_at, loop, choose}
+use Rattle.ft_syntax.specs.Plain.{Expression, literal, name, indexed, operation, StatementList, none, assign, assign_at}
+use Rattle.ft_syntax.specs.Plain.{loop, choose}
 use Rattle.ft_scope.specs.declared.slot.Slot.{Slot}
 use Rattle.ft_scope.specs.declared.slot.Slot.TheVariants.{Cell, Var, Run}
 use Rattle.ft_scope.specs.Size.{need, most_need, SlotFits, RunFits, ExpressionFits, StatementsFit}
@@ -12,7 +13,8 @@ use Rattle.ft_lower.specs.declared.step3.Step3.TheVariants.{Put, Copy, Op, Load,
 use Rattle.ft_lower.specs.Flow.{Blocks}
 use Rattle.ft_lower.specs.Size.{pairs_of, PairsBelow}
 use Rattle.ft_lower.specs.Well.{is_last}
-use Rattle.ft_lower.specs.Lowered.{expression_steps, write, block_count, statement_steps, zeros, program_steps, blocks_onto, lowered}
+use Rattle.ft_lower.specs.Lowered.{expression_steps, write, block_count, statement_steps, zeros, program_steps}
+use Rattle.ft_lower.specs.Lowered.{blocks_onto, lowered}
 
 -- an expression needs a pair
 pub need_some : (e : Expression Slot) → 0 < need e
@@ -50,7 +52,8 @@ module _ (m : ℕ) where
 
   module _ (n cells : ℕ) where
     -- an expression's steps name variables and the pairs that it needs
-    expression_below : (e : Expression Slot) (t : ℕ) → n ≤ m → t + need e ≤ m → ExpressionFits cells n e → All Below (expression_steps t e)
+    expression_below : (e : Expression Slot) (t : ℕ) → n ≤ m → t + need e ≤ m → ExpressionFits cells n e →
+        All Below (expression_steps t e)
     expression_below (literal w) t le few ok = alone (Put t w) (one_pair t (omega arith))
     expression_below (name (Var x)) t le few ok = alone (Copy t x) (two_pairs t x (omega arith) (omega arith))
     expression_below (name (Cell k)) t le few ok = alone (Load t k) (one_pair t (omega arith))
@@ -59,13 +62,15 @@ module _ (m : ℕ) where
     expression_below (indexed (Cell k) i) t le few ok = absurd ok.0
     expression_below (indexed (Run c k) i) t le few ok =
         let some = need_some i in
-        All-push Below (expression_steps t i) (LoadAt t t c k) (expression_below i t le few ok.1) (two_pairs t t (omega arith) (omega arith))
+        All-push Below (expression_steps t i) (LoadAt t t c k) (expression_below i t le few ok.1)
+        (two_pairs t t (omega arith) (omega arith))
     expression_below (operation o a b) t le few ok =
         let i = Op o t t (t + 1) in
         let cb = expression_steps (t + 1) b in
         let some = need_some b in
         All-append Below (expression_steps t a) (cb ++ i ∷ []) (expression_below a t le (omega arith) ok.0)
-        (All-push Below cb i (expression_below b (t + 1) le (omega arith) ok.1) (three_pairs t t (t + 1) (omega arith) (omega arith) (omega arith)))
+        (All-push Below cb i (expression_below b (t + 1) le (omega arith) ok.1)
+        (three_pairs t t (t + 1) (omega arith) (omega arith) (omega arith)))
 
     write_below : (to : Slot) → n + 1 < m → SlotFits cells n to → Below (write n to)
     write_below (Var x) h ok = two_pairs x (n + 1) (omega arith) h
@@ -77,19 +82,24 @@ module _ (m : ℕ) where
     write_at_below (Cell k) h ok = absurd ok
     write_at_below (Run c k) h ok = three_pairs (n + 1) (n + 2) n (omega arith) h (omega arith)
 
-    statements_below : (st : StatementList Slot) (b : ℕ) → n + 1 + most_need st ≤ m → StatementsFit cells n st → All Below (statement_steps n b st)
+    statements_below : (st : StatementList Slot) (b : ℕ) → n + 1 + most_need st ≤ m → StatementsFit cells n st →
+        All Below (statement_steps n b st)
     statements_below none b few ok = All-nil Below
     statements_below (assign to e rest) b few ok =
         let some = need_some e in
-        All-append Below (expression_steps (n + 1) e) (write n to ∷ statement_steps n b rest) (expression_below e (n + 1) (omega arith) (omega arith) ok.1)
-        (All-cons Below (write n to) (statement_steps n b rest) (write_below to (omega arith) ok.0) (statements_below rest b (omega arith) ok.2))
+        All-append Below (expression_steps (n + 1) e) (write n to ∷ statement_steps n b rest)
+        (expression_below e (n + 1) (omega arith) (omega arith) ok.1)
+        (All-cons Below (write n to) (statement_steps n b rest) (write_below to (omega arith) ok.0)
+        (statements_below rest b (omega arith) ok.2))
     statements_below (assign_at to i e rest) b few ok =
         let some = need_some e in
         let ce = expression_steps (n + 2) e in
         let cr = statement_steps n b rest in
-        All-append Below (expression_steps (n + 1) i) (ce ++ (write n to ∷ cr)) (expression_below i (n + 1) (omega arith) (omega arith) ok.1)
+        All-append Below (expression_steps (n + 1) i) (ce
+        ++ (write n to ∷ cr)) (expression_below i (n + 1) (omega arith) (omega arith) ok.1)
         (All-append Below ce (write n to ∷ cr) (expression_below e (n + 2) (omega arith) (omega arith) ok.2)
-        (All-cons Below (write n to) cr (write_at_below to (omega arith) ok.0) (statements_below rest b (omega arith) ok.3)))
+        (All-cons Below (write n to) cr (write_at_below to (omega arith) ok.0)
+        (statements_below rest b (omega arith) ok.3)))
     statements_below (loop e body rest) b few ok =
         let some = need_some e in
         let out = b + 2 + block_count body in
@@ -98,7 +108,8 @@ module _ (m : ℕ) where
         let ce = expression_steps (n + 1) e in
         let lt : n < m = omega arith in
         after_go n (b + 1) (ce ++ (Exit (n + 1) n out ∷ (cb ++ (Go n (b + 1) ∷ cr)))) lt
-        (All-append Below ce (Exit (n + 1) n out ∷ (cb ++ (Go n (b + 1) ∷ cr))) (expression_below e (n + 1) (omega arith) (omega arith) ok.0)
+        (All-append Below ce (Exit (n + 1) n out ∷ (cb ++ (Go n (b + 1) ∷ cr)))
+        (expression_below e (n + 1) (omega arith) (omega arith) ok.0)
         (after_exit n out (cb ++ (Go n (b + 1) ∷ cr)) (omega arith)
         (All-append Below cb (Go n (b + 1) ∷ cr) (statements_below body (b + 1) (omega arith) ok.1)
         (after_go n (b + 1) cr lt (statements_below rest out (omega arith) ok.2)))))
@@ -111,7 +122,8 @@ module _ (m : ℕ) where
         let cr = statement_steps n out rest in
         let ce = expression_steps (n + 1) e in
         let lt : n < m = omega arith in
-        All-append Below ce (Exit (n + 1) n other ∷ (ca ++ (Go n out ∷ (cb ++ (Go n out ∷ cr))))) (expression_below e (n + 1) (omega arith) (omega arith) ok.0)
+        All-append Below ce (Exit (n + 1) n other ∷ (ca ++ (Go n out ∷ (cb ++ (Go n out ∷ cr)))))
+        (expression_below e (n + 1) (omega arith) (omega arith) ok.0)
         (after_exit n other (ca ++ (Go n out ∷ (cb ++ (Go n out ∷ cr)))) (omega arith)
         (All-append Below ca (Go n out ∷ (cb ++ (Go n out ∷ cr))) (statements_below x b (omega arith) ok.1)
         (after_go n out (cb ++ (Go n out ∷ cr)) lt
@@ -132,12 +144,18 @@ module _ (m : ℕ) where
       let rest = All-tail Below i is g in
       by (is_last i) more (below_onto [] is (All-nil Below) rest) (below_onto (o ++ i ∷ []) is more rest)
     where
-      by : (b : Bool) → All Below (o ++ i ∷ []) → All (All Below) (blocks_onto [] is) → All (All Below) (blocks_onto (o ++ i ∷ []) is) → All (All Below) (elim b as (λ b. Blocks) [ true ↦ (o ++ i ∷ []) ∷ blocks_onto [] is | false ↦ blocks_onto (o ++ i ∷ []) is ])
+      by : (b : Bool) → All Below (o ++ i ∷ []) → All (All Below) (blocks_onto [] is) →
+          All (All Below) (blocks_onto (o ++ i ∷ []) is) →
+          All (All Below) (elim b as (λ b. Blocks) [
+            | true ↦ (o ++ i ∷ []) ∷ blocks_onto [] is
+            | false ↦ blocks_onto (o ++ i ∷ []) is
+          ])
       by true more p q = All-cons (All Below) (o ++ i ∷ []) (blocks_onto [] is) more p
       by false more p q = q
 
 -- a program's blocks name pairs below its need
-pub lowered_below : (p : Program) → StatementsFit (length p.inits) p.vars p.body → (m : ℕ) → program_need p ≤ m → PairsBelow m (lowered p)
+pub lowered_below : (p : Program) → StatementsFit (length p.inits) p.vars p.body → (m : ℕ) → program_need p ≤ m →
+    PairsBelow m (lowered p)
 lowered_below p fits m le =
     let cp = statement_steps p.vars 0 p.body in
     below_onto m [] (program_steps p) (All-nil (Below m))

@@ -1,6 +1,8 @@
 -- How many instructions the steps of a program become.
-use Rattle.std.proofs.Common.{◌≡◌, ℕ, zero, suc, ◌+◌, ◌*◌, ◌≤◌, Bool, true, false, List, [], ◌∷◌, ◌++◌, refl, ◌∙◌, arith}
-use Rattle.ft_syntax.specs.Plain.{Expression, literal, name, indexed, operation, StatementList, none, assign, assign_at, loop, choose}
+use Rattle.std.proofs.Common.{◌≡◌, ℕ, zero, suc, ◌+◌, ◌*◌, ◌≤◌, Bool, true, false, List, [], ◌∷◌, ◌++◌, refl, ◌∙◌}
+use Rattle.std.proofs.Common.{arith}
+use Rattle.ft_syntax.specs.Plain.{Expression, literal, name, indexed, operation, StatementList, none, assign, assign_at}
+use Rattle.ft_syntax.specs.Plain.{loop, choose}
 use Rattle.ft_scope.specs.declared.slot.Slot.{Slot}
 use Rattle.ft_scope.specs.declared.slot.Slot.TheVariants.{Cell, Var, Run}
 use Rattle.ft_scope.specs.Size.{slot_weight, expression_weight, statements_weight}
@@ -11,7 +13,8 @@ use Rattle.ft_lower.specs.declared.step3.Step3.TheVariants.{Put, Op, Exit, Go, S
 use Rattle.ft_lower.specs.Flow.{Blocks}
 use Rattle.ft_lower.specs.Size.{size, row_size, blocks_size}
 use Rattle.ft_lower.specs.Well.{is_last}
-use Rattle.ft_lower.specs.Lowered.{read, expression_steps, write, block_count, statement_steps, zeros, program_steps, blocks_onto, lowered}
+use Rattle.ft_lower.specs.Lowered.{read, expression_steps, write, block_count, statement_steps, zeros, program_steps}
+use Rattle.ft_lower.specs.Lowered.{blocks_onto, lowered}
 
 -- two rows become what each becomes
 pub row_size-append : (a b : List Step3) → row_size (a ++ b) ≡ row_size a + row_size b
@@ -28,11 +31,23 @@ read_size t (Run c k) = omega arith
 expression_size : (e : Expression Slot) (t : ℕ) → row_size (expression_steps t e) ≤ expression_weight e
 expression_size (literal w) t = omega arith
 expression_size (name x) t = omega (arith, read_size t x)
-expression_size (indexed x i) t = omega (arith, row_size-append (expression_steps t i) (read t x ∷ []), expression_size i t, read_size t x, slot_within x)
+expression_size (indexed x i) t = omega (
+  arith,
+  row_size-append (expression_steps t i) (read t x ∷ []),
+  expression_size i t,
+  read_size t x,
+  slot_within x,
+)
 expression_size (operation o a b) t =
     let i = Op o t t (t + 1) in
     let cb = expression_steps (t + 1) b in
-    omega (arith, row_size-append (expression_steps t a) (cb ++ i ∷ []), row_size-append cb (i ∷ []), expression_size a t, expression_size b (t + 1))
+    omega (
+      arith,
+      row_size-append (expression_steps t a) (cb ++ i ∷ []),
+      row_size-append cb (i ∷ []),
+      expression_size a t,
+      expression_size b (t + 1),
+    )
 
 -- so does the step that writes
 write_size : (n : ℕ) (x : Slot) → size (write n x) ≤ slot_weight x
@@ -43,16 +58,38 @@ write_size n (Run c k) = omega arith
 -- and so do the steps of statements: a loop's and a choice's weight of 16 pays their exit and their two jumps
 statements_size : (st : StatementList Slot) (n b : ℕ) → row_size (statement_steps n b st) ≤ statements_weight st
 statements_size none n b = omega arith
-statements_size (assign to e rest) n b = omega (arith, row_size-append (expression_steps (n + 1) e) (write n to ∷ statement_steps n b rest), expression_size e (n + 1), write_size n to, statements_size rest n b)
+statements_size (assign to e rest) n b = omega (
+  arith,
+  row_size-append (expression_steps (n + 1) e) (write n to ∷ statement_steps n b rest),
+  expression_size e (n + 1),
+  write_size n to,
+  statements_size rest n b,
+)
 statements_size (assign_at to i e rest) n b =
     let cr = statement_steps n b rest in
-    omega (arith, row_size-append (expression_steps (n + 1) i) (expression_steps (n + 2) e ++ (write n to ∷ cr)), row_size-append (expression_steps (n + 2) e) (write n to ∷ cr), expression_size i (n + 1), expression_size e (n + 2), write_size n to, slot_within to, statements_size rest n b)
+    omega (
+      arith,
+      row_size-append (expression_steps (n + 1) i) (expression_steps (n + 2) e ++ (write n to ∷ cr)),
+      row_size-append (expression_steps (n + 2) e) (write n to ∷ cr),
+      expression_size i (n + 1),
+      expression_size e (n + 2),
+      write_size n to,
+      slot_within to,
+      statements_size rest n b,
+    )
 statements_size (loop e body rest) n b =
     let go = Go n (b + 1) in
     let out = b + 2 + block_count body in
     let cb = statement_steps n (b + 1) body in
     let cr = statement_steps n out rest in
-    omega (arith, row_size-append (expression_steps (n + 1) e) (Exit (n + 1) n out ∷ (cb ++ go ∷ cr)), row_size-append cb (go ∷ cr), expression_size e (n + 1), statements_size body n (b + 1), statements_size rest n out)
+    omega (
+      arith,
+      row_size-append (expression_steps (n + 1) e) (Exit (n + 1) n out ∷ (cb ++ go ∷ cr)),
+      row_size-append cb (go ∷ cr),
+      expression_size e (n + 1),
+      statements_size body n (b + 1),
+      statements_size rest n out,
+    )
 statements_size (choose e x y rest) n b =
     let other = b + 1 + block_count x in
     let out = b + 2 + block_count x + block_count y in
@@ -60,7 +97,16 @@ statements_size (choose e x y rest) n b =
     let ca = statement_steps n b x in
     let cb = statement_steps n other y in
     let cr = statement_steps n out rest in
-    omega (arith, row_size-append (expression_steps (n + 1) e) (Exit (n + 1) n other ∷ (ca ++ (go ∷ (cb ++ go ∷ cr)))), row_size-append ca (go ∷ (cb ++ go ∷ cr)), row_size-append cb (go ∷ cr), expression_size e (n + 1), statements_size x n b, statements_size y n other, statements_size rest n out)
+    omega (
+      arith,
+      row_size-append (expression_steps (n + 1) e) (Exit (n + 1) n other ∷ (ca ++ (go ∷ (cb ++ go ∷ cr)))),
+      row_size-append ca (go ∷ (cb ++ go ∷ cr)),
+      row_size-append cb (go ∷ cr),
+      expression_size e (n + 1),
+      statements_size x n b,
+      statements_size y n other,
+      statements_size rest n out,
+    )
 
 -- two instructions for each 0
 zeros_size : (k : ℕ) → row_size (zeros k) ≡ 2 * k
@@ -73,7 +119,10 @@ size_onto [] [] = omega arith
 size_onto (x ∷ o) [] = omega arith
 size_onto o (i ∷ is) = by (is_last i) (size_onto [] is) (size_onto (o ++ i ∷ []) is)
   where
-    by : (b : Bool) → blocks_size (blocks_onto [] is) ≡ 0 + row_size is → blocks_size (blocks_onto (o ++ i ∷ []) is) ≡ row_size (o ++ i ∷ []) + row_size is → blocks_size (elim b as (λ b. Blocks) [ true ↦ (o ++ i ∷ []) ∷ blocks_onto [] is | false ↦ blocks_onto (o ++ i ∷ []) is ]) ≡ row_size o + (size i + row_size is)
+    by : (b : Bool) → blocks_size (blocks_onto [] is) ≡ 0 + row_size is → blocks_size (blocks_onto (o ++ i ∷ []) is)
+        ≡ row_size (o ++ i ∷ []) + row_size is → blocks_size
+        (elim b as (λ b. Blocks) [ true ↦ (o ++ i ∷ []) ∷ blocks_onto [] is | false ↦ blocks_onto (o ++ i ∷ []) is ])
+        ≡ row_size o + (size i + row_size is)
     by true p q = omega (arith, p, row_size-append o (i ∷ []))
     by false p q = omega (arith, q, row_size-append o (i ∷ []))
 
@@ -81,7 +130,14 @@ size_onto o (i ∷ is) = by (is_last i) (size_onto [] is) (size_onto (o ++ i ∷
 pub lowered_size : (p : Program) → blocks_size (lowered p) ≤ program_weight p
 lowered_size p =
     let cp = statement_steps p.vars 0 p.body in
-    omega (arith, size_onto [] (program_steps p), row_size-append (zeros p.vars) (cp ++ Stop ∷ []), row_size-append cp (Stop ∷ []), zeros_size p.vars, statements_size p.body p.vars 0)
+    omega (
+      arith,
+      size_onto [] (program_steps p),
+      row_size-append (zeros p.vars) (cp ++ Stop ∷ []),
+      row_size-append cp (Stop ∷ []),
+      zeros_size p.vars,
+      statements_size p.body p.vars 0,
+    )
 
 -- statements begin no more blocks than they weigh
 pub count_weighs : (st : StatementList Slot) → block_count st ≤ statements_weight st

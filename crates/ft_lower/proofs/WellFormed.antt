@@ -1,7 +1,9 @@
 -- The blocks of a program are well formed.
-use Rattle.std.proofs.Common.{◌≡◌, ◌≢◌, ℕ, zero, suc, ◌+◌, ◌<◌, ◌≤◌, Bool, true, false, cond, List, [], ◌∷◌, ◌++◌, length, ◌==◌, inl, inr, refl, sym, ap, ◌∙◌, subst, arith, append_assoc}
+use Rattle.std.proofs.Common.{◌≡◌, ◌≢◌, ℕ, zero, suc, ◌+◌, ◌<◌, ◌≤◌, Bool, true, false, cond, List, [], ◌∷◌, ◌++◌}
+use Rattle.std.proofs.Common.{length, ◌==◌, inl, inr, refl, sym, ap, ◌∙◌, subst, arith, append_assoc}
 use Rattle.std.proofs.lemmas.Bool.{ne_eqb, eq-eqb, cases_eq, lt-ltb}
-use Rattle.ft_syntax.specs.Plain.{Expression, literal, name, indexed, operation, StatementList, none, assign, assign_at, loop, choose}
+use Rattle.ft_syntax.specs.Plain.{Expression, literal, name, indexed, operation, StatementList, none, assign, assign_at}
+use Rattle.ft_syntax.specs.Plain.{loop, choose}
 use Rattle.ft_scope.specs.declared.slot.Slot.{Slot}
 use Rattle.ft_scope.specs.declared.slot.Slot.TheVariants.{Cell, Var, Run}
 use Rattle.ft_scope.specs.Size.{SlotFits, RunFits, ExpressionFits, StatementsFit}
@@ -9,8 +11,10 @@ use Rattle.ft_scope.specs.Resolved.{Program}
 use Rattle.ft_lower.specs.declared.step3.Step3.{Step3}
 use Rattle.ft_lower.specs.declared.step3.Step3.TheVariants.{Put, Op, LoadAt, Exit, Go, Stop}
 use Rattle.ft_lower.specs.Flow.{Blocks, Place, on, first, block_of}
-use Rattle.ft_lower.specs.Well.{is_last, IsBlock, IsTarget, StepFits, Known, no_pair, pairs_below, learn, forget, known_after, KeepsVariables, ReadsKnown, RowIsWell, known_first, row_known, IsWell}
-use Rattle.ft_lower.specs.Lowered.{expression_steps, write, block_count, statement_steps, zeros, program_steps, blocks_onto, lowered}
+use Rattle.ft_lower.specs.Well.{is_last, IsBlock, IsTarget, StepFits, Known, no_pair, pairs_below, learn, forget}
+use Rattle.ft_lower.specs.Well.{known_after, KeepsVariables, ReadsKnown, RowIsWell, known_first, row_known, IsWell}
+use Rattle.ft_lower.specs.Lowered.{expression_steps, write, block_count, statement_steps, zeros, program_steps}
+use Rattle.ft_lower.specs.Lowered.{blocks_onto, lowered}
 use Rattle.ft_lower.proofs.Runs.{next, after}
 use Rattle.ft_lower.proofs.EndBlocks.{zeros_block, statements_block, block_append}
 use Rattle.ft_lower.proofs.Sizes.{lowered_size}
@@ -20,11 +24,20 @@ use Rattle.ft_lower.proofs.Whole.{IsResolved}
 -- HOW MANY BLOCKS
 
 -- there is one block more than the steps before the last one end
-blocks_many : (o is : List Step3) (p : Place) → p.block + length (blocks_onto o (is ++ Stop ∷ [])) ≡ suc (after p is).block
+blocks_many : (o is : List Step3) (p : Place) → p.block + length (blocks_onto o (is ++ Stop ∷ []))
+    ≡ suc (after p is).block
 blocks_many o [] p = omega arith
-blocks_many o (i ∷ is) p = by (is_last i) (blocks_many [] is (first (suc p.block))) (blocks_many (o ++ i ∷ []) is (on p))
+blocks_many o (i ∷ is) p = by (is_last i) (blocks_many [] is (first (suc p.block)))
+    (blocks_many (o ++ i ∷ []) is (on p))
   where
-    by : (b : Bool) → suc p.block + length (blocks_onto [] (is ++ Stop ∷ [])) ≡ suc (after (first (suc p.block)) is).block → p.block + length (blocks_onto (o ++ i ∷ []) (is ++ Stop ∷ [])) ≡ suc (after (on p) is).block → p.block + length (elim b as (λ b. Blocks) [ true ↦ (o ++ i ∷ []) ∷ blocks_onto [] (is ++ Stop ∷ []) | false ↦ blocks_onto (o ++ i ∷ []) (is ++ Stop ∷ []) ]) ≡ suc (after (cond b (first (suc p.block)) (on p)) is).block
+    by : (b : Bool) → suc p.block + length (blocks_onto [] (is ++ Stop ∷ []))
+        ≡ suc (after (first (suc p.block)) is).block → p.block + length (blocks_onto (o ++ i ∷ []) (is ++ Stop ∷ []))
+        ≡ suc (after (on p) is).block → p.block + length
+        (elim b as (λ b. Blocks) [
+          | true ↦ (o ++ i ∷ []) ∷ blocks_onto [] (is ++ Stop ∷ [])
+          | false ↦ blocks_onto (o ++ i ∷ []) (is ++ Stop ∷ [])
+        ])
+        ≡ suc (after (cond b (first (suc p.block)) (on p)) is).block
     by true x y = omega arith
     by false x y = y
 
@@ -94,10 +107,26 @@ module _ (n m : ℕ) (blocks : ℕ) where
     lower : (q : ℕ) → q < t → walk k (expression_steps t e) q ≡ k q
 
   -- so are those of each expression
-  flat_expression : (e : Expression Slot) (t : ℕ) (k : Known) → n ≤ t → ExpressionFits m n e → Knows n k → FlatExpression t k e
-  flat_expression (literal w) t k le fits h = record { well = ((fits, tt), tt); knows = λ x lt. learn_keeps t k x (h x lt); here = learn_same t k; lower = λ q lt. learn_other t k q (λ e. omega arith) }
-  flat_expression (name (Var y)) t k le fits h = record { well = ((tt, h y fits), tt); knows = λ x lt. learn_keeps t k x (h x lt); here = learn_same t k; lower = λ q lt. learn_other t k q (λ e. omega arith) }
-  flat_expression (name (Cell c)) t k le fits h = record { well = ((fits, tt), tt); knows = λ x lt. learn_keeps t k x (h x lt); here = learn_same t k; lower = λ q lt. learn_other t k q (λ e. omega arith) }
+  flat_expression : (e : Expression Slot) (t : ℕ) (k : Known) → n ≤ t → ExpressionFits m n e → Knows n k →
+      FlatExpression t k e
+  flat_expression (literal w) t k le fits h = record {
+    well = ((fits, tt), tt);
+    knows = λ x lt. learn_keeps t k x (h x lt);
+    here = learn_same t k;
+    lower = λ q lt. learn_other t k q (λ e. omega arith);
+  }
+  flat_expression (name (Var y)) t k le fits h = record {
+    well = ((tt, h y fits), tt);
+    knows = λ x lt. learn_keeps t k x (h x lt);
+    here = learn_same t k;
+    lower = λ q lt. learn_other t k q (λ e. omega arith);
+  }
+  flat_expression (name (Cell c)) t k le fits h = record {
+    well = ((fits, tt), tt);
+    knows = λ x lt. learn_keeps t k x (h x lt);
+    here = learn_same t k;
+    lower = λ q lt. learn_other t k q (λ e. omega arith);
+  }
   flat_expression (name (Run c l)) t k le fits h = absurd fits
   flat_expression (indexed (Var y) e) t k le fits h = absurd fits.0
   flat_expression (indexed (Cell c) e) t k le fits h = absurd fits.0
@@ -121,12 +150,15 @@ module _ (n m : ℕ) (blocks : ℕ) where
       let k1 = walk k ca in
       let B = flat_expression b (t + 1) k1 (omega arith) fits.1 A.knows in
       let k2 = walk k1 cb in
-      let at : walk k (ca ++ (cb ++ i ∷ [])) ≡ learn t k2 = walk-append k ca (cb ++ i ∷ []) ∙ walk-append k1 cb (i ∷ []) in
+      let at : walk k (ca ++ (cb ++ i ∷ [])) ≡ learn t k2 = walk-append k ca (cb ++ i ∷ [])
+      ∙ walk-append k1 cb (i ∷ []) in
       record {
-        well = flat-append k ca (cb ++ i ∷ []) A.well (flat-append k1 cb (i ∷ []) B.well ((tt, (B.lower t (omega arith) ∙ A.here, B.here)), tt));
+        well = flat-append k ca (cb ++ i ∷ []) A.well
+            (flat-append k1 cb (i ∷ []) B.well ((tt, (B.lower t (omega arith) ∙ A.here, B.here)), tt));
         knows = λ x lt. ap (λ (f : Known). f x) at ∙ learn_keeps t k2 x (B.knows x lt);
         here = ap (λ (f : Known). f t) at ∙ learn_same t k2;
-        lower = λ q lt. ap (λ (f : Known). f q) at ∙ learn_other t k2 q (λ e. omega arith) ∙ B.lower q (omega arith) ∙ A.lower q lt;
+        lower = λ q lt. ap (λ (f : Known). f q) at ∙ learn_other t k2 q (λ e. omega arith) ∙ B.lower q (omega arith)
+            ∙ A.lower q lt;
       }
 
   -- the variables are known where they are what is known
@@ -152,24 +184,37 @@ module _ (n m : ℕ) (blocks : ℕ) where
 
   -- one row after another
   flat_then : (k : Known) (a b : List Step3) → FlatIsWell k a → FlatRow (walk k a) b → FlatRow k (a ++ b)
-  flat_then k a b p q = record { well = flat-append k a b p q.well; knows = subst (λ (f : Known). Knows n f) (sym (walk-append k a b)) q.knows }
+  flat_then k a b p q = record {
+    well = flat-append k a b p q.well;
+    knows = subst (λ (f : Known). Knows n f) (sym (walk-append k a b)) q.knows;
+  }
 
   -- a jump before a row
-  flat_go : (k : Known) (to : ℕ) (is : List Step3) → to < blocks → 0 < to → Knows n k → FlatRow (pairs_below n) is → FlatRow k (Go n to ∷ is)
+  flat_go : (k : Known) (to : ℕ) (is : List Step3) → to < blocks → 0 < to → Knows n k → FlatRow (pairs_below n) is →
+      FlatRow k (Go n to ∷ is)
   flat_go k to is there entry h R = record { well = ((target to there entry, keeps k h), R.well); knows = R.knows }
 
   -- an exit before a row
-  flat_exit : (k : Known) (to : ℕ) (is : List Step3) → to < blocks → 0 < to → k (n + 1) ≡ true → Knows n k → FlatRow (forget n k) is → FlatRow k (Exit (n + 1) n to ∷ is)
-  flat_exit k to is there entry here h R = record { well = ((target to there entry, (here, (λ z. omega arith), keeps k h)), R.well); knows = R.knows }
+  flat_exit : (k : Known) (to : ℕ) (is : List Step3) → to < blocks → 0 < to → k (n + 1) ≡ true → Knows n k →
+      FlatRow (forget n k) is → FlatRow k (Exit (n + 1) n to ∷ is)
+  flat_exit k to is there entry here h R = record {
+    well =
+        ((target to there entry, (here, (λ z. omega arith), keeps k h)), R.well);
+    knows = R.knows;
+  }
 
   -- an assignment before a row
-  flat_write : (to : Slot) (k : Known) (is : List Step3) → SlotFits m n to → k (n + 1) ≡ true → Knows n k → ((k1 : Known) → Knows n k1 → FlatRow k1 is) → FlatRow k (write n to ∷ is)
-  flat_write (Var x) k is fits here h rest = let R = rest (learn x k) (λ y l. learn_keeps x k y (h y l)) in record { well = ((tt, here), R.well); knows = R.knows }
-  flat_write (Cell c) k is fits here h rest = let R = rest (forget n k) (knows_forget k h) in record { well = ((fits, (here, λ e. omega arith)), R.well); knows = R.knows }
+  flat_write : (to : Slot) (k : Known) (is : List Step3) → SlotFits m n to → k (n + 1) ≡ true → Knows n k →
+      ((k1 : Known) → Knows n k1 → FlatRow k1 is) → FlatRow k (write n to ∷ is)
+  flat_write (Var x) k is fits here h rest = let R = rest (learn x k) (λ y l. learn_keeps x k y (h y l)) in
+      record { well = ((tt, here), R.well); knows = R.knows }
+  flat_write (Cell c) k is fits here h rest = let R = rest (forget n k) (knows_forget k h) in
+      record { well = ((fits, (here, λ e. omega arith)), R.well); knows = R.knows }
   flat_write (Run c l) k is fits here h rest = absurd fits
 
   -- an assignment with an index before a row
-  flat_write_at : (to : Slot) (k : Known) (is : List Step3) → RunFits m to → k (n + 1) ≡ true → k (n + 2) ≡ true → Knows n k → ((k1 : Known) → Knows n k1 → FlatRow k1 is) → FlatRow k (write n to ∷ is)
+  flat_write_at : (to : Slot) (k : Known) (is : List Step3) → RunFits m to → k (n + 1) ≡ true → k (n + 2) ≡ true →
+      Knows n k → ((k1 : Known) → Knows n k1 → FlatRow k1 is) → FlatRow k (write n to ∷ is)
   flat_write_at (Var x) k is fits index here h rest = absurd fits
   flat_write_at (Cell c) k is fits index here h rest = absurd fits
   flat_write_at (Run c l) k is fits index here h rest =
@@ -177,11 +222,14 @@ module _ (n m : ℕ) (blocks : ℕ) where
       record { well = ((fits, (index, here, (λ e. omega arith), λ e. omega arith)), R.well); knows = R.knows }
 
   -- the steps of statements are well
-  flat_statements : (st : StatementList Slot) (b : ℕ) (k : Known) → b + block_count st < blocks → StatementsFit m n st → Knows n k → FlatRow k (statement_steps n b st)
+  flat_statements : (st : StatementList Slot) (b : ℕ) (k : Known) → b + block_count st < blocks → StatementsFit m n st →
+      Knows n k → FlatRow k (statement_steps n b st)
   flat_statements none b k lt fits h = record { well = tt; knows = h }
   flat_statements (assign to e rest) b k lt fits h =
       let E = flat_expression e (n + 1) k (omega arith) fits.1 h in
-      flat_then k (expression_steps (n + 1) e) (write n to ∷ statement_steps n b rest) E.well (flat_write to _ (statement_steps n b rest) fits.0 E.here E.knows (λ k1 h1. flat_statements rest b k1 lt fits.2 h1))
+      flat_then k (expression_steps (n + 1) e) (write n to ∷ statement_steps n b rest) E.well
+      (flat_write to _ (statement_steps n b rest) fits.0 E.here E.knows (λ k1 h1.
+      flat_statements rest b k1 lt fits.2 h1))
   flat_statements (assign_at to i e rest) b k lt fits h =
       let ci = expression_steps (n + 1) i in
       let ce = expression_steps (n + 2) e in
@@ -190,7 +238,8 @@ module _ (n m : ℕ) (blocks : ℕ) where
       let k1 = walk k ci in
       let E = flat_expression e (n + 2) k1 (omega arith) fits.2 I.knows in
       flat_then k ci (ce ++ (write n to ∷ cr)) I.well
-      (flat_then k1 ce (write n to ∷ cr) E.well (flat_write_at to (walk k1 ce) cr fits.0 (E.lower (n + 1) (omega arith) ∙ I.here) E.here E.knows (λ k2 h2. flat_statements rest b k2 lt fits.3 h2)))
+      (flat_then k1 ce (write n to ∷ cr) E.well (flat_write_at to (walk k1 ce) cr fits.0 (E.lower (n + 1) (omega arith)
+      ∙ I.here) E.here E.knows (λ k2 h2. flat_statements rest b k2 lt fits.3 h2)))
   flat_statements (loop e body rest) b k lt fits h =
       let out = b + 2 + block_count body in
       let ce = expression_steps (n + 1) e in
@@ -202,7 +251,8 @@ module _ (n m : ℕ) (blocks : ℕ) where
       let B = flat_statements body (b + 1) k2 (omega arith) fits.1 (knows_forget k1 E.knows) in
       let R = flat_statements rest out (pairs_below n) (omega arith) fits.2 knows_below in
       let G = flat_go (walk k2 cb) (b + 1) cr (omega arith) (omega arith) B.knows R in
-      let X = flat_exit k1 out (cb ++ Go n (b + 1) ∷ cr) (omega arith) (omega arith) E.here E.knows (flat_then k2 cb (Go n (b + 1) ∷ cr) B.well G) in
+      let X = flat_exit k1 out (cb ++ Go n (b + 1) ∷ cr) (omega arith) (omega arith) E.here E.knows
+      (flat_then k2 cb (Go n (b + 1) ∷ cr) B.well G) in
       flat_go k (b + 1) _ (omega arith) (omega arith) h (flat_then (pairs_below n) ce _ E.well X)
   flat_statements (choose e x y rest) b k lt fits h =
       let out = b + 2 + block_count x + block_count y in
@@ -219,8 +269,10 @@ module _ (n m : ℕ) (blocks : ℕ) where
       let B = flat_statements y other (pairs_below n) (omega arith) fits.2 knows_below in
       let R = flat_statements rest out (pairs_below n) (omega arith) fits.3 knows_below in
       let GR = flat_go (walk (pairs_below n) cb) out cr (omega arith) (omega arith) B.knows R in
-      let GB = flat_go (walk k2 ca) out (cb ++ go ∷ cr) (omega arith) (omega arith) A.knows (flat_then (pairs_below n) cb (go ∷ cr) B.well GR) in
-      let X = flat_exit k1 other (ca ++ (go ∷ (cb ++ go ∷ cr))) (omega arith) (omega arith) E.here E.knows (flat_then k2 ca (go ∷ (cb ++ go ∷ cr)) A.well GB) in
+      let GB = flat_go (walk k2 ca) out (cb ++ go ∷ cr) (omega arith) (omega arith) A.knows
+      (flat_then (pairs_below n) cb (go ∷ cr) B.well GR) in
+      let X = flat_exit k1 other (ca ++ (go ∷ (cb ++ go ∷ cr))) (omega arith) (omega arith) E.here E.knows
+      (flat_then k2 ca (go ∷ (cb ++ go ∷ cr)) A.well GB) in
       flat_then k ce _ E.well X
 
   -- the zeros at the start are well
@@ -270,28 +322,44 @@ module _ (n m : ℕ) (blocks : ℕ) where
   closed (x ∷ o) i h e = subst (λ b. EndIs b (o ++ i ∷ [])) (sym h.0) (closed o i h.1 e)
 
   -- one step more that is well
-  row-append : (k : Known) (o : List Step3) (i : Step3) → RowIsWell n m blocks k o → StepIsWell (row_known k o) i → RowIsWell n m blocks k (o ++ i ∷ [])
+  row-append : (k : Known) (o : List Step3) (i : Step3) → RowIsWell n m blocks k o → StepIsWell (row_known k o) i →
+      RowIsWell n m blocks k (o ++ i ∷ [])
   row-append k [] i h w = (w.0, w.1, tt)
   row-append k (x ∷ o) i h w = (h.0, h.1, row-append (known_after x k) o i h.2 w)
 
   -- what is known after one step more
-  row_known-append : (k : Known) (o : List Step3) (i : Step3) → row_known k (o ++ i ∷ []) ≡ known_after i (row_known k o)
+  row_known-append : (k : Known) (o : List Step3) (i : Step3) → row_known k (o ++ i ∷ [])
+      ≡ known_after i (row_known k o)
   row_known-append k [] i = refl
   row_known-append k (x ∷ o) i = row_known-append (known_after x k) o i
 
   -- by whether the next step ends the block
-  all_by : (b : Bool) (i : Step3) (is o : List Step3) (k : Known) → is_last i ≡ b → ((o1 : List Step3) (k1 : Known) → IsOpen o1 → RowIsWell n m blocks k1 o1 → FlatIsWell (row_known k1 o1) (is ++ Stop ∷ []) → AllAreWell k1 (blocks_onto o1 (is ++ Stop ∷ []))) → IsOpen o → RowIsWell n m blocks k o → StepIsWell (row_known k o) i → FlatIsWell (cond b (pairs_below n) (known_after i (row_known k o))) (is ++ Stop ∷ []) → AllAreWell k (elim b as (λ b. Blocks) [ true ↦ (o ++ i ∷ []) ∷ blocks_onto [] (is ++ Stop ∷ []) | false ↦ blocks_onto (o ++ i ∷ []) (is ++ Stop ∷ []) ])
-  all_by true i is o k e next op row step flat = (record { ended = closed o i op e; well = row-append k o i row step }, next [] (pairs_below n) tt tt flat)
+  all_by : (b : Bool) (i : Step3) (is o : List Step3) (k : Known) → is_last i ≡ b →
+      ((o1 : List Step3) (k1 : Known) → IsOpen o1 → RowIsWell n m blocks k1 o1 →
+      FlatIsWell (row_known k1 o1) (is ++ Stop ∷ []) → AllAreWell k1 (blocks_onto o1 (is ++ Stop ∷ []))) → IsOpen o →
+      RowIsWell n m blocks k o → StepIsWell (row_known k o) i →
+      FlatIsWell (cond b (pairs_below n) (known_after i (row_known k o))) (is ++ Stop ∷ []) →
+      AllAreWell k (elim b as (λ b. Blocks) [
+        | true ↦ (o ++ i ∷ []) ∷ blocks_onto [] (is ++ Stop ∷ [])
+        | false ↦ blocks_onto (o ++ i ∷ []) (is ++ Stop ∷ [])
+      ])
+  all_by true i is o k e next op row step flat = (
+    record { ended = closed o i op e; well = row-append k o i row step },
+    next [] (pairs_below n) tt tt flat,
+  )
   all_by false i is o k e next op row step flat =
-      next (o ++ i ∷ []) k (open-append o i op e) (row-append k o i row step) (subst (λ (f : Known). FlatIsWell f (is ++ Stop ∷ [])) (sym (row_known-append k o i)) flat)
+      next (o ++ i ∷ []) k (open-append o i op e) (row-append k o i row step)
+      (subst (λ (f : Known). FlatIsWell f (is ++ Stop ∷ [])) (sym (row_known-append k o i)) flat)
 
   -- a row that is well makes blocks that are
-  all_onto : (is o : List Step3) (k : Known) → IsOpen o → RowIsWell n m blocks k o → FlatIsWell (row_known k o) (is ++ Stop ∷ []) → AllAreWell k (blocks_onto o (is ++ Stop ∷ []))
+  all_onto : (is o : List Step3) (k : Known) → IsOpen o → RowIsWell n m blocks k o →
+      FlatIsWell (row_known k o) (is ++ Stop ∷ []) → AllAreWell k (blocks_onto o (is ++ Stop ∷ []))
   all_onto [] o k op row flat = (record { ended = closed o Stop op refl; well = row-append k o Stop row (tt, tt) }, tt)
   all_onto (i ∷ is) o k op row flat = all_by (is_last i) i is o k refl (λ o1 k1. all_onto is o1 k1) op row flat.0 flat.1
 
   -- one of the other blocks
-  other_at : (bs : Blocks) (b : ℕ) → AllAreWell (pairs_below n) bs → b < length bs → BlockIsWell (pairs_below n) (block_of bs b)
+  other_at : (bs : Blocks) (b : ℕ) → AllAreWell (pairs_below n) bs → b < length bs →
+      BlockIsWell (pairs_below n) (block_of bs b)
   other_at [] b h lt = absurd (omega arith)
   other_at (x ∷ bs) zero h lt = h.0
   other_at (x ∷ bs) (suc b) h lt = other_at bs b h.1 (omega arith)
@@ -312,10 +380,13 @@ lowered_is_well p ok =
     let bs = lowered p in
     let same : program_steps p ≡ is ++ Stop ∷ [] = sym (append_assoc (zeros n) cp (Stop ∷ [])) in
     let e : blocks_onto [] (is ++ Stop ∷ []) ≡ bs = ap (blocks_onto []) (sym same) in
-    let at = block_append (first 0) (zeros n) cp ∙ statements_block p.body n 0 (after (first 0) (zeros n)) (zeros_block n (first 0)) in
+    let at = block_append (first 0) (zeros n) cp ∙ statements_block p.body n 0 (after (first 0) (zeros n))
+    (zeros_block n (first 0)) in
     let N = length bs in
-    let many : N ≡ suc (0 + block_count p.body) = let z = blocks_many [] is (first 0) in omega (arith, z, ap length e, at) in
-    let F = flat_statements n m N p.body 0 (walk n m N no_pair (zeros n)) (omega arith) ok.names (zeros_known n m N n) in
+    let many : N ≡ suc (0 + block_count p.body) = let z = blocks_many [] is (first 0) in
+    omega (arith, z, ap length e, at) in
+    let F = flat_statements n m N p.body 0 (walk n m N no_pair (zeros n)) (omega arith) ok.names (zeros_known n m N n)
+    in
     let S = flat_then n m N no_pair (zeros n) cp (flat_zeros n m N n) F in
     let all = all_onto n m N is [] no_pair tt tt (flat-append n m N no_pair is (Stop ∷ []) S.well ((tt, tt), tt)) in
     let A = subst (AllAreWell n m N no_pair) e all in

@@ -1,16 +1,19 @@
 -- The lowered program does what the program does, in both directions.
-use Rattle.std.proofs.Common.{◌≡◌, ℕ, zero, suc, ◌+◌, ◌*◌, ◌≤◌, Bool, true, false, [], ◌∷◌, ◌++◌, length, Some, inl, inr, refl, sym, ap, ◌∙◌, subst, arith}
-use Rattle.std.proofs.lemmas.Bool.{cases_eq, cases_lt}
+use Rattle.std.proofs.Common.{◌≡◌, ℕ, zero, suc, ◌+◌, ◌*◌, ◌≤◌, Bool, true, false, [], ◌∷◌, ◌++◌, length, Some, inl}
+use Rattle.std.proofs.Common.{inr, refl, sym, ap, ◌∙◌, subst, arith}
+use Rattle.std.proofs.lemmas.Bool.{cases_eq}
 use Rattle.std.proofs.lemmas.List.{get_or-replicate, length-replicate}
 use Rattle.ft_scope.specs.Size.{StatementsFit}
 use Rattle.ft_scope.specs.Resolved.{Program, program_need, program_weight}
 use Rattle.ft_meaning.specs.Meaning.{State, Outcome, Ended, Cut, state_of, run, start, meaning}
 use Rattle.ft_meaning.specs.Begins.{Begins}
 use Rattle.ft_lower.specs.declared.step3.Step3.TheVariants.{Put, Stop}
-use Rattle.ft_lower.specs.Flow.{Blocks, Place, FlowState, on, first, goes_on, with_pair, act, step_at, steps, flow_start}
+use Rattle.ft_lower.specs.Flow.{Blocks, Place, FlowState, on, first, goes_on, with_pair, act, step_at, steps}
+use Rattle.ft_lower.specs.Flow.{flow_start}
 use Rattle.ft_lower.specs.Lowered.{statement_steps, zeros, program_steps, lowered}
 use Rattle.ft_lower.specs.Lowers.{Lowers}
-use Rattle.ft_lower.proofs.Runs.{Reaches, reach_none, reach_trans, reach_one, reached, stays, later, after, after-append, HasAt, has_front, has_back, has_all}
+use Rattle.ft_lower.proofs.Runs.{Reaches, reach_trans, reach_one, done_stays, done_once, done_after, out_grows, after}
+use Rattle.ft_lower.proofs.Runs.{after-append, HasAt, has_front, has_back, has_all}
 use Rattle.ft_lower.proofs.EndBlocks.{zeros_block}
 use Rattle.ft_lower.proofs.Expressions.{Like, same_pair, other_pair}
 use Rattle.ft_lower.proofs.Statements.{Runs, statements_run}
@@ -33,11 +36,23 @@ record Fresh (bs : Blocks) (k : ℕ) (p : Place) (f : FlowState) : Type 0 where
 
 -- a pair that is 0 stays so
 zero_pair : (k q : ℕ) (f : FlowState) → f.pairs q ≡ 0 → (with_pair k 0 f).pairs q ≡ 0
-zero_pair k q f z = elim (cases_eq q k) [ inl e ↦ subst (λ x. (with_pair k 0 f).pairs x ≡ 0) (sym e) (same_pair k 0 f) | inr ne ↦ other_pair k 0 f q ne ∙ z ]
+zero_pair k q f z = elim (cases_eq q k) [
+  | inl e ↦ subst (λ x. (with_pair k 0 f).pairs x ≡ 0) (sym e) (same_pair k 0 f)
+  | inr ne ↦ other_pair k 0 f q ne ∙ z
+]
 
 -- the zeros take a step for each variable
-zeros_run : (bs : Blocks) (k : ℕ) (p : Place) (f : FlowState) → HasAt bs p (zeros k) → ((q : ℕ) → f.pairs q ≡ 0) → f.place ≡ p → f.done ≡ false → Fresh bs k (after p (zeros k)) f
-zeros_run bs zero p f has z at run = record { end = f; reaches = reach_none bs f; pairs = z; cells = refl; place = at; out = refl; running = run }
+zeros_run : (bs : Blocks) (k : ℕ) (p : Place) (f : FlowState) → HasAt bs p (zeros k) → ((q : ℕ) → f.pairs q ≡ 0) →
+    f.place ≡ p → f.done ≡ false → Fresh bs k (after p (zeros k)) f
+zeros_run bs zero p f has z at run = record {
+  end = f;
+  reaches = record { is = refl };
+  pairs = z;
+  cells = refl;
+  place = at;
+  out = refl;
+  running = run;
+}
 zeros_run bs (suc k) p f has z at run =
     let A = zeros_run bs k p f (has_front bs p (zeros k) _ has) z at run in
     let p1 = after p (zeros k) in
@@ -46,7 +61,8 @@ zeros_run bs (suc k) p f has z at run =
     let j : k + 1 ≡ suc k = omega arith in
     record {
       end = g;
-      reaches = subst (λ i. Reaches bs i f g) j (reach_trans bs k 1 f A.end g A.reaches (reach_one bs A.end (Put k 0) A.running (ap (step_at bs) A.place ∙ h.0)));
+      reaches = subst (λ i. Reaches bs i f g) j (reach_trans bs k 1 f A.end g A.reaches
+          (reach_one bs A.end (Put k 0) A.running (ap (step_at bs) A.place ∙ h.0)));
       pairs = λ q. zero_pair k q A.end (A.pairs q);
       cells = A.cells;
       place = ap on A.place ∙ sym (after-append p (zeros k) (Put k 0 ∷ []));
@@ -57,18 +73,30 @@ zeros_run bs (suc k) p f has z at run =
 -- what the flow does where the program has this result
 abbrev Follows : Blocks → FlowState → ℕ → Outcome → Type 0
 Follows bs f t (Ended s) = (j : ℕ) × (j ≤ 2 * s.work + 40) × ((steps bs j f).done ≡ true) × ((steps bs j f).out ≡ s.out)
-Follows bs f t (Cut s) = (j : ℕ) × (t ≤ j) × (j ≤ 2 * s.work + 40) × ((steps bs j f).done ≡ false) × ((steps bs j f).out ≡ s.out)
+Follows bs f t (Cut s) = (j : ℕ) × (t ≤ j) × (j ≤ 2 * s.work + 40) × ((steps bs j f).done ≡ false)
+    × ((steps bs j f).out ≡ s.out)
 
 -- after the zeros come the statements, and then the end
-follows_from : (bs : Blocks) (n i t : ℕ) (p : Place) (s : State) (f f1 : FlowState) (r : Outcome) → i ≤ 32 → s.work ≡ 0 → s.left ≡ t → Reaches bs i f f1 → step_at bs p ≡ Some Stop → Runs bs n 0 p s f1 r → Follows bs f t r
+follows_from : (bs : Blocks) (n i t : ℕ) (p : Place) (s : State) (f f1 : FlowState) (r : Outcome) → i ≤ 32 → s.work
+    ≡ 0 → s.left ≡ t → Reaches bs i f f1 → step_at bs p ≡ Some Stop → Runs bs n 0 p s f1 r → Follows bs f t r
 follows_from bs n i t p s f f1 (Ended s1) le w l to at r =
     let g = act Stop r.end in
-    let all = reach_trans bs (i + r.taken) 1 f r.end g (reach_trans bs i r.taken f f1 r.end to r.reaches) (reach_one bs r.end Stop r.like.running (ap (step_at bs) r.like.place ∙ at)) in
-    let e = reached bs (i + r.taken + 1) f g all in
-    (i + r.taken + 1, omega (arith, r.few), ap (λ (x : FlowState). x.done) e, ap (λ (x : FlowState). x.out) e ∙ r.like.out)
+    let all = reach_trans bs (i + r.taken) 1 f r.end g (reach_trans bs i r.taken f f1 r.end to r.reaches)
+    (reach_one bs r.end Stop r.like.running (ap (step_at bs) r.like.place ∙ at)) in (
+      i + r.taken + 1,
+      omega (arith, r.few),
+      ap (λ (x : FlowState). x.done) all.is,
+      ap (λ (x : FlowState). x.out) all.is
+          ∙ r.like.out,
+    )
 follows_from bs n i t p s f f1 (Cut s1) le w l to at r =
-    let e = reached bs (i + r.taken) f r.end (reach_trans bs i r.taken f f1 r.end to r.reaches) in
-    (i + r.taken, omega (arith, r.many), omega (arith, r.few), ap (λ (x : FlowState). x.done) e ∙ r.running, ap (λ (x : FlowState). x.out) e ∙ r.out)
+    let all = reach_trans bs i r.taken f f1 r.end to r.reaches in (
+      i + r.taken,
+      omega (arith, r.many),
+      omega (arith, r.few),
+      ap (λ (x : FlowState). x.done) all.is ∙ r.running,
+      ap (λ (x : FlowState). x.out) all.is ∙ r.out,
+    )
 
 -- the flow does what the program does
 follows : (p : Program) → IsResolved p → (t : ℕ) → Follows (lowered p) (flow_start p.inits) t (meaning p t)
@@ -89,38 +117,40 @@ follows p fits t =
       out = A.out;
       running = A.running;
     } in
-    let R = statements_run bs n (length p.inits) p.body 0 p1 (start p t) A.end (zeros_block n (first 0)) fits.names (has_front bs p1 cp _ h) like in
-    follows_from bs n n t (after p1 cp) (start p t) f A.end (meaning p t) (omega (arith, fits.need)) refl refl A.reaches (has_back bs p1 cp (Stop ∷ []) h).0 R
+    let R = statements_run bs n (length p.inits) p.body 0 p1 (start p t) A.end (zeros_block n (first 0)) fits.names
+    (has_front bs p1 cp _ h) like in
+    follows_from bs n n t (after p1 cp) (start p t) f A.end (meaning p t) (omega (arith, fits.need)) refl refl A.reaches
+    (has_back bs p1 cp (Stop ∷ []) h).0 R
 
 -- no test is both
 clash : (b : Bool) → b ≡ true → b ≡ false → ⊥
 clash b p q = cc
 
 -- a run that is done is the ended one
-done_from : (bs : Blocks) (f : FlowState) (k : ℕ) (r : Outcome) → Follows bs f k r → (steps bs k f).done ≡ true → (s : State) × (r ≡ Ended s) × ((steps bs k f).out ≡ s.out)
-done_from bs f k (Ended s) h d =
-    elim (cases_lt h.0 k) [
-      | inl lt ↦ (s, refl, ap (λ (x : FlowState). x.out) (stays bs h.0 k f (omega arith) h.2) ∙ h.3)
-      | inr le ↦ (s, refl, ap (λ (x : FlowState). x.out) (sym (stays bs k h.0 f le d)) ∙ h.3)
-    ]
-done_from bs f k (Cut s) h d = absurd (clash (steps bs h.0 f).done (ap (λ (x : FlowState). x.done) (stays bs k h.0 f h.1 d) ∙ d) h.3)
+done_from : (bs : Blocks) (f : FlowState) (k : ℕ) (r : Outcome) → Follows bs f k r → (steps bs k f).done ≡ true →
+    (s : State) × (r ≡ Ended s) × ((steps bs k f).out ≡ s.out)
+done_from bs f k (Ended s) h d = (s, refl, ap (λ (x : FlowState). x.out) (done_once bs f k h.0 d h.2) ∙ h.3)
+done_from bs f k (Cut s) h d = absurd (clash (steps bs h.0 f).done
+    (ap (λ (x : FlowState). x.done) (done_stays bs f k h.0 h.1 d) ∙ d) h.3)
 
 -- a run that is not done has outputs that begin those
-running_from : (bs : Blocks) (f : FlowState) (k : ℕ) (r : Outcome) → Follows bs f k r → (steps bs k f).done ≡ false → Begins (steps bs k f).out (state_of r).out
+running_from : (bs : Blocks) (f : FlowState) (k : ℕ) (r : Outcome) → Follows bs f k r → (steps bs k f).done ≡ false →
+    Begins (steps bs k f).out (state_of r).out
 running_from bs f k (Ended s) h d =
-    elim (cases_lt h.0 k) [
-      | inl lt ↦ absurd (clash (steps bs k f).done (ap (λ (x : FlowState). x.done) (stays bs h.0 k f (omega arith) h.2) ∙ h.2) d)
-      | inr le ↦ subst (λ o. Begins (steps bs k f).out o) h.3 (later bs k h.0 f le)
-    ]
-running_from bs f k (Cut s) h d = subst (λ o. Begins (steps bs k f).out o) h.4 (later bs k h.0 f h.1)
+    let lt = done_after bs f k h.0 (λ e. clash (steps bs k f).done e d) h.2 in
+    subst (λ o. Begins (steps bs k f).out o) h.3 (out_grows bs f k h.0 (omega (arith, lt)))
+running_from bs f k (Cut s) h d = subst (λ o. Begins (steps bs k f).out o) h.4 (out_grows bs f k h.0 h.1)
 
 -- after twice the work and 40 steps the run is done
-ends_from : (bs : Blocks) (f : FlowState) (k t : ℕ) (s : State) → Follows bs f t (Ended s) → 2 * s.work + 40 ≤ k → ((steps bs k f).done ≡ true) × ((steps bs k f).out ≡ s.out)
-ends_from bs f k t s h le = let e = stays bs h.0 k f (omega (arith, h.1)) h.2 in (ap (λ (x : FlowState). x.done) e ∙ h.2, ap (λ (x : FlowState). x.out) e ∙ h.3)
+ends_from : (bs : Blocks) (f : FlowState) (k t : ℕ) (s : State) → Follows bs f t (Ended s) → 2 * s.work + 40 ≤ k →
+    ((steps bs k f).done ≡ true) × ((steps bs k f).out ≡ s.out)
+ends_from bs f k t s h le = let e = done_stays bs f h.0 k (omega (arith, h.1)) h.2 in
+    (ap (λ (x : FlowState). x.done) e ∙ h.2, ap (λ (x : FlowState). x.out) e ∙ h.3)
 
 -- and has the outputs of a cut one
-cuts_from : (bs : Blocks) (f : FlowState) (k t : ℕ) (s : State) → Follows bs f t (Cut s) → 2 * s.work + 40 ≤ k → Begins s.out (steps bs k f).out
-cuts_from bs f k t s h le = subst (λ o. Begins o (steps bs k f).out) h.4 (later bs h.0 k f (omega (arith, h.2)))
+cuts_from : (bs : Blocks) (f : FlowState) (k t : ℕ) (s : State) → Follows bs f t (Cut s) → 2 * s.work + 40 ≤ k →
+    Begins s.out (steps bs k f).out
+cuts_from bs f k t s h le = subst (λ o. Begins o (steps bs k f).out) h.4 (out_grows bs f h.0 k (omega (arith, h.2)))
 
 -- the blocks of a program do what it means
 pub lowers : (p : Program) → IsResolved p → Lowers p (lowered p)

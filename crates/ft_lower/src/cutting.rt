@@ -13,7 +13,7 @@ fn ends_block(step: &Step3) -> bool
     matches!(step, Step3::Go { .. } | Step3::Stop)
 }
 
-/// The blocks that steps in a row are.
+/// The blocks that steps in a row are. Each takes as much memory as its steps do.
 pub fn cut(alloc: Global, steps: &[Step3]) -> Result<Vec<Vec<Step3>>, AllocError>
     ensures { IfOk result (λ blocks. map (λ b. b.items) blocks.items ≡ blocks_onto [] steps.now) }
 {
@@ -22,8 +22,8 @@ pub fn cut(alloc: Global, steps: &[Step3]) -> Result<Vec<Vec<Step3>>, AllocError
     for step in steps {
         open_block.push(*step)?;
         if ends_block(step) {
-            blocks.push(open_block)?;
-            open_block = Vec::new(alloc);
+            blocks.push(Vec::from_slice(alloc, &open_block)?)?;
+            open_block.clear();
         }
     }
     if !open_block.is_empty() {

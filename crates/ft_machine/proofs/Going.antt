@@ -1,5 +1,6 @@
 -- Steps whose outputs an outlet takes.
-use Rattle.std.proofs.Common.{◌≡◌, ℕ, zero, suc, ◌+◌, ◌-◌, ◌^◌, ◌<◌, ◌≤◌, List, [], ◌∷◌, ◌++◌, Option, Some, None, Bool, true, false, refl, ap, sym, subst, ◌∙◌, ⊎_elim, append_assoc, arith}
+use Rattle.std.proofs.Common.{◌≡◌, ℕ, zero, suc, ◌+◌, ◌-◌, ◌^◌, ◌<◌, ◌≤◌, List, [], ◌∷◌, ◌++◌, Option, Some, None, Bool}
+use Rattle.std.proofs.Common.{true, false, refl, ap, sym, subst, ◌∙◌, ⊎_elim, append_assoc, arith}
 use Rattle.std.proofs.lemmas.List.{append-nil}
 use Rattle.std.proofs.lemmas.Bool.{cases_lt}
 use Rattle.std.specs.Option.{option_to_list}
@@ -36,7 +37,8 @@ told_output_is None status.Running = refl
 told_output_is None status.Done = refl
 told_output_is None status.Detected = refl
 
-told_status_is : (x : Option Output) (v : Status) → ((out : Output) → x ≡ Some out → v ≡ status.Running) → v ≡ status_told (told_output x v)
+told_status_is : (x : Option Output) (v : Status) → ((out : Output) → x ≡ Some out → v ≡ status.Running) → v
+    ≡ status_told (told_output x v)
 told_status_is (Some out) v h = h out refl
 told_status_is None status.Running h = refl
 told_status_is None status.Done h = refl
@@ -49,7 +51,8 @@ effect_output (effects.Commit output) = refl
 effect_output effects.Done = refl
 effect_output effects.Detected = refl
 
-effect_status : (e : Effect) (b : Bank) (green blue : ℕ) (f : Option Instr) → (followed e b green blue f).status ≡ status_told (told_effect e)
+effect_status : (e : Effect) (b : Bank) (green blue : ℕ) (f : Option Instr) → (followed e b green blue f).status
+    ≡ status_told (told_effect e)
 effect_status effects.On b green blue f = refl
 effect_status (effects.To target) b green blue f = refl
 effect_status (effects.Commit output) b green blue f = refl
@@ -61,22 +64,34 @@ pub rest_below : (n m j : ℕ) → n ≤ j → j < n + m → j - n < m
 rest_below n m j le below = omega arith
 
 -- the last output is the same where outputs are the same, and where others come before
-pub last_as : (pause : Pause) (f g : ℕ → List Output) (n : ℕ) → ((i : ℕ) → i ≤ n → f i ≡ g i) → EndsWith pause f n → EndsWith pause g n
+pub last_as : (pause : Pause) (f g : ℕ → List Output) (n : ℕ) → ((i : ℕ) → i ≤ n → f i ≡ g i) → EndsWith pause f n →
+    EndsWith pause g n
 last_as pauses.Running f g n same h = tt
 last_as pauses.Done f g n same h = tt
 last_as pauses.Detected f g n same h = tt
 last_as pauses.Refused f g n same (j, (x, (is, outputs))) =
     (j, (x, (is, sym (same n (omega arith)) ∙ outputs ∙ ap (λ ys. ys ++ x ∷ []) (same j (omega (arith, is))))))
 
-pub last_after : (pause : Pause) (front : List Output) (f g : ℕ → List Output) (n m : ℕ) → ((i : ℕ) → g (n + i) ≡ front ++ f i) → EndsWith pause f m → EndsWith pause g (n + m)
+pub last_after : (pause : Pause) (front : List Output) (f g : ℕ → List Output) (n m : ℕ) →
+    ((i : ℕ) → g (n + i) ≡ front ++ f i) → EndsWith pause f m → EndsWith pause g (n + m)
 last_after pauses.Running front f g n m whole h = tt
 last_after pauses.Done front f g n m whole h = tt
 last_after pauses.Detected front f g n m whole h = tt
-last_after pauses.Refused front f g n m whole (j, (x, (is, outputs))) =
-    (n + j, (x, (omega (arith, is), whole m ∙ ap (λ ys. front ++ ys) outputs ∙ sym (append_assoc front (f j) (x ∷ [])) ∙ ap (λ ys. ys ++ x ∷ []) (sym (whole j)))))
+last_after pauses.Refused front f g n m whole (j, (x, (is, outputs))) = (
+  n + j,
+  (
+    x,
+    (
+      omega (arith, is),
+      whole m ∙ ap (λ ys. front ++ ys) outputs ∙ sym (append_assoc front (f j) (x ∷ []))
+          ∙ ap (λ ys. ys ++ x ∷ []) (sym (whole j)),
+    ),
+  ),
+)
 
 -- the last step gave what it told
-last_one : (pause : Pause) (last : Stepped) (f : ℕ → List Output) (n j : ℕ) → n ≡ j + 1 → (pause ≡ pauses.Refused → (output : Output) × (last ≡ Commit output))
+last_one : (pause : Pause) (last : Stepped) (f : ℕ → List Output) (n j : ℕ) → n ≡ j + 1 →
+    (pause ≡ pauses.Refused → (output : Output) × (last ≡ Commit output))
     → f n ≡ f j ++ option_to_list (output_told last) → EndsWith pause f n
 last_one pauses.Running last f n j is given outputs = tt
 last_one pauses.Done last f n j is given outputs = tt
@@ -86,15 +101,20 @@ last_one pauses.Refused last f n j is given outputs =
     (j, (x.0, (is, outputs ∙ ap (λ l. f j ++ option_to_list (output_told l)) x.1)))
 
 -- what is committed goes to a cell
-pub commit_cell : (b new : Bank) (pc : ℕ) (i : Instr) (x : Output) (w left : List Wild) → Does (execute i) b new (effects.Commit x) w left → is_cell b.cells x.addr ≡ true
-commit_cell b new pc i x w left h = ((execute_is_proper i (doing b pc pc (Some i)) w).output x (ap (λ t. t.output) (h.does pc pc (Some i)))).1
+pub commit_cell : (b new : Bank) (pc : ℕ) (i : Instr) (x : Output) (w left : List Wild) →
+    Does (execute i) b new (effects.Commit x) w left → is_cell b.cells x.addr ≡ true
+commit_cell b new pc i x w left h = ((execute_is_proper i (doing b pc pc (Some i)) w).output x
+    (ap (λ t. t.output) (h.does pc pc (Some i)))).1
 
 module _ {T : Type 0} (outlet : Ghosts T) where
   hears_none : (t : T) → Hears outlet.heard t [] true t
   hears_none t = λ first before h. subst (λ xs. outlet.heard first xs true t) (sym (append-nil before)) h
 
-  hears_then : (t t1 t2 : T) (xs ys : List Output) (b : Bool) → Hears outlet.heard t xs true t1 → Hears outlet.heard t1 ys b t2 → Hears outlet.heard t (xs ++ ys) b t2
-  hears_then t t1 t2 xs ys b h k = λ first before given. subst (λ zs. outlet.heard first zs b t2) (append_assoc before xs ys) (k first (before ++ xs) (h first before given))
+  hears_then : (t t1 t2 : T) (xs ys : List Output) (b : Bool) → Hears outlet.heard t xs true t1 →
+      Hears outlet.heard t1 ys b t2 → Hears outlet.heard t (xs ++ ys) b t2
+  hears_then t t1 t2 xs ys b h k = λ first before given.
+      subst (λ zs. outlet.heard first zs b t2) (append_assoc before xs ys)
+      (k first (before ++ xs) (h first before given))
 
   -- a step without an output
   pub passes_quiet : (t : T) → PassesOn outlet Quiet t t pauses.Running
@@ -107,15 +127,28 @@ module _ {T : Type 0} (outlet : Ghosts T) where
   passes_detected t = record { status_is = refl; given = λ e. absurd (cc); hears = hears_none t; still = λ x h. h }
 
   -- a step with one
-  pub passes_on : (x : Output) (b : Bool) (t t' : T) → b ≡ true → Hears outlet.heard t (x ∷ []) b t' → ((other : Output) → outlet.may t other → outlet.may t' other) → PassesOn outlet (Commit x) t t' pauses.Running
-  passes_on x b t t' is h still = record { status_is = refl; given = λ e. absurd (cc); hears = subst (λ y. Hears outlet.heard t (x ∷ []) y t') is h; still = still }
+  pub passes_on : (x : Output) (b : Bool) (t t' : T) → b ≡ true → Hears outlet.heard t (x ∷ []) b t' →
+      ((other : Output) → outlet.may t other → outlet.may t' other) → PassesOn outlet (Commit x) t t' pauses.Running
+  passes_on x b t t' is h still = record {
+    status_is = refl;
+    given = λ e. absurd (cc);
+    hears = subst (λ y. Hears outlet.heard t (x ∷ []) y t') is h;
+    still = still;
+  }
 
-  pub passes_last : (x : Output) (b : Bool) (t t' : T) → b ≡ false → Hears outlet.heard t (x ∷ []) b t' → ((other : Output) → outlet.may t other → outlet.may t' other) → PassesOn outlet (Commit x) t t' pauses.Refused
-  passes_last x b t t' is h still = record { status_is = refl; given = λ e. (x, refl); hears = subst (λ y. Hears outlet.heard t (x ∷ []) y t') is h; still = still }
+  pub passes_last : (x : Output) (b : Bool) (t t' : T) → b ≡ false → Hears outlet.heard t (x ∷ []) b t' →
+      ((other : Output) → outlet.may t other → outlet.may t' other) → PassesOn outlet (Commit x) t t' pauses.Refused
+  passes_last x b t t' is h still = record {
+    status_is = refl;
+    given = λ e. (x, refl);
+    hears = subst (λ y. Hears outlet.heard t (x ∷ []) y t') is h;
+    still = still;
+  }
 
   module _ (o : Object) where
     -- no step
-    pub goes_none : (s : State) (w : List Wild) (t : T) → s.status ≡ status.Running → Goes outlet o s w t s w t 0 pauses.Running
+    pub goes_none : (s : State) (w : List Wild) (t : T) → s.status ≡ status.Running →
+        Goes outlet o s w t s w t 0 pauses.Running
     goes_none s w t running =
         let begun = span-zero o s w in
         record {
@@ -129,7 +162,9 @@ module _ {T : Type 0} (outlet : Ghosts T) where
         }
 
     -- steps after others
-    pub goes_more : (s s1 s2 : State) (w w1 w2 : List Wild) (t t1 t2 : T) (n m : ℕ) (pause : Pause) → Goes outlet o s w t s1 w1 t1 n pauses.Running → Goes outlet o s1 w1 t1 s2 w2 t2 m pause → Goes outlet o s w t s2 w2 t2 (n + m) pause
+    pub goes_more : (s s1 s2 : State) (w w1 w2 : List Wild) (t t1 t2 : T) (n m : ℕ) (pause : Pause) →
+        Goes outlet o s w t s1 w1 t1 n pauses.Running → Goes outlet o s1 w1 t1 s2 w2 t2 m pause →
+        Goes outlet o s w t s2 w2 t2 (n + m) pause
     goes_more s s1 s2 w w1 w2 t t1 t2 n m pause a b =
         let then = λ (i : ℕ). span_then o n i s s1 w w1 a.state_is a.wild_is in
         let whole = span_then o n m s s1 w w1 a.state_is a.wild_is in
@@ -137,7 +172,8 @@ module _ {T : Type 0} (outlet : Ghosts T) where
           state_is = b.state_is ∙ ap (λ (r : Ran). r.state) (sym whole);
           wild_is = b.wild_is ∙ ap (λ (r : Ran). r.wild) (sym whole);
           status_is = ap (λ (r : Ran). r.state.status) whole ∙ b.status_is;
-          last = last_after pause (span o n s w).outputs (λ i. (span o i s1 w1).outputs) (λ i. (span o i s w).outputs) n m (λ i. ap (λ (r : Ran). r.outputs) (then i)) b.last;
+          last = last_after pause (span o n s w).outputs (λ i. (span o i s1 w1).outputs) (λ i.
+              (span o i s w).outputs) n m (λ i. ap (λ (r : Ran). r.outputs) (then i)) b.last;
           running = λ j below.
               ⊎_elim (λ (early : j < n). a.running j early)
               (λ (late : n ≤ j).
@@ -149,55 +185,70 @@ module _ {T : Type 0} (outlet : Ghosts T) where
           still = λ x h. b.still x (a.still x h);
         }
 
-    before_one : (s : State) (w : List Wild) (j : ℕ) → s.status ≡ status.Running → j < 1 → (span o j s w).state.status ≡ status.Running
+    before_one : (s : State) (w : List Wild) (j : ℕ) → s.status ≡ status.Running → j < 1 → (span o j s w).state.status
+        ≡ status.Running
     before_one s w zero running below = ap (λ (r : Ran). r.state.status) (span-zero o s w) ∙ running
     before_one s w (suc j) running below = absurd (omega (arith, below))
 
     -- one step
-    pub goes_one : (s s' : State) (w w' : List Wild) (t t' : T) (last : Stepped) (pause : Pause) → s.status ≡ status.Running → Takes (step o s w) s' w' last → PassesOn outlet last t t' pause → Goes outlet o s w t s' w' t' 1 pause
+    pub goes_one : (s s' : State) (w w' : List Wild) (t t' : T) (last : Stepped) (pause : Pause) → s.status
+        ≡ status.Running → Takes (step o s w) s' w' last → PassesOn outlet last t t' pause →
+        Goes outlet o s w t s' w' t' 1 pause
     goes_one s s' w w' t t' last pause running h p =
         let one = span_one o s w in
         let made = step o s w in
         let outputs : (span o 1 s w).outputs ≡ option_to_list (output_told last)
-        = ap (λ (r : Ran). r.outputs) one ∙ ap option_to_list (told_output_is made.output made.state.status) ∙ ap (λ x. option_to_list (output_told x)) (sym h.answer_is) in
+        = ap (λ (r : Ran). r.outputs) one ∙ ap option_to_list (told_output_is made.output made.state.status)
+        ∙ ap (λ x. option_to_list (output_told x)) (sym h.answer_is) in
         let begun : (span o 0 s w).outputs ≡ [] = ap (λ (r : Ran). r.outputs) (span-zero o s w) in
         record {
           state_is = h.state_is ∙ ap (λ (r : Ran). r.state) (sym one);
           wild_is = h.wild_is ∙ ap (λ (r : Ran). r.wild) (sym one);
-          status_is = ap (λ (r : Ran). r.state.status) one ∙ told_status_is made.output made.state.status (λ out is. ((step_is_proper o s w).output out is).0 ∙ running) ∙ ap status_told (sym h.answer_is) ∙ sym p.status_is;
-          last = last_one pause last (λ i. (span o i s w).outputs) 1 0 (omega arith) p.given (outputs ∙ ap (λ xs. xs ++ option_to_list (output_told last)) (sym begun));
+          status_is = ap (λ (r : Ran). r.state.status) one
+              ∙ told_status_is made.output made.state.status (λ out is. ((step_is_proper o s w).output out is).0
+              ∙ running) ∙ ap status_told (sym h.answer_is) ∙ sym p.status_is;
+          last = last_one pause last (λ i. (span o i s w).outputs) 1 0 (omega arith) p.given (outputs
+              ∙ ap (λ xs. xs ++ option_to_list (output_told last)) (sym begun));
           running = λ j below. before_one s w j running below;
           hears = subst (λ xs. Hears outlet.heard t xs (goes_on pause) t') (sym outputs) p.hears;
           still = p.still;
         }
 
-    fetched : (b : Bank) (pc : ℕ) (i : Instr) (w : List Wild) → instr_at o pc ≡ Some i → span o 1 (doing b pc pc None) w ≡ record { state = doing b pc pc (Some i); wild = w; outputs = [] }
+    fetched : (b : Bank) (pc : ℕ) (i : Instr) (w : List Wild) → instr_at o pc ≡ Some i → span o 1 (doing b pc pc None) w
+        ≡ record { state = doing b pc pc (Some i); wild = w; outputs = [] }
     fetched b pc i w is = span_one o (doing b pc pc None) w ∙ ap (extended []) (fetched_step o b pc (Some i) w is)
 
-    before_two : (b : Bank) (pc : ℕ) (i : Instr) (w : List Wild) (j : ℕ) → instr_at o pc ≡ Some i → j < 2 → (span o j (doing b pc pc None) w).state.status ≡ status.Running
+    before_two : (b : Bank) (pc : ℕ) (i : Instr) (w : List Wild) (j : ℕ) → instr_at o pc ≡ Some i → j < 2 →
+        (span o j (doing b pc pc None) w).state.status ≡ status.Running
     before_two b pc i w zero is below = before_one (doing b pc pc None) w 0 refl (omega arith)
     before_two b pc i w (suc zero) is below = ap (λ (r : Ran). r.state.status) (fetched b pc i w is)
     before_two b pc i w (suc (suc j)) is below = absurd (omega (arith, below))
 
     -- a whole instruction
-    pub goes_two : (b new : Bank) (pc : ℕ) (i : Instr) (e : Effect) (w left : List Wild) (t t' : T) (pause : Pause) → instr_at o pc ≡ Some i → Does (execute i) b new e w left → PassesOn outlet (told_effect e) t t' pause
+    pub goes_two : (b new : Bank) (pc : ℕ) (i : Instr) (e : Effect) (w left : List Wild) (t t' : T) (pause : Pause) →
+        instr_at o pc ≡ Some i → Does (execute i) b new e w left → PassesOn outlet (told_effect e) t t' pause
         → Goes outlet o (doing b pc pc None) w t (followed e new pc pc (Some i)) left t' 2 pause
     goes_two b new pc i e w left t t' pause is h p =
         let two = span_two o b new pc i e w left is h in
-        let outputs : (span o 2 (doing b pc pc None) w).outputs ≡ option_to_list (output_told (told_effect e)) = ap (λ (r : Ran). r.outputs) two ∙ ap option_to_list (effect_output e) in
-        let before : (span o 1 (doing b pc pc None) w).outputs ≡ [] = ap (λ (r : Ran). r.outputs) (fetched b pc i w is) in
+        let outputs : (span o 2 (doing b pc pc None) w).outputs ≡ option_to_list (output_told (told_effect e)) =
+        ap (λ (r : Ran). r.outputs) two ∙ ap option_to_list (effect_output e) in
+        let before : (span o 1 (doing b pc pc None) w).outputs
+        ≡ [] = ap (λ (r : Ran). r.outputs) (fetched b pc i w is) in
         record {
           state_is = ap (λ (r : Ran). r.state) (sym two);
           wild_is = ap (λ (r : Ran). r.wild) (sym two);
           status_is = ap (λ (r : Ran). r.state.status) two ∙ effect_status e new pc pc (Some i) ∙ sym p.status_is;
-          last = last_one pause (told_effect e) (λ j. (span o j (doing b pc pc None) w).outputs) 2 1 (omega arith) p.given (outputs ∙ ap (λ xs. xs ++ option_to_list (output_told (told_effect e))) (sym before));
+          last = last_one pause (told_effect e) (λ j. (span o j (doing b pc pc None) w).outputs) 2 1 (omega arith)
+              p.given (outputs ∙ ap (λ xs. xs ++ option_to_list (output_told (told_effect e))) (sym before));
           running = λ j below. before_two b pc i w j is below;
           hears = subst (λ xs. Hears outlet.heard t xs (goes_on pause) t') (sym outputs) p.hears;
           still = p.still;
         }
 
     -- where no instruction is
-    pub goes_lost : (b : Bank) (pc : ℕ) (w : List Wild) (t : T) → instr_at o pc ≡ None → Goes outlet o (doing b pc pc None) w t (record (doing b pc pc None) { status = status.Detected }) w t 1 pauses.Detected
+    pub goes_lost : (b : Bank) (pc : ℕ) (w : List Wild) (t : T) → instr_at o pc ≡ None →
+        Goes outlet o (doing b pc pc None) w t (record (doing b pc pc None) { status = status.Detected }) w t 1
+        pauses.Detected
     goes_lost b pc w t is =
         let one = span_lost o b pc w is in
         record {
@@ -211,20 +262,25 @@ module _ {T : Type 0} (outlet : Ghosts T) where
         }
 
     -- an instruction after those before it
-    pub goes_then : (s : State) (b new : Bank) (i : ℕ) (x : Instr) (e : Effect) (w w1 left : List Wild) (t t1 t2 : T) (n m : ℕ) (pause : Pause) → Goes outlet o s w t (doing b (1 + i) (1 + i) None) w1 t1 n pauses.Running
-        → instr_at o (1 + i) ≡ Some x → Does (execute x) b new e w1 left → PassesOn outlet (told_effect e) t1 t2 pause → n + 2 ≡ m → Goes outlet o s w t (followed e new (1 + i) (1 + i) (Some x)) left t2 m pause
+    pub goes_then : (s : State) (b new : Bank) (i : ℕ) (x : Instr) (e : Effect) (w w1 left : List Wild) (t t1 t2 : T)
+        (n m : ℕ) (pause : Pause) → Goes outlet o s w t (doing b (1 + i) (1 + i) None) w1 t1 n pauses.Running
+        → instr_at o (1 + i) ≡ Some x → Does (execute x) b new e w1 left → PassesOn outlet (told_effect e) t1 t2 pause →
+        n + 2 ≡ m → Goes outlet o s w t (followed e new (1 + i) (1 + i) (Some x)) left t2 m pause
     goes_then s b new i x e w w1 left t t1 t2 n m pause a is h p le =
         let pc = 1 + i in
         subst (λ k. Goes outlet o s w t (followed e new pc pc (Some x)) left t2 k pause) le
-        (goes_more s (doing b pc pc None) (followed e new pc pc (Some x)) w w1 left t t1 t2 n 2 pause a (goes_two b new pc x e w1 left t1 t2 pause is h p))
+        (goes_more s (doing b pc pc None) (followed e new pc pc (Some x)) w w1 left t t1 t2 n 2 pause a
+        (goes_two b new pc x e w1 left t1 t2 pause is h p))
 
-    module _ (s s' : State) (w w' : List Wild) (t t' : T) (n : ℕ) (pause : Pause) (a : Goes outlet o s w t s' w' t' n pause) where
+    module _ (s s' : State) (w w' : List Wild) (t t' : T) (n : ℕ) (pause : Pause)
+        (a : Goes outlet o s w t s' w' t' n pause) where
       -- the cells keep their addresses
       pub goes_cells : (q : ℕ) → is_cell s'.cells q ≡ is_cell s.cells q
       goes_cells q = ap (λ (x : State). is_cell x.cells q) a.state_is ∙ span_keeps_cells o n s w q
 
       -- what may be taken goes to a cell still
-      pub goes_may : ((x : Output) → is_cell s.cells x.addr ≡ true → outlet.may t x) → (x : Output) → is_cell s'.cells x.addr ≡ true → outlet.may t' x
+      pub goes_may : ((x : Output) → is_cell s.cells x.addr ≡ true → outlet.may t x) → (x : Output) →
+          is_cell s'.cells x.addr ≡ true → outlet.may t' x
       goes_may may x there = a.still x (may x (sym (goes_cells x.addr) ∙ there))
 
 -- the address after an instruction is no more than a word holds

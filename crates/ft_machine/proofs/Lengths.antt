@@ -14,5 +14,7 @@ instr_has_length types cells other h = tt
 
 pub has_length : (o : Object) (n : ℕ) (i : Instr) → IsSpellable o → slice_get o.instrs n ≡ Some i → HasNoEmptyRun i
 has_length o n i h at =
-    let rule = All-get_or (IsInstr (length o.types) (length o.cells)) o.instrs n i (slice_get_within o.instrs n i at) h.instrs in
-    instr_has_length _ _ i (subst (IsInstr (length o.types) (length o.cells)) (get_or_from_slice_get o.instrs n i i at) rule)
+    let rule = All-get_or (IsInstr (length o.types) (length o.cells)) o.instrs n i (slice_get_within o.instrs n i at)
+    h.instrs in
+    instr_has_length _ _ i (subst (IsInstr (length o.types) (length o.cells)) (get_or_from_slice_get o.instrs n i i at)
+    rule)

@@ -1,5 +1,6 @@
 -- The keys of a map with numbered entries.
-use Rattle.std.proofs.Common.{◌≡◌, ℕ, zero, suc, ◌+◌, Bool, true, false, ◌&&◌, cond, Some, is_some, nat_lt, nat_le, refl, ap, ◌∙◌, arith, Option}
+use Rattle.std.proofs.Common.{◌≡◌, ℕ, zero, suc, ◌+◌, Bool, true, false, ◌&&◌, cond, Some, is_some, nat_lt, nat_le}
+use Rattle.std.proofs.Common.{refl, ap, ◌∙◌, arith, Option}
 use Rattle.std.proofs.lemmas.Bool.Decides.{nat_tests}
 use Rattle.std.specs.Ordering.{nat_cmp, eq_by_cmp}
 use Rattle.std.specs.Cmp.{nat_cmp_total, unsigned_tied}
@@ -13,17 +14,21 @@ either_way true v o = refl
 either_way false v o = refl
 
 -- the keys after one is inserted
-pub contains_key-insert : {V : Type 0} (m : _) (k : ℕ) (v : V) (q : ℕ) → contains_key (insert {R = nat_cmp} m k v) q ≡ ((q == k) || contains_key m q)
-contains_key-insert m k v q = ap is_some (get-insert nat_cmp_total m k v q) ∙ either_way (eq_by_cmp nat_cmp q k) v (get m q) ∙ ap (λ b. b || contains_key m q) (unsigned_tied q k)
+pub contains_key-insert : {V : Type 0} (m : _) (k : ℕ) (v : V) (q : ℕ) → contains_key (insert {R = nat_cmp} m k v) q
+    ≡ ((q == k) || contains_key m q)
+contains_key-insert m k v q = ap is_some (get-insert nat_cmp_total m k v q)
+    ∙ either_way (eq_by_cmp nat_cmp q k) v (get m q) ∙ ap (λ b. b || contains_key m q) (unsigned_tied q k)
 
-between : (a n : ℕ) → ((a == cell_address n) || (nat_le 1048576 a && nat_lt a (1048576 + n))) ≡ (nat_le 1048576 a && nat_lt a (1048576 + suc n))
+between : (a n : ℕ) → ((a == cell_address n) || (nat_le 1048576 a && nat_lt a (1048576 + n)))
+    ≡ (nat_le 1048576 a && nat_lt a (1048576 + suc n))
 between a n = grind (arith, nat_tests)
 
 none_between : (a : ℕ) → false ≡ (nat_le 1048576 a && nat_lt a 1048576)
 none_between a = grind (arith, nat_tests)
 
 -- the cells are at their addresses
-pub cells_there : {V : Type 0} (value : ℕ → V) (n a : ℕ) → contains_key (tabulate n cell_address value) a ≡ (nat_le 1048576 a && nat_lt a (1048576 + n))
+pub cells_there : {V : Type 0} (value : ℕ → V) (n a : ℕ) → contains_key (tabulate n cell_address value) a
+    ≡ (nat_le 1048576 a && nat_lt a (1048576 + n))
 unfolding tabulate
 cells_there value zero a = ap is_some (get-empty nat_cmp a) ∙ none_between a
 cells_there value (suc n) a =

@@ -3,9 +3,9 @@ ghost use Rattle.std.specs.Prelude.{◌≡◌, ◌<◌};
 ghost use Rattle.ft_types.specs.Spellable.{IsSpellable};
 
 use ft_checker::check;
+use ft_isa::Steps;
 use ft_object::decode;
 use ft_sched::schedule;
-use ft_steps::Steps;
 use ft_types::Object;
 use std::alloc::Global;
 use std::marker::Brand;

@@ -3,11 +3,10 @@ ghost use Rattle.std.specs.Prelude.{◌≡◌, ◌<◌, Some};
 ghost use Rattle.ft_types.specs.Spellable.{IsSpellable};
 
 use ft_checker::{CheckError, Checked};
-use ft_isa::{Colour, Site};
+use ft_isa::{Colour, Site, Steps};
 use ft_machine::Stepped;
 use ft_object::decode;
 use ft_runs::{Clean, Hit, Struck};
-use ft_steps::Steps;
 use ft_types::{Object, Program};
 use ft_worked_objects::A;
 use std::alloc::Global;

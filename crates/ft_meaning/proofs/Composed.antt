@@ -1,5 +1,6 @@
 -- Runs of the code, one after the other, against the definition.
-use Rattle.std.proofs.Common.{◌≡◌, ℕ, suc, ◌-◌, List, [], ◌∷◌, length, map, replicate, Option, Result, Ok, Err, Vec, Global, refl, sym, ap, ◌∙◌, subst, arith}
+use Rattle.std.proofs.Common.{◌≡◌, ℕ, suc, ◌-◌, List, [], ◌∷◌, length, map, replicate, Option, Result, Ok, Err, Vec}
+use Rattle.std.proofs.Common.{Global, refl, sym, ap, ◌∙◌, subst, arith}
 use Rattle.std.proofs.lemmas.List.{length-map}
 use Rattle.ft_edge.specs.Lines.{BreaksOff, Puts}
 use Rattle.ft_edge.specs.Logs.{SinkLog}
@@ -24,27 +25,33 @@ use Rattle.ft_meaning.specs.Begins.{Begins}
 use Rattle.ft_meaning.specs.Ends.{EndsAs, put_end}
 use Rattle.ft_meaning.specs.Room.{HasRoom}
 use Rattle.ft_meaning.specs.Runs.{state, told, Keeps, Ready, RunsTo, end_of_run}
-use Rattle.ft_meaning.proofs.Longer.{Grows, begins_refl}
+use Rattle.ft_simulation.proofs.Lists.{begins_itself}
+use Rattle.ft_meaning.proofs.Longer.{Grows}
 use Rattle.ft_meaning.proofs.Sinks.{breaks_longer}
 
 -- a run that goes as another does, perhaps after some work
 pub runs_from : (go whole : State → Outcome) (f : ℕ → ℕ) (names : List (List ℕ)) (r q : Run) (before after : SinkLog)
     (res : Result (Unit {0}) Stop) →
-    ((o : List Output) (w : ℕ) → whole (state r o w) ≡ go (state r o (f w))) → RunsTo go names r q before after res → RunsTo whole names r q before after res
-runs_from go whole f names r q before after (Ok u) e h = λ first o w is. let x = h first o (f w) is in (x.0, x.1, e o w ∙ x.2, x.3)
-runs_from go whole f names r q before after (Err stops.Cut) e h = λ first o w is. let x = h first o (f w) is in (x.0, x.1, e o w ∙ x.2, x.3)
+    ((o : List Output) (w : ℕ) → whole (state r o w) ≡ go (state r o (f w))) → RunsTo go names r q before after res →
+    RunsTo whole names r q before after res
+runs_from go whole f names r q before after (Ok u) e h = λ first o w is. let x = h first o (f w) is in
+    (x.0, x.1, e o w ∙ x.2, x.3)
+runs_from go whole f names r q before after (Err stops.Cut) e h = λ first o w is. let x = h first o (f w) is in
+    (x.0, x.1, e o w ∙ x.2, x.3)
 runs_from go whole f names r q before after (Err stops.WriteFault) e h = λ first o w is.
     subst (λ x. BreaksOff (output_lines names (outputs x)) first after) (sym (e o w)) (h first o (f w) is)
 
 -- what is put out before stays put out
-then_begins : (r : Outcome) (rest : State → Outcome) → ((s : State) → Grows s (state_of (rest s))) → Begins (outputs r) (outputs (then_do r rest))
+then_begins : (r : Outcome) (rest : State → Outcome) → ((s : State) → Grows s (state_of (rest s))) →
+    Begins (outputs r) (outputs (then_do r rest))
 then_begins (Ended s) rest g = (g s).out
-then_begins (Cut s) rest g = begins_refl s.out
+then_begins (Cut s) rest g = begins_itself s.out
 
 -- the whole comes to a part, and then to the rest
 abbrev pub Reaches : (State → Outcome) → (State → Outcome) → List (List ℕ) → Run → Run → SinkLog → SinkLog → Type 0
 Reaches whole go names r q start now = (first : SinkLog) (o : List Output) (w : ℕ) → start ≡ told names first o →
-    (p : List Output) × (v : ℕ) × (rest : State → Outcome) × ((s : State) → Grows s (state_of (rest s))) × (whole (state r o w) ≡ then_do (go (state q p v)) rest) × (now ≡ told names first p)
+    (p : List Output) × (v : ℕ) × (rest : State → Outcome) × ((s : State) → Grows s (state_of (rest s)))
+    × (whole (state r o w) ≡ then_do (go (state q p v)) rest) × (now ≡ told names first p)
 
 -- a part that stops stops the whole
 pub stops_run : (whole go : State → Outcome) (names : List (List ℕ)) (r0 r q : Run) (before now after : SinkLog)
@@ -63,7 +70,12 @@ stops_run whole go names r0 r q before now after stops.WriteFault reach h = λ f
 
 -- the words keep their shape
 pub keeps_trans : (r s q : Run) → Keeps r s → Keeps s q → Keeps r q
-keeps_trans r s q a b = record { vars = b.vars ∙ a.vars; cells = b.cells ∙ a.cells; line = b.line ∙ a.line; left = omega (arith, a.left, b.left) }
+keeps_trans r s q a b = record {
+  vars = b.vars ∙ a.vars;
+  cells = b.cells ∙ a.cells;
+  line = b.line ∙ a.line;
+  left = omega (arith, a.left, b.left);
+}
 
 pub ready_kept : (names : List (List ℕ)) (r q : Run) → Keeps r q → Ready names r → Ready names q
 ready_kept names r q k h = record {
@@ -89,7 +101,8 @@ meant_from go names r q old new (Err stops.Cut) h =
     subst (λ m. Meant ends.Cut names m old new) (sym x.2) (record { ends = tt; lines = x.3 })
 meant_from go names r q old new (Err stops.WriteFault) h = record { ends = tt; lines = h old [] 0 (lines_none old) }
 
-start_is : (p : Program) (t : ℕ) (r : Run) → r.vars.items ≡ replicate p.vars 0 → r.cells.items ≡ p.inits → r.left ≡ t → state r [] 0 ≡ start p t
+start_is : (p : Program) (t : ℕ) (r : Run) → r.vars.items ≡ replicate p.vars 0 → r.cells.items ≡ p.inits → r.left ≡ t →
+    state r [] 0 ≡ start p t
 start_is p t r a b c = λ i. record { vars = a i; cells = b i; out = []; left = c i; work = 0 }
 
 -- a run of the whole program from its start
@@ -107,13 +120,15 @@ meant prog t r q names bs old new res e f a b c h =
     (meant_from (run (plain_list same_slot bs)) names r q old new res h))
 
 -- as many names as declared ones, of which there are as many as places
-joined_length : (ts : List (List ℕ)) (ps : List (Option ℕ)) → length ts ≡ length ps → length (joined_names ts ps) ≡ length ts
+joined_length : (ts : List (List ℕ)) (ps : List (Option ℕ)) → length ts ≡ length ps → length (joined_names ts ps)
+    ≡ length ts
 joined_length [] ps h = refl
 joined_length (t ∷ ts) [] h = absurd (omega arith)
 joined_length (t ∷ ts) (p ∷ ps) h = ap suc (joined_length ts ps (omega arith))
 
 -- a program has as many names as cells
-pub names_many : (p : Prog) (ns : List (Vec ℕ Global)) → map (λ n. n.items) ns ≡ (program_of p).names → length ns ≡ length p.inits.items
+pub names_many : (p : Prog) (ns : List (Vec ℕ Global)) → map (λ n. n.items) ns ≡ (program_of p).names → length ns
+    ≡ length p.inits.items
 names_many p ns e =
     let texts = map (λ r. r.now) p.names.items in
     let many : length texts ≡ length p.names.items = length-map p.names.items (λ r. r.now) in

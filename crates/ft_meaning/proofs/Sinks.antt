@@ -1,5 +1,6 @@
 -- What a sink has after one more line, and where a put fails.
-use Rattle.std.proofs.Common.{◌≡◌, ℕ, zero, suc, ◌+◌, ◌-◌, ◌<◌, ◌≤◌, max, take, add-one, List, [], ◌∷◌, ◌++◌, length, map, get_or, Vec, Global, refl, sym, ap, ◌∙◌, subst, arith}
+use Rattle.std.proofs.Common.{◌≡◌, ℕ, zero, suc, ◌+◌, ◌-◌, ◌<◌, ◌≤◌, max, take, add-one, List, [], ◌∷◌, ◌++◌, length}
+use Rattle.std.proofs.Common.{map, get_or, Vec, Global, refl, sym, ap, ◌∙◌, subst, arith}
 use Rattle.std.proofs.lemmas.List.{map-append}
 use Rattle.std.proofs.Math.Seq.{take-suc}
 use Rattle.ft_isa.specs.Words.{cell_address, line}
@@ -36,7 +37,8 @@ breaks_longer names old new xs ys b more =
     (breaks_before (output_lines names xs) (output_lines names more.0) old new b)
 
 -- the name of a cell is the one that the code finds
-pub name_found : (xs : List (Vec ℕ Global)) (k : ℕ) (d : Vec ℕ Global) → k < length xs → name_of (map (λ n. n.items) xs) k ≡ (get_or xs k d).items
+pub name_found : (xs : List (Vec ℕ Global)) (k : ℕ) (d : Vec ℕ Global) → k < length xs →
+    name_of (map (λ n. n.items) xs) k ≡ (get_or xs k d).items
 name_found [] k d h = absurd (omega arith)
 name_found (x ∷ xs) zero d h = refl
 name_found (x ∷ xs) (suc k) d h = name_found xs k d (omega arith)
@@ -48,7 +50,8 @@ room_for (n ∷ names) room zero h = h.0
 room_for (n ∷ names) room (suc k) h = room_for names room k h.1
 
 -- the line of a cell's output
-pub line_is : (names : List (List ℕ)) (k v : ℕ) (name : List ℕ) → name_of names k ≡ name → line_of names (record { addr = cell_address k; value = v }) ≡ line name v
+pub line_is : (names : List (List ℕ)) (k v : ℕ) (name : List ℕ) → name_of names k ≡ name →
+    line_of names (record { addr = cell_address k; value = v }) ≡ line name v
 line_is names k v name h =
     let e : cell_address k - cell_address 0 ≡ k = omega arith in
     ap (λ m. line (name_of names m) v) e ∙ ap (λ n. line n v) h
@@ -58,17 +61,22 @@ pub more_room : (names : List (List ℕ)) (a b : ℕ) → a ≤ b → HasRoom na
 more_room [] a b le h = tt
 more_room (n ∷ names) a b le h = (omega (arith, h.0), more_room names a b le h.1)
 
-room_push : (names : List (List ℕ)) (n : List ℕ) (room : ℕ) → HasRoom names room → length n ≤ room → HasRoom (names ++ n ∷ []) room
+room_push : (names : List (List ℕ)) (n : List ℕ) (room : ℕ) → HasRoom names room → length n ≤ room →
+    HasRoom (names ++ n ∷ []) room
 room_push [] n room h g = (g, tt)
 room_push (m ∷ names) n room h g = (h.0, room_push names n room h.1 g)
 
-map_push : (xs : List (Vec ℕ Global)) (x : Vec ℕ Global) → map (λ n. n.items) (xs ++ x ∷ []) ≡ map (λ n. n.items) xs ++ x.items ∷ []
+map_push : (xs : List (Vec ℕ Global)) (x : Vec ℕ Global) → map (λ n. n.items) (xs ++ x ∷ []) ≡ map (λ n. n.items) xs
+    ++ x.items ∷ []
 map_push [] x = refl
 map_push (y ∷ xs) x = ap (λ v. y.items ∷ v) (map_push xs x)
 
 -- one more name
-pub room_step : (xs : List (Vec ℕ Global)) (i a b : ℕ) (d : Vec ℕ Global) → i < length xs → HasRoom (map (λ n. n.items) (take i xs)) a → b ≡ max (length (get_or xs i d).items) a → HasRoom (map (λ n. n.items) (take (i + 1) xs)) b
+pub room_step : (xs : List (Vec ℕ Global)) (i a b : ℕ) (d : Vec ℕ Global) → i < length xs →
+    HasRoom (map (λ n. n.items) (take i xs)) a → b ≡ max (length (get_or xs i d).items) a →
+    HasRoom (map (λ n. n.items) (take (i + 1) xs)) b
 room_step xs i a b d h r e =
     subst (λ v. HasRoom (map (λ n. n.items) v) b) (rw add-one (sym (take-suc xs i d h)))
     (subst (λ v. HasRoom v b) (sym (map_push (take i xs) (get_or xs i d)))
-    (room_push (map (λ n. n.items) (take i xs)) (get_or xs i d).items b (more_room (map (λ n. n.items) (take i xs)) a b (omega (arith, e)) r) (omega (arith, e))))
+    (room_push (map (λ n. n.items) (take i xs)) (get_or xs i d).items b
+    (more_room (map (λ n. n.items) (take i xs)) a b (omega (arith, e)) r) (omega (arith, e))))

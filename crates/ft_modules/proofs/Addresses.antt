@@ -1,5 +1,7 @@
 -- Code addresses of blocks: each block is found at its own, and none begins inside another.
-use Rattle.std.proofs.Common.{◌≡◌, ◌⊎◌, inl, inr, ⊎_elim, ℕ, zero, suc, ◌-◌, ◌<◌, ◌≤◌, Bool, true, false, cond, ◌==◌, List, [], ◌∷◌, length, map, take, drop, slice_get, Option, Some, refl, sym, ap, ◌∙◌, subst, arith, eq-eqb, ne_eqb}
+use Rattle.std.proofs.Common.{◌≡◌, ◌⊎◌, inl, inr, ⊎_elim, ℕ, zero, suc, ◌-◌, ◌<◌, ◌≤◌, Bool, true, false, cond, ◌==◌}
+use Rattle.std.proofs.Common.{List, [], ◌∷◌, length, map, take, drop, slice_get, Option, Some, refl, sym, ap, ◌∙◌}
+use Rattle.std.proofs.Common.{subst, arith, eq-eqb, ne_eqb}
 use Rattle.std.specs.Prelude.{find, slice_range}
 use Rattle.std.specs.Option.{option_map, unwrap_or}
 use Rattle.std.proofs.lemmas.Bool.{cases_eq, cases_lt}
@@ -20,16 +22,19 @@ use Rattle.ft_tolerance.proofs.AcceptedSteps.{here}
 -- FINDING
 
 -- tests that give the same find the same
-pub find_same : {X : Type 0} (p q : X → Bool) (xs : List X) → ((n : ℕ) (x : X) → slice_get xs n ≡ Some x → p x ≡ q x) → find p xs ≡ find q xs
+pub find_same : {X : Type 0} (p q : X → Bool) (xs : List X) → ((n : ℕ) (x : X) → slice_get xs n ≡ Some x → p x ≡ q x) →
+    find p xs ≡ find q xs
 find_same p q [] h = refl
 find_same p q (x ∷ xs) h = λ i. cond (h 0 x refl i) (Some x) (find_same p q xs (λ n y e. h (suc n) y e) i)
 
 -- what is found in a mapped list
-pub find_mapped : {X Y : Type 0} (p : Y → Bool) (f : X → Y) (xs : List X) → find p (map f xs) ≡ option_map f (find (λ x. p (f x)) xs)
+pub find_mapped : {X Y : Type 0} (p : Y → Bool) (f : X → Y) (xs : List X) → find p (map f xs)
+    ≡ option_map f (find (λ x. p (f x)) xs)
 find_mapped p f [] = refl
 find_mapped p f (x ∷ xs) = ap (cond (p (f x)) (Some (f x))) (find_mapped p f xs) ∙ by_test (p (f x))
   where
-    by_test : (b : Bool) → cond b (Some (f x)) (option_map f (find (λ z. p (f z)) xs)) ≡ option_map f (cond b (Some x) (find (λ z. p (f z)) xs))
+    by_test : (b : Bool) → cond b (Some (f x)) (option_map f (find (λ z. p (f z)) xs))
+        ≡ option_map f (cond b (Some x) (find (λ z. p (f z)) xs))
     by_test true = refl
     by_test false = refl
 
@@ -50,56 +55,71 @@ take_length (y ∷ xs) (suc k) (suc n) x e = omega (arith, take_length xs k n x 
 -- BLOCKS
 
 -- each block begins at the least place or after it, and below the end
-pub within_blocks : (end least : ℕ) (bs : List Block) (n : ℕ) (y : Block) → AreBlocks end least bs → slice_get bs n ≡ Some y → (least ≤ y.start) × (y.start < end)
+pub within_blocks : (end least : ℕ) (bs : List Block) (n : ℕ) (y : Block) → AreBlocks end least bs → slice_get bs n
+    ≡ Some y → (least ≤ y.start) × (y.start < end)
 within_blocks end least [] n y h e = cc
-within_blocks end least (b ∷ bs) zero y h e = let same : b ≡ y = cc in subst (λ (z : Block). (least ≤ z.start) × (z.start < end)) same (h.0, h.1)
-within_blocks end least (b ∷ bs) (suc n) y h e = let w = within_blocks end (suc b.start) bs n y h.2 e in (omega (arith, h.0, w.0), w.1)
+within_blocks end least (b ∷ bs) zero y h e = let same : b ≡ y = cc in
+    subst (λ (z : Block). (least ≤ z.start) × (z.start < end)) same (h.0, h.1)
+within_blocks end least (b ∷ bs) (suc n) y h e = let w = within_blocks end (suc b.start) bs n y h.2 e in
+    (omega (arith, h.0, w.0), w.1)
 
 -- blocks that begin at one place are one
-pub one_number : (end least : ℕ) (bs : List Block) (n m : ℕ) (y z : Block) → AreBlocks end least bs → slice_get bs n ≡ Some y → slice_get bs m ≡ Some z → y.start ≡ z.start → n ≡ m
+pub one_number : (end least : ℕ) (bs : List Block) (n m : ℕ) (y z : Block) → AreBlocks end least bs → slice_get bs n
+    ≡ Some y → slice_get bs m ≡ Some z → y.start ≡ z.start → n ≡ m
 one_number end least bs n m y z h e f s =
     ⊎_elim
     (λ (lt : n < m). absurd (omega (arith, rises end least bs n m y z h e f lt, s)))
-    (λ (le : m ≤ n). ⊎_elim (λ (gt : m < n). absurd (omega (arith, rises end least bs m n z y h f e gt, s))) (λ (ge : n ≤ m). omega (arith, le, ge)) (cases_lt m n))
+    (λ (le : m ≤ n). ⊎_elim (λ (gt : m < n). absurd (omega (arith, rises end least bs m n z y h f e gt, s)))
+    (λ (ge : n ≤ m). omega (arith, le, ge)) (cases_lt m n))
     (cases_lt n m)
 
 -- a block that begins later is a later one
-number_less : (end least : ℕ) (bs : List Block) (n m : ℕ) (y z : Block) → AreBlocks end least bs → slice_get bs n ≡ Some y → slice_get bs m ≡ Some z → y.start < z.start → n < m
+number_less : (end least : ℕ) (bs : List Block) (n m : ℕ) (y z : Block) → AreBlocks end least bs → slice_get bs n
+    ≡ Some y → slice_get bs m ≡ Some z → y.start < z.start → n < m
 number_less end least bs n m y z h e f s =
     ⊎_elim
     (λ (lt : n < m). lt)
     (λ (le : m ≤ n). ⊎_elim
     (λ (gt : m < n). absurd (omega (arith, rises end least bs m n z y h f e gt, s)))
-    (λ (ge : n ≤ m). let number : n ≡ m = omega (arith, le, ge) in let same : y ≡ z = same_Some y z (sym e ∙ ap (slice_get bs) number ∙ f) in absurd (omega (arith, ap (λ (k : Block). k.start) same, s)))
+    (λ (ge : n ≤ m). let number : n ≡ m = omega (arith, le, ge) in
+    let same : y ≡ z = same_Some y z (sym e ∙ ap (slice_get bs) number ∙ f) in
+    absurd (omega (arith, ap (λ (k : Block). k.start) same, s)))
     (cases_lt m n))
     (cases_lt n m)
 
 -- a block is found at its own address
-find_start : (end least : ℕ) (bs : List Block) (n : ℕ) (y : Block) → AreBlocks end least bs → slice_get bs n ≡ Some y → find (λ (b : Block). code_address y.start == code_address b.start) bs ≡ Some y
+find_start : (end least : ℕ) (bs : List Block) (n : ℕ) (y : Block) → AreBlocks end least bs → slice_get bs n ≡ Some y →
+    find (λ (b : Block). code_address y.start == code_address b.start) bs ≡ Some y
 find_start end least [] n y h e = cc
 find_start end least (b ∷ bs) zero y h e =
     let same : b ≡ y = cc in
-    ap (λ t. cond t (Some b) (find (λ (z : Block). code_address y.start == code_address z.start) bs)) (eq-eqb (code_address y.start) (code_address b.start) (ap (λ (z : Block). code_address z.start) (sym same)))
+    ap (λ t. cond t (Some b) (find (λ (z : Block). code_address y.start == code_address z.start) bs))
+    (eq-eqb (code_address y.start) (code_address b.start) (ap (λ (z : Block). code_address z.start) (sym same)))
     ∙ ap Some same
 find_start end least (b ∷ bs) (suc n) y h e =
     let w = within_blocks end (suc b.start) bs n y h.2 e in
-    ap (λ t. cond t (Some b) (find (λ (z : Block). code_address y.start == code_address z.start) bs)) (ne_eqb (code_address y.start) (code_address b.start) (λ i. omega (arith, i, w.0)))
+    ap (λ t. cond t (Some b) (find (λ (z : Block). code_address y.start == code_address z.start) bs))
+    (ne_eqb (code_address y.start) (code_address b.start) (λ i. omega (arith, i, w.0)))
     ∙ find_start end (suc b.start) bs n y h.2 e
 
 -- a block is found at its own address
-pub block_at_own : (o : Object) (n : ℕ) (y : Block) → IsSpellable o → slice_get o.blocks n ≡ Some y → block_at o (code_address y.start) ≡ Some y
+pub block_at_own : (o : Object) (n : ℕ) (y : Block) → IsSpellable o → slice_get o.blocks n ≡ Some y →
+    block_at o (code_address y.start) ≡ Some y
 unfolding block_at
 block_at_own o n y spelled e = find_start (length o.instrs) 0 o.blocks n y spelled.blocks e
 
 -- the end of a block, by what comes after it
-end_least : (end least : ℕ) (bs : List Block) (n m : ℕ) (y z : Block) (e : ℕ) → AreBlocks end least bs → slice_get bs n ≡ Some y → slice_get bs m ≡ Some z → n < m → unwrap_or (option_map start_of (slice_get bs (suc n))) e ≤ z.start
+end_least : (end least : ℕ) (bs : List Block) (n m : ℕ) (y z : Block) (e : ℕ) → AreBlocks end least bs → slice_get bs n
+    ≡ Some y → slice_get bs m ≡ Some z → n < m → unwrap_or (option_map start_of (slice_get bs (suc n))) e ≤ z.start
 end_least end least bs n m y z e h f g lt =
     let below = slice_get_within bs m z g in
     let x = there_below bs (suc n) (omega (arith, lt, below)) in
-    subst (λ (u : Option Block). unwrap_or (option_map start_of u) e ≤ z.start) (sym x.1) (by_next x.0 x.1 (cases_eq (suc n) m))
+    subst (λ (u : Option Block). unwrap_or (option_map start_of u) e ≤ z.start) (sym x.1)
+    (by_next x.0 x.1 (cases_eq (suc n) m))
   where
     by_next : (w : Block) → slice_get bs (suc n) ≡ Some w → (suc n ≡ m) ⊎ (suc n ≡ m → ⊥) → w.start ≤ z.start
-    by_next w i (inl s) = (let same : w ≡ z = same_Some w z (sym i ∙ ap (slice_get bs) s ∙ g) in subst (λ (k : Block). w.start ≤ k.start) same (omega arith))
+    by_next w i (inl s) = (let same : w ≡ z = same_Some w z (sym i ∙ ap (slice_get bs) s ∙ g) in
+        subst (λ (k : Block). w.start ≤ k.start) same (omega arith))
     by_next w i (inr ne) = (let r = rises end least bs (suc n) m w z h i g (omega (arith, lt, ne)) in omega (arith, r))
 
 -- the length of a stretch
@@ -107,12 +127,17 @@ range_length : (is : List Instr) (a b n : ℕ) (i : Instr) → slice_get (slice_
 range_length is a b n i e = take_length (drop a is) (b - a) n i e
 
 -- no block begins at a later instruction of a block
-pub no_block_inside : (o : Object) (p : Place) (j m : ℕ) (z : Block) → IsSpellable o → IsAccepted o → (at : IsPlace o p) → p.index ≡ suc j → slice_get o.blocks m ≡ Some z → code_address (instr_number p) ≡ code_address z.start → ⊥
+pub no_block_inside : (o : Object) (p : Place) (j m : ℕ) (z : Block) → IsSpellable o → IsAccepted o →
+    (at : IsPlace o p) → p.index ≡ suc j → slice_get o.blocks m ≡ Some z → code_address (instr_number p)
+    ≡ code_address z.start → ⊥
 no_block_inside o p j m z spelled acc at index there same =
     let h = here o p acc at in
-    let start : block_start o at.number ≡ p.block.start = ap (λ (x : Option Block). unwrap_or (option_map start_of x) 0) at.block in
+    let start : block_start o at.number ≡ p.block.start = ap (λ (x : Option Block). unwrap_or (option_map start_of x) 0)
+    at.block in
     let long = range_length o.instrs (block_start o at.number) (block_end o at.number) p.index h.instr h.in_block in
     let after : p.block.start < z.start = omega arith in
-    let later : at.number < m = number_less (length o.instrs) 0 o.blocks at.number m p.block z spelled.blocks at.block there after in
-    let le = end_least (length o.instrs) 0 o.blocks at.number m p.block z (length o.instrs) spelled.blocks at.block there later in
+    let later : at.number < m = number_less (length o.instrs) 0 o.blocks at.number m p.block z spelled.blocks at.block
+    there after in
+    let le = end_least (length o.instrs) 0 o.blocks at.number m p.block z (length o.instrs) spelled.blocks at.block
+    there later in
     omega arith

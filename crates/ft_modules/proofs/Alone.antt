@@ -9,15 +9,21 @@ use Rattle.ft_types.specs.declared.object.Cell.{Cell}
 use Rattle.ft_types.specs.Objects.{block_instrs}
 use Rattle.ft_modules.specs.CodeWalk.{code_walk}
 use Rattle.ft_modules.specs.Linkable.{IsModule, AreFew}
-use Rattle.ft_modules.specs.LinkRefusals.{Cells, Rows, CodeOf, TooBig, same_cells, is_plain_cell, has_plain_rows, first_walk_fault, are_few, unless, module_refusal, modules_refusal}
-use Rattle.ft_modules.proofs.Deciding.{are_cells, are_plain_cells, are_plain_rows, or_none, walk_without_fault, are_few_of}
+use Rattle.ft_modules.specs.LinkRefusals.{Cells, Rows, CodeOf, TooBig, same_cells, is_plain_cell, has_plain_rows}
+use Rattle.ft_modules.specs.LinkRefusals.{first_walk_fault, are_few, unless, module_refusal, modules_refusal}
+use Rattle.ft_modules.proofs.Deciding.{are_cells, are_plain_cells, are_plain_rows, or_none, walk_without_fault}
+use Rattle.ft_modules.proofs.Deciding.{are_few_of}
 
 -- a module is refused for totals alone
-pub totals_alone : (cells : List Cell) (o : Object) → IsModule cells o → (earlier : List Object) (m : ℕ) → module_refusal earlier m cells o ≡ unless (are_few (earlier ++ o ∷ [])) (TooBig m)
+pub totals_alone : (cells : List Cell) (o : Object) → IsModule cells o → (earlier : List Object) (m : ℕ) →
+    module_refusal earlier m cells o ≡ unless (are_few (earlier ++ o ∷ [])) (TooBig m)
 totals_alone cells o h earlier m =
-    let same : (same_cells o.cells cells && list_all is_plain_cell o.cells) ≡ true = and_from _ _ (are_cells o.cells cells h.same_cells) (are_plain_cells o.cells h.plain_cells) in
+    let same : (same_cells o.cells cells && list_all is_plain_cell o.cells)
+    ≡ true = and_from _ _ (are_cells o.cells cells h.same_cells) (are_plain_cells o.cells h.plain_cells) in
     let rows : list_all has_plain_rows o.types ≡ true = are_plain_rows o.types h.plain_rows in
-    let walk : first_walk_fault o 0 o.blocks ≡ None = walk_without_fault o 0 o.blocks (λ n lt. let here : n ≡ 0 + n = omega arith in subst (λ k. code_walk o finite.empty 0 (block_instrs o k) ≡ None) here (h.walked n lt)) in
+    let walk : first_walk_fault o 0 o.blocks ≡ None = walk_without_fault o 0 o.blocks (λ n lt. let here : n
+    ≡ 0 + n = omega arith in subst (λ k. code_walk o finite.empty 0 (block_instrs o k) ≡ None) here (h.walked n lt))
+    in
     λ j.
     option_or (unless (same j) (Cells m)) (
     option_or (unless (rows j) (Rows m)) (
@@ -41,4 +47,5 @@ few_alone cells o h =
 -- so it is not refused
 pub not_alone : (o : Object) → IsModule o.cells o → modules_refusal [] 0 o.cells (o ∷ []) ≡ None
 unfolding modules_refusal
-not_alone o h = or_none _ _ (totals_alone o.cells o h [] 0 ∙ ap (λ b. unless b (TooBig 0)) (are_few_of (o ∷ []) (few_alone o.cells o h))) refl
+not_alone o h = or_none _ _ (totals_alone o.cells o h [] 0
+    ∙ ap (λ b. unless b (TooBig 0)) (are_few_of (o ∷ []) (few_alone o.cells o h))) refl

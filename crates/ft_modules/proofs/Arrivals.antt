@@ -1,5 +1,6 @@
 -- What a step of a row gives, and how a jump arrives in the module and in the linked object.
-use Rattle.std.proofs.Common.{◌≡◌, ℕ, zero, suc, ◌+◌, Bool, true, false, not, ◌&&◌, ◌==◌, List, [], ◌∷◌, slice_get, Option, Some, None, refl, sym, ap, ◌∙◌, subst, arith, eq-eqb, mod-eq_of_lt, if◌then◌else◌}
+use Rattle.std.proofs.Common.{◌≡◌, ℕ, zero, suc, ◌+◌, Bool, true, false, not, ◌&&◌, ◌==◌, List, [], ◌∷◌, slice_get}
+use Rattle.std.proofs.Common.{Option, Some, None, refl, sym, ap, ◌∙◌, subst, arith, eq-eqb, mod-eq_of_lt, if◌then◌else◌}
 use Rattle.std.specs.List.{AllZip}
 use Rattle.std.specs.FinMap as finite
 use Rattle.ft_isa.specs.Words.{IsWord, code_address}
@@ -15,7 +16,8 @@ use Rattle.ft_typing.specs.Accepted.{IsAccepted}
 use Rattle.ft_types.specs.Objects.{instr_at}
 use Rattle.ft_types.specs.Spellable.{IsSpellable}
 use Rattle.ft_semantics.specs.State.{State, word}
-use Rattle.ft_semantics.specs.Step.{Stepping, quiet, detected, fetch, load, commits, commit, store_blue, jump_green, jump_blue, pass, advance}
+use Rattle.ft_semantics.specs.Step.{Stepping, quiet, detected, fetch, load, commits, commit, store_blue, jump_green}
+use Rattle.ft_semantics.specs.Step.{jump_blue, pass, advance}
 use Rattle.ft_typing.specs.TypedWord.{block_at}
 use Rattle.ft_typing.specs.Context.{Context, typed, start_context}
 use Rattle.ft_typing.specs.TypingRow.{Outcome, Goes, Ends, Fails, row}
@@ -27,26 +29,31 @@ use Rattle.ft_modules.specs.Links.{Link}
 use Rattle.ft_modules.specs.ModulesRun.{InModule, sent}
 use Rattle.ft_modules.proofs.LinkedContexts.{addressed}
 use Rattle.ft_modules.proofs.LinkedBlocks.{start_beside}
-use Rattle.ft_modules.proofs.World.{before_of, at_address, World, none_fetched, Stands, AreTogether, start_fits_like, block_place, block_begins, block_start_fits}
+use Rattle.ft_modules.proofs.World.{before_of, at_address, World, none_fetched, Stands, AreTogether, start_fits_like}
+use Rattle.ft_modules.proofs.World.{block_place, block_begins, block_start_fits}
 
 -- LISTS
 
 -- what is at one place of two lists
-pub zip_at : {A B : Type 0} (R : A → B → Type 0) (xs : List A) (ys : List B) (k : ℕ) (x : A) (y : B) → AllZip R xs ys → slice_get xs k ≡ Some x → slice_get ys k ≡ Some y → R x y
+pub zip_at : {A B : Type 0} (R : A → B → Type 0) (xs : List A) (ys : List B) (k : ℕ) (x : A) (y : B) → AllZip R xs ys →
+    slice_get xs k ≡ Some x → slice_get ys k ≡ Some y → R x y
 zip_at R [] ys k x y l e f = cc
 zip_at R (a ∷ xs) [] k x y l e f = absurd l
-zip_at R (a ∷ xs) (b ∷ ys) zero x y l e f = let p : a ≡ x = cc in let q : b ≡ y = cc in subst (λ z. R z y) p (subst (R a) q l.0)
+zip_at R (a ∷ xs) (b ∷ ys) zero x y l e f = let p : a ≡ x = cc in let q : b ≡ y = cc in
+    subst (λ z. R z y) p (subst (R a) q l.0)
 zip_at R (a ∷ xs) (b ∷ ys) (suc k) x y l e f = zip_at R xs ys k x y l.1 e f
 
 -- STEPS
 
 -- a fetch at a place
-pub fetches : (o : Object) (p : Place) (n : ℕ) (s : State) → Here o p n → Fits o p s → (i : Instr) → slice_get o.instrs (instr_number p) ≡ Some i → advance o None s [] ≡ quiet (record s { fetched = Some i }) []
+pub fetches : (o : Object) (p : Place) (n : ℕ) (s : State) → Here o p n → Fits o p s → (i : Instr) →
+    slice_get o.instrs (instr_number p) ≡ Some i → advance o None s [] ≡ quiet (record s { fetched = Some i }) []
 fetches o p n s h f i there =
     let test : (s.pc_green == s.pc_blue) ≡ true = eq-eqb s.pc_green s.pc_blue (f.pc_green ∙ sym f.pc_blue) in
     let pc : s.pc_green ≡ suc (instr_number p) = (let g = f.pc_green in omega arith) in
     let at : instr_at o s.pc_green ≡ Some i = ap (instr_at o) pc ∙ there in
-    ap (λ (b : Bool). if b then fetch (instr_at o s.pc_green) s [] else detected s []) test ∙ ap (λ (u : Option Instr). fetch u s []) at
+    ap (λ (b : Bool). if b then fetch (instr_at o s.pc_green) s [] else detected s []) test
+    ∙ ap (λ (u : Option Instr). fetch u s []) at
 
 -- the outputs of steps that have none
 pub load_silent : (c : Colour) (rd : Reg) (u : Option ℕ) (s : State) → (load c rd u s []).output ≡ None
@@ -71,18 +78,22 @@ pub jump_blue_silent : (a : ℕ) (s : State) → (jump_blue a s []).output ≡ N
 jump_blue_silent a s = if_silent (not (s.d == 0) && (s.d == a)) _ _ refl refl
 
 -- a blue store that goes on shows its pair
-store_blue_by : (b : Bool) (a v : ℕ) (s : State) → s.status ≡ Running → (if b then commit a v s [] else detected s []).state.status ≡ Running → (if b then commit a v s [] else detected s []).output ≡ Some (record { addr = a; value = v })
+store_blue_by : (b : Bool) (a v : ℕ) (s : State) → s.status ≡ Running →
+    (if b then commit a v s [] else detected s []).state.status ≡ Running →
+    (if b then commit a v s [] else detected s []).output ≡ Some (record { addr = a; value = v })
 store_blue_by true a v s go h = refl
 store_blue_by false a v s go h = cc
 
 -- a blue store shows its pair
-pub store_blue_shows : (a v : ℕ) (s : State) → s.status ≡ Running → (store_blue a v s []).state.status ≡ Running → (store_blue a v s []).output ≡ Some (record { addr = a; value = v })
+pub store_blue_shows : (a v : ℕ) (s : State) → s.status ≡ Running → (store_blue a v s []).state.status ≡ Running →
+    (store_blue a v s []).output ≡ Some (record { addr = a; value = v })
 store_blue_shows a v s go h = store_blue_by (commits a v s) a v s go h
 
 -- CLAIMS
 
 -- a fact that is claimed of a row holds where the row passes
-pub claimed : (o : Object) (c : Context) (i : Instr) (C : Type 0) (x : Outcome) → row o c i ≡ x → After (λ _. C) C x → Passes o c i → C
+pub claimed : (o : Object) (c : Context) (i : Instr) (C : Type 0) (x : Outcome) → row o c i ≡ x → After (λ _. C) C x →
+    Passes o c i → C
 unfolding After
 claimed o c i C (Goes d) e a p = a
 claimed o c i C Ends e a p = a
@@ -96,7 +107,8 @@ pub record GoesTo (o : Object) (c : Context) (i : Instr) (G : Context → Type 0
   pub holds : G context
 
 -- the context, by the outcome
-goes_to_by : (o : Object) (c : Context) (i : Instr) (G : Context → Type 0) (x : Outcome) → row o c i ≡ x → After G ⊥ x → Passes o c i → GoesTo o c i G
+goes_to_by : (o : Object) (c : Context) (i : Instr) (G : Context → Type 0) (x : Outcome) → row o c i ≡ x → After G ⊥ x →
+    Passes o c i → GoesTo o c i G
 unfolding After
 goes_to_by o c i G (Goes d) e a p = record { context = d; goes_to = e; holds = a }
 goes_to_by o c i G Ends e a p = absurd a
@@ -104,11 +116,13 @@ goes_to_by o c i G (Fails n) e a (ends f) = cc
 goes_to_by o c i G (Fails n) e a (goes d f) = cc
 
 -- the context of a row that passes
-pub goes_to : (o : Object) (c : Context) (i : Instr) (G : Context → Type 0) → After G ⊥ (row o c i) → Passes o c i → GoesTo o c i G
+pub goes_to : (o : Object) (c : Context) (i : Instr) (G : Context → Type 0) → After G ⊥ (row o c i) → Passes o c i →
+    GoesTo o c i G
 goes_to o c i G a p = goes_to_by o c i G (row o c i) refl a p
 
 -- what holds where a row ends the block, which never goes on
-pub ends_by : (o : Object) (c : Context) (i : Instr) (E : Type 0) (x : Outcome) → row o c i ≡ x → After (λ _. ⊥) E x → Passes o c i → (row o c i ≡ Ends) × E
+pub ends_by : (o : Object) (c : Context) (i : Instr) (E : Type 0) (x : Outcome) → row o c i ≡ x → After (λ _. ⊥) E x →
+    Passes o c i → (row o c i ≡ Ends) × E
 unfolding After
 ends_by o c i E (Goes d) e a p = absurd a
 ends_by o c i E Ends e a p = (e, a)
@@ -132,19 +146,28 @@ ends_holds G E (Fails p) a e = cc
 -- WORDS
 
 -- the word of a register whose form is a constant
-pub address_word : (o : Object) (v : Valuation) (c : Context) (s : State) (r : Reg) (k : Colour) (t w : ℕ) → FitsContext o v c s → typed c r.number ≡ Some (addressed k t w) → IsWord w → word s r ≡ w
-address_word o v c s r k t w f e is = (f.registers r.number (addressed k t w) e).word ∙ value_constant w v ∙ mod-eq_of_lt is
+pub address_word : (o : Object) (v : Valuation) (c : Context) (s : State) (r : Reg) (k : Colour) (t w : ℕ) →
+    FitsContext o v c s → typed c r.number ≡ Some (addressed k t w) → IsWord w → word s r ≡ w
+address_word o v c s r k t w f e is = (f.registers r.number (addressed k t w) e).word ∙ value_constant w v
+    ∙ mod-eq_of_lt is
 
 -- what one step of each run gives: equal outputs, and states together
-pub record Steps (modules : List Object) (joins : List Link) (x : Object) (world : World modules joins x) (m : ℕ) (a b : Stepping) : Type 0 where
+pub record Steps (modules : List Object) (joins : List Link) (x : Object) (world : World modules joins x) (m : ℕ)
+    (a b : Stepping) : Type 0 where
   pub output : a.output ≡ b.output
   pub after : AreTogether modules joins x world (record { number = m; state = a.state }) b.state
 
-module _ (modules : List Object) (joins : List Link) (x : Object) (spelled : IsSpellable x) (accepted : IsAccepted x) (world : World modules joins x) where
+module _ (modules : List Object) (joins : List Link) (x : Object) (spelled : IsSpellable x) (accepted : IsAccepted x)
+    (world : World modules joins x) where
   -- ARRIVALS
 
   -- module states at the start of block y, and states of the linked object where that is sent to
-  pub arrives : (m : ℕ) (o : Object) (there : slice_get modules m ≡ Some o) (w : ℕ) (y : Block) → block_at o w ≡ Some y → (s t : State) (v u : Valuation) → v ≡ u → FitsContext o v (start_context o y.code_type) s → s.pc_green ≡ w → s.pc_blue ≡ w → s.fetched ≡ None → s.status ≡ Running → (b : Block) → block_at x ((world m o there).to w).0 ≡ Some b → FitsContext x u (start_context x b.code_type) t → t.pc_green ≡ code_address b.start → t.pc_blue ≡ code_address b.start → t.fetched ≡ None → t.status ≡ Running → Stands modules joins x world (sent modules joins (record { number = m; state = s })) t
+  pub arrives : (m : ℕ) (o : Object) (there : slice_get modules m ≡ Some o) (w : ℕ) (y : Block) → block_at o w
+      ≡ Some y → (s t : State) (v u : Valuation) → v ≡ u → FitsContext o v (start_context o y.code_type) s → s.pc_green
+      ≡ w → s.pc_blue ≡ w → s.fetched ≡ None → s.status ≡ Running → (b : Block) → block_at x ((world m o there).to w).0
+      ≡ Some b → FitsContext x u (start_context x b.code_type) t → t.pc_green ≡ code_address b.start → t.pc_blue
+      ≡ code_address b.start → t.fetched ≡ None → t.status ≡ Running →
+      Stands modules joins x world (sent modules joins (record { number = m; state = s })) t
   arrives m o there w y at s t v u same f sg sb sf sr b bt g tg tb tf run_t =
       let here = world m o there in
       let l = here.lands w y at in
@@ -156,12 +179,26 @@ module _ (modules : List Object) (joins : List Link) (x : Object) (spelled : IsS
         object = l.object;
         there = l.there;
         place = block_place l.object l.block v;
-        at = record { number = l.block_number; block = l.block_there; context = block_begins l.object l.block_number l.block l.block_there };
-        fits = block_start_fits l.object l.block v (at_address (code_address l.block.start) s) (start_fits_like o l.object v y.code_type l.block.code_type s (code_address l.block.start) (sym home.same_cells ∙ here.same_cells) here.plain_cells here.plain_rows l.like f) refl refl sf;
+        at = record {
+          number = l.block_number;
+          block = l.block_there;
+          context = block_begins l.object l.block_number l.block l.block_there;
+        };
+        fits = block_start_fits l.object l.block v (at_address (code_address l.block.start) s)
+            (start_fits_like o l.object v y.code_type l.block.code_type s (code_address l.block.start)
+            (sym home.same_cells ∙ here.same_cells) here.plain_cells here.plain_rows l.like f) refl refl sf;
         going = sr;
         other = block_place x (raised_block k l.block) u;
-        other_at = record { number = k.blocks + l.block_number; block = blocks.there; context = block_begins x (k.blocks + l.block_number) (raised_block k l.block) blocks.there };
-        other_fits = block_start_fits x (raised_block k l.block) u t (subst (λ (z : Block). FitsContext x u (start_context x z.code_type) t) (sym is) g) (tg ∙ ap (λ (z : Block). code_address z.start) (sym is)) (tb ∙ ap (λ (z : Block). code_address z.start) (sym is)) tf;
+        other_at = record {
+          number = k.blocks + l.block_number;
+          block = blocks.there;
+          context = block_begins x (k.blocks + l.block_number) (raised_block k l.block) blocks.there;
+        };
+        other_fits = block_start_fits x (raised_block k l.block) u t
+            (subst (λ (z : Block). FitsContext x u (start_context x z.code_type) t) (sym is) g) (tg
+            ∙ ap (λ (z : Block). code_address z.start) (sym is)) (tb
+            ∙ ap (λ (z : Block). code_address z.start) (sym is))
+            tf;
         other_going = run_t;
         number = refl;
         index = refl;

@@ -5,7 +5,8 @@ use Rattle.ft_isa.specs.declared.basic.Base.TheVariants.{Code}
 use Rattle.ft_isa.specs.declared.basic.Basic.{Basic}
 use Rattle.ft_typing.specs.Premise.{Premise}
 use Rattle.ft_typing.specs.Context.{Typed, FormPair, Context}
-use Rattle.ft_typing.specs.TypingRow.{Outcome, Goes, Ends, Fails, need, for_typed, for_ref_over, for_code_over, for_oldest, for_run}
+use Rattle.ft_typing.specs.TypingRow.{Outcome, Goes, Ends, Fails, need, for_typed, for_ref_over, for_code_over}
+use Rattle.ft_typing.specs.TypingRow.{for_oldest, for_run}
 
 -- R of the two contexts that the rows go on to, or both end the block, or the first fails
 unfoldable pub Both : (Context → Context → Type 0) → Outcome → Outcome → Type 0
@@ -28,54 +29,69 @@ unfolding Both
 both_end R = tt
 
 -- a test that holds of the second where it holds of the first
-pub both_need : (R : Context → Context → Type 0) (p : Premise) (b b' : Bool) (x x' : Outcome) → (b ≡ true → (b' ≡ true) × Both R x x') → Both R (need p b x) (need p b' x')
+pub both_need : (R : Context → Context → Type 0) (p : Premise) (b b' : Bool) (x x' : Outcome) →
+    (b ≡ true → (b' ≡ true) × Both R x x') → Both R (need p b x) (need p b' x')
 unfolding Both need
 both_need R p false b' x x' h = tt
 both_need R p true true x x' h = (h refl).1
 both_need R p true false x x' h = let e = (h refl).0 in cc
 
 -- a register of which the same is known
-both_typed_same : (R : Context → Context → Type 0) (y : Option Typed) (f f' : Typed → Outcome) → ((t : Typed) → y ≡ Some t → Both R (f t) (f' t)) → Both R (for_typed y f) (for_typed y f')
+both_typed_same : (R : Context → Context → Type 0) (y : Option Typed) (f f' : Typed → Outcome) →
+    ((t : Typed) → y ≡ Some t → Both R (f t) (f' t)) → Both R (for_typed y f) (for_typed y f')
 unfolding Both for_typed
 both_typed_same R None f f' h = tt
 both_typed_same R (Some t) f f' h = h t refl
 
 -- registers of which the same is known, by an equation
-pub both_typed : (R : Context → Context → Type 0) (y y' : Option Typed) (f f' : Typed → Outcome) → y ≡ y' → ((t : Typed) → y ≡ Some t → Both R (f t) (f' t)) → Both R (for_typed y f) (for_typed y' f')
-both_typed R y y' f f' e h = subst (λ (z : Option Typed). Both R (for_typed y f) (for_typed z f')) e (both_typed_same R y f f' h)
+pub both_typed : (R : Context → Context → Type 0) (y y' : Option Typed) (f f' : Typed → Outcome) → y ≡ y' →
+    ((t : Typed) → y ≡ Some t → Both R (f t) (f' t)) → Both R (for_typed y f) (for_typed y' f')
+both_typed R y y' f f' e h = subst (λ (z : Option Typed). Both R (for_typed y f) (for_typed z f')) e
+    (both_typed_same R y f f' h)
 
 -- registers of which this is known
-pub both_known : (R : Context → Context → Type 0) (y y' : Option Typed) (t t' : Typed) (f f' : Typed → Outcome) → y ≡ Some t → y' ≡ Some t' → Both R (f t) (f' t') → Both R (for_typed y f) (for_typed y' f')
+pub both_known : (R : Context → Context → Type 0) (y y' : Option Typed) (t t' : Typed) (f f' : Typed → Outcome) → y
+    ≡ Some t → y' ≡ Some t' → Both R (f t) (f' t') → Both R (for_typed y f) (for_typed y' f')
 unfolding for_typed
 both_known R y y' t t' f f' e e' h = rw (e, e') h
 
 -- a type that refers to another
-pub both_ref : (R : Context → Context → Type 0) (n : ℕ) (base : Base) (f f' : Basic → Outcome) → ((b : Basic) → Both R (f b) (f' b)) → Both R (for_ref_over n base f) (for_ref_over n base f')
+pub both_ref : (R : Context → Context → Type 0) (n : ℕ) (base : Base) (f f' : Basic → Outcome) →
+    ((b : Basic) → Both R (f b) (f' b)) → Both R (for_ref_over n base f) (for_ref_over n base f')
 unfolding Both for_ref_over
 both_ref R zero base f f' h = tt
 both_ref R (suc k) base f f' h = h (record { refs = k; base = base })
 
 -- types of code addresses
-pub both_code : (R : Context → Context → Type 0) (t t' : ℕ) (f f' : ℕ → Outcome) → Both R (f t) (f' t') → Both R (for_code_over 0 (Code t) f) (for_code_over 0 (Code t') f')
+pub both_code : (R : Context → Context → Type 0) (t t' : ℕ) (f f' : ℕ → Outcome) → Both R (f t) (f' t') →
+    Both R (for_code_over 0 (Code t) f) (for_code_over 0 (Code t') f')
 unfolding for_code_over
 both_code R t t' f f' h = h
 
 -- the same static queue
-both_oldest_same : (R : Context → Context → Type 0) (q : List FormPair) (f f' : FormPair → List FormPair → Outcome) → ((p : FormPair) (r : List FormPair) → q ≡ p ∷ r → Both R (f p r) (f' p r)) → Both R (for_oldest q f) (for_oldest q f')
+both_oldest_same : (R : Context → Context → Type 0) (q : List FormPair) (f f' : FormPair → List FormPair → Outcome) →
+    ((p : FormPair) (r : List FormPair) → q ≡ p ∷ r → Both R (f p r) (f' p r)) →
+    Both R (for_oldest q f) (for_oldest q f')
 unfolding Both for_oldest
 both_oldest_same R [] f f' h = tt
 both_oldest_same R (p ∷ r) f f' h = h p r refl
 
 -- the same static queue, by an equation
-pub both_oldest : (R : Context → Context → Type 0) (q q' : List FormPair) (f f' : FormPair → List FormPair → Outcome) → q ≡ q' → ((p : FormPair) (r : List FormPair) → q ≡ p ∷ r → Both R (f p r) (f' p r)) → Both R (for_oldest q f) (for_oldest q' f')
-both_oldest R q q' f f' e h = subst (λ (z : List FormPair). Both R (for_oldest q f) (for_oldest z f')) e (both_oldest_same R q f f' h)
+pub both_oldest : (R : Context → Context → Type 0) (q q' : List FormPair) (f f' : FormPair → List FormPair → Outcome) →
+    q ≡ q' → ((p : FormPair) (r : List FormPair) → q ≡ p ∷ r → Both R (f p r) (f' p r)) →
+    Both R (for_oldest q f) (for_oldest q' f')
+both_oldest R q q' f f' e h = subst (λ (z : List FormPair). Both R (for_oldest q f) (for_oldest z f')) e
+    (both_oldest_same R q f f' h)
 
 -- the same run of cells
-both_run_same : (R : Context → Context → Type 0) (y : Option Basic) (f f' : Basic → Outcome) → ((b : Basic) → Both R (f b) (f' b)) → Both R (for_run y f) (for_run y f')
+both_run_same : (R : Context → Context → Type 0) (y : Option Basic) (f f' : Basic → Outcome) →
+    ((b : Basic) → Both R (f b) (f' b)) → Both R (for_run y f) (for_run y f')
 unfolding Both for_run
 both_run_same R None f f' h = tt
 both_run_same R (Some b) f f' h = h b
 
 -- runs of the same type
-pub both_run : (R : Context → Context → Type 0) (y y' : Option Basic) (f f' : Basic → Outcome) → y ≡ y' → ((b : Basic) → Both R (f b) (f' b)) → Both R (for_run y f) (for_run y' f')
-both_run R y y' f f' e h = subst (λ (z : Option Basic). Both R (for_run y f) (for_run z f')) e (both_run_same R y f f' h)
+pub both_run : (R : Context → Context → Type 0) (y y' : Option Basic) (f f' : Basic → Outcome) → y ≡ y' →
+    ((b : Basic) → Both R (f b) (f' b)) → Both R (for_run y f) (for_run y' f')
+both_run R y y' f f' e h = subst (λ (z : Option Basic). Both R (for_run y f) (for_run z f')) e
+    (both_run_same R y f f' h)

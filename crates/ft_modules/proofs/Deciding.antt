@@ -1,17 +1,19 @@
 -- The tests of refusals decide what they are named for.
-use Rattle.std.proofs.Common.{◌≡◌, ℕ, zero, suc, ◌+◌, ◌<◌, Bool, true, ◌==◌, if◌then◌else◌, List, [], ◌∷◌, length, slice_get, Option, Some, None, refl, sym, ap, ◌∙◌, subst, arith, eqb-true, eq-eqb}
+use Rattle.std.proofs.Common.{◌≡◌, ℕ, zero, suc, ◌+◌, ◌<◌, Bool, true, ◌==◌, if◌then◌else◌, List, [], ◌∷◌, length}
+use Rattle.std.proofs.Common.{slice_get, Option, Some, None, refl, sym, ap, ◌∙◌, subst, arith, eqb-true, eq-eqb}
 use Rattle.std.specs.Prelude.{All}
 use Rattle.std.specs.List.{AllZip, list_all}
 use Rattle.std.specs.Option.{option_or, option_map}
 use Rattle.std.specs.FinMap as finite
 use Rattle.std.proofs.lemmas.Bool.{and_parts, and_from, leb-true, le-leb}
+use Rattle.ft_isa.specs.Operations.{op_code, op_of}
+use Rattle.ft_isa.proofs.Operations.{op_back}
 use Rattle.ft_isa.specs.declared.op.Op.{Op}
-use Rattle.ft_isa.specs.declared.op.Op.TheVariants.{Add, Sub, Mul, Ltu, Eq, And, Or, Xor, Shl, Shr}
 use Rattle.ft_isa.specs.declared.basic.Base.{Base}
 use Rattle.ft_isa.specs.declared.basic.Base.TheVariants.{Int, Code}
 use Rattle.ft_isa.specs.declared.colour.Colour.{Colour}
 use Rattle.ft_isa.specs.declared.instr.Instr.{Instr}
-use Rattle.ft_isa.specs.declared.instr.Instr.TheVariants.{OpReg, OpWord, Mov, Ld, St, JmpG, JmpB, BzG, BzB, Halt, Idx}
+use Rattle.ft_isa.specs.declared.instr.Instr.TheVariants.{Halt}
 use Rattle.ft_isa.proofs.Lists.{all_there, all_pass}
 use Rattle.ft_static.specs.Expression.{Integer, Memory, word, variable, operation, sel, rem, memory_variable, upd}
 use Rattle.ft_types.specs.declared.object.Object.{Object}
@@ -19,7 +21,6 @@ use Rattle.ft_types.specs.declared.object.Cell.{Cell}
 use Rattle.ft_types.specs.declared.object.Block.{Block}
 use Rattle.ft_types.specs.declared.object.CodeType.{CodeType}
 use Rattle.ft_types.specs.declared.object.RegType.{RegType}
-use Rattle.ft_types.specs.NodeRows.{op_code}
 use Rattle.ft_types.specs.Objects.{block_instrs}
 use Rattle.ft_typing.specs.TypingRow.{same_colour}
 use Rattle.ft_typing.proofs.TypedWords.{same_basic_is, is_same_basic, same_colours}
@@ -29,35 +30,16 @@ use Rattle.ft_modules.specs.CodeWalk.{code_walk}
 use Rattle.ft_modules.specs.LikeTypes.{SameRow, SamePair, LikeTypes}
 use Rattle.ft_modules.specs.Linkable.{HasPlainCell, HasPlainRow, HasPlainRows, AreFew}
 use Rattle.ft_modules.specs.Links.{same_name}
-use Rattle.ft_modules.specs.LinkRefusals.{is_int, same_cell, same_cells, is_plain_cell, is_plain_row, has_plain_rows, first_walk_fault, are_few, is_halt, is_stub}
+use Rattle.ft_modules.specs.LinkRefusals.{is_int, same_cell, same_cells, is_plain_cell, is_plain_row, has_plain_rows}
+use Rattle.ft_modules.specs.LinkRefusals.{first_walk_fault, are_few, is_halt, is_stub}
 use Rattle.ft_modules.specs.SameTrees.{same_integer, same_memory, same_row, same_rows, same_pairs, like_types}
 use Rattle.ft_modules.proofs.Elements.{all_of}
 
 -- TREES
 
--- the operation of a code
-pub op_of : ℕ → Op
-op_of n =
-    if n == 0 then Add else if n == 1 then Sub else if n == 2 then Mul else if n == 3 then Ltu else if n == 4 then Eq
-    else if n == 5 then And else if n == 6 then Or else if n == 7 then Xor else if n == 8 then Shl else Shr
-
--- an operation is that of its code
-pub op_again : (o : Op) → op_of (op_code o) ≡ o
-unfolding op_of
-op_again Add = refl
-op_again Sub = refl
-op_again Mul = refl
-op_again Ltu = refl
-op_again Eq = refl
-op_again And = refl
-op_again Or = refl
-op_again Xor = refl
-op_again Shl = refl
-op_again Shr = refl
-
 -- operations with the same code are the same
 op_same : (o p : Op) → (op_code o == op_code p) ≡ true → o ≡ p
-op_same o p e = sym (op_again o) ∙ ap op_of (eqb-true _ _ e) ∙ op_again p
+op_same o p e = sym (op_back o) ∙ ap op_of (eqb-true _ _ e) ∙ op_back p
 
 mutual
   -- integers that the test finds the same are equal
@@ -83,13 +65,15 @@ mutual
   same_integer_is (sel m a) (word w) e = cc
   same_integer_is (sel m a) (variable j) e = cc
   same_integer_is (sel m a) (operation p c d) e = cc
-  same_integer_is (sel m a) (sel n c) e = let q = and_parts _ _ e in λ i. sel (same_memory_is m n q.0 i) (same_integer_is a c q.1 i)
+  same_integer_is (sel m a) (sel n c) e = let q = and_parts _ _ e in
+      λ i. sel (same_memory_is m n q.0 i) (same_integer_is a c q.1 i)
   same_integer_is (sel m a) (rem c k) e = cc
   same_integer_is (rem a l) (word w) e = cc
   same_integer_is (rem a l) (variable j) e = cc
   same_integer_is (rem a l) (operation p c d) e = cc
   same_integer_is (rem a l) (sel n c) e = cc
-  same_integer_is (rem a l) (rem c k) e = let q = and_parts _ _ e in λ i. rem (same_integer_is a c q.1 i) (eqb-true l k q.0 i)
+  same_integer_is (rem a l) (rem c k) e = let q = and_parts _ _ e in
+      λ i. rem (same_integer_is a c q.1 i) (eqb-true l k q.0 i)
 
   -- so are memories
   same_memory_is : (m n : Memory) → same_memory m n ≡ true → m ≡ n
@@ -106,7 +90,8 @@ mutual
   integer_itself : (e : Integer) → same_integer e e ≡ true
   integer_itself (word v) = eq-eqb v v refl
   integer_itself (variable i) = eq-eqb i i refl
-  integer_itself (operation o a b) = and_from _ _ (and_from _ _ (eq-eqb (op_code o) (op_code o) refl) (integer_itself a)) (integer_itself b)
+  integer_itself (operation o a b) = and_from _ _ (and_from _ _ (eq-eqb (op_code o) (op_code o) refl)
+      (integer_itself a)) (integer_itself b)
   integer_itself (sel m a) = and_from _ _ (memory_itself m) (integer_itself a)
   integer_itself (rem a l) = and_from _ _ (eq-eqb l l refl) (integer_itself a)
 
@@ -135,11 +120,17 @@ row_is o x r q e =
     let a = and_parts _ _ e in
     let b = and_parts _ _ a.0 in
     let c = and_parts _ _ b.0 in
-    record { reg = eqb-true _ _ c.0; colour = same_colour_is r.colour q.colour c.1; basic = same_basic_is r.basic q.basic b.1; tree = same_integer_is _ _ a.1 }
+    record {
+      reg = eqb-true _ _ c.0;
+      colour = same_colour_is r.colour q.colour c.1;
+      basic = same_basic_is r.basic q.basic b.1;
+      tree = same_integer_is _ _ a.1;
+    }
 
 -- and the other way round
 is_row : (o x : Object) (r q : RegType) → SameRow o x r q → same_row o x r q ≡ true
-is_row o x r q h = and_from _ _ (and_from _ _ (and_from _ _ (eq-eqb _ _ h.reg) (colour_same r.colour q.colour h.colour)) (is_same_basic r.basic q.basic h.basic)) (integer_same _ _ h.tree)
+is_row o x r q h = and_from _ _ (and_from _ _ (and_from _ _ (eq-eqb _ _ h.reg) (colour_same r.colour q.colour h.colour))
+    (is_same_basic r.basic q.basic h.basic)) (integer_same _ _ h.tree)
 
 -- lists of register rows that the test finds the same
 rows_are : (o x : Object) (rs qs : List RegType) → same_rows o x rs qs ≡ true → AllZip (SameRow o x) rs qs
@@ -160,14 +151,16 @@ pairs_are : (o x : Object) (rs qs : List (ℕ × ℕ)) → same_pairs o x rs qs 
 pairs_are o x [] [] e = tt
 pairs_are o x [] (q ∷ qs) e = cc
 pairs_are o x (r ∷ rs) [] e = cc
-pairs_are o x (r ∷ rs) (q ∷ qs) e = let a = and_parts _ _ e in let b = and_parts _ _ a.0 in (record { address = same_integer_is _ _ b.0; value = same_integer_is _ _ b.1 }, pairs_are o x rs qs a.1)
+pairs_are o x (r ∷ rs) (q ∷ qs) e = let a = and_parts _ _ e in let b = and_parts _ _ a.0 in
+    (record { address = same_integer_is _ _ b.0; value = same_integer_is _ _ b.1 }, pairs_are o x rs qs a.1)
 
 -- and the other way round
 are_pairs : (o x : Object) (rs qs : List (ℕ × ℕ)) → AllZip (SamePair o x) rs qs → same_pairs o x rs qs ≡ true
 are_pairs o x [] [] h = refl
 are_pairs o x [] (q ∷ qs) h = absurd h
 are_pairs o x (r ∷ rs) [] h = absurd h
-are_pairs o x (r ∷ rs) (q ∷ qs) h = let a = h.0 in and_from _ _ (and_from _ _ (integer_same _ _ a.address) (integer_same _ _ a.value)) (are_pairs o x rs qs h.1)
+are_pairs o x (r ∷ rs) (q ∷ qs) h = let a = h.0 in
+    and_from _ _ (and_from _ _ (integer_same _ _ a.address) (integer_same _ _ a.value)) (are_pairs o x rs qs h.1)
 
 -- code types that the test finds alike say the same
 pub like_is : (o : Object) (t : ℕ) (x : Object) (u : ℕ) → like_types o t x u ≡ true → LikeTypes o t x u
@@ -176,12 +169,18 @@ like_is o t x u e =
     let a = and_parts _ _ e in
     let b = and_parts _ _ a.0 in
     let c = and_parts _ _ b.0 in
-    record { ints = eqb-true _ _ c.0; regs = rows_are o x _ _ c.1; queue = pairs_are o x _ _ b.1; memory = same_memory_is _ _ a.1 }
+    record {
+      ints = eqb-true _ _ c.0;
+      regs = rows_are o x _ _ c.1;
+      queue = pairs_are o x _ _ b.1;
+      memory = same_memory_is _ _ a.1;
+    }
 
 -- and the other way round
 pub is_like : (o : Object) (t : ℕ) (x : Object) (u : ℕ) → LikeTypes o t x u → like_types o t x u ≡ true
 unfolding like_types
-is_like o t x u h = and_from _ _ (and_from _ _ (and_from _ _ (eq-eqb _ _ h.ints) (are_rows o x _ _ h.regs)) (are_pairs o x _ _ h.queue)) (memory_same _ _ h.memory)
+is_like o t x u h = and_from _ _ (and_from _ _ (and_from _ _ (eq-eqb _ _ h.ints) (are_rows o x _ _ h.regs))
+    (are_pairs o x _ _ h.queue)) (memory_same _ _ h.memory)
 
 -- CELLS AND ROWS
 
@@ -202,7 +201,11 @@ cell_is : (a b : Cell) → same_cell a b ≡ true → a ≡ b
 cell_is a b e =
     let p = and_parts _ _ e in
     let q = and_parts _ _ p.0 in
-    λ i. record { name = name_is a.name b.name q.0 i; basic = same_basic_is a.basic b.basic q.1 i; init = eqb-true a.init b.init p.1 i }
+    λ i. record {
+      name = name_is a.name b.name q.0 i;
+      basic = same_basic_is a.basic b.basic q.1 i;
+      init = eqb-true a.init b.init p.1 i;
+    }
 
 -- so are lists of cells
 pub cells_are : (xs ys : List Cell) → same_cells xs ys ≡ true → xs ≡ ys
@@ -214,14 +217,17 @@ cells_are (x ∷ xs) (y ∷ ys) e = let p = and_parts _ _ e in λ i. cell_is x y
 -- cells are found the same as themselves
 cells_itself : (xs : List Cell) → same_cells xs xs ≡ true
 cells_itself [] = refl
-cells_itself (x ∷ xs) = and_from _ _ (and_from _ _ (and_from _ _ (name_itself x.name) (is_same_basic x.basic x.basic refl)) (eq-eqb x.init x.init refl)) (cells_itself xs)
+cells_itself (x ∷ xs) = and_from _ _ (and_from _ _
+    (and_from _ _ (name_itself x.name) (is_same_basic x.basic x.basic refl)) (eq-eqb x.init x.init refl))
+    (cells_itself xs)
 
 -- equal cells are found the same
 pub are_cells : (xs ys : List Cell) → xs ≡ ys → same_cells xs ys ≡ true
 are_cells xs ys h = subst (λ (z : List Cell). same_cells xs z ≡ true) h (cells_itself xs)
 
 -- a test of all elements
-pub each_passes : {X : Type 0} (p : X → Bool) (xs : List X) → list_all p xs ≡ true → (n : ℕ) (x : X) → slice_get xs n ≡ Some x → p x ≡ true
+pub each_passes : {X : Type 0} (p : X → Bool) (xs : List X) → list_all p xs ≡ true → (n : ℕ) (x : X) → slice_get xs n
+    ≡ Some x → p x ≡ true
 each_passes p [] e n x f = cc
 each_passes p (y ∷ ys) e zero x f = let q = and_parts _ _ e in let same : y ≡ x = cc in subst (λ z. p z ≡ true) same q.0
 each_passes p (y ∷ ys) e (suc n) x f = let q = and_parts _ _ e in each_passes p ys q.1 n x f
@@ -245,11 +251,15 @@ are_plain_cells cs h = all_pass is_plain_cell cs (λ n c f. is_int_of c.basic.ba
 
 -- code types of which the test finds the rows plain have such rows
 pub plain_rows_are : (ts : List CodeType) → list_all has_plain_rows ts ≡ true → All HasPlainRows ts
-plain_rows_are ts e = all_of HasPlainRows ts (λ n t f. all_of HasPlainRow t.regs (λ m r g. int_is r.basic.base (each_passes is_plain_row t.regs (each_passes has_plain_rows ts e n t f) m r g)))
+plain_rows_are ts e = all_of HasPlainRows ts (λ n t f.
+    all_of HasPlainRow t.regs (λ m r g. int_is r.basic.base
+    (each_passes is_plain_row t.regs (each_passes has_plain_rows ts e n t f) m r g)))
 
 -- and the other way round
 pub are_plain_rows : (ts : List CodeType) → All HasPlainRows ts → list_all has_plain_rows ts ≡ true
-are_plain_rows ts h = all_pass has_plain_rows ts (λ n t f. all_pass is_plain_row t.regs (λ m r g. is_int_of r.basic.base (all_there HasPlainRow t.regs m r (all_there HasPlainRows ts n t h f) g)))
+are_plain_rows ts h = all_pass has_plain_rows ts (λ n t f.
+    all_pass is_plain_row t.regs (λ m r g. is_int_of r.basic.base
+    (all_there HasPlainRow t.regs m r (all_there HasPlainRows ts n t h f) g)))
 
 -- OPTIONS
 
@@ -266,7 +276,8 @@ map_parts f (Some x) e = cc
 -- WALKS
 
 -- where no walk is found to fail, none fails
-pub no_walk_fault : (o : Object) (b : ℕ) (ys : List Block) → first_walk_fault o b ys ≡ None → (n : ℕ) → n < length ys → code_walk o finite.empty 0 (block_instrs o (b + n)) ≡ None
+pub no_walk_fault : (o : Object) (b : ℕ) (ys : List Block) → first_walk_fault o b ys ≡ None → (n : ℕ) → n < length ys →
+    code_walk o finite.empty 0 (block_instrs o (b + n)) ≡ None
 no_walk_fault o b [] e n lt = absurd (omega (arith, lt))
 no_walk_fault o b (y ∷ ys) e zero lt =
     let p = or_parts _ _ e in
@@ -275,15 +286,20 @@ no_walk_fault o b (y ∷ ys) e zero lt =
 no_walk_fault o b (y ∷ ys) e (suc n) lt =
     let p = or_parts _ _ e in
     let here : suc b + n ≡ b + suc n = omega arith in
-    subst (λ k. code_walk o finite.empty 0 (block_instrs o k) ≡ None) here (no_walk_fault o (suc b) ys p.1 n (omega (arith, lt)))
+    subst (λ k. code_walk o finite.empty 0 (block_instrs o k)
+    ≡ None) here (no_walk_fault o (suc b) ys p.1 n (omega (arith, lt)))
 
 -- and the other way round
-pub walk_without_fault : (o : Object) (b : ℕ) (ys : List Block) → ((n : ℕ) → n < length ys → code_walk o finite.empty 0 (block_instrs o (b + n)) ≡ None) → first_walk_fault o b ys ≡ None
+pub walk_without_fault : (o : Object) (b : ℕ) (ys : List Block) →
+    ((n : ℕ) → n < length ys → code_walk o finite.empty 0 (block_instrs o (b + n)) ≡ None) → first_walk_fault o b ys
+    ≡ None
 walk_without_fault o b [] h = refl
 walk_without_fault o b (y ∷ ys) h =
     let here : b + 0 ≡ b = omega arith in
-    or_none _ _ (ap (option_map (λ i. (b, i))) (subst (λ k. code_walk o finite.empty 0 (block_instrs o k) ≡ None) here (h 0 (omega arith))))
-    (walk_without_fault o (suc b) ys (λ n lt. let there : b + suc n ≡ suc b + n = omega arith in subst (λ k. code_walk o finite.empty 0 (block_instrs o k) ≡ None) there (h (suc n) (omega (arith, lt)))))
+    or_none _ _ (ap (option_map (λ i. (b, i))) (subst (λ k. code_walk o finite.empty 0 (block_instrs o k)
+    ≡ None) here (h 0 (omega arith))))
+    (walk_without_fault o (suc b) ys (λ n lt. let there : b + suc n ≡ suc b + n = omega arith in
+    subst (λ k. code_walk o finite.empty 0 (block_instrs o k) ≡ None) there (h (suc n) (omega (arith, lt)))))
 
 -- TOTALS
 
@@ -311,23 +327,16 @@ few_are ms e =
 pub are_few_of : (ms : List Object) → AreFew ms → are_few ms ≡ true
 unfolding are_few
 are_few_of ms h =
-    and_from _ _ (and_from _ _ (and_from _ _ (and_from _ _ (and_from _ _ (and_from _ _ (le-leb _ _ h.nodes) (le-leb _ _ h.types)) (le-leb _ _ h.reg_rows)) (le-leb _ _ h.queue_rows)) (le-leb _ _ h.blocks)) (le-leb _ _ h.instrs)) (le-leb _ _ h.substs)
+    and_from _ _ (and_from _ _ (and_from _ _ (and_from _ _
+    (and_from _ _ (and_from _ _ (le-leb _ _ h.nodes) (le-leb _ _ h.types)) (le-leb _ _ h.reg_rows))
+    (le-leb _ _ h.queue_rows)) (le-leb _ _ h.blocks)) (le-leb _ _ h.instrs)) (le-leb _ _ h.substs)
 
 -- STUBS
 
 -- an instruction that the test finds to be `halt` is it
 halt_is : (i : Instr) → is_halt i ≡ true → i ≡ Halt
-halt_is (OpReg op rd rs rt) e = cc
-halt_is (OpWord op rd rs v) e = cc
-halt_is (Mov rd v b) e = cc
-halt_is (Ld c rd rs) e = cc
-halt_is (St c rd rs) e = cc
-halt_is (JmpG rd) e = cc
-halt_is (JmpB rd u) e = cc
-halt_is (BzG rz rd) e = cc
-halt_is (BzB rz rd u) e = cc
 halt_is Halt e = refl
-halt_is (Idx rd rs first m) e = cc
+halt_is i e = cc
 
 -- a block that the test finds to be a stub is one `halt`
 pub stub_is : (is : List Instr) → is_stub is ≡ true → is ≡ Halt ∷ []

@@ -1,5 +1,7 @@
 -- A permitted exchange keeps the walk that traces code addresses, so it keeps a module.
-use Rattle.std.proofs.Common.{◌≡◌, ℕ, zero, suc, ◌<◌, Bool, true, false, cond, not, ◌&&◌, ◌==◌, if◌then◌else◌, List, [], ◌∷◌, length, Option, Some, None, is_some, slice_get, refl, sym, ap, ◌∙◌, subst, arith, inl, inr, eqb-true, eq-eqb}
+use Rattle.std.proofs.Common.{◌≡◌, ℕ, zero, suc, ◌<◌, Bool, true, false, cond, not, ◌&&◌, ◌==◌, if◌then◌else◌, List, []}
+use Rattle.std.proofs.Common.{◌∷◌, length, Option, Some, None, is_some, slice_get, refl, sym, ap, ◌∙◌, subst, arith}
+use Rattle.std.proofs.Common.{inl, inr, eqb-true, eq-eqb}
 use Rattle.std.specs.Cmp.{nat_cmp_total}
 use Rattle.std.specs.FinMap as finite
 use Rattle.std.specs.FinMap.{nat_cmp-IsAntisymmetric}
@@ -13,12 +15,15 @@ use Rattle.ft_types.specs.declared.object.Block.{Block}
 use Rattle.ft_types.specs.declared.object.Cell.{Cell}
 use Rattle.ft_types.specs.Objects.{block_instrs}
 use Rattle.ft_types.specs.Spellable.{IsSpellable}
-use Rattle.ft_exchange.specs.Exchange.{is_fixed, written, reads, is_register, leaves_alone, queue_before, may_exchange, IsPermitted, exchanged, with_instrs, after_exchange}
+use Rattle.ft_exchange.specs.Exchange.{is_fixed, written, reads, is_register, leaves_alone, queue_before, may_exchange}
+use Rattle.ft_exchange.specs.Exchange.{IsPermitted, exchanged, with_instrs, after_exchange}
 use Rattle.ft_exchange.specs.Scheduled.{ComesFrom, itself, exchange}
-use Rattle.ft_exchange.proofs.Permits.{Trailing, trailing_write, trailing_store, Leading, leading_write, leading_store, Permits, permits, not_read, not_written, read_other}
+use Rattle.ft_exchange.proofs.Permits.{Trailing, trailing_write, trailing_store, Leading, leading_write, leading_store}
+use Rattle.ft_exchange.proofs.Permits.{Permits, permits, not_read, not_written, read_other}
 use Rattle.ft_exchange.proofs.BlockRanges.{same_block, other_block}
 use Rattle.ft_exchange.proofs.Accepted.{spellable_exchanged, accepted_exchanged}
-use Rattle.ft_modules.specs.CodeWalk.{Entered, code_claimed, entered_with, entered_after, is_free, is_free_target, is_traced, code_walk}
+use Rattle.ft_modules.specs.CodeWalk.{Entered, code_claimed, entered_with, entered_after, is_free, is_free_target}
+use Rattle.ft_modules.specs.CodeWalk.{is_traced, code_walk}
 use Rattle.ft_modules.specs.Linkable.{IsModule}
 use Rattle.ft_modules.proofs.LinkedContexts.{entered_get}
 
@@ -61,16 +66,22 @@ enters e Halt r h = cc
 enters e (Idx rd rs first m) r h = let f : rd.number ≡ r = cc in ap (λ n. entered_with n None e) f
 
 -- whether an instruction is passed depends on the registers that it reads
-traced_same : (o : Object) (e f : Entered) (i : Instr) → is_fixed i ≡ false → ((r : ℕ) → reads i r ≡ true → finite.get e r ≡ finite.get f r) → is_traced o e i ≡ is_traced o f i
+traced_same : (o : Object) (e f : Entered) (i : Instr) → is_fixed i ≡ false →
+    ((r : ℕ) → reads i r ≡ true → finite.get e r ≡ finite.get f r) → is_traced o e i ≡ is_traced o f i
 traced_same o e f (OpReg op rd rs rt) h same = λ j.
-    not (is_some (same rs.number (or_left (rs.number == rs.number) (rt.number == rs.number) (eq-eqb rs.number rs.number refl)) j))
-    && not (is_some (same rt.number (or_right (rs.number == rt.number) (rt.number == rt.number) (eq-eqb rt.number rt.number refl)) j))
-traced_same o e f (OpWord op rd rs value) h same = λ j. not (is_some (same rs.number (eq-eqb rs.number rs.number refl) j))
+    not (is_some (same rs.number (or_left (rs.number == rs.number) (rt.number == rs.number)
+    (eq-eqb rs.number rs.number refl)) j))
+    && not (is_some (same rt.number (or_right (rs.number == rt.number) (rt.number == rt.number)
+    (eq-eqb rt.number rt.number refl)) j))
+traced_same o e f (OpWord op rd rs value) h same = λ j.
+    not (is_some (same rs.number (eq-eqb rs.number rs.number refl) j))
 traced_same o e f (Mov rd value basic) h same = refl
 traced_same o e f (Ld k rd rs) h same = λ j. not (is_some (same rs.number (eq-eqb rs.number rs.number refl) j))
 traced_same o e f (St k rd rs) h same = λ j.
-    not (is_some (same rd.number (or_left (rd.number == rd.number) (rs.number == rd.number) (eq-eqb rd.number rd.number refl)) j))
-    && not (is_some (same rs.number (or_right (rd.number == rs.number) (rs.number == rs.number) (eq-eqb rs.number rs.number refl)) j))
+    not (is_some (same rd.number (or_left (rd.number == rd.number) (rs.number == rd.number)
+    (eq-eqb rd.number rd.number refl)) j))
+    && not (is_some (same rs.number (or_right (rd.number == rs.number) (rs.number == rs.number)
+    (eq-eqb rs.number rs.number refl)) j))
 traced_same o e f (JmpG rd) h same = cc
 traced_same o e f (JmpB rd u) h same = cc
 traced_same o e f (BzG rz rd) h same = cc
@@ -79,11 +90,13 @@ traced_same o e f Halt h same = cc
 traced_same o e f (Idx rd rs first m) h same = λ j. not (is_some (same rs.number (eq-eqb rs.number rs.number refl) j))
 
 -- another register stays as it was
-entered_other : (e : Entered) (r : ℕ) (v : Option ℕ) (q : ℕ) → (q == r) ≡ false → finite.get (entered_with r v e) q ≡ finite.get e q
+entered_other : (e : Entered) (r : ℕ) (v : Option ℕ) (q : ℕ) → (q == r) ≡ false → finite.get (entered_with r v e) q
+    ≡ finite.get e q
 entered_other e r v q h = entered_get e r v q ∙ ap (λ b. cond b v (finite.get e q)) h
 
 -- two registers may be entered in either order
-entered_twice : (e : Entered) (p q : ℕ) (v w : Option ℕ) → (q == p) ≡ false → entered_with q w (entered_with p v e) ≡ entered_with p v (entered_with q w e)
+entered_twice : (e : Entered) (p q : ℕ) (v w : Option ℕ) → (q == p) ≡ false → entered_with q w (entered_with p v e)
+    ≡ entered_with p v (entered_with q w e)
 entered_twice e p q v w other = finite.same_map nat_cmp_total nat_cmp-IsAntisymmetric _ _ (λ k.
     entered_get (entered_with p v e) q w k
     ∙ ap (cond (k == q) w) (entered_get e p v k)
@@ -92,7 +105,8 @@ entered_twice e p q v w other = finite.same_map nat_cmp_total nat_cmp-IsAntisymm
     ∙ sym (entered_get (entered_with q w e) p v k))
   where
     both : (k : ℕ) → (k == q) ≡ true → (k == p) ≡ true → ⊥
-    both k f g = (let a : k ≡ q = eqb-true k q f in let b : k ≡ p = eqb-true k p g in let c : (q == p) ≡ true = eq-eqb q p (sym a ∙ b) in cc)
+    both k f g = (let a : k ≡ q = eqb-true k q f in let b : k ≡ p = eqb-true k p g in
+        let c : (q == p) ≡ true = eq-eqb q p (sym a ∙ b) in cc)
 
     by_tests : (s t : Bool) (u : Option ℕ) → (s ≡ true → t ≡ true → ⊥) → cond s w (cond t v u) ≡ cond t v (cond s w u)
     by_tests true true u h = absurd (h refl refl)
@@ -103,10 +117,12 @@ entered_twice e p q v w other = finite.same_map nat_cmp_total nat_cmp-IsAntisymm
 -- TWO NEIGHBOURS
 
 -- an instruction that leaves a written register alone is passed after the write as before it
-pass_over : (o : Object) (e : Entered) (i w : Instr) (r : ℕ) → is_fixed i ≡ false → written w ≡ Some r → leaves_alone i (written w) ≡ true → is_traced o (entered_after w e) i ≡ is_traced o e i
+pass_over : (o : Object) (e : Entered) (i w : Instr) (r : ℕ) → is_fixed i ≡ false → written w ≡ Some r →
+    leaves_alone i (written w) ≡ true → is_traced o (entered_after w e) i ≡ is_traced o e i
 pass_over o e i w r free wr alone =
     let no_read = not_read i (written w) r wr alone in
-    ap (λ f. is_traced o f i) (enters e w r wr) ∙ traced_same o (entered_with r (claimed w) e) e i free (λ q h. entered_other e r (claimed w) q (read_other i r q no_read h))
+    ap (λ f. is_traced o f i) (enters e w r wr) ∙ traced_same o (entered_with r (claimed w) e) e i free (λ q h.
+    entered_other e r (claimed w) q (read_other i r q no_read h))
 
 -- what the walk says of two neighbours that may be exchanged
 record Crossed (o : Object) (e : Entered) (a b : Instr) : Type 0 where
@@ -115,7 +131,8 @@ record Crossed (o : Object) (e : Entered) (a b : Instr) : Type 0 where
   pub same : entered_after b (entered_after a e) ≡ entered_after a (entered_after b e)
 
 -- by what each of them does: it writes a register, or is a store
-crossed_by : (o : Object) (e : Entered) (n : ℕ) (a b : Instr) → Trailing a → Leading b → Permits n a b → is_traced o e a ≡ true → is_traced o (entered_after a e) b ≡ true → Crossed o e a b
+crossed_by : (o : Object) (e : Entered) (n : ℕ) (a b : Instr) → Trailing a → Leading b → Permits n a b → is_traced o e a
+    ≡ true → is_traced o (entered_after a e) b ≡ true → Crossed o e a b
 crossed_by o e n a b (trailing_write p wa la) (leading_write q wb lb) h ta tb =
     let other = turned p q (not_written a (written b) p q wb wa h.first_alone) in
     record {
@@ -126,18 +143,33 @@ crossed_by o e n a b (trailing_write p wa la) (leading_write q wb lb) h ta tb =
           ∙ entered_twice e p q (claimed a) (claimed b) other
           ∙ sym (ap (entered_after a) (enters e b q wb) ∙ enters (entered_with q (claimed b) e) a p wa);
     }
-crossed_by o e n a _ (trailing_write p wa la) (leading_store rd rs) h ta tb = record { second_passes = sym (pass_over o e (St Green rd rs) a p h.second_free wa h.second_alone) ∙ tb; first_passes = ta; same = refl }
-crossed_by o e n _ b (trailing_store rd rs) (leading_write q wb lb) h ta tb = record { second_passes = tb; first_passes = pass_over o e (St Blue rd rs) b q h.first_free wb h.first_alone ∙ ta; same = refl }
-crossed_by o e n _ _ (trailing_store rd rs) (leading_store rx ry) h ta tb = record { second_passes = tb; first_passes = ta; same = refl }
+crossed_by o e n a _ (trailing_write p wa la) (leading_store rd rs) h ta tb =
+    record {
+      second_passes = sym (pass_over o e (St Green rd rs) a p h.second_free wa h.second_alone) ∙ tb;
+      first_passes = ta;
+      same = refl;
+    }
+crossed_by o e n _ b (trailing_store rd rs) (leading_write q wb lb) h ta tb = record {
+  second_passes = tb;
+  first_passes = pass_over o e (St Blue rd rs) b q h.first_free wb h.first_alone ∙ ta;
+  same = refl;
+}
+crossed_by o e n _ _ (trailing_store rd rs) (leading_store rx ry) h ta tb = record {
+  second_passes = tb;
+  first_passes = ta;
+  same = refl;
+}
 
 -- two neighbours that are passed and may be exchanged
-crossed : (o : Object) (e : Entered) (n : ℕ) (a b : Instr) → may_exchange n a b ≡ true → is_traced o e a ≡ true → is_traced o (entered_after a e) b ≡ true → Crossed o e a b
+crossed : (o : Object) (e : Entered) (n : ℕ) (a b : Instr) → may_exchange n a b ≡ true → is_traced o e a ≡ true →
+    is_traced o (entered_after a e) b ≡ true → Crossed o e a b
 crossed o e n a b m ta tb = let h = permits n a b m in crossed_by o e n a b h.trails h.leads h ta tb
 
 -- THE WALK
 
 -- a walk that doesn't fail passes its first instruction and goes on
-pub walk_parts : (o : Object) (e : Entered) (k : ℕ) (i : Instr) (is : List Instr) → code_walk o e k (i ∷ is) ≡ None → (is_traced o e i ≡ true) × (code_walk o (entered_after i e) (suc k) is ≡ None)
+pub walk_parts : (o : Object) (e : Entered) (k : ℕ) (i : Instr) (is : List Instr) → code_walk o e k (i ∷ is) ≡ None →
+    (is_traced o e i ≡ true) × (code_walk o (entered_after i e) (suc k) is ≡ None)
 unfolding code_walk
 walk_parts o e k i is h = by_test (is_traced o e i) (code_walk o (entered_after i e) (suc k) is) h
   where
@@ -146,12 +178,15 @@ walk_parts o e k i is h = by_test (is_traced o e i) (code_walk o (entered_after 
     by_test false rest g = cc
 
 -- and the other way round
-pub walk_on : (o : Object) (e : Entered) (k : ℕ) (i : Instr) (is : List Instr) → is_traced o e i ≡ true → code_walk o (entered_after i e) (suc k) is ≡ None → code_walk o e k (i ∷ is) ≡ None
+pub walk_on : (o : Object) (e : Entered) (k : ℕ) (i : Instr) (is : List Instr) → is_traced o e i ≡ true →
+    code_walk o (entered_after i e) (suc k) is ≡ None → code_walk o e k (i ∷ is) ≡ None
 unfolding code_walk
 walk_on o e k i is t h = (λ j. if t j then code_walk o (entered_after i e) (suc k) is else Some k) ∙ h
 
 -- a walk that doesn't fail doesn't after an exchange
-walk_exchanged : (o : Object) (e : Entered) (k : ℕ) (is : List Instr) (n q : ℕ) (a b : Instr) → slice_get is n ≡ Some a → slice_get is (suc n) ≡ Some b → may_exchange q a b ≡ true → code_walk o e k is ≡ None → code_walk o e k (exchanged is n) ≡ None
+walk_exchanged : (o : Object) (e : Entered) (k : ℕ) (is : List Instr) (n q : ℕ) (a b : Instr) → slice_get is n
+    ≡ Some a → slice_get is (suc n) ≡ Some b → may_exchange q a b ≡ true → code_walk o e k is ≡ None →
+    code_walk o e k (exchanged is n) ≡ None
 walk_exchanged o e k [] n q a b ea eb m h = cc
 walk_exchanged o e k (i ∷ is) (suc n) q a b ea eb m h =
     let p = walk_parts o e k i is h in
@@ -165,17 +200,20 @@ walk_exchanged o e k (i ∷ j ∷ is) zero q a b ea eb m h =
     let p = walk_parts o e k i (j ∷ is) h in
     let r = walk_parts o (entered_after i e) (suc k) j is p.1 in
     let x = crossed o e q i j m2 p.0 r.0 in
-    walk_on o e k j (i ∷ is) x.second_passes (walk_on o (entered_after j e) (suc k) i is x.first_passes (subst (λ f. code_walk o f (suc (suc k)) is ≡ None) x.same r.1))
+    walk_on o e k j (i ∷ is) x.second_passes (walk_on o (entered_after j e) (suc k) i is x.first_passes
+    (subst (λ f. code_walk o f (suc (suc k)) is ≡ None) x.same r.1))
 
 -- TABLES
 
 -- the walk looks at the rows of code types alone
-target_same : (o : Object) (xs : List Instr) (e : Entered) (u : Option ℕ) → is_free_target (with_instrs o xs) e u ≡ is_free_target o e u
+target_same : (o : Object) (xs : List Instr) (e : Entered) (u : Option ℕ) → is_free_target (with_instrs o xs) e u
+    ≡ is_free_target o e u
 target_same o xs e None = refl
 target_same o xs e (Some t) = refl
 
 -- so whether an instruction is passed does not depend on the code
-traced_there : (o : Object) (xs : List Instr) (e : Entered) (i : Instr) → is_traced (with_instrs o xs) e i ≡ is_traced o e i
+traced_there : (o : Object) (xs : List Instr) (e : Entered) (i : Instr) → is_traced (with_instrs o xs) e i
+    ≡ is_traced o e i
 traced_there o xs e (OpReg op rd rs rt) = refl
 traced_there o xs e (OpWord op rd rs value) = refl
 traced_there o xs e (Mov rd value basic) = refl
@@ -189,28 +227,38 @@ traced_there o xs e Halt = refl
 traced_there o xs e (Idx rd rs first m) = refl
 
 -- nor does the walk of a block
-walk_there : (o : Object) (xs : List Instr) (e : Entered) (k : ℕ) (is : List Instr) → code_walk (with_instrs o xs) e k is ≡ code_walk o e k is
+walk_there : (o : Object) (xs : List Instr) (e : Entered) (k : ℕ) (is : List Instr) →
+    code_walk (with_instrs o xs) e k is ≡ code_walk o e k is
 unfolding code_walk
 walk_there o xs e k [] = refl
-walk_there o xs e k (i ∷ is) = λ j. if traced_there o xs e i j then walk_there o xs (entered_after i e) (suc k) is j else Some k
+walk_there o xs e k (i ∷ is) = λ j. if traced_there o xs e i j then walk_there o xs (entered_after i e) (suc k) is j
+    else Some k
 
 -- MODULES
 
 -- the walk of each block after an exchange
-block_walked : (o : Object) (b k : ℕ) → IsSpellable o → IsPermitted o b k → (j : ℕ) (y : Block) → slice_get o.blocks j ≡ Some y → code_walk o finite.empty 0 (block_instrs o j) ≡ None → code_walk (after_exchange o b k) finite.empty 0 (block_instrs (after_exchange o b k) j) ≡ None
+block_walked : (o : Object) (b k : ℕ) → IsSpellable o → IsPermitted o b k → (j : ℕ) (y : Block) → slice_get o.blocks j
+    ≡ Some y → code_walk o finite.empty 0 (block_instrs o j) ≡ None →
+    code_walk (after_exchange o b k) finite.empty 0 (block_instrs (after_exchange o b k) j) ≡ None
 block_walked o b k spelled p j y ey h =
     let s = after_exchange o b k in
     walk_there o s.instrs finite.empty 0 (block_instrs s j) ∙ elim (cases_eq j b) [
       | inl e ↦ (
-          let here : block_instrs s j ≡ exchanged (block_instrs o j) k = ap (block_instrs s) e ∙ same_block o b k p ∙ sym (ap (λ n. exchanged (block_instrs o n) k) e) in
-          let first_there : slice_get (block_instrs o j) k ≡ Some p.first = subst (λ n. slice_get (block_instrs o n) k ≡ Some p.first) (sym e) p.first_there in
-          let second_there : slice_get (block_instrs o j) (suc k) ≡ Some p.second = subst (λ n. slice_get (block_instrs o n) (suc k) ≡ Some p.second) (sym e) p.second_there in
-          ap (code_walk o finite.empty 0) here ∙ walk_exchanged o finite.empty 0 (block_instrs o j) k (queue_before o b k) p.first p.second first_there second_there p.may h)
+          let here : block_instrs s j ≡ exchanged (block_instrs o j) k = ap (block_instrs s) e ∙ same_block o b k p
+          ∙ sym (ap (λ n. exchanged (block_instrs o n) k) e) in
+          let first_there : slice_get (block_instrs o j) k
+          ≡ Some p.first = subst (λ n. slice_get (block_instrs o n) k ≡ Some p.first) (sym e) p.first_there in
+          let second_there : slice_get (block_instrs o j) (suc k)
+          ≡ Some p.second = subst (λ n. slice_get (block_instrs o n) (suc k) ≡ Some p.second) (sym e) p.second_there
+          in
+          ap (code_walk o finite.empty 0) here ∙ walk_exchanged o finite.empty 0 (block_instrs o j) k
+          (queue_before o b k) p.first p.second first_there second_there p.may h)
       | inr ne ↦ ap (code_walk o finite.empty 0) (other_block o b k j y spelled p ey ne) ∙ h
     ]
 
 -- a module stays one after an exchange
-module_exchanged : (cells : List Cell) (o : Object) (b k : ℕ) → IsModule cells o → IsPermitted o b k → IsModule cells (after_exchange o b k)
+module_exchanged : (cells : List Cell) (o : Object) (b k : ℕ) → IsModule cells o → IsPermitted o b k →
+    IsModule cells (after_exchange o b k)
 module_exchanged cells o b k h p = record {
   spelled = spellable_exchanged o b k h.spelled p;
   accepted = accepted_exchanged o b k h.spelled h.accepted p;
@@ -226,4 +274,5 @@ module_exchanged cells o b k h p = record {
 -- and after exchanges one after the other
 pub modules_exchanged : (cells : List Cell) (o s : Object) → IsModule cells o → ComesFrom o s → IsModule cells s
 modules_exchanged cells o _ h itself = h
-modules_exchanged cells o _ h (exchange {s = s} b k comes p) = module_exchanged cells s b k (modules_exchanged cells o s h comes) p
+modules_exchanged cells o _ h (exchange {s = s} b k comes p) =
+    module_exchanged cells s b k (modules_exchanged cells o s h comes) p

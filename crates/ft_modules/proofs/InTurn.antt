@@ -1,5 +1,6 @@
 -- Modules that are added in turn are refused in turn.
-use Rattle.std.proofs.Common.{◌≡◌, ℕ, suc, ◌+◌, List, [], ◌∷◌, ◌++◌, length, Option, Some, None, refl, sym, ap, ◌∙◌, arith}
+use Rattle.std.proofs.Common.{◌≡◌, ℕ, suc, ◌+◌, List, [], ◌∷◌, ◌++◌, length, Option, Some, None, refl, sym, ap, ◌∙◌}
+use Rattle.std.proofs.Common.{arith}
 use Rattle.std.specs.Option.{option_or}
 use Rattle.std.proofs.lemmas.List.{append_assoc, append-nil}
 use Rattle.ft_types.specs.declared.object.Object.{Object}
@@ -17,18 +18,24 @@ or_grouped None b c = refl
 or_grouped (Some x) b c = refl
 
 -- one more module after these: what refuses them, or what refuses it
-one_more : (earlier : List Object) (m : ℕ) (cells : List Cell) (os : List Object) (o : Object) → modules_refusal earlier m cells (os ++ o ∷ []) ≡ option_or (modules_refusal earlier m cells os) (module_refusal (earlier ++ os) (m + length os) cells o)
+one_more : (earlier : List Object) (m : ℕ) (cells : List Cell) (os : List Object) (o : Object) →
+    modules_refusal earlier m cells (os ++ o ∷ [])
+    ≡ option_or (modules_refusal earlier m cells os) (module_refusal (earlier ++ os) (m + length os) cells o)
 unfolding modules_refusal
 one_more earlier m cells [] o =
     let count : m ≡ m + 0 = omega arith in
     or_nothing (module_refusal earlier m cells o) ∙ (λ i. module_refusal (sym (append-nil earlier) i) (count i) cells o)
 one_more earlier m cells (y ∷ ys) o =
     let count : suc m + length ys ≡ m + suc (length ys) = omega arith in
-    ap (option_or (module_refusal earlier m cells y)) (one_more (earlier ++ y ∷ []) (suc m) cells ys o ∙ (λ i. option_or (modules_refusal (earlier ++ y ∷ []) (suc m) cells ys) (module_refusal (append_assoc earlier (y ∷ []) ys i) (count i) cells o)))
-    ∙ or_grouped (module_refusal earlier m cells y) (modules_refusal (earlier ++ y ∷ []) (suc m) cells ys) (module_refusal (earlier ++ y ∷ ys) (m + suc (length ys)) cells o)
+    ap (option_or (module_refusal earlier m cells y)) (one_more (earlier ++ y ∷ []) (suc m) cells ys o
+    ∙ (λ i. option_or (modules_refusal (earlier ++ y ∷ []) (suc m) cells ys)
+    (module_refusal (append_assoc earlier (y ∷ []) ys i) (count i) cells o)))
+    ∙ or_grouped (module_refusal earlier m cells y) (modules_refusal (earlier ++ y ∷ []) (suc m) cells ys)
+    (module_refusal (earlier ++ y ∷ ys) (m + suc (length ys)) cells o)
 
 -- one more module after all those before it
-pub in_turn : (cells : List Cell) (os : List Object) (o : Object) → modules_refusal [] 0 cells (os ++ o ∷ []) ≡ option_or (modules_refusal [] 0 cells os) (module_refusal os (length os) cells o)
+pub in_turn : (cells : List Cell) (os : List Object) (o : Object) → modules_refusal [] 0 cells (os ++ o ∷ [])
+    ≡ option_or (modules_refusal [] 0 cells os) (module_refusal os (length os) cells o)
 in_turn cells os o =
     let count : 0 + length os ≡ length os = omega arith in
     one_more [] 0 cells os o ∙ (λ i. option_or (modules_refusal [] 0 cells os) (module_refusal os (count i) cells o))

@@ -1,5 +1,6 @@
 -- Tables laid one after the other: each module's part stands in its place, and nothing else is there.
-use Rattle.std.proofs.Common.{◌≡◌, ◌⊎◌, inl, inr, ⊎_elim, ℕ, zero, suc, ◌+◌, ◌-◌, ◌≤◌, List, [], ◌∷◌, ◌++◌, length, take, drop, slice_get, Some, None, refl, sym, ap, ◌∙◌, arith}
+use Rattle.std.proofs.Common.{◌≡◌, ◌⊎◌, inl, inr, ⊎_elim, ℕ, zero, suc, ◌+◌, ◌-◌, ◌≤◌, List, [], ◌∷◌, ◌++◌, length}
+use Rattle.std.proofs.Common.{take, drop, slice_get, Some, None, refl, sym, ap, ◌∙◌, arith}
 use Rattle.std.specs.Prelude.{slice_range, sum_by}
 use Rattle.std.proofs.lemmas.List.Sums.{sum_by-cons}
 use Rattle.std.proofs.lemmas.List.{append_assoc, length-append, length-drop, drop-append-le, take-append-le}
@@ -18,10 +19,12 @@ get_right (x ∷ xs) ys zero k e = absurd (omega (arith, e))
 get_right (x ∷ xs) ys (suc n) k e = get_right xs ys n k (omega (arith, e))
 
 -- an element of joined lists is one of the first or of the second
-get_joined : {X : Type 0} (xs ys : List X) (n : ℕ) (x : X) → slice_get (xs ++ ys) n ≡ Some x → (slice_get xs n ≡ Some x) ⊎ ((k : ℕ) × (n ≡ length xs + k) × (slice_get ys k ≡ Some x))
+get_joined : {X : Type 0} (xs ys : List X) (n : ℕ) (x : X) → slice_get (xs ++ ys) n ≡ Some x →
+    (slice_get xs n ≡ Some x) ⊎ ((k : ℕ) × (n ≡ length xs + k) × (slice_get ys k ≡ Some x))
 get_joined [] ys n x e = inr (n, omega arith, e)
 get_joined (y ∷ xs) ys zero x e = inl e
-get_joined (y ∷ xs) ys (suc n) x e = ⊎_elim (λ h. inl h) (λ h. inr (h.0, omega (arith, h.1), h.2)) (get_joined xs ys n x e)
+get_joined (y ∷ xs) ys (suc n) x e = ⊎_elim (λ h. inl h) (λ h. inr (h.0, omega (arith, h.1), h.2))
+    (get_joined xs ys n x e)
 
 -- PARTS
 
@@ -33,39 +36,52 @@ pub record Among {X : Type 0} (whole part : List X) (n : ℕ) : Type 0 where
   pub long : length front ≡ n
 
 -- an element of the part
-pub get_among : {X : Type 0} (whole part : List X) (n k : ℕ) (x : X) → Among whole part n → slice_get part k ≡ Some x → slice_get whole (n + k) ≡ Some x
+pub get_among : {X : Type 0} (whole part : List X) (n k : ℕ) (x : X) → Among whole part n → slice_get part k ≡ Some x →
+    slice_get whole (n + k) ≡ Some x
 get_among whole part n k x a e =
     let long = a.long in
     let place : n + k ≡ length a.front + k = omega arith in
-    ap (λ (z : List _). slice_get z (n + k)) a.is ∙ get_right a.front (part ++ a.back) (n + k) k place ∙ there_front part a.back k x e
+    ap (λ (z : List _). slice_get z (n + k)) a.is ∙ get_right a.front (part ++ a.back) (n + k) k place
+    ∙ there_front part a.back k x e
 
 -- a stretch of the part
-pub range_among : {X : Type 0} (whole part : List X) (n a b : ℕ) → Among whole part n → a ≤ b → b ≤ length part → slice_range whole (n + a) (n + b) ≡ slice_range part a b
+pub range_among : {X : Type 0} (whole part : List X) (n a b : ℕ) → Among whole part n → a ≤ b → b ≤ length part →
+    slice_range whole (n + a) (n + b) ≡ slice_range part a b
 range_among whole part n a b m le few =
     let long = m.long in
     let from : n + a ≡ length m.front + a = omega arith in
     let many : (n + b) - (n + a) ≡ b - a = omega arith in
     let rest = length-drop a part in
     let dropped : drop (n + a) whole ≡ drop a part ++ m.back =
-    ap (drop (n + a)) m.is ∙ ap (λ k. drop k (m.front ++ (part ++ m.back))) from ∙ drop-append-add m.front (part ++ m.back) a ∙ drop-append-le a part m.back (omega arith) in
+    ap (drop (n + a)) m.is ∙ ap (λ k. drop k (m.front ++ (part ++ m.back))) from
+    ∙ drop-append-add m.front (part ++ m.back) a ∙ drop-append-le a part m.back (omega arith) in
     (λ i. take (many i) (dropped i)) ∙ take-append-le (b - a) (drop a part) m.back (omega arith)
 
 -- TABLES
 
 -- a module's part of a table, among the whole table
-pub record Placed {X : Type 0} (part : Before → Object → List X) (offset : Before → ℕ) (k : Before) (modules : List Object) (m : ℕ) (o : Object) : Type 0 where
+pub record Placed {X : Type 0} (part : Before → Object → List X) (offset : Before →
+    ℕ) (k : Before) (modules : List Object) (m : ℕ) (o : Object) : Type 0 where
   pub front : List X
   pub back : List X
   pub is : laid part k modules ≡ front ++ (part (before_module k modules m) o ++ back)
   pub long : offset k + length front ≡ offset (before_module k modules m)
 
 -- a module's part has its place in the table
-pub placed : {X : Type 0} (part : Before → Object → List X) (offset : Before → ℕ) → ((k : Before) (o : Object) → offset (after_module k o) ≡ offset k + length (part k o)) → (k : Before) (modules : List Object) (m : ℕ) (o : Object) → slice_get modules m ≡ Some o → Placed part offset k modules m o
+pub placed : {X : Type 0} (part : Before → Object → List X) (offset : Before → ℕ) →
+    ((k : Before) (o : Object) → offset (after_module k o) ≡ offset k + length (part k o)) →
+    (k : Before) (modules : List Object) (m : ℕ) (o : Object) → slice_get modules m ≡ Some o →
+    Placed part offset k modules m o
 unfolding laid before_module
 placed part offset grows k [] m o e = cc
 placed part offset grows k (y ∷ ys) zero o e =
     let same : y ≡ o = cc in
-    record { front = []; back = laid part (after_module k y) ys; is = ap (λ (z : Object). part k z ++ laid part (after_module k y) ys) same; long = omega arith }
+    record {
+      front = [];
+      back = laid part (after_module k y) ys;
+      is = ap (λ (z : Object). part k z ++ laid part (after_module k y) ys) same;
+      long = omega arith;
+    }
 placed part offset grows k (y ∷ ys) (suc m) o e =
     let h = placed part offset grows (after_module k y) ys m o e in
     let long = h.long in
@@ -74,12 +90,14 @@ placed part offset grows k (y ∷ ys) (suc m) o e =
     record {
       front = part k y ++ h.front;
       back = h.back;
-      is = ap (λ (z : List _). part k y ++ z) h.is ∙ sym (append_assoc (part k y) h.front (part (before_module (after_module k y) ys m) o ++ h.back));
+      is = ap (λ (z : List _). part k y ++ z) h.is
+          ∙ sym (append_assoc (part k y) h.front (part (before_module (after_module k y) ys m) o ++ h.back));
       long = omega arith;
     }
 
 -- an element of a table is of one module's part
-pub record Whence {X : Type 0} (part : Before → Object → List X) (offset : Before → ℕ) (k : Before) (modules : List Object) (n : ℕ) (x : X) : Type 0 where
+pub record Whence {X : Type 0} (part : Before → Object → List X) (offset : Before →
+    ℕ) (k : Before) (modules : List Object) (n : ℕ) (x : X) : Type 0 where
   pub number : ℕ
   pub object : Object
   pub there : slice_get modules number ≡ Some object
@@ -88,7 +106,10 @@ pub record Whence {X : Type 0} (part : Before → Object → List X) (offset : B
   pub counted : offset k + n ≡ offset (before_module k modules number) + place
 
 -- each element of a table comes from a module's part
-pub whence : {X : Type 0} (part : Before → Object → List X) (offset : Before → ℕ) → ((k : Before) (o : Object) → offset (after_module k o) ≡ offset k + length (part k o)) → (k : Before) (modules : List Object) (n : ℕ) (x : X) → slice_get (laid part k modules) n ≡ Some x → Whence part offset k modules n x
+pub whence : {X : Type 0} (part : Before → Object → List X) (offset : Before → ℕ) →
+    ((k : Before) (o : Object) → offset (after_module k o) ≡ offset k + length (part k o)) →
+    (k : Before) (modules : List Object) (n : ℕ) (x : X) → slice_get (laid part k modules) n ≡ Some x →
+    Whence part offset k modules n x
 unfolding laid before_module
 whence part offset grows k [] n x e = cc
 whence part offset grows k (y ∷ ys) n x e =
@@ -99,17 +120,28 @@ whence part offset grows k (y ∷ ys) n x e =
     let grown = grows k y in
     let counted = w.counted in
     let at = h.1 in
-    record { number = suc w.number; object = w.object; there = w.there; place = w.place; found = w.found; counted = omega arith })
+    record {
+      number = suc w.number;
+      object = w.object;
+      there = w.there;
+      place = w.place;
+      found = w.found;
+      counted = omega arith;
+    })
     (get_joined (part k y) (laid part (after_module k y) ys) n x e)
 
 -- the length of a table
-pub laid_length : {X : Type 0} (part : Before → Object → List X) (size : Object → ℕ) → ((k : Before) (o : Object) → length (part k o) ≡ size o) → (k : Before) (modules : List Object) → length (laid part k modules) ≡ sum_by size modules
+pub laid_length : {X : Type 0} (part : Before → Object → List X) (size : Object → ℕ) →
+    ((k : Before) (o : Object) → length (part k o) ≡ size o) → (k : Before) (modules : List Object) →
+    length (laid part k modules) ≡ sum_by size modules
 unfolding laid
 laid_length part size h k [] = refl
-laid_length part size h k (o ∷ os) = length-append (part k o) (laid part (after_module k o) os) ∙ (λ i. h k o i + laid_length part size h (after_module k o) os i) ∙ sym (sum_by-cons size o os)
+laid_length part size h k (o ∷ os) = length-append (part k o) (laid part (after_module k o) os)
+    ∙ (λ i. h k o i + laid_length part size h (after_module k o) os i) ∙ sym (sum_by-cons size o os)
 
 -- what stands before the next module
-pub before_next : (k : Before) (modules : List Object) (m : ℕ) (o : Object) → slice_get modules m ≡ Some o → before_module k modules (suc m) ≡ after_module (before_module k modules m) o
+pub before_next : (k : Before) (modules : List Object) (m : ℕ) (o : Object) → slice_get modules m ≡ Some o →
+    before_module k modules (suc m) ≡ after_module (before_module k modules m) o
 unfolding before_module
 before_next k [] m o e = cc
 before_next k (y ∷ []) zero o e = let same : y ≡ o = cc in ap (after_module k) same
@@ -117,7 +149,10 @@ before_next k (y ∷ z ∷ zs) zero o e = let same : y ≡ o = cc in ap (after_m
 before_next k (y ∷ ys) (suc m) o e = before_next (after_module k y) ys m o e
 
 -- the length of a table, from the last module
-pub laid_to_end : {X : Type 0} (part : Before → Object → List X) (offset : Before → ℕ) → ((k : Before) (o : Object) → offset (after_module k o) ≡ offset k + length (part k o)) → (k : Before) (modules : List Object) (m : ℕ) (o : Object) → slice_get modules m ≡ Some o → slice_get modules (suc m) ≡ None → offset k + length (laid part k modules) ≡ offset (before_module k modules (suc m))
+pub laid_to_end : {X : Type 0} (part : Before → Object → List X) (offset : Before → ℕ) →
+    ((k : Before) (o : Object) → offset (after_module k o) ≡ offset k + length (part k o)) →
+    (k : Before) (modules : List Object) (m : ℕ) (o : Object) → slice_get modules m ≡ Some o → slice_get modules (suc m)
+    ≡ None → offset k + length (laid part k modules) ≡ offset (before_module k modules (suc m))
 unfolding laid before_module
 laid_to_end part offset grows k [] m o e f = cc
 laid_to_end part offset grows k (y ∷ []) zero o e f =

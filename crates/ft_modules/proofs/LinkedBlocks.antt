@@ -1,5 +1,6 @@
 -- Whole blocks beside each other: starting contexts, and the rows of a block of the linked object that apply.
-use Rattle.std.proofs.Common.{◌≡◌, ℕ, suc, Bool, true, false, List, [], ◌∷◌, map, Option, Some, None, refl, sym, ap, ◌∙◌, subst, if◌then◌else◌}
+use Rattle.std.proofs.Common.{◌≡◌, ℕ, suc, Bool, true, false, List, [], ◌∷◌, map, Option, Some, None, refl, sym, ap}
+use Rattle.std.proofs.Common.{◌∙◌, subst, if◌then◌else◌}
 use Rattle.std.specs.List.{AllZip}
 use Rattle.std.specs.Ordering.{nat_cmp}
 use Rattle.std.specs.FinMap as finite
@@ -8,7 +9,8 @@ use Rattle.ft_static.specs.NormalForm.{norm_integer, norm_memory}
 use Rattle.ft_types.specs.declared.object.Object.{Object}
 use Rattle.ft_types.specs.declared.object.RegType.{RegType}
 use Rattle.ft_types.specs.Objects.{reg_rows, queue_rows, memory_of}
-use Rattle.ft_typing.specs.Context.{TypedRegisters, d_zero, Context, typed, integer_form_of, memory_form_of, typed_row, registers_after, queue_pair, start_context}
+use Rattle.ft_typing.specs.Context.{TypedRegisters, d_zero, Context, typed, integer_form_of, memory_form_of, typed_row}
+use Rattle.ft_typing.specs.Context.{registers_after, queue_pair, start_context}
 use Rattle.ft_typing.specs.TypingRow.{Outcome, Goes, Ends, Fails}
 use Rattle.ft_typing.specs.Accepted.{Applies, last_row, next_row}
 use Rattle.ft_modules.specs.CodeWalk.{Entered, entered_after, is_traced, code_walk}
@@ -34,7 +36,8 @@ row_same : (o x : Object) (r q : RegType) → SameRow o x r q → typed_row o r 
 row_same o x r q h = λ i. record { colour = h.colour i; basic = h.basic i; form = form_same o x r.expr q.expr h.tree i }
 
 -- rows that say the same make the same known
-registers_same : (o x : Object) (m : TypedRegisters) (rs qs : List RegType) → AllZip (SameRow o x) rs qs → registers_after o m rs ≡ registers_after x m qs
+registers_same : (o x : Object) (m : TypedRegisters) (rs qs : List RegType) → AllZip (SameRow o x) rs qs →
+    registers_after o m rs ≡ registers_after x m qs
 unfolding registers_after
 registers_same o x m [] [] l = refl
 registers_same o x m [] (q ∷ qs) l = absurd l
@@ -45,7 +48,8 @@ registers_same o x m (r ∷ rs) (q ∷ qs) l =
     ∙ registers_same o x (finite.insert m q.reg.number (typed_row x q)) rs qs l.1
 
 -- queue rows that say the same make the same static queue
-pairs_same : (o x : Object) (rs qs : List (ℕ × ℕ)) → AllZip (SamePair o x) rs qs → map (queue_pair o) rs ≡ map (queue_pair x) qs
+pairs_same : (o x : Object) (rs qs : List (ℕ × ℕ)) → AllZip (SamePair o x) rs qs → map (queue_pair o) rs
+    ≡ map (queue_pair x) qs
 pairs_same o x [] [] l = refl
 pairs_same o x [] (q ∷ qs) l = absurd l
 pairs_same o x (r ∷ rs) [] l = absurd l
@@ -64,10 +68,13 @@ starts_same o x t u l = λ i. record {
 }
 
 -- a context without entered registers and with d 0, beside itself
-pub start_beside : (o x : Object) (to : ℕ → ℕ × ℕ) (t u : ℕ) → LikeTypes o t x u → Beside o to finite.empty (start_context o t) (start_context x u)
+pub start_beside : (o x : Object) (to : ℕ → ℕ × ℕ) (t u : ℕ) → LikeTypes o t x u →
+    Beside o to finite.empty (start_context o t) (start_context x u)
 start_beside o x to t u l = record {
   ints = l.ints;
-  registers = λ r. subst (λ (z : Option ℕ). RegistersBeside o to z (typed (start_context o t) r) (typed (start_context x u) r)) (sym (finite.get-empty nat_cmp r)) (ap (λ (c : Context). typed c r) (starts_same o x t u l));
+  registers = λ r. subst (λ (z : Option ℕ). RegistersBeside o to z (typed (start_context o t) r)
+      (typed (start_context x u) r)) (sym (finite.get-empty nat_cmp r))
+      (ap (λ (c : Context). typed c r) (starts_same o x t u l));
   d = refl;
   queue = ap (λ (c : Context). c.queue) (starts_same o x t u l);
   memory = ap (λ (c : Context). c.memory) (starts_same o x t u l);
@@ -91,9 +98,11 @@ pub record GoesBeside (R : Context → Context → Type 0) (c : Context) (z : Ou
   pub beside : R c context
 
 -- the second outcome where the first goes on
-pub both_go : (R : Context → Context → Type 0) (y z : Outcome) (c : Context) → Both R y z → y ≡ Goes c → GoesBeside R c z
+pub both_go : (R : Context → Context → Type 0) (y z : Outcome) (c : Context) → Both R y z → y ≡ Goes c →
+    GoesBeside R c z
 unfolding Both
-both_go R (Goes b) (Goes d) c h e = let same : b ≡ c = cc in record { context = d; goes = refl; beside = subst (λ (w : Context). R w d) same h }
+both_go R (Goes b) (Goes d) c h e = let same : b ≡ c = cc in
+    record { context = d; goes = refl; beside = subst (λ (w : Context). R w d) same h }
 both_go R (Goes b) Ends c h e = absurd h
 both_go R (Goes b) (Fails p) c h e = absurd h
 both_go R Ends z c h e = cc
@@ -105,17 +114,21 @@ pub record Walked (o : Object) (e : Entered) (k : ℕ) (i : Instr) (is : List In
   pub rest : code_walk o (entered_after i e) (suc k) is ≡ None
 
 -- the walk's first instruction, by its test
-walked_by : (o : Object) (e : Entered) (k : ℕ) (i : Instr) (is : List Instr) (b : Bool) → is_traced o e i ≡ b → (if b then code_walk o (entered_after i e) (suc k) is else Some k) ≡ None → Walked o e k i is
+walked_by : (o : Object) (e : Entered) (k : ℕ) (i : Instr) (is : List Instr) (b : Bool) → is_traced o e i ≡ b →
+    (if b then code_walk o (entered_after i e) (suc k) is else Some k) ≡ None → Walked o e k i is
 walked_by o e k i is true f h = record { first = f; rest = h }
 walked_by o e k i is false f h = cc
 
 -- a walk that does not fail passes its first instruction
-pub walked_first : (o : Object) (e : Entered) (k : ℕ) (i : Instr) (is : List Instr) → code_walk o e k (i ∷ is) ≡ None → Walked o e k i is
+pub walked_first : (o : Object) (e : Entered) (k : ℕ) (i : Instr) (is : List Instr) → code_walk o e k (i ∷ is) ≡ None →
+    Walked o e k i is
 unfolding code_walk
 walked_first o e k i is h = walked_by o e k i is (is_traced o e i) refl h
 
 -- where the rows of a module's instructions apply and the walk passes them, those of the linked object's apply
-pub applies_beside : (o x : Object) (to : ℕ → ℕ × ℕ) → AreSent o x to → (e : Entered) (c b : Context) (k : ℕ) (is js : List Instr) → Beside o to e c b → code_walk o e k is ≡ None → AllZip (IsInstrOf o x to) is js → Applies o c is → Applies x b js
+pub applies_beside : (o x : Object) (to : ℕ → ℕ × ℕ) → AreSent o x to →
+    (e : Entered) (c b : Context) (k : ℕ) (is js : List Instr) → Beside o to e c b → code_walk o e k is ≡ None →
+    AllZip (IsInstrOf o x to) is js → Applies o c is → Applies x b js
 applies_beside o x to s e c b k [] js h w l a = elim a [ ]
 applies_beside o x to s e c b k (i ∷ is) [] h w l a = absurd l
 applies_beside o x to s e c b k (i ∷ []) (j ∷ []) h w l (last_row f) =
@@ -125,4 +138,5 @@ applies_beside o x to s e c b k (i ∷ []) (j ∷ j' ∷ js) h w l (last_row f) 
 applies_beside o x to s e c b k (i ∷ is) (j ∷ js) h w l (next_row d f a) =
     let v = walked_first o e k i is w in
     let g = both_go _ _ _ d (row_beside o x to s e c b h i j v.first l.0) f in
-    next_row g.context g.goes (applies_beside o x to s (entered_after i e) d g.context (suc k) is js g.beside v.rest l.1 a)
+    next_row g.context g.goes (applies_beside o x to s (entered_after i e) d g.context (suc k) is js g.beside v.rest l.1
+    a)

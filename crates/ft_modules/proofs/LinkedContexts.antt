@@ -1,6 +1,7 @@
 -- A module's contexts beside those of the linked object: equal but for the entered registers and the state of d, where
 -- the code address and its code type are what the module's address is sent to.
-use Rattle.std.proofs.Common.{◌≡◌, ℕ, Bool, true, false, cond, not, length, nat_le, ◌==◌, Option, Some, None, is_some, refl, subst}
+use Rattle.std.proofs.Common.{◌≡◌, ℕ, Bool, true, false, cond, not, length, nat_le, ◌==◌, Option, Some, None, is_some}
+use Rattle.std.proofs.Common.{refl, subst}
 use Rattle.std.specs.List.{list_all}
 use Rattle.std.specs.FinMap as finite
 use Rattle.ft_isa.specs.Words.{IsWord}
@@ -10,7 +11,7 @@ use Rattle.ft_isa.specs.declared.colour.Coloured.{Coloured}
 use Rattle.ft_isa.specs.declared.reg.Reg.{Reg}
 use Rattle.ft_isa.specs.declared.instr.Subst.{Subst}
 use Rattle.ft_isa.specs.declared.instr.Instr.{Instr}
-use Rattle.ft_isa.specs.declared.instr.Instr.TheVariants.{OpReg, OpWord, Mov, Ld, St, JmpG, JmpB, BzG, BzB, Halt, Idx}
+use Rattle.ft_isa.specs.declared.instr.Instr.TheVariants.{Mov, JmpB, BzB}
 use Rattle.ft_static.specs.Expression.{Valuation}
 use Rattle.ft_static.specs.Form.{Polynomial}
 use Rattle.ft_static.specs.NormalForm.{constant}
@@ -18,11 +19,13 @@ use Rattle.ft_types.specs.declared.object.Object.{Object}
 use Rattle.ft_types.specs.Objects.{reg_rows, scope_of}
 use Rattle.ft_isa.specs.BasicTypes.{code}
 use Rattle.ft_typing.specs.TypedWord.{code_type_at}
-use Rattle.ft_typing.specs.Context.{Typed, StateOfD, d_zero, d_code, d_conditional, Context, typed, with_type, replacement, rows_of}
+use Rattle.ft_typing.specs.Context.{Typed, StateOfD, d_zero, d_code, d_conditional, Context, typed, with_type}
+use Rattle.ft_typing.specs.Context.{replacement, rows_of}
 use Rattle.ft_typing.specs.TypingRow.{Outcome, for_zero, for_target, for_conditional}
 use Rattle.ft_tolerance.specs.TypedState.{valuation_by}
 use Rattle.ft_types.proofs.Maps.{get-insert}
-use Rattle.ft_modules.specs.CodeWalk.{Entered, code_claimed, entered_with, is_free, is_entered, are_free, is_free_target}
+use Rattle.ft_modules.specs.CodeWalk.{Entered, code_claimed, entered_with, is_free, is_entered, are_free}
+use Rattle.ft_modules.specs.CodeWalk.{is_free_target}
 use Rattle.ft_modules.specs.LikeTypes.{LikeTypes}
 use Rattle.ft_modules.specs.Linked.{moves_to}
 use Rattle.ft_modules.proofs.Elements.{get-remove}
@@ -44,7 +47,8 @@ pub record AreSent (o x : Object) (to : ℕ → ℕ × ℕ) : Type 0 where
 pub record SameSubst (o x : Object) (u q : Subst) : Type 0 where
   pub forms : replacement o u ≡ replacement x q
   pub count : length (rows_of o u) ≡ length (rows_of x q)
-  pub scopes : (n : ℕ) → list_all (λ m. nat_le (scope_of o m) n) (rows_of o u) ≡ list_all (λ m. nat_le (scope_of x m) n) (rows_of x q)
+  pub scopes : (n : ℕ) → list_all (λ m. nat_le (scope_of o m) n) (rows_of o u)
+      ≡ list_all (λ m. nat_le (scope_of x m) n) (rows_of x q)
   pub memory_scope : scope_of o u.memory ≡ scope_of x q.memory
   pub values : (v : Valuation) → valuation_by o u v ≡ valuation_by x q v
 
@@ -55,17 +59,10 @@ IsMovOf to rd x b j (Some t) = j ≡ moves_to rd x (to x.word).0 (to x.word).1
 
 -- an instruction of the linked object, of a module's one
 abbrev pub IsInstrOf : Object → Object → (ℕ → ℕ × ℕ) → Instr → Instr → Type 0
-IsInstrOf o x to (OpReg op rd rs rt) j = j ≡ OpReg op rd rs rt
-IsInstrOf o x to (OpWord op rd rs value) j = j ≡ OpWord op rd rs value
 IsInstrOf o x to (Mov rd value basic) j = IsMovOf to rd value basic j (code_claimed basic)
-IsInstrOf o x to (Ld colour rd rs) j = j ≡ Ld colour rd rs
-IsInstrOf o x to (St colour rd rs) j = j ≡ St colour rd rs
-IsInstrOf o x to (JmpG rd) j = j ≡ JmpG rd
 IsInstrOf o x to (JmpB rd u) j = (q : Subst) × (j ≡ JmpB rd q) × SameSubst o x u q
-IsInstrOf o x to (BzG rz rd) j = j ≡ BzG rz rd
 IsInstrOf o x to (BzB rz rd u) j = (q : Subst) × (j ≡ BzB rz rd q) × SameSubst o x u q
-IsInstrOf o x to Halt j = j ≡ Halt
-IsInstrOf o x to (Idx rd rs first n) j = j ≡ Idx rd rs first n
+IsInstrOf o x to i j = j ≡ i
 
 -- what is known of an entered register
 abbrev pub addressed : Colour → ℕ → ℕ → Typed
@@ -85,7 +82,8 @@ RegistersBeside o to None y z = y ≡ z
 RegistersBeside o to (Some t) y z = IsEntered o to t y z
 
 -- the state of d on either side
-pub record IsTarget (o : Object) (to : ℕ → ℕ × ℕ) (t : ℕ) (f : Polynomial) (d : StateOfD) (make : ℕ → Polynomial → StateOfD) : Type 0 where
+pub record IsTarget (o : Object) (to : ℕ → ℕ × ℕ) (t : ℕ) (f : Polynomial) (d : StateOfD) (make : ℕ → Polynomial →
+    StateOfD) : Type 0 where
   pub word : ℕ
   pub address : code_type_at o word ≡ Some t
   pub form : f ≡ constant word
@@ -113,8 +111,10 @@ some_free None e = refl
 some_free (Some t) e = cc
 
 -- a register that is not entered is known alike
-pub free_same : (o : Object) (to : ℕ → ℕ × ℕ) (e : Entered) (c b : Context) (r : Reg) → Beside o to e c b → is_free e r ≡ true → typed c r.number ≡ typed b r.number
-free_same o to e c b r h f = subst (λ (u : Option ℕ). RegistersBeside o to u (typed c r.number) (typed b r.number)) (some_free (finite.get e r.number) f) (h.registers r.number)
+pub free_same : (o : Object) (to : ℕ → ℕ × ℕ) (e : Entered) (c b : Context) (r : Reg) → Beside o to e c b → is_free e r
+    ≡ true → typed c r.number ≡ typed b r.number
+free_same o to e c b r h f = subst (λ (u : Option ℕ). RegistersBeside o to u (typed c r.number) (typed b r.number))
+    (some_free (finite.get e r.number) f) (h.registers r.number)
 
 -- a register that is entered
 pub record Target (o : Object) (to : ℕ → ℕ × ℕ) (e : Entered) (c b : Context) (r : Reg) : Type 0 where
@@ -123,12 +123,14 @@ pub record Target (o : Object) (to : ℕ → ℕ × ℕ) (e : Entered) (c b : Co
   pub is : IsEntered o to code_type (typed c r.number) (typed b r.number)
 
 -- a register that is entered, by its code type
-target_by : (o : Object) (to : ℕ → ℕ × ℕ) (e : Entered) (c b : Context) (r : Reg) (u : Option ℕ) → finite.get e r.number ≡ u → RegistersBeside o to u (typed c r.number) (typed b r.number) → is_some u ≡ true → Target o to e c b r
+target_by : (o : Object) (to : ℕ → ℕ × ℕ) (e : Entered) (c b : Context) (r : Reg) (u : Option ℕ) → finite.get e r.number
+    ≡ u → RegistersBeside o to u (typed c r.number) (typed b r.number) → is_some u ≡ true → Target o to e c b r
 target_by o to e c b r None g h t = cc
 target_by o to e c b r (Some u) g h t = record { code_type = u; entered = g; is = h }
 
 -- a register that the walk takes as a target
-pub target_there : (o : Object) (to : ℕ → ℕ × ℕ) (e : Entered) (c b : Context) (r : Reg) → Beside o to e c b → is_entered e r ≡ true → Target o to e c b r
+pub target_there : (o : Object) (to : ℕ → ℕ × ℕ) (e : Entered) (c b : Context) (r : Reg) → Beside o to e c b →
+    is_entered e r ≡ true → Target o to e c b r
 target_there o to e c b r h t = target_by o to e c b r (finite.get e r.number) refl (h.registers r.number) t
 
 -- a target of a blue jump is entered
@@ -143,26 +145,37 @@ pub record FreeTarget (o : Object) (to : ℕ → ℕ × ℕ) (e : Entered) (c b 
   pub is : IsEntered o to code_type (typed c r.number) (typed b r.number)
 
 -- the target of a blue jump that the walk passes
-pub free_target_there : (o : Object) (to : ℕ → ℕ × ℕ) (e : Entered) (c b : Context) (r : Reg) → Beside o to e c b → is_free_target o e (finite.get e r.number) ≡ true → FreeTarget o to e c b r
+pub free_target_there : (o : Object) (to : ℕ → ℕ × ℕ) (e : Entered) (c b : Context) (r : Reg) → Beside o to e c b →
+    is_free_target o e (finite.get e r.number) ≡ true → FreeTarget o to e c b r
 free_target_there o to e c b r h t =
     let g = target_there o to e c b r h (free_target_entered o e (finite.get e r.number) t) in
-    record { code_type = g.code_type; free = subst (λ (u : Option ℕ). is_free_target o e u ≡ true) g.entered t; is = g.is }
+    record {
+      code_type = g.code_type;
+      free = subst (λ (u : Option ℕ). is_free_target o e u ≡ true) g.entered t;
+      is = g.is;
+    }
 
 -- a register is written on both sides
-wrote_by : (o : Object) (to : ℕ → ℕ × ℕ) (a : Bool) (u v : Option ℕ) (t t' : Typed) (y z : Option Typed) → RegistersBeside o to v (Some t) (Some t') → RegistersBeside o to u y z → RegistersBeside o to (cond a v u) (cond a (Some t) y) (cond a (Some t') z)
+wrote_by : (o : Object) (to : ℕ → ℕ × ℕ) (a : Bool) (u v : Option ℕ) (t t' : Typed) (y z : Option Typed) →
+    RegistersBeside o to v (Some t) (Some t') → RegistersBeside o to u y z →
+    RegistersBeside o to (cond a v u) (cond a (Some t) y) (cond a (Some t') z)
 wrote_by o to true u v t t' y z h k = h
 wrote_by o to false u v t t' y z h k = k
 
 -- what is entered after a write
-pub entered_get : (e : Entered) (r : ℕ) (v : Option ℕ) (q : ℕ) → finite.get (entered_with r v e) q ≡ cond (q == r) v (finite.get e q)
+pub entered_get : (e : Entered) (r : ℕ) (v : Option ℕ) (q : ℕ) → finite.get (entered_with r v e) q
+    ≡ cond (q == r) v (finite.get e q)
 entered_get e r None q = get-remove e r q
 entered_get e r (Some t) q = get-insert e r t q
 
 -- contexts beside each other stay so where a register is written on both sides
-pub written : (o : Object) (to : ℕ → ℕ × ℕ) (e : Entered) (c b : Context) (r : ℕ) (v : Option ℕ) (t t' : Typed) → Beside o to e c b → RegistersBeside o to v (Some t) (Some t') → Beside o to (entered_with r v e) (with_type r t c) (with_type r t' b)
+pub written : (o : Object) (to : ℕ → ℕ × ℕ) (e : Entered) (c b : Context) (r : ℕ) (v : Option ℕ) (t t' : Typed) →
+    Beside o to e c b → RegistersBeside o to v (Some t) (Some t') →
+    Beside o to (entered_with r v e) (with_type r t c) (with_type r t' b)
 written o to e c b r v t t' h k = record {
   ints = h.ints;
-  registers = λ q. rw (entered_get e r v q, get-insert c.registers r t q, get-insert b.registers r t' q) (wrote_by o to (q == r) (finite.get e q) v t t' (typed c q) (typed b q) k (h.registers q));
+  registers = λ q. rw (entered_get e r v q, get-insert c.registers r t q, get-insert b.registers r t' q)
+      (wrote_by o to (q == r) (finite.get e q) v t t' (typed c q) (typed b q) k (h.registers q));
   d = h.d;
   queue = h.queue;
   memory = h.memory;
@@ -171,21 +184,28 @@ written o to e c b r v t t' h k = record {
 -- THE STATE OF D
 
 -- where Zero is wanted
-pub both_zero : (R : Context → Context → Type 0) (o : Object) (to : ℕ → ℕ × ℕ) (d d' : StateOfD) (x x' : Outcome) → DBeside o to d d' → (d ≡ d_zero → d' ≡ d_zero → Both R x x') → Both R (for_zero d x) (for_zero d' x')
+pub both_zero : (R : Context → Context → Type 0) (o : Object) (to : ℕ → ℕ × ℕ) (d d' : StateOfD) (x x' : Outcome) →
+    DBeside o to d d' → (d ≡ d_zero → d' ≡ d_zero → Both R x x') → Both R (for_zero d x) (for_zero d' x')
 unfolding Both for_zero
 both_zero R o to d_zero d' x x' h k = rw h (k refl h)
 both_zero R o to (d_code t f) d' x x' h k = tt
 both_zero R o to (d_conditional z t f) d' x x' h k = tt
 
 -- where Code is wanted
-pub both_target : (R : Context → Context → Type 0) (o : Object) (to : ℕ → ℕ × ℕ) (d d' : StateOfD) (f f' : ℕ → Polynomial → Outcome) → DBeside o to d d' → ((w t : ℕ) → code_type_at o w ≡ Some t → Both R (f t (constant w)) (f' (to w).1 (constant (to w).0))) → Both R (for_target d f) (for_target d' f')
+pub both_target : (R : Context → Context → Type 0) (o : Object) (to : ℕ → ℕ × ℕ) (d d' : StateOfD) (f f' : ℕ →
+    Polynomial → Outcome) → DBeside o to d d' → ((w t : ℕ) → code_type_at o w ≡ Some t →
+    Both R (f t (constant w)) (f' (to w).1 (constant (to w).0))) → Both R (for_target d f) (for_target d' f')
 unfolding Both for_target
 both_target R o to d_zero d' f f' h k = tt
 both_target R o to (d_code t p) d' f f' h k = rw (h.form, h.beside) (k h.word t h.address)
 both_target R o to (d_conditional z t p) d' f f' h k = tt
 
 -- where Conditional is wanted
-pub both_conditional : (R : Context → Context → Type 0) (o : Object) (to : ℕ → ℕ × ℕ) (d d' : StateOfD) (f f' : Polynomial → ℕ → Polynomial → Outcome) → DBeside o to d d' → ((z : Polynomial) (w t : ℕ) → code_type_at o w ≡ Some t → Both R (f z t (constant w)) (f' z (to w).1 (constant (to w).0))) → Both R (for_conditional d f) (for_conditional d' f')
+pub both_conditional : (R : Context → Context → Type 0) (o : Object) (to : ℕ → ℕ
+    × ℕ) (d d' : StateOfD) (f f' : Polynomial → ℕ → Polynomial → Outcome) → DBeside o to d d' →
+    ((z : Polynomial) (w t : ℕ) → code_type_at o w ≡ Some t →
+    Both R (f z t (constant w)) (f' z (to w).1 (constant (to w).0))) →
+    Both R (for_conditional d f) (for_conditional d' f')
 unfolding Both for_conditional
 both_conditional R o to d_zero d' f f' h k = tt
 both_conditional R o to (d_code t p) d' f f' h k = tt

@@ -1,5 +1,6 @@
 -- The typing rows of a module's instructions beside those of the linked object's.
-use Rattle.std.proofs.Common.{◌≡◌, ℕ, zero, suc, true, ◌&&◌, ◌+◌, List, [], ◌∷◌, ◌++◌, length, map, nat_le, nat_lt, ◌==◌, Option, Some, None, refl, sym, ap, ◌∙◌, subst, eq-eqb}
+use Rattle.std.proofs.Common.{◌≡◌, ℕ, zero, suc, true, ◌&&◌, ◌+◌, List, [], ◌∷◌, ◌++◌, length, map, nat_le, nat_lt}
+use Rattle.std.proofs.Common.{◌==◌, Option, Some, None, refl, sym, ap, ◌∙◌, subst, eq-eqb}
 use Rattle.std.specs.Prelude.{slice_range}
 use Rattle.std.specs.List.{AllZip}
 use Rattle.std.specs.FinMap as finite
@@ -28,40 +29,52 @@ use Rattle.ft_types.specs.declared.object.Object.{Object}
 use Rattle.ft_types.specs.declared.object.RegType.{RegType}
 use Rattle.ft_types.specs.Objects.{basic_of, reg_rows, queue_rows, ints_of, memory_of}
 use Rattle.ft_isa.specs.BasicTypes.{code}
-use Rattle.ft_typing.specs.TypedWord.{cell_of, code_type_at, has_type_over, has_type, is_seen_as, only_referable, common_type, run_type}
+use Rattle.ft_typing.specs.TypedWord.{cell_of, code_type_at, has_type_over, has_type, is_seen_as, only_referable}
+use Rattle.ft_typing.specs.TypedWord.{common_type, run_type}
 use Rattle.ft_typing.specs.declared.why.Why.TheVariants as premise
-use Rattle.ft_typing.specs.Context.{Typed, FormPair, Context, typed, with_type, replacement, Replacement, integer_form_after, memory_form_after}
-use Rattle.ft_typing.specs.TypingRow.{Outcome, same_colour, pending_memory, seen_memory, is_empty, is_like, are_like, is_queue_like, is_annotated, leads, row}
+use Rattle.ft_typing.specs.Context.{Typed, FormPair, Context, typed, with_type, replacement, Replacement}
+use Rattle.ft_typing.specs.Context.{integer_form_after, memory_form_after}
+use Rattle.ft_typing.specs.TypingRow.{Outcome, same_colour, pending_memory, seen_memory, is_empty, is_like, are_like}
+use Rattle.ft_typing.specs.TypingRow.{is_queue_like, is_annotated, leads, row}
 use Rattle.ft_typing.proofs.TypedWords.{has_type_decides}
-use Rattle.ft_modules.specs.CodeWalk.{Entered, code_over, code_claimed, entered_with, entered_after, is_free, is_entered, are_free, is_traced}
+use Rattle.ft_modules.specs.CodeWalk.{Entered, code_over, code_claimed, entered_with, entered_after, is_free}
+use Rattle.ft_modules.specs.CodeWalk.{is_entered, are_free, is_traced}
 use Rattle.ft_modules.specs.LikeTypes.{SameInteger, SameMemory, SameRow, SamePair, LikeTypes}
-use Rattle.ft_modules.proofs.Both.{Both, both_goes, both_end, both_need, both_typed, both_known, both_ref, both_code, both_oldest, both_run}
-use Rattle.ft_modules.proofs.LinkedContexts.{AreSent, SameSubst, IsMovOf, IsInstrOf, Beside, free_same, target_there, free_target_there, written, both_zero, both_target, both_conditional}
+use Rattle.ft_modules.proofs.Both.{Both, both_goes, both_end, both_need, both_typed, both_known, both_ref, both_code}
+use Rattle.ft_modules.proofs.Both.{both_oldest, both_run}
+use Rattle.ft_modules.proofs.LinkedContexts.{AreSent, SameSubst, IsMovOf, IsInstrOf, Beside, free_same, target_there}
+use Rattle.ft_modules.proofs.LinkedContexts.{free_target_there, written, both_zero, both_target, both_conditional}
 
 -- WHAT LEADS TO A CODE TYPE
 
 -- the same tree has the same form after a replacement
-after_same : (o x : Object) (p : Replacement) (n m : ℕ) → SameInteger o x n m → integer_form_after o p n ≡ integer_form_after x p m
+after_same : (o x : Object) (p : Replacement) (n m : ℕ) → SameInteger o x n m → integer_form_after o p n
+    ≡ integer_form_after x p m
 unfolding integer_form_after
 after_same o x p n m h = ap (λ (e : Integer). norm_under e p.integers p.memory) h
 
 -- so with memories
-memory_after_same : (o x : Object) (p : Replacement) (n m : ℕ) → SameMemory o x n m → memory_form_after o p n ≡ memory_form_after x p m
+memory_after_same : (o x : Object) (p : Replacement) (n m : ℕ) → SameMemory o x n m → memory_form_after o p n
+    ≡ memory_form_after x p m
 unfolding memory_form_after
 memory_after_same o x p n m h = ap (λ (e : Memory). norm_memory_under e p.integers p.memory) h
 
 -- registers of which the same is known are like rows that say the same
-like_row : (o x : Object) (p : Replacement) (y : Option Typed) (r q : RegType) → SameRow o x r q → is_like o p y r ≡ is_like x p y q
+like_row : (o x : Object) (p : Replacement) (y : Option Typed) (r q : RegType) → SameRow o x r q → is_like o p y r
+    ≡ is_like x p y q
 unfolding is_like
 like_row o x p None r q h = refl
-like_row o x p (Some t) r q h = λ i. same_colour t.colour (h.colour i) && is_seen_as t.basic (h.basic i) && same_polynomial t.form (after_same o x p r.expr q.expr h.tree i)
+like_row o x p (Some t) r q h = λ i. same_colour t.colour (h.colour i) && is_seen_as t.basic (h.basic i)
+    && same_polynomial t.form (after_same o x p r.expr q.expr h.tree i)
 
 -- and registers of which the same is known on both sides
-like_same : (o x : Object) (p : Replacement) (y z : Option Typed) (r q : RegType) → y ≡ z → SameRow o x r q → is_like o p y r ≡ is_like x p z q
+like_same : (o x : Object) (p : Replacement) (y z : Option Typed) (r q : RegType) → y ≡ z → SameRow o x r q →
+    is_like o p y r ≡ is_like x p z q
 like_same o x p y z r q e h = ap (λ (u : Option Typed). is_like o p u r) e ∙ like_row o x p z r q h
 
 -- all rows of a code type that types no entered register
-rows_same : (o x : Object) (to : ℕ → ℕ × ℕ) (e : Entered) (c b : Context) (p : Replacement) (rs qs : List RegType) → Beside o to e c b → are_free e rs ≡ true → AllZip (SameRow o x) rs qs → are_like o p c rs ≡ are_like x p b qs
+rows_same : (o x : Object) (to : ℕ → ℕ × ℕ) (e : Entered) (c b : Context) (p : Replacement) (rs qs : List RegType) →
+    Beside o to e c b → are_free e rs ≡ true → AllZip (SameRow o x) rs qs → are_like o p c rs ≡ are_like x p b qs
 rows_same o x to e c b p [] [] h f l = refl
 rows_same o x to e c b p [] (q ∷ qs) h f l = absurd l
 rows_same o x to e c b p (r ∷ rs) [] h f l = absurd l
@@ -69,10 +82,12 @@ rows_same o x to e c b p (r ∷ rs) (q ∷ qs) h f l =
     let a = and_parts _ _ f in
     let row = l.0 in
     let known : typed c r.reg.number ≡ typed b q.reg.number = free_same o to e c b r.reg h a.0 ∙ ap (typed b) row.reg in
-    λ i. like_same o x p (typed c r.reg.number) (typed b q.reg.number) r q known row i && rows_same o x to e c b p rs qs h a.1 l.1 i
+    λ i. like_same o x p (typed c r.reg.number) (typed b q.reg.number) r q known row i
+    && rows_same o x to e c b p rs qs h a.1 l.1 i
 
 -- the static queue against queue rows that say the same
-queue_same : (o x : Object) (p : Replacement) (es : List FormPair) (rs qs : List (ℕ × ℕ)) → AllZip (SamePair o x) rs qs → is_queue_like o p es rs ≡ is_queue_like x p es qs
+queue_same : (o x : Object) (p : Replacement) (es : List FormPair) (rs qs : List (ℕ × ℕ)) →
+    AllZip (SamePair o x) rs qs → is_queue_like o p es rs ≡ is_queue_like x p es qs
 unfolding is_queue_like
 queue_same o x p [] [] [] l = refl
 queue_same o x p [] [] (q ∷ qs) l = absurd l
@@ -83,23 +98,34 @@ queue_same o x p (e ∷ es) [] (q ∷ qs) l = absurd l
 queue_same o x p (e ∷ es) (r ∷ rs) [] l = absurd l
 queue_same o x p (e ∷ es) (r ∷ rs) (q ∷ qs) l =
     let a = l.0 in
-    λ i. same_polynomial e.0 (after_same o x p r.0 q.0 a.address i) && same_polynomial e.1 (after_same o x p r.1 q.1 a.value i) && queue_same o x p es rs qs l.1 i
+    λ i. same_polynomial e.0 (after_same o x p r.0 q.0 a.address i)
+    && same_polynomial e.1 (after_same o x p r.1 q.1 a.value i) && queue_same o x p es rs qs l.1 i
 
 -- substitutions that put the same fit code types that say the same
-annotated_same : (o x : Object) (n : ℕ) (u q : Subst) (t k : ℕ) → SameSubst o x u q → ints_of o t ≡ ints_of x k → is_annotated o n u t ≡ is_annotated x n q k
+annotated_same : (o x : Object) (n : ℕ) (u q : Subst) (t k : ℕ) → SameSubst o x u q → ints_of o t ≡ ints_of x k →
+    is_annotated o n u t ≡ is_annotated x n q k
 unfolding is_annotated
 annotated_same o x n u q t k s e = λ i. (s.count i == e i) && s.scopes n i && nat_le (s.memory_scope i) n
 
 -- a transfer, to code types that say the same
-pub both_leads : (R : Context → Context → Type 0) (o x : Object) (to : ℕ → ℕ × ℕ) (e : Entered) (c b : Context) (u q : Subst) (t k : ℕ) (y z : Outcome) → Beside o to e c b → SameSubst o x u q → LikeTypes o t x k → are_free e (reg_rows o t) ≡ true → Both R y z → Both R (leads o u t c y) (leads x q k b z)
+pub both_leads : (R : Context → Context → Type 0) (o x : Object) (to : ℕ → ℕ × ℕ) (e : Entered) (c b : Context)
+    (u q : Subst) (t k : ℕ) (y z : Outcome) → Beside o to e c b → SameSubst o x u q → LikeTypes o t x k →
+    are_free e (reg_rows o t) ≡ true → Both R y z → Both R (leads o u t c y) (leads x q k b z)
 unfolding leads
 both_leads R o x to e c b u q t k y z h s l f both =
-    let annotated : is_annotated o c.ints u t ≡ is_annotated x b.ints q k = ap (λ n. is_annotated o n u t) h.ints ∙ annotated_same o x b.ints u q t k s l.ints in
-    let rows : are_like o (replacement o u) c (reg_rows o t) ≡ are_like x (replacement x q) b (reg_rows x k) = ap (λ (p : Replacement). are_like o p c (reg_rows o t)) s.forms ∙ rows_same o x to e c b (replacement x q) (reg_rows o t) (reg_rows x k) h f l.regs in
-    let queue : is_queue_like o (replacement o u) c.queue (queue_rows o t) ≡ is_queue_like x (replacement x q) b.queue (queue_rows x k) =
-    (λ i. is_queue_like o (s.forms i) (h.queue i) (queue_rows o t)) ∙ queue_same o x (replacement x q) b.queue (queue_rows o t) (queue_rows x k) l.queue in
-    let memory : same_updates c.memory (memory_form_after o (replacement o u) (memory_of o t)) ≡ same_updates b.memory (memory_form_after x (replacement x q) (memory_of x k)) =
-    (λ i. same_updates (h.memory i) (memory_form_after o (s.forms i) (memory_of o t))) ∙ ap (same_updates b.memory) (memory_after_same o x (replacement x q) (memory_of o t) (memory_of x k) l.memory) in
+    let annotated : is_annotated o c.ints u t ≡ is_annotated x b.ints q k = ap (λ n. is_annotated o n u t) h.ints
+    ∙ annotated_same o x b.ints u q t k s l.ints in
+    let rows : are_like o (replacement o u) c (reg_rows o t) ≡ are_like x (replacement x q) b (reg_rows x k) =
+    ap (λ (p : Replacement). are_like o p c (reg_rows o t)) s.forms
+    ∙ rows_same o x to e c b (replacement x q) (reg_rows o t) (reg_rows x k) h f l.regs in
+    let queue : is_queue_like o (replacement o u) c.queue (queue_rows o t)
+    ≡ is_queue_like x (replacement x q) b.queue (queue_rows x k) =
+    (λ i. is_queue_like o (s.forms i) (h.queue i) (queue_rows o t))
+    ∙ queue_same o x (replacement x q) b.queue (queue_rows o t) (queue_rows x k) l.queue in
+    let memory : same_updates c.memory (memory_form_after o (replacement o u) (memory_of o t))
+    ≡ same_updates b.memory (memory_form_after x (replacement x q) (memory_of x k)) =
+    (λ i. same_updates (h.memory i) (memory_form_after o (s.forms i) (memory_of o t)))
+    ∙ ap (same_updates b.memory) (memory_after_same o x (replacement x q) (memory_of o t) (memory_of x k) l.memory) in
     both_need R premise.Annotation _ _ _ _ (λ i. (
       sym annotated ∙ i,
       both_need R premise.RegisterUnlike _ _ _ _ (λ j. (
@@ -117,7 +143,8 @@ both_leads R o x to e c b u q t k y z h s l f both =
 -- MOVES AND TARGETS
 
 -- no claim of a code type: the word has the type in both
-has_same : (o x : Object) (w n : ℕ) (base : Base) → x.cells ≡ o.cells → code_over n base ≡ None → has_type_over o w n base ≡ true → has_type_over x w n base ≡ true
+has_same : (o x : Object) (w n : ℕ) (base : Base) → x.cells ≡ o.cells → code_over n base ≡ None →
+    has_type_over o w n base ≡ true → has_type_over x w n base ≡ true
 unfolding cell_of
 has_same o x w zero Int e k h = refl
 has_same o x w zero (Code t) e k h = cc
@@ -132,187 +159,227 @@ run_same o x first n e = λ i. only_referable (common_type (map basic_of (slice_
 constant_word : (w v : ℕ) → IsWord w → IsWord v → constant w ≡ constant v → w ≡ v
 constant_word w v a b e =
     let s : Valuation = record { integers = []; memory = finite.empty } in
-    sym (mod-eq_of_lt a) ∙ sym (value_constant w s) ∙ ap (λ (p : Polynomial). value_polynomial p s) e ∙ value_constant v s ∙ mod-eq_of_lt b
+    sym (mod-eq_of_lt a) ∙ sym (value_constant w s) ∙ ap (λ (p : Polynomial). value_polynomial p s) e
+    ∙ value_constant v s ∙ mod-eq_of_lt b
 
 -- two targets that are the same in the module are sent to the same
-targets_same : (o x : Object) (to : ℕ → ℕ × ℕ) (w t v u : ℕ) → AreSent o x to → code_type_at o w ≡ Some t → code_type_at o v ≡ Some u → ((t == u) && same_polynomial (constant w) (constant v)) ≡ true → (((to w).1 == (to v).1) && same_polynomial (constant (to w).0) (constant (to v).0)) ≡ true
+targets_same : (o x : Object) (to : ℕ → ℕ × ℕ) (w t v u : ℕ) → AreSent o x to → code_type_at o w ≡ Some t →
+    code_type_at o v ≡ Some u → ((t == u) && same_polynomial (constant w) (constant v)) ≡ true →
+    (((to w).1 == (to v).1) && same_polynomial (constant (to w).0) (constant (to v).0)) ≡ true
 targets_same o x to w t v u a iw iv h =
     let p = and_parts (t == u) (same_polynomial (constant w) (constant v)) h in
-    let same : w ≡ v = constant_word w v (a.sends w t iw).is_word (a.sends v u iv).is_word ((equal_polynomials _ _).0 p.1) in
-    and_from _ _ (eq-eqb (to w).1 (to v).1 (ap (λ z. (to z).1) same)) ((equal_polynomials _ _).1 (ap (λ z. constant (to z).0) same))
+    let same : w ≡ v = constant_word w v (a.sends w t iw).is_word (a.sends v u iv).is_word
+    ((equal_polynomials _ _).0 p.1) in
+    and_from _ _ (eq-eqb (to w).1 (to v).1 (ap (λ z. (to z).1) same))
+    ((equal_polynomials _ _).1 (ap (λ z. constant (to z).0) same))
 
-module _ (o x : Object) (to : ℕ → ℕ × ℕ) (a : AreSent o x to) (e : Entered) (c b : Context) (h : Beside o to e c b) where
-  -- contexts beside each other after an instruction
-  abbrev R : Instr → Context → Context → Type 0
-  R i = Beside o to (entered_after i e)
+module _ (o x : Object) (to : ℕ → ℕ × ℕ) (a : AreSent o x to) (e : Entered) (c b : Context) (h : Beside o to e c b)
+  where
+    -- contexts beside each other after an instruction
+    abbrev R : Instr → Context → Context → Type 0
+    R i = Beside o to (entered_after i e)
 
-  -- a `mov`
-  mov_by : (rd : Reg) (v : Coloured) (n : ℕ) (base : Base) (j : Instr) (k : Option ℕ) → code_over n base ≡ k → IsMovOf to rd v (record { refs = n; base = base }) j k → Both (R (Mov rd v (record { refs = n; base = base }))) (row o c (Mov rd v (record { refs = n; base = base }))) (row x b j)
-  unfolding has_type
-  mov_by rd v n base j None g is =
-      let basic : Basic = record { refs = n; base = base } in
-      subst (λ (m : Instr). Both (R (Mov rd v basic)) (row o c (Mov rd v basic)) (row x b m)) (sym is)
-      (both_need (R (Mov rd v basic)) premise.BasicType _ _ _ _ (λ t. (
-        has_same o x v.word n base a.cells g t,
-        both_goes _ _ _
-            (subst (λ (u : Option ℕ). Beside o to (entered_with rd.number u e) (with_type rd.number (record { colour = v.colour; basic = basic; form = constant v.word }) c) (with_type rd.number (record { colour = v.colour; basic = basic; form = constant v.word }) b)) (sym g)
-            (written o to e c b rd.number None _ _ h refl)),
-      )))
-  mov_by rd v zero Int j (Some t) g is = cc
-  mov_by rd v (suc n) base j (Some t) g is = cc
-  mov_by rd v zero (Code u) j (Some t) g is =
-      let same : u ≡ t = cc in
-      subst (λ (m : Instr). Both (R (Mov rd v (code u))) (row o c (Mov rd v (code u))) (row x b m)) (sym is)
-      (both_need (R (Mov rd v (code u))) premise.BasicType (has_type o v.word (code u)) (has_type x (to v.word).0 (code (to v.word).1)) _ _ (λ k.
-      let there : code_type_at o v.word ≡ Some u = (has_type_decides o v.word (code u)).0 k in
-      let s = a.sends v.word u there in (
-        (has_type_decides x (to v.word).0 (code (to v.word).1)).1 s.there,
-        both_goes _ _ _
-            (written o to e c b rd.number (Some u) _ _ h (record { colour = v.colour; word = v.word; address = there; known = refl; beside = refl })),
-      )))
+    -- a `mov`
+    mov_by : (rd : Reg) (v : Coloured) (n : ℕ) (base : Base) (j : Instr) (k : Option ℕ) → code_over n base ≡ k →
+        IsMovOf to rd v (record { refs = n; base = base }) j k →
+        Both (R (Mov rd v (record { refs = n; base = base }))) (row o c (Mov rd v (record { refs = n; base = base })))
+        (row x b j)
+    unfolding has_type
+    mov_by rd v n base j None g is =
+        let basic : Basic = record { refs = n; base = base } in
+        subst (λ (m : Instr). Both (R (Mov rd v basic)) (row o c (Mov rd v basic)) (row x b m)) (sym is)
+        (both_need (R (Mov rd v basic)) premise.BasicType _ _ _ _ (λ t. (
+          has_same o x v.word n base a.cells g t,
+          both_goes _ _ _
+              (subst (λ (u : Option ℕ). Beside o to (entered_with rd.number u e)
+              (with_type rd.number (record { colour = v.colour; basic = basic; form = constant v.word }) c)
+              (with_type rd.number (record { colour = v.colour; basic = basic; form = constant v.word }) b)) (sym g)
+              (written o to e c b rd.number None _ _ h refl)),
+        )))
+    mov_by rd v zero Int j (Some t) g is = cc
+    mov_by rd v (suc n) base j (Some t) g is = cc
+    mov_by rd v zero (Code u) j (Some t) g is =
+        let same : u ≡ t = cc in
+        subst (λ (m : Instr). Both (R (Mov rd v (code u))) (row o c (Mov rd v (code u))) (row x b m)) (sym is)
+        (both_need (R (Mov rd v (code u))) premise.BasicType (has_type o v.word (code u))
+        (has_type x (to v.word).0 (code (to v.word).1)) _ _ (λ k.
+        let there : code_type_at o v.word ≡ Some u = (has_type_decides o v.word (code u)).0 k in
+        let s = a.sends v.word u there in (
+          (has_type_decides x (to v.word).0 (code (to v.word).1)).1 s.there,
+          both_goes _ _ _
+              (written o to e c b rd.number (Some u) _ _ h (record {
+                colour = v.colour;
+                word = v.word;
+                address = there;
+                known = refl;
+                beside = refl;
+              })),
+        )))
 
-  -- the test of a target's colour, of its type and of d, on both sides
-  jump_green_row : (rd : Reg) → is_entered e rd ≡ true → Both (R (JmpG rd)) (row o c (JmpG rd)) (row x b (JmpG rd))
-  jump_green_row rd f =
-      let g = target_there o to e c b rd h f in
-      let i = g.is in
-      both_known _ _ _ _ _ _ _ i.known i.beside (both_need _ premise.Colour _ _ _ _ (λ k. (
-        k,
-        both_code _ _ _ _ _ (both_zero _ o to c.d b.d _ _ h.d (λ z z'. both_goes _ _ _ (record {
-          ints = h.ints;
-          registers = h.registers;
-          d = record { word = i.word; address = i.address; form = refl; beside = refl };
-          queue = h.queue;
-          memory = h.memory;
-        }))),
-      )))
+    -- the test of a target's colour, of its type and of d, on both sides
+    jump_green_row : (rd : Reg) → is_entered e rd ≡ true → Both (R (JmpG rd)) (row o c (JmpG rd)) (row x b (JmpG rd))
+    jump_green_row rd f =
+        let g = target_there o to e c b rd h f in
+        let i = g.is in
+        both_known _ _ _ _ _ _ _ i.known i.beside (both_need _ premise.Colour _ _ _ _ (λ k. (
+          k,
+          both_code _ _ _ _ _ (both_zero _ o to c.d b.d _ _ h.d (λ z z'. both_goes _ _ _ (record {
+            ints = h.ints;
+            registers = h.registers;
+            d = record { word = i.word; address = i.address; form = refl; beside = refl };
+            queue = h.queue;
+            memory = h.memory;
+          }))),
+        )))
 
-  -- a green branch
-  branch_green_row : (rz rd : Reg) → is_free e rz ≡ true → is_entered e rd ≡ true → Both (R (BzG rz rd)) (row o c (BzG rz rd)) (row x b (BzG rz rd))
-  branch_green_row rz rd fz f =
-      let g = target_there o to e c b rd h f in
-      let i = g.is in
-      both_typed _ _ _ _ _ (free_same o to e c b rz h fz) (λ z iz. both_known _ _ _ _ _ _ _ i.known i.beside (both_need _ premise.Colour _ _ _ _ (λ k. (
-        k,
-        both_code _ _ _ _ _ (both_zero _ o to c.d b.d _ _ h.d (λ _ _. both_goes _ _ _ (record {
-          ints = h.ints;
-          registers = h.registers;
-          d = record { word = i.word; address = i.address; form = refl; beside = refl };
-          queue = h.queue;
-          memory = h.memory;
-        }))),
-      ))))
+    -- a green branch
+    branch_green_row : (rz rd : Reg) → is_free e rz ≡ true → is_entered e rd ≡ true →
+        Both (R (BzG rz rd)) (row o c (BzG rz rd)) (row x b (BzG rz rd))
+    branch_green_row rz rd fz f =
+        let g = target_there o to e c b rd h f in
+        let i = g.is in
+        both_typed _ _ _ _ _ (free_same o to e c b rz h fz) (λ z iz.
+        both_known _ _ _ _ _ _ _ i.known i.beside (both_need _ premise.Colour _ _ _ _ (λ k. (
+          k,
+          both_code _ _ _ _ _ (both_zero _ o to c.d b.d _ _ h.d (λ _ _. both_goes _ _ _ (record {
+            ints = h.ints;
+            registers = h.registers;
+            d = record { word = i.word; address = i.address; form = refl; beside = refl };
+            queue = h.queue;
+            memory = h.memory;
+          }))),
+        ))))
 
-  -- a blue jump
-  jump_blue_row : (rd : Reg) (u q : Subst) → SameSubst o x u q → is_traced o e (JmpB rd u) ≡ true → Both (R (JmpB rd u)) (row o c (JmpB rd u)) (row x b (JmpB rd q))
-  jump_blue_row rd u q s f =
-      let g = free_target_there o to e c b rd h f in
-      let i = g.is in
-      both_known _ _ _ _ _ _ _ i.known i.beside (both_need _ premise.Colour _ _ _ _ (λ k. (
-        k,
-        both_code _ _ _ _ _ (both_target _ o to c.d b.d _ _ h.d (λ w t iw.
-            both_need _ premise.Targets _ _ _ _ (λ both. (
-              targets_same o x to i.word g.code_type w t a i.address iw both,
-              both_leads _ o x to e c b u q g.code_type (to i.word).1 _ _ h s (a.sends i.word g.code_type i.address).alike g.free (both_end _),
-            )))),
-      )))
-
-  -- a blue branch
-  branch_blue_row : (rz rd : Reg) (u q : Subst) → SameSubst o x u q → is_traced o e (BzB rz rd u) ≡ true → Both (R (BzB rz rd u)) (row o c (BzB rz rd u)) (row x b (BzB rz rd q))
-  branch_blue_row rz rd u q s f =
-      let p = and_parts _ _ f in
-      let g = free_target_there o to e c b rd h p.1 in
-      let i = g.is in
-      both_typed _ _ _ _ _ (free_same o to e c b rz h p.0) (λ z iz. both_known _ _ _ _ _ _ _ i.known i.beside (both_need _ premise.Colour _ _ _ _ (λ k. (
-        k,
-        both_code _ _ _ _ _ (both_conditional _ o to c.d b.d _ _ h.d (λ y w t iw.
-            both_need _ premise.Conditions _ _ _ _ (λ m. (
-              m,
+    -- a blue jump
+    jump_blue_row : (rd : Reg) (u q : Subst) → SameSubst o x u q → is_traced o e (JmpB rd u) ≡ true →
+        Both (R (JmpB rd u)) (row o c (JmpB rd u)) (row x b (JmpB rd q))
+    jump_blue_row rd u q s f =
+        let g = free_target_there o to e c b rd h f in
+        let i = g.is in
+        both_known _ _ _ _ _ _ _ i.known i.beside (both_need _ premise.Colour _ _ _ _ (λ k. (
+          k,
+          both_code _ _ _ _ _ (both_target _ o to c.d b.d _ _ h.d (λ w t iw.
               both_need _ premise.Targets _ _ _ _ (λ both. (
                 targets_same o x to i.word g.code_type w t a i.address iw both,
-                both_leads _ o x to e c b u q g.code_type (to i.word).1 _ _ h s (a.sends i.word g.code_type i.address).alike g.free (both_goes _ _ _ (record {
-                  ints = h.ints;
-                  registers = h.registers;
-                  d = refl;
-                  queue = h.queue;
-                  memory = h.memory;
-                })),
-              )),
-            )))),
-      ))))
+                both_leads _ o x to e c b u q g.code_type (to i.word).1 _ _ h s
+                    (a.sends i.word g.code_type i.address).alike g.free (both_end _),
+              )))),
+        )))
 
-  -- the memory that a load sees
-  seen_same : (k : Colour) → seen_memory k c ≡ seen_memory k b
-  seen_same Green = λ i. pending_memory (h.memory i) (h.queue i)
-  seen_same Blue = h.memory
-
-  -- a row of a module's instruction that the walk passes, beside that of the linked object's
-  pub row_beside : (i j : Instr) → is_traced o e i ≡ true → IsInstrOf o x to i j → Both (Beside o to (entered_after i e)) (row o c i) (row x b j)
-  row_beside (OpReg op rd rs rt) j f is =
-      let p = and_parts _ _ f in
-      subst (λ (m : Instr). Both (R (OpReg op rd rs rt)) (row o c (OpReg op rd rs rt)) (row x b m)) (sym is)
-      (both_typed _ _ _ _ _ (free_same o to e c b rs h p.0) (λ s _. both_typed _ _ _ _ _ (free_same o to e c b rt h p.1) (λ t _. both_need _ premise.Colour _ _ _ _ (λ k. (k, both_goes _ _ _ (written o to e c b rd.number None _ _ h refl))))))
-  row_beside (OpWord op rd rs v) j f is =
-      subst (λ (m : Instr). Both (R (OpWord op rd rs v)) (row o c (OpWord op rd rs v)) (row x b m)) (sym is)
-      (both_typed _ _ _ _ _ (free_same o to e c b rs h f) (λ s _. both_need _ premise.Colour _ _ _ _ (λ k. (k, both_goes _ _ _ (written o to e c b rd.number None _ _ h refl)))))
-  row_beside (Mov rd v basic) j f is = mov_by rd v basic.refs basic.base j (code_claimed basic) refl is
-  row_beside (Ld k rd rs) j f is =
-      subst (λ (m : Instr). Both (R (Ld k rd rs)) (row o c (Ld k rd rs)) (row x b m)) (sym is)
-      (both_typed _ _ _ _ _ (free_same o to e c b rs h f) (λ s _. both_need _ premise.Colour _ _ _ _ (λ col. (
-        col,
-        both_ref _ s.basic.refs s.basic.base _ _ (λ y. both_goes _ _ _
-            (written o to e c b rd.number None _ _ h (ap (λ (m : Updates). Some (record { colour = k; basic = y; form = norm_sel m s.form })) (seen_same k)))),
-      ))))
-  row_beside (St Green rd rs) j f is =
-      let p = and_parts _ _ f in
-      subst (λ (m : Instr). Both (R (St Green rd rs)) (row o c (St Green rd rs)) (row x b m)) (sym is)
-      (both_typed _ _ _ _ _ (free_same o to e c b rd h p.0) (λ s _. both_typed _ _ _ _ _ (free_same o to e c b rs h p.1) (λ t _. both_need _ premise.Colour _ _ _ _ (λ col. (
-        col,
-        both_ref _ s.basic.refs s.basic.base _ _ (λ y.
-            both_need _ premise.BasicType _ _ _ _ (λ k. (
-              k,
-              both_need _ premise.QueueFull _ _ _ _ (λ m. (
-                ap (λ (z : List FormPair). nat_lt (length z) 8) (sym h.queue) ∙ m,
-                both_goes _ _ _ (record {
-                  ints = h.ints;
-                  registers = h.registers;
-                  d = h.d;
-                  queue = ap (λ (z : List FormPair). z ++ (s.form, t.form) ∷ []) h.queue;
-                  memory = h.memory;
-                }),
-              )),
-            ))),
-      )))))
-  row_beside (St Blue rd rs) j f is =
-      let p = and_parts _ _ f in
-      subst (λ (m : Instr). Both (R (St Blue rd rs)) (row o c (St Blue rd rs)) (row x b m)) (sym is)
-      (both_typed _ _ _ _ _ (free_same o to e c b rd h p.0) (λ s _. both_typed _ _ _ _ _ (free_same o to e c b rs h p.1) (λ t _. both_need _ premise.Colour _ _ _ _ (λ col. (
-        col,
-        both_ref _ s.basic.refs s.basic.base _ _ (λ y.
-            both_need _ premise.BasicType _ _ _ _ (λ k. (
-              k,
-              both_oldest _ _ _ _ _ h.queue (λ old q is_oldest. both_need _ premise.Addresses _ _ _ _ (λ m. (
+    -- a blue branch
+    branch_blue_row : (rz rd : Reg) (u q : Subst) → SameSubst o x u q → is_traced o e (BzB rz rd u) ≡ true →
+        Both (R (BzB rz rd u)) (row o c (BzB rz rd u)) (row x b (BzB rz rd q))
+    branch_blue_row rz rd u q s f =
+        let p = and_parts _ _ f in
+        let g = free_target_there o to e c b rd h p.1 in
+        let i = g.is in
+        both_typed _ _ _ _ _ (free_same o to e c b rz h p.0) (λ z iz.
+        both_known _ _ _ _ _ _ _ i.known i.beside (both_need _ premise.Colour _ _ _ _ (λ k. (
+          k,
+          both_code _ _ _ _ _ (both_conditional _ o to c.d b.d _ _ h.d (λ y w t iw.
+              both_need _ premise.Conditions _ _ _ _ (λ m. (
                 m,
-                both_need _ premise.Values _ _ _ _ (λ n. (
-                  n,
+                both_need _ premise.Targets _ _ _ _ (λ both. (
+                  targets_same o x to i.word g.code_type w t a i.address iw both,
+                  both_leads _ o x to e c b u q g.code_type (to i.word).1 _ _ h s
+                      (a.sends i.word g.code_type i.address).alike g.free (both_goes _ _ _ (record {
+                        ints = h.ints;
+                        registers = h.registers;
+                        d = refl;
+                        queue = h.queue;
+                        memory = h.memory;
+                      })),
+                )),
+              )))),
+        ))))
+
+    -- the memory that a load sees
+    seen_same : (k : Colour) → seen_memory k c ≡ seen_memory k b
+    seen_same Green = λ i. pending_memory (h.memory i) (h.queue i)
+    seen_same Blue = h.memory
+
+    -- a row of a module's instruction that the walk passes, beside that of the linked object's
+    pub row_beside : (i j : Instr) → is_traced o e i ≡ true → IsInstrOf o x to i j →
+        Both (Beside o to (entered_after i e)) (row o c i) (row x b j)
+    row_beside (OpReg op rd rs rt) j f is =
+        let p = and_parts _ _ f in
+        subst (λ (m : Instr). Both (R (OpReg op rd rs rt)) (row o c (OpReg op rd rs rt)) (row x b m)) (sym is)
+        (both_typed _ _ _ _ _ (free_same o to e c b rs h p.0) (λ s _.
+        both_typed _ _ _ _ _ (free_same o to e c b rt h p.1) (λ t _.
+        both_need _ premise.Colour _ _ _ _ (λ k. (k, both_goes _ _ _ (written o to e c b rd.number None _ _ h refl))))))
+    row_beside (OpWord op rd rs v) j f is =
+        subst (λ (m : Instr). Both (R (OpWord op rd rs v)) (row o c (OpWord op rd rs v)) (row x b m)) (sym is)
+        (both_typed _ _ _ _ _ (free_same o to e c b rs h f) (λ s _.
+        both_need _ premise.Colour _ _ _ _ (λ k. (k, both_goes _ _ _ (written o to e c b rd.number None _ _ h refl)))))
+    row_beside (Mov rd v basic) j f is = mov_by rd v basic.refs basic.base j (code_claimed basic) refl is
+    row_beside (Ld k rd rs) j f is =
+        subst (λ (m : Instr). Both (R (Ld k rd rs)) (row o c (Ld k rd rs)) (row x b m)) (sym is)
+        (both_typed _ _ _ _ _ (free_same o to e c b rs h f) (λ s _. both_need _ premise.Colour _ _ _ _ (λ col. (
+          col,
+          both_ref _ s.basic.refs s.basic.base _ _ (λ y. both_goes _ _ _
+              (written o to e c b rd.number None _ _ h
+              (ap (λ (m : Updates). Some (record { colour = k; basic = y; form = norm_sel m s.form })) (seen_same k)))),
+        ))))
+    row_beside (St Green rd rs) j f is =
+        let p = and_parts _ _ f in
+        subst (λ (m : Instr). Both (R (St Green rd rs)) (row o c (St Green rd rs)) (row x b m)) (sym is)
+        (both_typed _ _ _ _ _ (free_same o to e c b rd h p.0) (λ s _.
+        both_typed _ _ _ _ _ (free_same o to e c b rs h p.1) (λ t _. both_need _ premise.Colour _ _ _ _ (λ col. (
+          col,
+          both_ref _ s.basic.refs s.basic.base _ _ (λ y.
+              both_need _ premise.BasicType _ _ _ _ (λ k. (
+                k,
+                both_need _ premise.QueueFull _ _ _ _ (λ m. (
+                  ap (λ (z : List FormPair). nat_lt (length z) 8) (sym h.queue) ∙ m,
                   both_goes _ _ _ (record {
                     ints = h.ints;
                     registers = h.registers;
                     d = h.d;
-                    queue = refl;
-                    memory = ap (λ (z : Updates). norm_upd z s.form t.form) h.memory;
+                    queue = ap (λ (z : List FormPair). z ++ (s.form, t.form) ∷ []) h.queue;
+                    memory = h.memory;
                   }),
                 )),
               ))),
-            ))),
-      )))))
-  row_beside (JmpG rd) j f is = subst (λ (m : Instr). Both (R (JmpG rd)) (row o c (JmpG rd)) (row x b m)) (sym is) (jump_green_row rd f)
-  row_beside (JmpB rd u) j f is = subst (λ (m : Instr). Both (R (JmpB rd u)) (row o c (JmpB rd u)) (row x b m)) (sym is.1) (jump_blue_row rd u is.0 is.2 f)
-  row_beside (BzG rz rd) j f is = (let p = and_parts _ _ f in subst (λ (m : Instr). Both (R (BzG rz rd)) (row o c (BzG rz rd)) (row x b m)) (sym is) (branch_green_row rz rd p.0 p.1))
-  row_beside (BzB rz rd u) j f is = subst (λ (m : Instr). Both (R (BzB rz rd u)) (row o c (BzB rz rd u)) (row x b m)) (sym is.1) (branch_blue_row rz rd u is.0 is.2 f)
-  row_beside Halt j f is =
-      subst (λ (m : Instr). Both (R Halt) (row o c Halt) (row x b m)) (sym is)
-      (both_zero _ o to c.d b.d _ _ h.d (λ _ _. both_need _ premise.QueueUnlike _ _ _ _ (λ k. (ap is_empty (sym h.queue) ∙ k, both_end _))))
-  row_beside (Idx rd rs first n) j f is =
-      subst (λ (m : Instr). Both (R (Idx rd rs first n)) (row o c (Idx rd rs first n)) (row x b m)) (sym is)
-      (both_typed _ _ _ _ _ (free_same o to e c b rs h f) (λ s _. both_run _ _ _ _ _ (run_same o x first n a.cells) (λ y. both_goes _ _ _ (written o to e c b rd.number None _ _ h refl))))
+        )))))
+    row_beside (St Blue rd rs) j f is =
+        let p = and_parts _ _ f in
+        subst (λ (m : Instr). Both (R (St Blue rd rs)) (row o c (St Blue rd rs)) (row x b m)) (sym is)
+        (both_typed _ _ _ _ _ (free_same o to e c b rd h p.0) (λ s _.
+        both_typed _ _ _ _ _ (free_same o to e c b rs h p.1) (λ t _. both_need _ premise.Colour _ _ _ _ (λ col. (
+          col,
+          both_ref _ s.basic.refs s.basic.base _ _ (λ y.
+              both_need _ premise.BasicType _ _ _ _ (λ k. (
+                k,
+                both_oldest _ _ _ _ _ h.queue (λ old q is_oldest. both_need _ premise.Addresses _ _ _ _ (λ m. (
+                  m,
+                  both_need _ premise.Values _ _ _ _ (λ n. (
+                    n,
+                    both_goes _ _ _ (record {
+                      ints = h.ints;
+                      registers = h.registers;
+                      d = h.d;
+                      queue = refl;
+                      memory = ap (λ (z : Updates). norm_upd z s.form t.form) h.memory;
+                    }),
+                  )),
+                ))),
+              ))),
+        )))))
+    row_beside (JmpG rd) j f is = subst (λ (m : Instr). Both (R (JmpG rd)) (row o c (JmpG rd)) (row x b m)) (sym is)
+        (jump_green_row rd f)
+    row_beside (JmpB rd u) j f is = subst (λ (m : Instr). Both (R (JmpB rd u)) (row o c (JmpB rd u)) (row x b m))
+        (sym is.1) (jump_blue_row rd u is.0 is.2 f)
+    row_beside (BzG rz rd) j f is = (let p = and_parts _ _ f in
+        subst (λ (m : Instr). Both (R (BzG rz rd)) (row o c (BzG rz rd)) (row x b m)) (sym is)
+        (branch_green_row rz rd p.0 p.1))
+    row_beside (BzB rz rd u) j f is = subst (λ (m : Instr). Both (R (BzB rz rd u)) (row o c (BzB rz rd u)) (row x b m))
+        (sym is.1) (branch_blue_row rz rd u is.0 is.2 f)
+    row_beside Halt j f is =
+        subst (λ (m : Instr). Both (R Halt) (row o c Halt) (row x b m)) (sym is)
+        (both_zero _ o to c.d b.d _ _ h.d (λ _ _. both_need _ premise.QueueUnlike _ _ _ _ (λ k.
+        (ap is_empty (sym h.queue) ∙ k, both_end _))))
+    row_beside (Idx rd rs first n) j f is =
+        subst (λ (m : Instr). Both (R (Idx rd rs first n)) (row o c (Idx rd rs first n)) (row x b m)) (sym is)
+        (both_typed _ _ _ _ _ (free_same o to e c b rs h f) (λ s _.
+        both_run _ _ _ _ _ (run_same o x first n a.cells) (λ y.
+        both_goes _ _ _ (written o to e c b rd.number None _ _ h refl))))

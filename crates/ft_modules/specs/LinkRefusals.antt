@@ -6,7 +6,7 @@ use Rattle.std.specs.FinMap as finite
 use Rattle.ft_isa.specs.declared.basic.Base.{Base}
 use Rattle.ft_isa.specs.declared.basic.Base.TheVariants.{Int, Code}
 use Rattle.ft_isa.specs.declared.instr.Instr.{Instr}
-use Rattle.ft_isa.specs.declared.instr.Instr.TheVariants.{OpReg, OpWord, Mov, Ld, St, JmpG, JmpB, BzG, BzB, Halt, Idx}
+use Rattle.ft_isa.specs.declared.instr.Instr.TheVariants.{Halt}
 use Rattle.ft_types.specs.declared.object.Object.{Object}
 use Rattle.ft_types.specs.declared.object.Cell.{Cell}
 use Rattle.ft_types.specs.declared.object.Block.{Block}
@@ -117,17 +117,8 @@ lower_line (Some a) (Some b) = Some (min a b)
 
 -- whether these are the one instruction `halt`
 abbrev pub is_halt : Instr → Bool
-is_halt (OpReg op rd rs rt) = false
-is_halt (OpWord op rd rs value) = false
-is_halt (Mov rd value basic) = false
-is_halt (Ld colour rd rs) = false
-is_halt (St colour rd rs) = false
-is_halt (JmpG rd) = false
-is_halt (JmpB rd subst) = false
-is_halt (BzG rz rd) = false
-is_halt (BzB rz rd subst) = false
 is_halt Halt = true
-is_halt (Idx rd rs first m) = false
+is_halt i = false
 
 -- whether a block of these instructions is a stub: it is one `halt`
 abbrev pub is_stub : List Instr → Bool

@@ -7,7 +7,7 @@ use Rattle.ft_isa.specs.declared.colour.Coloured.{Coloured}
 use Rattle.ft_isa.specs.declared.reg.Reg.{Reg}
 use Rattle.ft_isa.specs.declared.instr.Subst.{Subst}
 use Rattle.ft_isa.specs.declared.instr.Instr.{Instr}
-use Rattle.ft_isa.specs.declared.instr.Instr.TheVariants.{OpReg, OpWord, Mov, Ld, St, JmpG, JmpB, BzG, BzB, Halt, Idx}
+use Rattle.ft_isa.specs.declared.instr.Instr.TheVariants.{Mov, JmpB, BzB}
 use Rattle.ft_static.specs.declared.node.Node.{Node}
 use Rattle.ft_static.specs.declared.node.Shape.{Shape}
 use Rattle.ft_static.specs.declared.node.Shape.TheVariants as shape
@@ -88,17 +88,10 @@ raised_mov k rd x b (Some t) = moves_to rd x (k.instrs + x.word) (k.types + t)
 
 -- an instruction of a module; the cells that an `idx` names are the same in all modules
 abbrev pub raised_instr : Before → Instr → Instr
-raised_instr k (OpReg op rd rs rt) = OpReg op rd rs rt
-raised_instr k (OpWord op rd rs value) = OpWord op rd rs value
 raised_instr k (Mov rd value basic) = raised_mov k rd value basic (code_claimed basic)
-raised_instr k (Ld colour rd rs) = Ld colour rd rs
-raised_instr k (St colour rd rs) = St colour rd rs
-raised_instr k (JmpG rd) = JmpG rd
 raised_instr k (JmpB rd subst) = JmpB rd (raised_subst k subst)
-raised_instr k (BzG rz rd) = BzG rz rd
 raised_instr k (BzB rz rd subst) = BzB rz rd (raised_subst k subst)
-raised_instr k Halt = Halt
-raised_instr k (Idx rd rs first m) = Idx rd rs first m
+raised_instr k i = i
 
 -- CHANGED MOVES
 
@@ -132,17 +125,8 @@ changed_mov changes rd x b (Some t) = changed_by rd x b (change_at changes x.wor
 
 -- an instruction, with the moves of imported addresses changed
 abbrev pub changed_instr : List Change → Instr → Instr
-changed_instr changes (OpReg op rd rs rt) = OpReg op rd rs rt
-changed_instr changes (OpWord op rd rs value) = OpWord op rd rs value
 changed_instr changes (Mov rd value basic) = changed_mov changes rd value basic (code_claimed basic)
-changed_instr changes (Ld colour rd rs) = Ld colour rd rs
-changed_instr changes (St colour rd rs) = St colour rd rs
-changed_instr changes (JmpG rd) = JmpG rd
-changed_instr changes (JmpB rd subst) = JmpB rd subst
-changed_instr changes (BzG rz rd) = BzG rz rd
-changed_instr changes (BzB rz rd subst) = BzB rz rd subst
-changed_instr changes Halt = Halt
-changed_instr changes (Idx rd rs first m) = Idx rd rs first m
+changed_instr changes i = i
 
 -- THE LINKED OBJECT
 

@@ -4,7 +4,7 @@ use Rattle.ft_static.specs.Expression.{Integer, Memory, word, variable, operatio
 use Rattle.ft_static.specs.NodeTree.{trees, integer_at, memory_at}
 use Rattle.ft_types.specs.declared.object.Object.{Object}
 use Rattle.ft_types.specs.declared.object.RegType.{RegType}
-use Rattle.ft_types.specs.NodeRows.{op_code}
+use Rattle.ft_isa.specs.Operations.{op_code}
 use Rattle.ft_types.specs.Objects.{reg_rows, queue_rows, ints_of, memory_of}
 use Rattle.ft_typing.specs.TypedWord.{same_basic}
 use Rattle.ft_typing.specs.TypingRow.{same_colour}

@@ -1,5 +1,6 @@
 -- Polynomials that differ by a constant: the terms beside their constants are the same.
-use Rattle.std.proofs.Common.{ℕ, ◌≡◌, ◌≢◌, ◌+◌, ◌-◌, ◌%◌, ◌^◌, ◌<◌, ◌==◌, Bool, true, false, if◌then◌else◌, List, [], ◌∷◌, refl, sym, ap, ◌∙◌, subst, arith, lit<, true≢false, Decides}
+use Rattle.std.proofs.Common.{ℕ, ◌≡◌, ◌≢◌, ◌+◌, ◌-◌, ◌%◌, ◌^◌, ◌<◌, ◌==◌, Bool, true, false, if◌then◌else◌, List, []}
+use Rattle.std.proofs.Common.{◌∷◌, refl, sym, ap, ◌∙◌, subst, arith, lit<, true≢false, Decides}
 use Rattle.std.proofs.Math.Nat.{mod-lt, mod-eq_of_lt}
 use Rattle.std.proofs.lemmas.Bool.{eqb-true, eqb-false}
 use Rattle.ft_static.specs.Coefficient.{share}
@@ -15,10 +16,12 @@ use Rattle.ft_norm.proofs.Limits.{constant_sum, no_atom}
 use Rattle.ft_norm.proofs.Numbers.{no_numbers, none, none_below}
 use Rattle.ft_norm.proofs.Single.{gives_none, one_polynomial, rest_over, weigh_form}
 use Rattle.ft_norm.proofs.Sums.{form_rises}
-use Rattle.ft_norm.proofs.Weights.{Rises, known, rises_add, rises_negation, rises_total, share_linear, share_negation, weigh, weigh_add, weigh_first, weigh_negation, weigh_total, words_same}
+use Rattle.ft_norm.proofs.Weights.{Rises, known, rises_add, rises_negation, rises_total, share_linear, share_negation}
+use Rattle.ft_norm.proofs.Weights.{weigh, weigh_add, weigh_first, weigh_negation, weigh_total, words_same}
 
 -- a first term is the constant, or there is none
-first_split : (P : ℕ → List Term → Type 0) (n c : ℕ) (ts us : List Term) → (n ≡ 0 → P c ts) → ((n ≡ 0 → ⊥) → P 0 us) → P (if n == 0 then c else 0) (if n == 0 then ts else us)
+first_split : (P : ℕ → List Term → Type 0) (n c : ℕ) (ts us : List Term) → (n ≡ 0 → P c ts) → ((n ≡ 0 → ⊥) → P 0 us) →
+    P (if n == 0 then c else 0) (if n == 0 then ts else us)
 first_split P n c ts us f g = go (n == 0) refl
   where
     go : (b : Bool) → (n == 0) ≡ b → P (if b then c else 0) (if b then ts else us)
@@ -26,16 +29,19 @@ first_split P n c ts us f g = go (n == 0) refl
     go false e = g (eqb-false n 0 e)
 
 -- terms are their constant and the others
-split_form : (fs : List Form) (ts : List Term) → AreTerms ts → polynomial_form fs ts ≡ add_term one (constant_among ts) (polynomial_form fs (others ts))
+split_form : (fs : List Form) (ts : List Term) → AreTerms ts → polynomial_form fs ts
+    ≡ add_term one (constant_among ts) (polynomial_form fs (others ts))
 split_form fs [] h = refl
-split_form fs (t ∷ ts) h = first_split (λ c us. polynomial_form fs (t ∷ ts) ≡ add_term one c (polynomial_form fs us)) (size t.atoms) t.coefficient ts (t ∷ ts)
+split_form fs (t ∷ ts) h = first_split (λ c us. polynomial_form fs (t ∷ ts) ≡ add_term one c (polynomial_form fs us))
+    (size t.atoms) t.coefficient ts (t ∷ ts)
     (λ e. ap (λ m. add_term m t.coefficient (polynomial_form fs ts)) (no_atom fs t.atoms e))
     (λ n. sym (add_none one (polynomial_form fs (t ∷ ts)) (form_rises fs (t ∷ ts) h)))
 
 -- the others are over the same forms
 others_over : (fs : List Form) (ts : List Term) → AreOver fs ts → AreOver fs (others ts)
 others_over fs [] h = h
-others_over fs (t ∷ ts) h = first_split (λ c us. AreOver fs us) (size t.atoms) 0 ts (t ∷ ts) (λ e. rest_over fs t ts h) (λ n. h)
+others_over fs (t ∷ ts) h = first_split (λ c us. AreOver fs us) (size t.atoms) 0 ts (t ∷ ts) (λ e.
+    rest_over fs t ts h) (λ n. h)
 
 -- the constant is before them
 others_follow : (ts : List Term) → AreTerms ts → Precedes none (others ts)
@@ -45,10 +51,14 @@ others_follow (t ∷ ts) h = first_split (λ c us. Precedes none us) (size t.ato
     (λ n. none_below t.atoms h.0.0 n)
 
 -- so they give it nothing
-others_give : (fs : List Form) (ts : List Term) → AreOver fs ts → weigh (share one) (polynomial_form fs (others ts)) % 2 ^ 64 ≡ 0
+others_give : (fs : List Form) (ts : List Term) → AreOver fs ts →
+    weigh (share one) (polynomial_form fs (others ts)) % 2 ^ 64 ≡ 0
 others_give fs ts h =
     let o = others_over fs ts h in
-    weigh_form fs one (others ts) ∙ ap (λ n. n % 2 ^ 64) (gives_none fs h.distinct none (others ts) (refl, (omega arith, (omega arith, (omega arith, (tt, tt))))) (omega arith) o.terms o.reach (others_follow ts h.terms))
+    weigh_form fs one (others ts) ∙ ap (λ n. n % 2 ^ 64) (gives_none fs h.distinct none (others ts) (
+      refl,
+      (omega arith, (omega arith, (omega arith, (tt, tt)))),
+    ) (omega arith) o.terms o.reach (others_follow ts h.terms))
 
 -- a constant is a word
 constant_word : (ts : List Term) → AreTerms ts → constant_among ts < 2 ^ 64
@@ -57,8 +67,10 @@ constant_word (t ∷ ts) h = first_split (λ c us. c < 2 ^ 64) (size t.atoms) t.
 
 -- what a monomial gets of terms: of their constant and of the others
 weigh_split : (fs : List Form) (k : Monomial) (ts : List Term) → AreTerms ts
-    → weigh (share k) (polynomial_form fs ts) % 2 ^ 64 ≡ (share k one (constant_among ts) + weigh (share k) (polynomial_form fs (others ts))) % 2 ^ 64
-weigh_split fs k ts h = ap (λ p. weigh (share k) p % 2 ^ 64) (split_form fs ts h) ∙ weigh_add (share k) (share_linear k) one (constant_among ts) (polynomial_form fs (others ts))
+    → weigh (share k) (polynomial_form fs ts) % 2 ^ 64
+    ≡ (share k one (constant_among ts) + weigh (share k) (polynomial_form fs (others ts))) % 2 ^ 64
+weigh_split fs k ts h = ap (λ p. weigh (share k) p % 2 ^ 64) (split_form fs ts h)
+    ∙ weigh_add (share k) (share_linear k) one (constant_among ts) (polynomial_form fs (others ts))
 
 -- no constant but 0
 no_constant : (p : Polynomial) → ((e : ℕ) → p ≡ plus one e nought → ⊥) → false ≡ is_not_zero (constant_of p)
@@ -79,10 +91,12 @@ module _ (fs : List Form) (ps qs : List Term) (a : AreOver fs ps) (b : AreOver f
   difference = total (polynomial_form fs ps) (negation (polynomial_form fs qs))
 
   difference_rises : Rises difference
-  difference_rises = rises_total (polynomial_form fs ps) (negation (polynomial_form fs qs)) (form_rises fs ps a.terms) (rises_negation (polynomial_form fs qs) (form_rises fs qs b.terms))
+  difference_rises = rises_total (polynomial_form fs ps) (negation (polynomial_form fs qs)) (form_rises fs ps a.terms)
+      (rises_negation (polynomial_form fs qs) (form_rises fs qs b.terms))
 
   -- what a monomial gets of it
-  weigh_difference : (k : Monomial) → (weigh (share k) difference + weigh (share k) (polynomial_form fs qs)) % 2 ^ 64 ≡ weigh (share k) (polynomial_form fs ps) % 2 ^ 64
+  weigh_difference : (k : Monomial) → (weigh (share k) difference + weigh (share k) (polynomial_form fs qs)) % 2 ^ 64
+      ≡ weigh (share k) (polynomial_form fs ps) % 2 ^ 64
   weigh_difference k =
       let x = weigh_total (share k) (share_linear k) (polynomial_form fs ps) (negation (polynomial_form fs qs)) in
       let y = weigh_negation k (polynomial_form fs qs) in
@@ -91,7 +105,8 @@ module _ (fs : List Form) (ps qs : List Term) (a : AreOver fs ps) (b : AreOver f
   -- the difference of the constants, where the others are the same
   same_others : polynomial_form fs (others ps) ≡ polynomial_form fs (others qs)
       → difference ≡ add_term one ((constant_among ps + (2 ^ 64 - constant_among qs % 2 ^ 64) % 2 ^ 64) % 2 ^ 64) nought
-  same_others s = known difference (add_term one e nought) difference_rises (rises_add one e nought (mod-lt _ (lit< tt)) tt) (λ k.
+  same_others s = known difference (add_term one e nought) difference_rises
+      (rises_add one e nought (mod-lt _ (lit< tt)) tt) (λ k.
       let w = weigh_difference k in
       let x = weigh_split fs k ps a.terms in
       let y = weigh_split fs k qs b.terms in
@@ -99,23 +114,30 @@ module _ (fs : List Form) (ps qs : List Term) (a : AreOver fs ps) (b : AreOver f
       let z = share_negation k one (constant_among qs) in
       let l = (share_linear k).sum one (constant_among ps) ((2 ^ 64 - constant_among qs % 2 ^ 64) % 2 ^ 64) in
       let m = weigh_add (share k) (share_linear k) one e nought in
-      opposite (weigh (share k) difference) (weigh (share k) (polynomial_form fs ps)) (weigh (share k) (polynomial_form fs qs)) (share k one (constant_among ps)) (share k one (constant_among qs)) (share k one ((2 ^ 64 - constant_among qs % 2 ^ 64) % 2 ^ 64)) (share k one e)
-      (weigh (share k) (polynomial_form fs (others ps))) (weigh (share k) (polynomial_form fs (others qs))) (weigh (share k) (add_term one e nought)) w x y r z l m)
+      opposite (weigh (share k) difference) (weigh (share k) (polynomial_form fs ps))
+      (weigh (share k) (polynomial_form fs qs)) (share k one (constant_among ps)) (share k one (constant_among qs))
+      (share k one ((2 ^ 64 - constant_among qs % 2 ^ 64) % 2 ^ 64)) (share k one e)
+      (weigh (share k) (polynomial_form fs (others ps))) (weigh (share k) (polynomial_form fs (others qs)))
+      (weigh (share k) (add_term one e nought)) w x y r z l m)
     where
       e : ℕ
       e = (constant_among ps + (2 ^ 64 - constant_among qs % 2 ^ 64) % 2 ^ 64) % 2 ^ 64
 
-      opposite : (d p q c f n g r s t : ℕ) → (d + q) % 2 ^ 64 ≡ p % 2 ^ 64 → p % 2 ^ 64 ≡ (c + r) % 2 ^ 64 → q % 2 ^ 64 ≡ (f + s) % 2 ^ 64 → r ≡ s → (n + f) % 2 ^ 64 ≡ 0 → g % 2 ^ 64 ≡ (c + n) % 2 ^ 64 → t % 2 ^ 64 ≡ (g + 0) % 2 ^ 64 → d % 2 ^ 64 ≡ t % 2 ^ 64
+      opposite : (d p q c f n g r s t : ℕ) → (d + q) % 2 ^ 64 ≡ p % 2 ^ 64 → p % 2 ^ 64 ≡ (c + r) % 2 ^ 64 → q % 2 ^ 64
+          ≡ (f + s) % 2 ^ 64 → r ≡ s → (n + f) % 2 ^ 64 ≡ 0 → g % 2 ^ 64 ≡ (c + n) % 2 ^ 64 → t % 2 ^ 64
+          ≡ (g + 0) % 2 ^ 64 → d % 2 ^ 64 ≡ t % 2 ^ 64
       opposite d p q c f n g r s t w x y e z l m = omega (arith, w, x, y, e, z, l, m)
 
   -- polynomials whose constants alone differ are known to differ
-  pub apart : constant_among ps ≢ constant_among qs → others ps ≡ others qs → true ≡ is_not_zero (constant_of (norm_sub (polynomial_form fs ps) (polynomial_form fs qs)))
+  pub apart : constant_among ps ≢ constant_among qs → others ps ≡ others qs → true
+      ≡ is_not_zero (constant_of (norm_sub (polynomial_form fs ps) (polynomial_form fs qs)))
   apart n s =
       let c = constant_word ps a.terms in
       let d = constant_word qs b.terms in
       let e = same_others (ap (polynomial_form fs) s) in
       some_constant _ (λ z. n (alike (constant_among ps) (constant_among qs) c d z)) (mod-lt _ (lit< tt))
-      ∙ (ap (λ p. is_not_zero (constant_of p)) (sym e) ∙ ap is_not_zero (constant_sum (polynomial_form fs ps) (negation (polynomial_form fs qs))))
+      ∙ (ap (λ p. is_not_zero (constant_of p)) (sym e)
+      ∙ ap is_not_zero (constant_sum (polynomial_form fs ps) (negation (polynomial_form fs qs))))
     where
       alike : (c d : ℕ) → c < 2 ^ 64 → d < 2 ^ 64 → (c + (2 ^ 64 - d % 2 ^ 64) % 2 ^ 64) % 2 ^ 64 ≡ 0 → c ≡ d
       alike c d l m z = omega (arith, l, m, z)
@@ -130,12 +152,14 @@ module _ (fs : List Form) (ps qs : List Term) (a : AreOver fs ps) (b : AreOver f
       let y = weigh_split fs one qs b.terms in
       let o = others_give fs ps a in
       let u = others_give fs qs b in
-      let m : (weigh (share one) (plus one e nought)) % 2 ^ 64 ≡ 0 = none (weigh (share one) difference) (weigh (share one) (plus one e nought)) _ _ _ _ _ _ v w x y z o u in
+      let m : (weigh (share one) (plus one e nought)) % 2 ^ 64
+      ≡ 0 = none (weigh (share one) difference) (weigh (share one) (plus one e nought)) _ _ _ _ _ _ v w x y z o u in
       let n = words_same e 0 (ap (λ t. t % 2 ^ 64) (sym (weigh_first one e nought r)) ∙ m) r.1 (lit< tt) in
       let p = r.0 in
       omega (arith, n, p)
     where
-      none : (d g p q c f r s : ℕ) → d ≡ g → (d + q) % 2 ^ 64 ≡ p % 2 ^ 64 → p % 2 ^ 64 ≡ (c + r) % 2 ^ 64 → q % 2 ^ 64 ≡ (f + s) % 2 ^ 64 → c ≡ f → r % 2 ^ 64 ≡ 0 → s % 2 ^ 64 ≡ 0 → g % 2 ^ 64 ≡ 0
+      none : (d g p q c f r s : ℕ) → d ≡ g → (d + q) % 2 ^ 64 ≡ p % 2 ^ 64 → p % 2 ^ 64 ≡ (c + r) % 2 ^ 64 → q % 2 ^ 64
+          ≡ (f + s) % 2 ^ 64 → c ≡ f → r % 2 ^ 64 ≡ 0 → s % 2 ^ 64 ≡ 0 → g % 2 ^ 64 ≡ 0
       none d g p q c f r s v w x y z o u = omega (arith, v, w, x, y, z, o, u)
 
   -- and the others are the same
@@ -144,9 +168,11 @@ module _ (fs : List Form) (ps qs : List Term) (a : AreOver fs ps) (b : AreOver f
       let o = others_over fs ps a in
       let u = others_over fs qs b in
       one_polynomial fs a.distinct (others ps) (others qs) o.terms u.terms o.reach u.reach
-      (known (polynomial_form fs (others ps)) (polynomial_form fs (others qs)) (form_rises fs (others ps) o.terms) (form_rises fs (others qs) u.terms) weighs)
+      (known (polynomial_form fs (others ps)) (polynomial_form fs (others qs)) (form_rises fs (others ps) o.terms)
+      (form_rises fs (others qs) u.terms) weighs)
     where
-      weighs : (k : Monomial) → weigh (share k) (polynomial_form fs (others ps)) % 2 ^ 64 ≡ weigh (share k) (polynomial_form fs (others qs)) % 2 ^ 64
+      weighs : (k : Monomial) → weigh (share k) (polynomial_form fs (others ps)) % 2 ^ 64
+          ≡ weigh (share k) (polynomial_form fs (others qs)) % 2 ^ 64
       weighs one = others_give fs ps a ∙ sym (others_give fs qs b)
       weighs (times h m) =
           let w = weigh_difference (times h m) in
@@ -156,12 +182,14 @@ module _ (fs : List Form) (ps qs : List Term) (a : AreOver fs ps) (b : AreOver f
           omega (arith, v, w, x, y)
 
   -- polynomials are not known to differ where their constants or their other terms are no reason
-  pub not_apart : ((constant_among ps ≢ constant_among qs) → others ps ≡ others qs → ⊥) → false ≡ is_not_zero (constant_of (norm_sub (polynomial_form fs ps) (polynomial_form fs qs)))
+  pub not_apart : ((constant_among ps ≢ constant_among qs) → others ps ≡ others qs → ⊥) → false
+      ≡ is_not_zero (constant_of (norm_sub (polynomial_form fs ps) (polynomial_form fs qs)))
   not_apart n =
       no_constant difference (λ e q. n (constants_differ e q) (others_same e q))
       ∙ ap is_not_zero (constant_sum (polynomial_form fs ps) (negation (polynomial_form fs qs)))
 
   -- where the constants differ, the test of the others tells
-  pub by_others : (b : Bool) → constant_among ps ≢ constant_among qs → Decides b (others ps ≡ others qs) → b ≡ is_not_zero (constant_of (norm_sub (polynomial_form fs ps) (polynomial_form fs qs)))
+  pub by_others : (b : Bool) → constant_among ps ≢ constant_among qs → Decides b (others ps ≡ others qs) → b
+      ≡ is_not_zero (constant_of (norm_sub (polynomial_form fs ps) (polynomial_form fs qs)))
   by_others true n d = apart n (d.0 refl)
   by_others false n d = not_apart (λ m s. true≢false (sym (d.1 s)))

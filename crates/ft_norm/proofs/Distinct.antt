@@ -1,5 +1,7 @@
 -- Equal entries have equal forms, and over distinct forms equal forms have equal entries.
-use Rattle.std.proofs.Common.{ℕ, suc, zero, ◌≡◌, ◌≢◌, ◌+◌, ◌^◌, ◌<◌, ◌≤◌, ◌||◌, Bool, true, false, if◌then◌else◌, List, [], ◌∷◌, ◌++◌, length, get_or, refl, sym, ap, ◌∙◌, subst, arith, true≢false, Some, slice_get, inl, inr, map, length-append}
+use Rattle.std.proofs.Common.{ℕ, suc, zero, ◌≡◌, ◌≢◌, ◌+◌, ◌^◌, ◌<◌, ◌≤◌, ◌||◌, Bool, true, false, if◌then◌else◌, List}
+use Rattle.std.proofs.Common.{[], ◌∷◌, ◌++◌, length, get_or, refl, sym, ap, ◌∙◌, subst, arith, true≢false, Some}
+use Rattle.std.proofs.Common.{slice_get, inl, inr, map, length-append}
 use Rattle.std.specs.List.{list_any}
 use Rattle.std.proofs.lemmas.Bool.{cases_lt}
 use Rattle.std.proofs.lemmas.Bool.Decides.{Decides-and, Decides-eqb}
@@ -14,7 +16,8 @@ use Rattle.ft_norm.specs.declared.entry.Entry.{Entry}
 use Rattle.ft_norm.specs.declared.entry.Entry.TheVariants.{Atom as Lone, Linear, Packed, Full, Unchanged, Update}
 use Rattle.ft_norm.specs.contracts.entry.EntryPartialEq.TheImpl as entry
 use Rattle.ft_norm.specs.Held.{Keeps, polynomial_at, updates_at}
-use Rattle.ft_norm.specs.Entries.{AreCanonical, AreEntries, IsCanonical, IsDistinct, alone_term, atom_form, entry_form, forms_of, full, greatest, polynomial_form, reach_of_entry, reach_of_terms}
+use Rattle.ft_norm.specs.Entries.{AreCanonical, AreEntries, IsCanonical, IsDistinct, alone_term, atom_form, entry_form}
+use Rattle.ft_norm.specs.Entries.{forms_of, full, greatest, polynomial_form, reach_of_entry, reach_of_terms}
 use Rattle.ft_norm.specs.Orders.{AreTerms}
 use Rattle.ft_norm.specs.Packing.{ArePacked, HaveSmall, unpacked}
 use Rattle.ft_norm.specs.declared.packed.PackedTerm.{PackedTerm}
@@ -29,61 +32,97 @@ use Rattle.ft_norm.proofs.Single.{alone_is, degree_over, one_factor, one_integer
 -- equal entries have one form
 pub same_entry : (fs : List Form) (a b : Entry) → (entry.ghosts).eq a b ≡ true → entry_form fs a ≡ entry_form fs b
 same_entry fs (Lone a) (Lone b) h = ap (λ x. integer_form (alone (atom_form fs x))) ((factor_decides a b).0 h)
-same_entry fs (Linear ts) (Linear us) h = ap (λ xs. integer_form (polynomial_form fs (map full xs))) ((linears_decide ts.items us.items _ refl).0 h)
-same_entry fs (Packed ts) (Packed us) h = ap (λ xs. integer_form (polynomial_form fs (map unpacked xs))) ((packed_lists_decide ts.items us.items _ refl).0 h)
-same_entry fs (Full ts) (Full us) h = ap (λ xs. integer_form (polynomial_form fs xs)) ((terms_decide ts.items us.items _ refl).0 h)
+same_entry fs (Linear ts) (Linear us) h = ap (λ xs. integer_form (polynomial_form fs (map full xs)))
+    ((linears_decide ts.items us.items _ refl).0 h)
+same_entry fs (Packed ts) (Packed us) h = ap (λ xs. integer_form (polynomial_form fs (map unpacked xs)))
+    ((packed_lists_decide ts.items us.items _ refl).0 h)
+same_entry fs (Full ts) (Full us) h = ap (λ xs. integer_form (polynomial_form fs xs))
+    ((terms_decide ts.items us.items _ refl).0 h)
 same_entry fs Unchanged Unchanged h = refl
 same_entry fs (Update at value older) (Update at' value' older') h =
-    let t = (Decides-and _ _ (Decides-eqb at at') (Decides-and _ _ (Decides-eqb value value') (Decides-eqb older older'))).0 h in rw (t.0, t.1.0, t.1.1) refl
+    let t = (Decides-and _ _ (Decides-eqb at at') (Decides-and _ _ (Decides-eqb value value')
+    (Decides-eqb older older'))).0 h in rw (t.0, t.1.0, t.1.1) refl
 same_entry fs a b h = absurd (true≢false (sym h))
 
 module _ (fs : List Form) (d : IsDistinct fs) where
   -- terms of at most one atom and terms of more are two polynomials
-  linear_apart : (ts : List LinearTerm) (us : List Term) → AreTerms (map full ts) → AreTerms us → reach_of_terms fs (map full ts) ≤ length fs → reach_of_terms fs us ≤ length fs → 2 ≤ greatest us
+  linear_apart : (ts : List LinearTerm) (us : List Term) → AreTerms (map full ts) → AreTerms us →
+      reach_of_terms fs (map full ts) ≤ length fs → reach_of_terms fs us ≤ length fs → 2 ≤ greatest us
       → polynomial_form fs (map full ts) ≡ polynomial_form fs us → ⊥
-  linear_apart ts us h k a b g e = let q = ap greatest (one_polynomial fs d (map full ts) us h k a b e) in let l = linear_degree ts in omega (arith, q, l, g)
+  linear_apart ts us h k a b g e = let q = ap greatest (one_polynomial fs d (map full ts) us h k a b e) in
+      let l = linear_degree ts in omega (arith, q, l, g)
 
   -- terms with an atom of a great number are not packed
-  packed_apart : (ps : List PackedTerm) (us : List Term) → AreTerms (map unpacked ps) → AreTerms us → reach_of_terms fs (map unpacked ps) ≤ length fs → reach_of_terms fs us ≤ length fs → ArePacked ps → (HaveSmall us → ⊥)
+  packed_apart : (ps : List PackedTerm) (us : List Term) → AreTerms (map unpacked ps) → AreTerms us →
+      reach_of_terms fs (map unpacked ps) ≤ length fs → reach_of_terms fs us ≤ length fs → ArePacked ps →
+      (HaveSmall us → ⊥)
       → polynomial_form fs (map unpacked ps) ≡ polynomial_form fs us → ⊥
-  packed_apart ps us h k a b p n e = n (subst HaveSmall (one_polynomial fs d (map unpacked ps) us h k a b e) (have_small_unpacked ps p))
+  packed_apart ps us h k a b p n e = n (subst HaveSmall (one_polynomial fs d (map unpacked ps) us h k a b e)
+      (have_small_unpacked ps p))
 
   -- an atom alone is not what an entry of terms of at most one atom stands for
-  alone_linear : (x : Atom) (ts : List Term) → AreTerms ts → reach_of_terms fs ts ≤ length fs → greatest ts ≤ 1 → ((k : ℕ) → ts ≢ alone_term (k + 1) ∷ []) → alone x ≡ polynomial_form fs ts → ⊥
-  alone_linear x ts h r g n e = n (alone_is fs x ts (record { terms = h; distinct = d; reach = r }) g e).0 (alone_is fs x ts (record { terms = h; distinct = d; reach = r }) g e).1
+  alone_linear : (x : Atom) (ts : List Term) → AreTerms ts → reach_of_terms fs ts ≤ length fs → greatest ts ≤ 1 →
+      ((k : ℕ) → ts ≢ alone_term (k + 1) ∷ []) → alone x ≡ polynomial_form fs ts → ⊥
+  alone_linear x ts h r g n e = n (alone_is fs x ts (record { terms = h; distinct = d; reach = r }) g e).0
+      (alone_is fs x ts (record { terms = h; distinct = d; reach = r }) g e).1
 
   -- nor what one of terms of more stands for
-  alone_full : (x : Atom) (ts : List Term) → AreTerms ts → reach_of_terms fs ts ≤ length fs → 2 ≤ greatest ts → alone x ≡ polynomial_form fs ts → ⊥
-  alone_full x ts h r g e = let q = degree_over fs ts (record { terms = h; distinct = d; reach = r }) in let w : 1 ≡ degree (polynomial_form fs ts) = ap degree e in omega (arith, q, w, g)
+  alone_full : (x : Atom) (ts : List Term) → AreTerms ts → reach_of_terms fs ts ≤ length fs → 2 ≤ greatest ts → alone x
+      ≡ polynomial_form fs ts → ⊥
+  alone_full x ts h r g e = let q = degree_over fs ts (record { terms = h; distinct = d; reach = r }) in
+      let w : 1 ≡ degree (polynomial_form fs ts) = ap degree e in omega (arith, q, w, g)
 
   -- one form has one entry
-  pub one_entry : (a b : Entry) → IsCanonical a → IsCanonical b → reach_of_entry fs a ≤ length fs → reach_of_entry fs b ≤ length fs → entry_form fs a ≡ entry_form fs b → (entry.ghosts).eq a b ≡ true
-  one_entry (Lone x) (Lone y) h k a b e = (factor_decides x y).1 (one_factor fs d x y a b (let p : alone (atom_form fs x) ≡ alone (atom_form fs y) = ap polynomial_of e in cc))
-  one_entry (Lone x) (Linear us) h k a b e = absurd (alone_linear (atom_form fs x) (map full us.items) k.0 b (linear_degree us.items) k.2 (ap polynomial_of e))
-  one_entry (Linear ts) (Lone y) h k a b e = absurd (alone_linear (atom_form fs y) (map full ts.items) h.0 a (linear_degree ts.items) h.2 (sym (ap polynomial_of e)))
-  one_entry (Lone x) (Packed us) h k a b e = absurd (alone_full (atom_form fs x) (map unpacked us.items) k.0 b k.2 (ap polynomial_of e))
-  one_entry (Packed ts) (Lone y) h k a b e = absurd (alone_full (atom_form fs y) (map unpacked ts.items) h.0 a h.2 (sym (ap polynomial_of e)))
+  pub one_entry : (a b : Entry) → IsCanonical a → IsCanonical b → reach_of_entry fs a ≤ length fs →
+      reach_of_entry fs b ≤ length fs → entry_form fs a ≡ entry_form fs b → (entry.ghosts).eq a b ≡ true
+  one_entry (Lone x) (Lone y) h k a b e = (factor_decides x y).1
+      (one_factor fs d x y a b (let p : alone (atom_form fs x) ≡ alone (atom_form fs y) = ap polynomial_of e in cc))
+  one_entry (Lone x) (Linear us) h k a b e = absurd
+      (alone_linear (atom_form fs x) (map full us.items) k.0 b (linear_degree us.items) k.2 (ap polynomial_of e))
+  one_entry (Linear ts) (Lone y) h k a b e = absurd
+      (alone_linear (atom_form fs y) (map full ts.items) h.0 a (linear_degree ts.items) h.2 (sym (ap polynomial_of e)))
+  one_entry (Lone x) (Packed us) h k a b e = absurd (alone_full (atom_form fs x) (map unpacked us.items) k.0 b k.2
+      (ap polynomial_of e))
+  one_entry (Packed ts) (Lone y) h k a b e = absurd (alone_full (atom_form fs y) (map unpacked ts.items) h.0 a h.2
+      (sym (ap polynomial_of e)))
   one_entry (Lone x) (Full us) h k a b e = absurd (alone_full (atom_form fs x) us.items k.0 b k.2 (ap polynomial_of e))
-  one_entry (Full ts) (Lone y) h k a b e = absurd (alone_full (atom_form fs y) ts.items h.0 a h.2 (sym (ap polynomial_of e)))
-  one_entry (Linear ts) (Linear us) h k a b e = (linears_decide ts.items us.items _ refl).1 (linears_itself ts.items us.items (one_polynomial fs d (map full ts.items) (map full us.items) h.0 k.0 a b (ap polynomial_of e)))
-  one_entry (Linear ts) (Full us) h k a b e = absurd (linear_apart ts.items us.items h.0 k.0 a b k.2 (ap polynomial_of e))
-  one_entry (Full ts) (Linear us) h k a b e = absurd (linear_apart us.items ts.items k.0 h.0 b a h.2 (sym (ap polynomial_of e)))
-  one_entry (Linear ts) (Packed us) h k a b e = absurd (linear_apart ts.items (map unpacked us.items) h.0 k.0 a b k.2 (ap polynomial_of e))
-  one_entry (Packed ts) (Linear us) h k a b e = absurd (linear_apart us.items (map unpacked ts.items) k.0 h.0 b a h.2 (sym (ap polynomial_of e)))
-  one_entry (Packed ts) (Packed us) h k a b e = (packed_lists_decide ts.items us.items _ refl).1 (packed_itself ts.items us.items h.3 k.3 (one_polynomial fs d (map unpacked ts.items) (map unpacked us.items) h.0 k.0 a b (ap polynomial_of e)))
-  one_entry (Packed ts) (Full us) h k a b e = absurd (packed_apart ts.items us.items h.0 k.0 a b h.3 k.3 (ap polynomial_of e))
-  one_entry (Full ts) (Packed us) h k a b e = absurd (packed_apart us.items ts.items k.0 h.0 b a k.3 h.3 (sym (ap polynomial_of e)))
-  one_entry (Full ts) (Full us) h k a b e = (terms_decide ts.items us.items _ refl).1 (one_polynomial fs d ts.items us.items h.0 k.0 a b (ap polynomial_of e))
+  one_entry (Full ts) (Lone y) h k a b e = absurd (alone_full (atom_form fs y) ts.items h.0 a h.2
+      (sym (ap polynomial_of e)))
+  one_entry (Linear ts) (Linear us) h k a b e = (linears_decide ts.items us.items _ refl).1
+      (linears_itself ts.items us.items (one_polynomial fs d (map full ts.items) (map full us.items) h.0 k.0 a b
+      (ap polynomial_of e)))
+  one_entry (Linear ts) (Full us) h k a b e = absurd
+      (linear_apart ts.items us.items h.0 k.0 a b k.2 (ap polynomial_of e))
+  one_entry (Full ts) (Linear us) h k a b e = absurd
+      (linear_apart us.items ts.items k.0 h.0 b a h.2 (sym (ap polynomial_of e)))
+  one_entry (Linear ts) (Packed us) h k a b e = absurd (linear_apart ts.items (map unpacked us.items) h.0 k.0 a b k.2
+      (ap polynomial_of e))
+  one_entry (Packed ts) (Linear us) h k a b e = absurd (linear_apart us.items (map unpacked ts.items) k.0 h.0 b a h.2
+      (sym (ap polynomial_of e)))
+  one_entry (Packed ts) (Packed us) h k a b e = (packed_lists_decide ts.items us.items _ refl).1
+      (packed_itself ts.items us.items h.3 k.3 (one_polynomial fs d (map unpacked ts.items) (map unpacked us.items) h.0
+      k.0 a b (ap polynomial_of e)))
+  one_entry (Packed ts) (Full us) h k a b e = absurd
+      (packed_apart ts.items us.items h.0 k.0 a b h.3 k.3 (ap polynomial_of e))
+  one_entry (Full ts) (Packed us) h k a b e = absurd
+      (packed_apart us.items ts.items k.0 h.0 b a k.3 h.3 (sym (ap polynomial_of e)))
+  one_entry (Full ts) (Full us) h k a b e = (terms_decide ts.items us.items _ refl).1
+      (one_polynomial fs d ts.items us.items h.0 k.0 a b (ap polynomial_of e))
   one_entry Unchanged Unchanged h k a b e = refl
   one_entry (Update at value older) (Update at' value' older') h k a b e =
       let t : polynomial_at fs at ≡ polynomial_at fs at' = cc in
       let u : polynomial_at fs value ≡ polynomial_at fs value' = cc in
       let w : updates_at fs older ≡ updates_at fs older' = cc in
-      rw ((Decides-eqb at at').1 (one_integer fs d at at' (omega arith) (omega arith) t), (Decides-eqb value value').1 (one_integer fs d value value' (omega arith) (omega arith) u), (Decides-eqb older older').1 (one_memory fs d older older' (omega arith) (omega arith) w)) refl
+      rw (
+        (Decides-eqb at at').1 (one_integer fs d at at' (omega arith) (omega arith) t),
+        (Decides-eqb value value').1 (one_integer fs d value value' (omega arith) (omega arith) u),
+        (Decides-eqb older older').1 (one_memory fs d older older' (omega arith) (omega arith) w),
+      ) refl
   one_entry x y h k a b e = cc
 
 -- a test that none passes fails at each
-none_passes : {A : Type 0} (test : A → Bool) (xs : List A) (k : ℕ) (d : A) → list_any test xs ≡ false → k < length xs → test (get_or xs k d) ≡ false
+none_passes : {A : Type 0} (test : A → Bool) (xs : List A) (k : ℕ) (d : A) → list_any test xs ≡ false → k < length xs →
+    test (get_or xs k d) ≡ false
 none_passes test [] k d h l = absurd (omega arith)
 none_passes test (x ∷ xs) zero d h l = go (test x) h
   where
@@ -97,7 +136,8 @@ none_passes test (x ∷ xs) (suc k) d h l = none_passes test xs k d (go (test x)
     go false h = h
 
 -- a new entry has a new form
-new_form : (es : List Entry) (e : Entry) → AreEntries es → IsCanonical e → reach_of_entry (forms_of es) e ≤ length es → list_any ((entry.ghosts).eq e) es ≡ false
+new_form : (es : List Entry) (e : Entry) → AreEntries es → IsCanonical e → reach_of_entry (forms_of es) e ≤ length es →
+    list_any ((entry.ghosts).eq e) es ≡ false
     → (k : ℕ) → slice_get (forms_of es) k ≡ Some (entry_form (forms_of es) e) → ⊥
 new_form es e h c r n k f =
     let fs = forms_of es in
@@ -106,10 +146,12 @@ new_form es e h c r n k f =
     let q : Some (entry_form fs e) ≡ Some (entry_form fs (get_or es k e)) = sym f ∙ form_at es k e h.earlier m in
     let p : entry_form fs e ≡ entry_form fs (get_or es k e) = cc in
     let b = h.earlier k e m in
-    true≢false (sym (one_entry fs h.distinct e (get_or es k e) c (h.canonical k e m) (omega arith) (omega arith) p) ∙ none_passes ((entry.ghosts).eq e) es k e n m)
+    true≢false (sym (one_entry fs h.distinct e (get_or es k e) c (h.canonical k e m) (omega arith) (omega arith) p)
+    ∙ none_passes ((entry.ghosts).eq e) es k e n m)
 
 -- one more form that stands nowhere
-distinct_push : (fs : List Form) (x : Form) → IsDistinct fs → ((k : ℕ) → slice_get fs k ≡ Some x → ⊥) → IsDistinct (fs ++ x ∷ [])
+distinct_push : (fs : List Form) (x : Form) → IsDistinct fs → ((k : ℕ) → slice_get fs k ≡ Some x → ⊥) →
+    IsDistinct (fs ++ x ∷ [])
 distinct_push fs x d n = record { one = go }
   where
     old : (i : ℕ) (y : Form) → i < length fs → slice_get (fs ++ x ∷ []) i ≡ Some y → slice_get fs i ≡ Some y
@@ -138,14 +180,17 @@ distinct_push fs x d n = record { one = go }
 canonical_push : (es : List Entry) (e : Entry) → AreCanonical es → IsCanonical e → AreCanonical (es ++ e ∷ [])
 canonical_push es e h c k d l = elim (cases_lt k (length es)) [
   | inl m ↦ rw (get_or_append_left es (e ∷ []) d k m) (h k d m)
-  | inr m ↦ let q : k ≡ length es = omega (arith, length-append es (e ∷ [])) in rw (q, get_or_push es e d (length es) refl) c
+  | inr m ↦ let q : k ≡ length es = omega (arith, length-append es (e ∷ [])) in
+      rw (q, get_or_push es e d (length es) refl) c
 ]
 
 -- so entries stay as an interner keeps them
-pub entries_push : (es : List Entry) (e : Entry) → AreEntries es → length es + 1 < 2 ^ 32 → IsCanonical e → reach_of_entry (forms_of es) e ≤ length es → list_any ((entry.ghosts).eq e) es ≡ false → AreEntries (es ++ e ∷ [])
+pub entries_push : (es : List Entry) (e : Entry) → AreEntries es → length es + 1 < 2 ^ 32 → IsCanonical e →
+    reach_of_entry (forms_of es) e ≤ length es → list_any ((entry.ghosts).eq e) es ≡ false → AreEntries (es ++ e ∷ [])
 entries_push es e h few c r n = record {
   earlier = names_push es e h.earlier r;
-  distinct = subst IsDistinct (sym (forms_onto-push [] es e)) (distinct_push (forms_of es) (entry_form (forms_of es) e) h.distinct (new_form es e h c r n));
+  distinct = subst IsDistinct (sym (forms_onto-push [] es e))
+      (distinct_push (forms_of es) (entry_form (forms_of es) e) h.distinct (new_form es e h c r n));
   canonical = canonical_push es e h.canonical c;
   few = rw (length-append es (e ∷ [])) few;
 }
@@ -157,8 +202,10 @@ pub record Puts (fs : List Form) (e : Entry) (xs : List Entry) (i : ℕ) : Type 
   pub form : slice_get (forms_of xs) i ≡ Some (entry_form fs e)
 
 -- an entry is found or comes last
-pub put : (es xs : List Entry) (fs : List Form) (e k : Entry) (i : ℕ) → AreEntries es → length es + 1 < 2 ^ 32 → forms_of es ≡ fs → IsCanonical e → reach_of_entry fs e ≤ length fs
-    → xs ≡ (if list_any ((entry.ghosts).eq e) es then es else es ++ e ∷ []) → slice_get xs i ≡ Some k → (entry.ghosts).eq e k ≡ true → Puts fs e xs i
+pub put : (es xs : List Entry) (fs : List Form) (e k : Entry) (i : ℕ) → AreEntries es → length es + 1 < 2 ^ 32 →
+    forms_of es ≡ fs → IsCanonical e → reach_of_entry fs e ≤ length fs
+    → xs ≡ (if list_any ((entry.ghosts).eq e) es then es else es ++ e ∷ []) → slice_get xs i ≡ Some k →
+    (entry.ghosts).eq e k ≡ true → Puts fs e xs i
 put es xs fs e k i h w v c r x s q = go (list_any ((entry.ghosts).eq e) es) refl x
   where
     l : length es ≡ length fs
@@ -167,8 +214,11 @@ put es xs fs e k i h w v c r x s q = go (list_any ((entry.ghosts).eq e) es) refl
     r' : reach_of_entry (forms_of es) e ≤ length es
     r' = rw v (omega (arith, r, l))
 
-    at : (ys : List Entry) → AreEntries ys → slice_get ys i ≡ Some k → slice_get (forms_of ys) i ≡ Some (entry_form (forms_of ys) e)
-    at ys a f = form_at ys i k a.earlier (slice_get_within ys i k f) ∙ ap Some (ap (entry_form (forms_of ys)) (get_or_from_slice_get ys i k k f) ∙ sym (same_entry (forms_of ys) e k q))
+    at : (ys : List Entry) → AreEntries ys → slice_get ys i ≡ Some k → slice_get (forms_of ys) i
+        ≡ Some (entry_form (forms_of ys) e)
+    at ys a f = form_at ys i k a.earlier (slice_get_within ys i k f)
+        ∙ ap Some (ap (entry_form (forms_of ys)) (get_or_from_slice_get ys i k k f)
+        ∙ sym (same_entry (forms_of ys) e k q))
 
     go : (b : Bool) → list_any ((entry.ghosts).eq e) es ≡ b → xs ≡ (if b then es else es ++ e ∷ []) → Puts fs e xs i
     go true n y = record {
@@ -181,5 +231,7 @@ put es xs fs e k i h w v c r x s q = go (list_any ((entry.ghosts).eq e) es) refl
         record {
           entries = rw y p;
           kept = keeps_push fs (forms_of xs) (entry_form fs e) (grown es xs fs e v y);
-          form = rw y (at (es ++ e ∷ []) p (rw y at s) ∙ ap Some (sym (entry_agree (length es) (forms_of es) (forms_of (es ++ e ∷ [])) (forms_of es) (push_agrees es e) e r') ∙ ap (λ gs. entry_form gs e) v));
+          form = rw y (at (es ++ e ∷ []) p (rw y at s)
+              ∙ ap Some (sym (entry_agree (length es) (forms_of es) (forms_of (es ++ e ∷ [])) (forms_of es)
+              (push_agrees es e) e r') ∙ ap (λ gs. entry_form gs e) v));
         }

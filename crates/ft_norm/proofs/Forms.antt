@@ -1,10 +1,13 @@
 -- The forms of a list of entries: a later entry leaves the earlier forms, and each form is its entry's.
-use Rattle.std.proofs.Common.{ℕ, suc, zero, add-one, ◌≡◌, ◌+◌, ◌<◌, ◌≤◌, Bool, true, false, if◌then◌else◌, List, [], ◌∷◌, ◌++◌, length, get_or, refl, sym, ap, ◌∙◌, arith, max, length-append, inl, inr, map, Option, None, Some, slice_get}
+use Rattle.std.proofs.Common.{ℕ, suc, zero, add-one, ◌≡◌, ◌+◌, ◌<◌, ◌≤◌, Bool, true, false, if◌then◌else◌, List, []}
+use Rattle.std.proofs.Common.{◌∷◌, ◌++◌, length, get_or, refl, sym, ap, ◌∙◌, arith, max, length-append, inl, inr, map}
+use Rattle.std.proofs.Common.{Option, None, Some, slice_get}
 use Rattle.std.specs.Option.{unwrap_or}
 use Rattle.std.proofs.lemmas.Bool.{cases_lt}
 use Rattle.std.proofs.lemmas.List.{get_or_append_left, get_or_push}
 use Rattle.ft_isa.proofs.Lists.{get_front}
-use Rattle.ft_static.specs.Form.{Atom, Form, Monomial, Polynomial, Updates, integer_form, memory_form, polynomial_of, updates_of, nought, one, plus, times, unchanged, update}
+use Rattle.ft_static.specs.Form.{Atom, Form, Monomial, Polynomial, Updates, integer_form, memory_form, polynomial_of}
+use Rattle.ft_static.specs.Form.{updates_of, nought, one, plus, times, unchanged, update}
 use Rattle.ft_static.specs.NormalForm.{alone, with_factor}
 use Rattle.ft_norm.specs.declared.entry.Factor.{Factor}
 use Rattle.ft_norm.specs.declared.entry.Factor.TheVariants.{Variable, Operation, Sel, Rem}
@@ -13,7 +16,10 @@ use Rattle.ft_norm.specs.declared.entry.Entry.{Entry}
 use Rattle.ft_norm.specs.Packing.{unpacked}
 use Rattle.ft_norm.specs.declared.entry.Entry.TheVariants.{Atom as Lone, Linear, Packed, Full, Unchanged, Update}
 use Rattle.ft_norm.specs.Held.{polynomial_at, updates_at}
-use Rattle.ft_norm.specs.Entries.{alone_term, atom_at, atom_form, atom_of, atom_reach, full, monomial_form, polynomial_form, entry_form, forms_onto, forms_of, is_atom_form, is_integer_form, is_memory_form, integer_reach, memory_reach, reach, reach_of_atoms, reach_of_terms, reach_of_entry, with_atom, NamesEarlier, IsAtomAt, IsIntegerAt, IsMemoryAt}
+use Rattle.ft_norm.specs.Entries.{alone_term, atom_at, atom_form, atom_of, atom_reach, full, monomial_form}
+use Rattle.ft_norm.specs.Entries.{polynomial_form, entry_form, forms_onto, forms_of, is_atom_form, is_integer_form}
+use Rattle.ft_norm.specs.Entries.{is_memory_form, integer_reach, memory_reach, reach, reach_of_atoms, reach_of_terms}
+use Rattle.ft_norm.specs.Entries.{reach_of_entry, with_atom, NamesEarlier, IsAtomAt, IsIntegerAt, IsMemoryAt}
 use Rattle.ft_norm.proofs.Lists.{slice_get-push}
 
 -- both lists have the same forms below n
@@ -21,60 +27,76 @@ pub record Agree (n : ℕ) (fs gs : List Form) : Type 0 where
   pub below : (k : ℕ) → k < n → slice_get fs k ≡ slice_get gs k
 
 -- so the same polynomials
-pub polynomials_agree : (n : ℕ) (fs gs : List Form) → Agree n fs gs → (k : ℕ) → k < n → polynomial_at fs k ≡ polynomial_at gs k
-polynomials_agree n fs gs h k l = ap (λ (o : Option Form). polynomial_of (unwrap_or o (integer_form nought))) (h.below k l)
+pub polynomials_agree : (n : ℕ) (fs gs : List Form) → Agree n fs gs → (k : ℕ) → k < n → polynomial_at fs k
+    ≡ polynomial_at gs k
+polynomials_agree n fs gs h k l = ap (λ (o : Option Form). polynomial_of (unwrap_or o (integer_form nought)))
+    (h.below k l)
 
 -- and the same updates
 pub updates_agree : (n : ℕ) (fs gs : List Form) → Agree n fs gs → (k : ℕ) → k < n → updates_at fs k ≡ updates_at gs k
 updates_agree n fs gs h k l = ap (λ (o : Option Form). updates_of (unwrap_or o (integer_form nought))) (h.below k l)
 
 -- a factor that names only what is below n is the same atom in both
-pub atom_agree : (n : ℕ) (fs gs hs : List Form) → Agree n fs gs → (a : Factor) → reach hs a ≤ n → atom_form fs a ≡ atom_form gs a
+pub atom_agree : (n : ℕ) (fs gs hs : List Form) → Agree n fs gs → (a : Factor) → reach hs a ≤ n → atom_form fs a
+    ≡ atom_form gs a
 atom_agree n fs gs hs h (Variable i) l = refl
-atom_agree n fs gs hs h (Operation o p q) l = let x = polynomials_agree n fs gs h p (omega arith) in let y = polynomials_agree n fs gs h q (omega arith) in cc
+atom_agree n fs gs hs h (Operation o p q) l = let x = polynomials_agree n fs gs h p (omega arith) in
+    let y = polynomials_agree n fs gs h q (omega arith) in cc
 atom_agree n fs gs hs h (Rem p m) l = let x = polynomials_agree n fs gs h p (omega arith) in cc
-atom_agree n fs gs hs h (Sel p q) l = let x = updates_agree n fs gs h p (omega arith) in let y = polynomials_agree n fs gs h q (omega arith) in cc
+atom_agree n fs gs hs h (Sel p q) l = let x = updates_agree n fs gs h p (omega arith) in
+    let y = polynomials_agree n fs gs h q (omega arith) in cc
 
 -- so is one of a number
-with_atom_agree : (n : ℕ) (fs gs hs : List Form) → Agree n fs gs → (x : ℕ) → atom_reach hs x ≤ n → (m : Monomial) → with_atom fs x m ≡ with_atom gs x m
+with_atom_agree : (n : ℕ) (fs gs hs : List Form) → Agree n fs gs → (x : ℕ) → atom_reach hs x ≤ n → (m : Monomial) →
+    with_atom fs x m ≡ with_atom gs x m
 with_atom_agree n fs gs hs h zero l m = refl
-with_atom_agree n fs gs hs h (suc k) l m = ap (λ (p : Polynomial). with_factor (atom_of p) m) (polynomials_agree n fs gs h k (omega arith))
+with_atom_agree n fs gs hs h (suc k) l m = ap (λ (p : Polynomial).
+    with_factor (atom_of p) m) (polynomials_agree n fs gs h k (omega arith))
 
 -- and monomials
-pub monomial_agree : (n : ℕ) (fs gs hs : List Form) → Agree n fs gs → (xs : List ℕ) → reach_of_atoms hs xs ≤ n → monomial_form fs xs ≡ monomial_form gs xs
+pub monomial_agree : (n : ℕ) (fs gs hs : List Form) → Agree n fs gs → (xs : List ℕ) → reach_of_atoms hs xs ≤ n →
+    monomial_form fs xs ≡ monomial_form gs xs
 monomial_agree n fs gs hs h [] l = refl
-monomial_agree n fs gs hs h (x ∷ xs) l = with_atom_agree n fs gs hs h x (omega arith) (monomial_form fs xs) ∙ ap (with_atom gs x) (monomial_agree n fs gs hs h xs (omega arith))
+monomial_agree n fs gs hs h (x ∷ xs) l = with_atom_agree n fs gs hs h x (omega arith) (monomial_form fs xs)
+    ∙ ap (with_atom gs x) (monomial_agree n fs gs hs h xs (omega arith))
 
 -- and terms
-pub terms_agree : (n : ℕ) (fs gs hs : List Form) → Agree n fs gs → (ts : List Term) → reach_of_terms hs ts ≤ n → polynomial_form fs ts ≡ polynomial_form gs ts
+pub terms_agree : (n : ℕ) (fs gs hs : List Form) → Agree n fs gs → (ts : List Term) → reach_of_terms hs ts ≤ n →
+    polynomial_form fs ts ≡ polynomial_form gs ts
 terms_agree n fs gs hs h [] l = refl
-terms_agree n fs gs hs h (t ∷ ts) l = let a = monomial_agree n fs gs hs h t.atoms (omega arith) in let b = terms_agree n fs gs hs h ts (omega arith) in rw (a, b) refl
+terms_agree n fs gs hs h (t ∷ ts) l = let a = monomial_agree n fs gs hs h t.atoms (omega arith) in
+    let b = terms_agree n fs gs hs h ts (omega arith) in rw (a, b) refl
 
 -- and entries
-pub entry_agree : (n : ℕ) (fs gs hs : List Form) → Agree n fs gs → (e : Entry) → reach_of_entry hs e ≤ n → entry_form fs e ≡ entry_form gs e
+pub entry_agree : (n : ℕ) (fs gs hs : List Form) → Agree n fs gs → (e : Entry) → reach_of_entry hs e ≤ n →
+    entry_form fs e ≡ entry_form gs e
 entry_agree n fs gs hs h (Lone a) l = ap (λ b. integer_form (alone b)) (atom_agree n fs gs hs h a l)
 entry_agree n fs gs hs h (Linear ts) l = ap integer_form (terms_agree n fs gs hs h (map full ts.items) l)
 entry_agree n fs gs hs h (Packed ts) l = ap integer_form (terms_agree n fs gs hs h (map unpacked ts.items) l)
 entry_agree n fs gs hs h (Full ts) l = ap integer_form (terms_agree n fs gs hs h ts.items l)
 entry_agree n fs gs hs h Unchanged l = refl
-entry_agree n fs gs hs h (Update at value older) l = let x = polynomials_agree n fs gs h at (omega arith) in let y = polynomials_agree n fs gs h value (omega arith) in let z = updates_agree n fs gs h older (omega arith) in cc
+entry_agree n fs gs hs h (Update at value older) l = let x = polynomials_agree n fs gs h at (omega arith) in
+    let y = polynomials_agree n fs gs h value (omega arith) in let z = updates_agree n fs gs h older (omega arith) in cc
 
 -- one more entry gives one more form
-pub forms_onto-push : (fs : List Form) (es : List Entry) (e : Entry) → forms_onto fs (es ++ (e ∷ [])) ≡ forms_onto fs es ++ (entry_form (forms_onto fs es) e ∷ [])
+pub forms_onto-push : (fs : List Form) (es : List Entry) (e : Entry) → forms_onto fs (es ++ (e ∷ [])) ≡ forms_onto fs es
+    ++ (entry_form (forms_onto fs es) e ∷ [])
 forms_onto-push fs [] e = refl
 forms_onto-push fs (x ∷ es) e = forms_onto-push (fs ++ (entry_form fs x ∷ [])) es e
 
 -- each entry adds one form
 length-forms_onto : (fs : List Form) (es : List Entry) → length (forms_onto fs es) ≡ length fs + length es
 length-forms_onto fs [] = omega arith
-length-forms_onto fs (x ∷ es) = let h = length-forms_onto (fs ++ (entry_form fs x ∷ [])) es in omega (arith, h, length-append fs (entry_form fs x ∷ []))
+length-forms_onto fs (x ∷ es) = let h = length-forms_onto (fs ++ (entry_form fs x ∷ [])) es in
+    omega (arith, h, length-append fs (entry_form fs x ∷ []))
 
 -- there are as many forms as entries
 pub length-forms_of : (es : List Entry) → length (forms_of es) ≡ length es
 length-forms_of es = length-forms_onto [] es ∙ omega arith
 
 -- what is there stays
-forms_onto-kept : (fs : List Form) (es : List Entry) (k : ℕ) → k < length fs → slice_get (forms_onto fs es) k ≡ slice_get fs k
+forms_onto-kept : (fs : List Form) (es : List Entry) (k : ℕ) → k < length fs → slice_get (forms_onto fs es) k
+    ≡ slice_get fs k
 forms_onto-kept fs [] k l = refl
 forms_onto-kept fs (x ∷ es) k l =
     let g = fs ++ (entry_form fs x ∷ []) in
@@ -82,13 +104,15 @@ forms_onto-kept fs (x ∷ es) k l =
     forms_onto-kept g es k m ∙ get_front fs (entry_form fs x ∷ []) k l
 
 -- each form is its entry's
-forms_onto-at : (fs hs : List Form) (es : List Entry) (i : ℕ) (e : Entry) → i < length es → reach_of_entry hs (get_or es i e) ≤ length fs + i
+forms_onto-at : (fs hs : List Form) (es : List Entry) (i : ℕ) (e : Entry) → i < length es →
+    reach_of_entry hs (get_or es i e) ≤ length fs + i
     → slice_get (forms_onto fs es) (length fs + i) ≡ Some (entry_form (forms_onto fs es) (get_or es i e))
 forms_onto-at fs hs [] i e l r = absurd (omega arith)
 forms_onto-at fs hs (x ∷ es) zero e l r =
     let g = fs ++ (entry_form fs x ∷ []) in
     let m : length fs + 0 < length g = omega (arith, length-append fs (entry_form fs x ∷ [])) in
-    let agree : Agree (length fs) fs (forms_onto g es) = record { below = λ k q. sym (forms_onto-kept fs (x ∷ es) k q) } in
+    let agree : Agree (length fs) fs (forms_onto g es) = record { below = λ k q. sym (forms_onto-kept fs (x ∷ es) k q) }
+    in
     forms_onto-kept g es (length fs + 0) m ∙ (slice_get-push fs (entry_form fs x) (length fs + 0) (omega arith)
     ∙ ap Some (entry_agree (length fs) fs (forms_onto g es) hs agree x (omega arith)))
 forms_onto-at fs hs (x ∷ es) (suc i) e l r =
@@ -99,70 +123,93 @@ forms_onto-at fs hs (x ∷ es) (suc i) e l r =
     rw s h
 
 -- the form of entry i
-pub form_at : (es : List Entry) (i : ℕ) (e : Entry) → NamesEarlier es → i < length es → slice_get (forms_of es) i ≡ Some (entry_form (forms_of es) (get_or es i e))
+pub form_at : (es : List Entry) (i : ℕ) (e : Entry) → NamesEarlier es → i < length es → slice_get (forms_of es) i
+    ≡ Some (entry_form (forms_of es) (get_or es i e))
 form_at es i e h l = let z : 0 + i ≡ i = omega arith in
     rw z at (forms_onto-at [] (forms_of es) es i e l (let k = h i e l in omega arith))
 
 -- the form of an entry that was read
-pub form_read : (es : List Entry) (i : ℕ) (e x : Entry) → NamesEarlier es → i < length es → e ≡ get_or es i e → e ≡ x → slice_get (forms_of es) i ≡ Some (entry_form (forms_of es) x)
+pub form_read : (es : List Entry) (i : ℕ) (e x : Entry) → NamesEarlier es → i < length es → e ≡ get_or es i e → e ≡ x →
+    slice_get (forms_of es) i ≡ Some (entry_form (forms_of es) x)
 form_read es i e x h l r k = form_at es i e h l ∙ ap (λ (y : Entry). Some (entry_form (forms_of es) y)) (sym r ∙ k)
 
 -- the polynomial of such an entry
-pub polynomial_read : (es : List Entry) (i : ℕ) (e x : Entry) → NamesEarlier es → i < length es → e ≡ get_or es i e → e ≡ x → polynomial_of (entry_form (forms_of es) x) ≡ polynomial_at (forms_of es) i
-polynomial_read es i e x h l r k = sym (ap (λ (o : Option Form). polynomial_of (unwrap_or o (integer_form nought))) (form_read es i e x h l r k))
+pub polynomial_read : (es : List Entry) (i : ℕ) (e x : Entry) → NamesEarlier es → i < length es → e ≡ get_or es i e → e
+    ≡ x → polynomial_of (entry_form (forms_of es) x) ≡ polynomial_at (forms_of es) i
+polynomial_read es i e x h l r k = sym (ap (λ (o : Option Form). polynomial_of (unwrap_or o (integer_form nought)))
+    (form_read es i e x h l r k))
 
 -- that of an atom is the term of its number
-pub lone_read : (es : List Entry) (i : ℕ) (e : Entry) (a : Factor) → NamesEarlier es → i < length es → e ≡ get_or es i e → e ≡ Lone a → polynomial_form (forms_of es) (alone_term (i + 1) ∷ []) ≡ polynomial_at (forms_of es) i
-lone_read es i e a h l r k = let p : polynomial_at (forms_of es) i ≡ alone (atom_form (forms_of es) a) = sym (polynomial_read es i e (Lone a) h l r k) in rw (add-one, p) refl
+pub lone_read : (es : List Entry) (i : ℕ) (e : Entry) (a : Factor) → NamesEarlier es → i < length es → e
+    ≡ get_or es i e → e ≡ Lone a → polynomial_form (forms_of es) (alone_term (i + 1) ∷ [])
+    ≡ polynomial_at (forms_of es) i
+lone_read es i e a h l r k = let p : polynomial_at (forms_of es) i ≡ alone (atom_form (forms_of es) a) =
+    sym (polynomial_read es i e (Lone a) h l r k) in rw (add-one, p) refl
 
 -- the updates of such an entry
-pub updates_read : (es : List Entry) (i : ℕ) (e x : Entry) → NamesEarlier es → i < length es → e ≡ get_or es i e → e ≡ x → updates_at (forms_of es) i ≡ updates_of (entry_form (forms_of es) x)
-updates_read es i e x h l r k = ap (λ (o : Option Form). updates_of (unwrap_or o (integer_form nought))) (form_read es i e x h l r k)
+pub updates_read : (es : List Entry) (i : ℕ) (e x : Entry) → NamesEarlier es → i < length es → e ≡ get_or es i e → e
+    ≡ x → updates_at (forms_of es) i ≡ updates_of (entry_form (forms_of es) x)
+updates_read es i e x h l r k = ap (λ (o : Option Form). updates_of (unwrap_or o (integer_form nought)))
+    (form_read es i e x h l r k)
 
 -- a part that is an integer's and is named early enough is one in any list that agrees
-integer_reach_agree : (n m : ℕ) (fs gs : List Form) → Agree n fs gs → n ≤ length fs → m ≤ n → (i : ℕ) → integer_reach fs i ≤ m → integer_reach gs i ≤ m
-integer_reach_agree n m fs gs h l k i r = go (is_integer_form (slice_get fs i)) (is_integer_form (slice_get gs i)) (ap is_integer_form (sym (h.below i (omega arith)))) r
+integer_reach_agree : (n m : ℕ) (fs gs : List Form) → Agree n fs gs → n ≤ length fs → m ≤ n → (i : ℕ) →
+    integer_reach fs i ≤ m → integer_reach gs i ≤ m
+integer_reach_agree n m fs gs h l k i r = go (is_integer_form (slice_get fs i)) (is_integer_form (slice_get gs i))
+    (ap is_integer_form (sym (h.below i (omega arith)))) r
   where
     go : (b c : Bool) → c ≡ b → i + 1 + (if b then 0 else length fs) ≤ m → i + 1 + (if c then 0 else length gs) ≤ m
     go true c e r = rw e r
     go false c e r = absurd (omega arith)
 
 -- so is one that is a memory's
-memory_reach_agree : (n m : ℕ) (fs gs : List Form) → Agree n fs gs → n ≤ length fs → m ≤ n → (i : ℕ) → memory_reach fs i ≤ m → memory_reach gs i ≤ m
-memory_reach_agree n m fs gs h l k i r = go (is_memory_form (slice_get fs i)) (is_memory_form (slice_get gs i)) (ap is_memory_form (sym (h.below i (omega arith)))) r
+memory_reach_agree : (n m : ℕ) (fs gs : List Form) → Agree n fs gs → n ≤ length fs → m ≤ n → (i : ℕ) →
+    memory_reach fs i ≤ m → memory_reach gs i ≤ m
+memory_reach_agree n m fs gs h l k i r = go (is_memory_form (slice_get fs i)) (is_memory_form (slice_get gs i))
+    (ap is_memory_form (sym (h.below i (omega arith)))) r
   where
     go : (b c : Bool) → c ≡ b → i + 1 + (if b then 0 else length fs) ≤ m → i + 1 + (if c then 0 else length gs) ≤ m
     go true c e r = rw e r
     go false c e r = absurd (omega arith)
 
 -- and so are all that a factor names
-reach_agree : (n m : ℕ) (fs gs : List Form) → Agree n fs gs → n ≤ length fs → m ≤ n → (a : Factor) → reach fs a ≤ m → reach gs a ≤ m
+reach_agree : (n m : ℕ) (fs gs : List Form) → Agree n fs gs → n ≤ length fs → m ≤ n → (a : Factor) → reach fs a ≤ m →
+    reach gs a ≤ m
 reach_agree n m fs gs h l k (Variable i) r = r
-reach_agree n m fs gs h l k (Operation o p q) r = let x = integer_reach_agree n m fs gs h l k p (omega arith) in let y = integer_reach_agree n m fs gs h l k q (omega arith) in omega arith
+reach_agree n m fs gs h l k (Operation o p q) r = let x = integer_reach_agree n m fs gs h l k p (omega arith) in
+    let y = integer_reach_agree n m fs gs h l k q (omega arith) in omega arith
 reach_agree n m fs gs h l k (Rem p q) r = integer_reach_agree n m fs gs h l k p (omega (arith, r))
-reach_agree n m fs gs h l k (Sel p q) r = let x = memory_reach_agree n m fs gs h l k p (omega arith) in let y = integer_reach_agree n m fs gs h l k q (omega arith) in omega arith
+reach_agree n m fs gs h l k (Sel p q) r = let x = memory_reach_agree n m fs gs h l k p (omega arith) in
+    let y = integer_reach_agree n m fs gs h l k q (omega arith) in omega arith
 
 -- so is one that is an atom's
-atom_reach_agree : (n m : ℕ) (fs gs : List Form) → Agree n fs gs → n ≤ length fs → m ≤ n → (x : ℕ) → atom_reach fs x ≤ m → atom_reach gs x ≤ m
+atom_reach_agree : (n m : ℕ) (fs gs : List Form) → Agree n fs gs → n ≤ length fs → m ≤ n → (x : ℕ) →
+    atom_reach fs x ≤ m → atom_reach gs x ≤ m
 atom_reach_agree n m fs gs h l k zero r = r
-atom_reach_agree n m fs gs h l k (suc i) r = go (is_atom_form (slice_get fs i)) (is_atom_form (slice_get gs i)) (ap is_atom_form (sym (h.below i (omega arith)))) r
+atom_reach_agree n m fs gs h l k (suc i) r = go (is_atom_form (slice_get fs i)) (is_atom_form (slice_get gs i))
+    (ap is_atom_form (sym (h.below i (omega arith)))) r
   where
     go : (b c : Bool) → c ≡ b → i + 1 + (if b then 0 else length fs) ≤ m → i + 1 + (if c then 0 else length gs) ≤ m
     go true c e r = rw e r
     go false c e r = absurd (omega arith)
 
 -- that a monomial names
-atoms_reach_agree : (n m : ℕ) (fs gs : List Form) → Agree n fs gs → n ≤ length fs → m ≤ n → (xs : List ℕ) → reach_of_atoms fs xs ≤ m → reach_of_atoms gs xs ≤ m
+atoms_reach_agree : (n m : ℕ) (fs gs : List Form) → Agree n fs gs → n ≤ length fs → m ≤ n → (xs : List ℕ) →
+    reach_of_atoms fs xs ≤ m → reach_of_atoms gs xs ≤ m
 atoms_reach_agree n m fs gs h l k [] r = r
-atoms_reach_agree n m fs gs h l k (x ∷ xs) r = let a = atom_reach_agree n m fs gs h l k x (omega arith) in let b = atoms_reach_agree n m fs gs h l k xs (omega arith) in omega arith
+atoms_reach_agree n m fs gs h l k (x ∷ xs) r = let a = atom_reach_agree n m fs gs h l k x (omega arith) in
+    let b = atoms_reach_agree n m fs gs h l k xs (omega arith) in omega arith
 
 -- that terms name
-terms_reach_agree : (n m : ℕ) (fs gs : List Form) → Agree n fs gs → n ≤ length fs → m ≤ n → (ts : List Term) → reach_of_terms fs ts ≤ m → reach_of_terms gs ts ≤ m
+terms_reach_agree : (n m : ℕ) (fs gs : List Form) → Agree n fs gs → n ≤ length fs → m ≤ n → (ts : List Term) →
+    reach_of_terms fs ts ≤ m → reach_of_terms gs ts ≤ m
 terms_reach_agree n m fs gs h l k [] r = r
-terms_reach_agree n m fs gs h l k (t ∷ ts) r = let a = atoms_reach_agree n m fs gs h l k t.atoms (omega arith) in let b = terms_reach_agree n m fs gs h l k ts (omega arith) in omega arith
+terms_reach_agree n m fs gs h l k (t ∷ ts) r = let a = atoms_reach_agree n m fs gs h l k t.atoms (omega arith) in
+    let b = terms_reach_agree n m fs gs h l k ts (omega arith) in omega arith
 
 -- that an entry names
-entry_reach_agree : (n m : ℕ) (fs gs : List Form) → Agree n fs gs → n ≤ length fs → m ≤ n → (e : Entry) → reach_of_entry fs e ≤ m → reach_of_entry gs e ≤ m
+entry_reach_agree : (n m : ℕ) (fs gs : List Form) → Agree n fs gs → n ≤ length fs → m ≤ n → (e : Entry) →
+    reach_of_entry fs e ≤ m → reach_of_entry gs e ≤ m
 entry_reach_agree n m fs gs h l k (Lone a) r = reach_agree n m fs gs h l k a r
 entry_reach_agree n m fs gs h l k (Linear ts) r = terms_reach_agree n m fs gs h l k (map full ts.items) r
 entry_reach_agree n m fs gs h l k (Packed ts) r = terms_reach_agree n m fs gs h l k (map unpacked ts.items) r
@@ -178,95 +225,128 @@ pub push_agrees : (es : List Entry) (e : Entry) → Agree (length es) (forms_of 
 push_agrees es e = record {
   below = λ k l.
       let n = length-forms_of es in
-      sym (ap (λ fs. slice_get fs k) (forms_onto-push [] es e) ∙ get_front (forms_of es) (entry_form (forms_of es) e ∷ []) k (omega arith));
+      sym (ap (λ fs. slice_get fs k) (forms_onto-push [] es e)
+      ∙ get_front (forms_of es) (entry_form (forms_of es) e ∷ []) k (omega arith));
 }
 
 -- one more entry that names only earlier ones
-pub names_push : (es : List Entry) (e : Entry) → NamesEarlier es → reach_of_entry (forms_of es) e ≤ length es → NamesEarlier (es ++ (e ∷ []))
+pub names_push : (es : List Entry) (e : Entry) → NamesEarlier es → reach_of_entry (forms_of es) e ≤ length es →
+    NamesEarlier (es ++ (e ∷ []))
 names_push es e h r k d l =
     let fs = forms_of es in
     let gs = forms_of (es ++ e ∷ []) in
     let n = length-forms_of es in
     elim (cases_lt k (length es)) [
-      | inl m ↦ rw (get_or_append_left es (e ∷ []) d k m) (entry_reach_agree (length es) k fs gs (push_agrees es e) (omega arith) (omega arith) (get_or es k d) (h k d m))
-      | inr m ↦ let q : k ≡ length es = omega (arith, length-append es (e ∷ [])) in rw (q, get_or_push es e d (length es) refl) (entry_reach_agree (length es) (length es) fs gs (push_agrees es e) (omega arith) (omega arith) e r)
+      | inl m ↦ rw (get_or_append_left es (e ∷ []) d k m)
+          (entry_reach_agree (length es) k fs gs (push_agrees es e) (omega arith) (omega arith) (get_or es k d)
+          (h k d m))
+      | inr m ↦ let q : k ≡ length es = omega (arith, length-append es (e ∷ [])) in
+          rw (q, get_or_push es e d (length es) refl)
+          (entry_reach_agree (length es) (length es) fs gs (push_agrees es e)
+          (omega arith) (omega arith) e r)
     ]
 
 -- a part that reaches no further than the list is an integer's
 pub integer_reached : (fs : List Form) (n i : ℕ) → n ≤ length fs → integer_reach fs i ≤ n → IsIntegerAt fs i
 integer_reached fs n i l r = go (slice_get fs i) refl r
   where
-    go : (o : Option Form) → slice_get fs i ≡ o → i + 1 + (if is_integer_form o then 0 else length fs) ≤ n → IsIntegerAt fs i
+    go : (o : Option Form) → slice_get fs i ≡ o → i + 1 + (if is_integer_form o then 0 else length fs) ≤ n →
+        IsIntegerAt fs i
     go None e r = absurd (omega arith)
-    go (Some (integer_form p)) e r = e ∙ ap (λ (q : Option Form). Some (integer_form (polynomial_of (unwrap_or q (integer_form nought))))) (sym e)
+    go (Some (integer_form p)) e r = e ∙ ap (λ (q : Option Form).
+        Some (integer_form (polynomial_of (unwrap_or q (integer_form nought))))) (sym e)
     go (Some (memory_form u)) e r = absurd (omega arith)
 
 -- or a memory's
 pub memory_reached : (fs : List Form) (n i : ℕ) → n ≤ length fs → memory_reach fs i ≤ n → IsMemoryAt fs i
 memory_reached fs n i l r = go (slice_get fs i) refl r
   where
-    go : (o : Option Form) → slice_get fs i ≡ o → i + 1 + (if is_memory_form o then 0 else length fs) ≤ n → IsMemoryAt fs i
+    go : (o : Option Form) → slice_get fs i ≡ o → i + 1 + (if is_memory_form o then 0 else length fs) ≤ n →
+        IsMemoryAt fs i
     go None e r = absurd (omega arith)
     go (Some (integer_form p)) e r = absurd (omega arith)
-    go (Some (memory_form u)) e r = e ∙ ap (λ (q : Option Form). Some (memory_form (updates_of (unwrap_or q (integer_form nought))))) (sym e)
+    go (Some (memory_form u)) e r = e ∙ ap (λ (q : Option Form).
+        Some (memory_form (updates_of (unwrap_or q (integer_form nought))))) (sym e)
 
 -- or that of one atom alone
 pub atom_reached : (fs : List Form) (n i : ℕ) → n ≤ length fs → atom_reach fs (suc i) ≤ n → IsAtomAt fs i
 atom_reached fs n i l r = go (slice_get fs i) refl r
   where
-    no : (o : Option Form) → is_atom_form o ≡ false → i + 1 + (if is_atom_form o then 0 else length fs) ≤ n → slice_get fs i ≡ Some (integer_form (alone (atom_at fs i)))
+    no : (o : Option Form) → is_atom_form o ≡ false → i + 1 + (if is_atom_form o then 0 else length fs) ≤ n →
+        slice_get fs i ≡ Some (integer_form (alone (atom_at fs i)))
     no o e r = absurd (let w : i + 1 + length fs ≤ n = rw e at r in omega arith)
 
     go : (o : Option Form) → slice_get fs i ≡ o → i + 1 + (if is_atom_form o then 0 else length fs) ≤ n → IsAtomAt fs i
-    go (Some (integer_form (plus (times a one) (suc zero) nought))) e r = e ∙ ap (λ (q : Option Form). Some (integer_form (alone (atom_of (polynomial_of (unwrap_or q (integer_form nought))))))) (sym e)
+    go (Some (integer_form (plus (times a one) (suc zero) nought))) e r = e
+        ∙ ap (λ (q : Option Form). Some (integer_form
+        (alone (atom_of (polynomial_of (unwrap_or q (integer_form nought))))))) (sym e)
     go None e r = no None refl r
     go (Some (memory_form u)) e r = no (Some (memory_form u)) refl r
     go (Some (integer_form nought)) e r = no (Some (integer_form nought)) refl r
     go (Some (integer_form (plus one c p))) e r = no (Some (integer_form (plus one c p))) refl r
-    go (Some (integer_form (plus (times a (times b m)) c p))) e r = no (Some (integer_form (plus (times a (times b m)) c p))) refl r
-    go (Some (integer_form (plus (times a one) zero p))) e r = no (Some (integer_form (plus (times a one) zero p))) refl r
-    go (Some (integer_form (plus (times a one) (suc (suc c)) p))) e r = no (Some (integer_form (plus (times a one) (suc (suc c)) p))) refl r
-    go (Some (integer_form (plus (times a one) (suc zero) (plus m d p)))) e r = no (Some (integer_form (plus (times a one) (suc zero) (plus m d p)))) refl r
+    go (Some (integer_form (plus (times a (times b m)) c p))) e r =
+        no (Some (integer_form (plus (times a (times b m)) c p))) refl r
+    go (Some (integer_form (plus (times a one) zero p))) e r =
+        no (Some (integer_form (plus (times a one) zero p))) refl r
+    go (Some (integer_form (plus (times a one) (suc (suc c)) p))) e r =
+        no (Some (integer_form (plus (times a one) (suc (suc c)) p))) refl r
+    go (Some (integer_form (plus (times a one) (suc zero) (plus m d p)))) e r =
+        no (Some (integer_form (plus (times a one) (suc zero) (plus m d p)))) refl r
 
 -- an atom's reaches just beyond itself
-pub atom_reaches : (fs : List Form) (i : ℕ) (a : Atom) → slice_get fs i ≡ Some (integer_form (alone a)) → atom_reach fs (i + 1) ≡ i + 1
+pub atom_reaches : (fs : List Form) (i : ℕ) (a : Atom) → slice_get fs i ≡ Some (integer_form (alone a)) →
+    atom_reach fs (i + 1) ≡ i + 1
 atom_reaches fs i a e = rw (add-one, e) (omega arith)
 
 -- an integer's reaches just beyond itself
-pub integer_reaches : (fs : List Form) (i : ℕ) (p : Polynomial) → slice_get fs i ≡ Some (integer_form p) → integer_reach fs i ≡ i + 1
+pub integer_reaches : (fs : List Form) (i : ℕ) (p : Polynomial) → slice_get fs i ≡ Some (integer_form p) →
+    integer_reach fs i ≡ i + 1
 integer_reaches fs i p e = rw e (omega arith)
 
 -- so does a memory's
-pub memory_reaches : (fs : List Form) (i : ℕ) (u : Updates) → slice_get fs i ≡ Some (memory_form u) → memory_reach fs i ≡ i + 1
+pub memory_reaches : (fs : List Form) (i : ℕ) (u : Updates) → slice_get fs i ≡ Some (memory_form u) → memory_reach fs i
+    ≡ i + 1
 memory_reaches fs i u e = rw e (omega arith)
 
 -- one link of a memory form
-pub link : (es : List Entry) (m : ℕ) (e : Entry) (at value older : ℕ) → NamesEarlier es → m < length es → e ≡ get_or es m e → e ≡ Update at value older
-    → updates_at (forms_of es) m ≡ update (polynomial_at (forms_of es) at) (polynomial_at (forms_of es) value) (updates_at (forms_of es) older)
+pub link : (es : List Entry) (m : ℕ) (e : Entry) (at value older : ℕ) → NamesEarlier es → m < length es → e
+    ≡ get_or es m e → e ≡ Update at value older
+    → updates_at (forms_of es) m ≡ update (polynomial_at (forms_of es) at) (polynomial_at (forms_of es) value)
+    (updates_at (forms_of es) older)
 link es m e at value older h l r k = updates_read es m e (Update at value older) h l r k
 
 -- it names earlier entries, each of its sort
-pub link_sorts : (es : List Entry) (m : ℕ) (e : Entry) (at value older : ℕ) → NamesEarlier es → m < length es → e ≡ get_or es m e → e ≡ Update at value older
-    → max (max (integer_reach (forms_of es) at) (integer_reach (forms_of es) value)) (memory_reach (forms_of es) older) ≤ m
-link_sorts es m e at value older h l r k = let x = h m e l in let q : get_or es m e ≡ Update at value older = sym r ∙ k in rw q at x
+pub link_sorts : (es : List Entry) (m : ℕ) (e : Entry) (at value older : ℕ) → NamesEarlier es → m < length es → e
+    ≡ get_or es m e → e ≡ Update at value older
+    → max (max (integer_reach (forms_of es) at) (integer_reach (forms_of es) value)) (memory_reach (forms_of es) older)
+    ≤ m
+link_sorts es m e at value older h l r k = let x = h m e l in let q : get_or es m e ≡ Update at value older = sym r
+    ∙ k in rw q at x
 
 -- so only earlier ones
-pub link_reach : (es : List Entry) (m : ℕ) (e : Entry) (at value older : ℕ) → NamesEarlier es → m < length es → e ≡ get_or es m e → e ≡ Update at value older → max (max at value) older + 1 ≤ m
+pub link_reach : (es : List Entry) (m : ℕ) (e : Entry) (at value older : ℕ) → NamesEarlier es → m < length es → e
+    ≡ get_or es m e → e ≡ Update at value older → max (max at value) older + 1 ≤ m
 link_reach es m e at value older h l r k = let x = link_sorts es m e at value older h l r k in omega (arith, x)
 
 -- its address is an integer's
-pub link_address : (es : List Entry) (m : ℕ) (e : Entry) (at value older : ℕ) → NamesEarlier es → m < length es → e ≡ get_or es m e → e ≡ Update at value older → IsIntegerAt (forms_of es) at
-link_address es m e at value older h l r k = let x = link_sorts es m e at value older h l r k in let n = length-forms_of es in integer_reached (forms_of es) m at (omega arith) (omega (arith, x))
+pub link_address : (es : List Entry) (m : ℕ) (e : Entry) (at value older : ℕ) → NamesEarlier es → m < length es → e
+    ≡ get_or es m e → e ≡ Update at value older → IsIntegerAt (forms_of es) at
+link_address es m e at value older h l r k = let x = link_sorts es m e at value older h l r k in
+    let n = length-forms_of es in integer_reached (forms_of es) m at (omega arith) (omega (arith, x))
 
 -- so is its value
-pub link_value : (es : List Entry) (m : ℕ) (e : Entry) (at value older : ℕ) → NamesEarlier es → m < length es → e ≡ get_or es m e → e ≡ Update at value older → IsIntegerAt (forms_of es) value
-link_value es m e at value older h l r k = let x = link_sorts es m e at value older h l r k in let n = length-forms_of es in integer_reached (forms_of es) m value (omega arith) (omega (arith, x))
+pub link_value : (es : List Entry) (m : ℕ) (e : Entry) (at value older : ℕ) → NamesEarlier es → m < length es → e
+    ≡ get_or es m e → e ≡ Update at value older → IsIntegerAt (forms_of es) value
+link_value es m e at value older h l r k = let x = link_sorts es m e at value older h l r k in
+    let n = length-forms_of es in integer_reached (forms_of es) m value (omega arith) (omega (arith, x))
 
 -- where no update is linked, the memory is unchanged
-pub no_link : (es : List Entry) (m : ℕ) (e : Entry) → NamesEarlier es → m < length es → e ≡ get_or es m e → ((at value older : ℕ) → e ≡ Update at value older → ⊥) → updates_at (forms_of es) m ≡ unchanged
+pub no_link : (es : List Entry) (m : ℕ) (e : Entry) → NamesEarlier es → m < length es → e ≡ get_or es m e →
+    ((at value older : ℕ) → e ≡ Update at value older → ⊥) → updates_at (forms_of es) m ≡ unchanged
 no_link es m e h l r k = updates_read es m e e h l r refl ∙ go e k
   where
-    go : (e : Entry) → ((at value older : ℕ) → e ≡ Update at value older → ⊥) → updates_of (entry_form (forms_of es) e) ≡ unchanged
+    go : (e : Entry) → ((at value older : ℕ) → e ≡ Update at value older → ⊥) → updates_of (entry_form (forms_of es) e)
+        ≡ unchanged
     go (Lone a) k = refl
     go (Linear ts) k = refl
     go (Packed ts) k = refl

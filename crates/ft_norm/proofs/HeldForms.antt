@@ -1,21 +1,26 @@
 -- Places of an interner's list, seen from its entries.
-use Rattle.std.proofs.Common.{ℕ, suc, ◌≡◌, ◌+◌, ◌<◌, ◌≤◌, List, [], ◌∷◌, ◌++◌, length, refl, sym, ap, ◌∙◌, subst, arith, Option, Some, Result, Ok, Err, get_or, slice_get}
+use Rattle.std.proofs.Common.{ℕ, suc, ◌≡◌, ◌+◌, ◌<◌, ◌≤◌, List, [], ◌∷◌, ◌++◌, length, refl, sym, ap, ◌∙◌, subst, arith}
+use Rattle.std.proofs.Common.{Option, Some, Result, Ok, Err, get_or, slice_get}
 use Rattle.std.specs.Prelude.{IfOk}
 use Rattle.std.specs.Option.{unwrap_or}
 use Rattle.std.proofs.lemmas.Option.{slice_get_within}
 use Rattle.ft_isa.proofs.Lists.{get_front}
-use Rattle.ft_static.specs.Form.{Form as Normal, Polynomial, Updates, integer_form, memory_form, nought, polynomial_of, updates_of}
+use Rattle.ft_static.specs.Form.{Form as Normal, Polynomial, Updates, integer_form, memory_form, nought, polynomial_of}
+use Rattle.ft_static.specs.Form.{updates_of}
 use Rattle.ft_norm.specs.declared.form.Form.{Form}
 use Rattle.ft_norm.specs.declared.entry.Entry.{Entry}
-use Rattle.ft_norm.specs.Held.{held, polynomial_at, updates_at, polynomial, polynomials, updates_held, IsInteger, IsMemory, AreIntegers, Keeps}
+use Rattle.ft_norm.specs.Held.{held, polynomial_at, updates_at, polynomial, polynomials, updates_held, IsInteger}
+use Rattle.ft_norm.specs.Held.{IsMemory, AreIntegers, Keeps}
 use Rattle.ft_norm.specs.declared.entry.Term.{Term}
-use Rattle.ft_norm.specs.Entries.{AreEntries, IsDistinct, IsIntegerAt, IsMemoryAt, NamesEarlier, entry_form, forms_of, integer_reach, reach_of_terms}
+use Rattle.ft_norm.specs.Entries.{AreEntries, IsDistinct, IsIntegerAt, IsMemoryAt, NamesEarlier, entry_form, forms_of}
+use Rattle.ft_norm.specs.Entries.{integer_reach, reach_of_terms}
 use Rattle.ft_norm.specs.Orders.{AreTerms}
 use Rattle.ft_norm.specs.Terms.{AreOver}
 use Rattle.ft_norm.proofs.Forms.{form_read, integer_reaches, length-forms_of, forms_onto-push}
 
 -- a place of the list is that of an entry
-pub within : (es xs : List Entry) (fs : List Normal) (i : ℕ) (x : Normal) → forms_of es ≡ fs → xs ≡ es → slice_get fs i ≡ Some x → i < length xs
+pub within : (es xs : List Entry) (fs : List Normal) (i : ℕ) (x : Normal) → forms_of es ≡ fs → xs ≡ es → slice_get fs i
+    ≡ Some x → i < length xs
 within es xs fs i x v e h =
     let a = slice_get_within fs i x h in
     let b = ap length v in
@@ -28,20 +33,24 @@ as_many : (es xs : List Entry) (fs : List Normal) → forms_of es ≡ fs → xs 
 as_many es xs fs v e = ap length e ∙ (sym (length-forms_of es) ∙ ap length v)
 
 -- the forms after one more entry
-pub grown : (es xs : List Entry) (fs : List Normal) (e : Entry) → forms_of es ≡ fs → xs ≡ es ++ e ∷ [] → forms_of xs ≡ fs ++ entry_form fs e ∷ []
+pub grown : (es xs : List Entry) (fs : List Normal) (e : Entry) → forms_of es ≡ fs → xs ≡ es ++ e ∷ [] → forms_of xs
+    ≡ fs ++ entry_form fs e ∷ []
 grown es xs fs e v h = ap forms_of h ∙ (forms_onto-push [] es e ∙ ap (λ gs. gs ++ entry_form gs e ∷ []) v)
 
 -- what a call made
-pub made : {E : Type 0} (r : Result Form E) (gs : List Normal) (x y : Normal) → x ≡ y → IfOk r (λ f. held gs f ≡ Some x) → IfOk r (λ f. held gs f ≡ Some y)
+pub made : {E : Type 0} (r : Result Form E) (gs : List Normal) (x y : Normal) → x ≡ y →
+    IfOk r (λ f. held gs f ≡ Some x) → IfOk r (λ f. held gs f ≡ Some y)
 made (Ok f) gs x y e h = h ∙ ap Some e
 made (Err d) gs x y e h = tt
 
 -- the polynomial in a place
-pub polynomial_found : (gs : List Normal) (i : ℕ) (p : Polynomial) → slice_get gs i ≡ Some (integer_form p) → polynomial_at gs i ≡ p
+pub polynomial_found : (gs : List Normal) (i : ℕ) (p : Polynomial) → slice_get gs i ≡ Some (integer_form p) →
+    polynomial_at gs i ≡ p
 polynomial_found gs i p h = ap (λ (o : Option Normal). polynomial_of (unwrap_or o (integer_form nought))) h
 
 -- the updates in a place
-pub updates_found : (gs : List Normal) (i : ℕ) (u : Updates) → slice_get gs i ≡ Some (memory_form u) → updates_at gs i ≡ u
+pub updates_found : (gs : List Normal) (i : ℕ) (u : Updates) → slice_get gs i ≡ Some (memory_form u) → updates_at gs i
+    ≡ u
 updates_found gs i u h = ap (λ (o : Option Normal). updates_of (unwrap_or o (integer_form nought))) h
 
 -- a form that is an integer's
@@ -58,13 +67,16 @@ keeps_from fs gs k = record {
   forms_stay = k;
   integers_stay = λ (f : Form) h. integer_from gs f (polynomial fs f) (k f (integer_form (polynomial fs f)) h.found);
   memories_stay = λ (f : Form) h. memory_from gs f (updates_held fs f) (k f (memory_form (updates_held fs f)) h.found);
-  polynomials_stay = λ (f : Form) h. polynomial_found gs f.0 (polynomial fs f) (k f (integer_form (polynomial fs f)) h.found);
-  updates_stay = λ (f : Form) h. updates_found gs f.0 (updates_held fs f) (k f (memory_form (updates_held fs f)) h.found);
+  polynomials_stay = λ (f : Form) h. polynomial_found gs f.0 (polynomial fs f)
+      (k f (integer_form (polynomial fs f)) h.found);
+  updates_stay = λ (f : Form) h. updates_found gs f.0 (updates_held fs f)
+      (k f (memory_form (updates_held fs f)) h.found);
 }
 
 -- one more form keeps what was there
 pub keeps_push : (fs gs : List Normal) (x : Normal) → gs ≡ fs ++ x ∷ [] → Keeps fs gs
-keeps_push fs gs x e = keeps_from fs gs (λ (f : Form) (y : Normal) h. ap (λ (hs : List Normal). slice_get hs f.0) e ∙ (get_front fs (x ∷ []) f.0 (slice_get_within fs f.0 y h) ∙ h))
+keeps_push fs gs x e = keeps_from fs gs (λ (f : Form) (y : Normal) h. ap (λ (hs : List Normal). slice_get hs f.0) e
+    ∙ (get_front fs (x ∷ []) f.0 (slice_get_within fs f.0 y h) ∙ h))
 
 -- nothing changed
 pub keeps_itself : (fs gs : List Normal) → gs ≡ fs → Keeps fs gs
@@ -79,24 +91,33 @@ pub integers_kept : (fs gs : List Normal) (xs : List Form) → Keeps fs gs → A
 integers_kept fs gs xs k a = λ (i : ℕ) (f : Form) h. k.integers_stay f (a i f h)
 
 -- with their polynomials
-pub polynomials_kept : (fs gs : List Normal) (xs : List Form) → Keeps fs gs → AreIntegers fs xs → polynomials gs xs ≡ polynomials fs xs
+pub polynomials_kept : (fs gs : List Normal) (xs : List Form) → Keeps fs gs → AreIntegers fs xs → polynomials gs xs
+    ≡ polynomials fs xs
 polynomials_kept fs gs [] k a = refl
-polynomials_kept fs gs (x ∷ xs) k a = rw (k.polynomials_stay x (a 0 x refl), polynomials_kept fs gs xs k (λ i f h. a (suc i) f h)) refl
+polynomials_kept fs gs (x ∷ xs) k a = rw (
+  k.polynomials_stay x (a 0 x refl),
+  polynomials_kept fs gs xs k (λ i f h. a (suc i) f h),
+) refl
 
 -- an integer reaches within the list
-pub integer_within : (fs : List Normal) (f : Form) (p : Polynomial) → held fs f ≡ Some (integer_form p) → integer_reach fs f.0 ≤ length fs
-integer_within fs f p h = let x = integer_reaches fs f.0 p h in let w = slice_get_within fs f.0 (integer_form p) h in omega (arith, x, w)
+pub integer_within : (fs : List Normal) (f : Form) (p : Polynomial) → held fs f ≡ Some (integer_form p) →
+    integer_reach fs f.0 ≤ length fs
+integer_within fs f p h = let x = integer_reaches fs f.0 p h in let w = slice_get_within fs f.0 (integer_form p) h in
+    omega (arith, x, w)
 
 -- an integer that is held, seen from the entries
-pub integer_seen : (es xs : List Entry) (fs : List Normal) (f : Form) → forms_of es ≡ fs → xs ≡ es → IsInteger fs f → IsIntegerAt (forms_of xs) f.0
+pub integer_seen : (es xs : List Entry) (fs : List Normal) (f : Form) → forms_of es ≡ fs → xs ≡ es → IsInteger fs f →
+    IsIntegerAt (forms_of xs) f.0
 integer_seen es xs fs f v e h = let g : forms_of xs ≡ fs = ap forms_of e ∙ v in rw g h.found
 
 -- so is a memory
-pub memory_seen : (es xs : List Entry) (fs : List Normal) (f : Form) → forms_of es ≡ fs → xs ≡ es → IsMemory fs f → IsMemoryAt (forms_of xs) f.0
+pub memory_seen : (es xs : List Entry) (fs : List Normal) (f : Form) → forms_of es ≡ fs → xs ≡ es → IsMemory fs f →
+    IsMemoryAt (forms_of xs) f.0
 memory_seen es xs fs f v e h = let g : forms_of xs ≡ fs = ap forms_of e ∙ v in rw g h.found
 
 -- terms of an entry, seen from the list
-pub over_seen : (es xs : List Entry) (fs : List Normal) (ts : List Term) (i : ℕ) → AreEntries es → forms_of es ≡ fs → xs ≡ es → AreTerms ts → reach_of_terms (forms_of xs) ts ≤ i + 1 → i < length xs → AreOver fs ts
+pub over_seen : (es xs : List Entry) (fs : List Normal) (ts : List Term) (i : ℕ) → AreEntries es → forms_of es ≡ fs → xs
+    ≡ es → AreTerms ts → reach_of_terms (forms_of xs) ts ≤ i + 1 → i < length xs → AreOver fs ts
 over_seen es xs fs ts i h v e t r l = record {
   terms = t;
   distinct = subst IsDistinct v h.distinct;
@@ -108,7 +129,8 @@ over_seen es xs fs ts i h v e t r l = record {
 }
 
 -- an entry that was read, seen from the list
-pub entry_seen : (es xs : List Entry) (fs : List Normal) (i : ℕ) (e : Entry) → AreEntries es → forms_of es ≡ fs → xs ≡ es → i < length xs → e ≡ get_or xs i e → slice_get fs i ≡ Some (entry_form fs e)
+pub entry_seen : (es xs : List Entry) (fs : List Normal) (i : ℕ) (e : Entry) → AreEntries es → forms_of es ≡ fs → xs
+    ≡ es → i < length xs → e ≡ get_or xs i e → slice_get fs i ≡ Some (entry_form fs e)
 entry_seen es xs fs i e h v k l r =
     let g : forms_of xs ≡ fs = ap forms_of k ∙ v in
     let n : NamesEarlier xs = subst NamesEarlier (sym k) h.earlier in

@@ -13,7 +13,8 @@ use Rattle.ft_norm.specs.Entries.{atom_at, monomial_form, size, with_atom}
 
 -- an atom that is not above the first comes first
 first_of_all : (a d : Atom) (m : Monomial) → cmp_atom a d ≢ Greater → with_factor a (times d m) ≡ times a (times d m)
-first_of_all a d m h = by_cases (λ n. n ≡ times a (times d m)) (cmp_atom a d) (times a (times d m)) (times a (times d m)) (times d (with_factor a m)) (λ e. refl) (λ e. refl) (λ e. absurd (h e))
+first_of_all a d m h = by_cases (λ n. n ≡ times a (times d m)) (cmp_atom a d) (times a (times d m))
+    (times a (times d m)) (times d (with_factor a m)) (λ e. refl) (λ e. refl) (λ e. absurd (h e))
 
 -- an atom that is above it comes later
 later : (a d : Atom) (m : Monomial) → cmp_atom a d ≡ Greater → with_factor a (times d m) ≡ times d (with_factor a m)
@@ -49,12 +50,16 @@ either G a b f h = go (cmp_atom a b) refl
     go Greater e = h e
 
 -- two atoms that are not above the first
-both_first : (a b d : Atom) (m : Monomial) → cmp_atom a d ≢ Greater → cmp_atom b d ≢ Greater → with_factor a (with_factor b (times d m)) ≡ with_factor b (with_factor a (times d m))
+both_first : (a b d : Atom) (m : Monomial) → cmp_atom a d ≢ Greater → cmp_atom b d ≢ Greater →
+    with_factor a (with_factor b (times d m)) ≡ with_factor b (with_factor a (times d m))
 both_first a b d m h k =
-    ap (with_factor a) (first_of_all b d m k) ∙ (cases (with_factor a (times b (times d m)) ≡ with_factor b (times a (times d m))) a b
-    (λ e. first_of_all a b (times d m) (less_not a b e) ∙ (ap (times a) (sym (first_of_all b d m k)) ∙ sym (later b a (times d m) (less_turned a b e))))
+    ap (with_factor a) (first_of_all b d m k) ∙ (cases (with_factor a (times b (times d m))
+    ≡ with_factor b (times a (times d m))) a b
+    (λ e. first_of_all a b (times d m) (less_not a b e)
+    ∙ (ap (times a) (sym (first_of_all b d m k)) ∙ sym (later b a (times d m) (less_turned a b e))))
     (λ e. ap (λ t. with_factor t (times b (times d m))) e ∙ ap (λ t. with_factor b (times t (times d m))) (sym e))
-    (λ e. later a b (times d m) e ∙ (ap (times b) (first_of_all a d m h) ∙ sym (first_of_all b a (times d m) (less_not b a (greater_turned a b e)))))
+    (λ e. later a b (times d m) e ∙ (ap (times b) (first_of_all a d m h)
+    ∙ sym (first_of_all b a (times d m) (less_not b a (greater_turned a b e)))))
     ∙ ap (with_factor b) (sym (first_of_all a d m h)))
 
 -- what is above one that is not below is above
@@ -65,10 +70,12 @@ above a b d h k = cases (cmp_atom b a ≡ Greater) a d
     (λ e. absurd (h e))
 
 -- one that comes first and one that comes later
-one_first : (a b d : Atom) (m : Monomial) → cmp_atom a d ≢ Greater → cmp_atom b d ≡ Greater → with_factor a (with_factor b (times d m)) ≡ with_factor b (with_factor a (times d m))
+one_first : (a b d : Atom) (m : Monomial) → cmp_atom a d ≢ Greater → cmp_atom b d ≡ Greater →
+    with_factor a (with_factor b (times d m)) ≡ with_factor b (with_factor a (times d m))
 one_first a b d m h k =
     ap (with_factor a) (later b d m k) ∙ (first_of_all a d (with_factor b m) h
-    ∙ (ap (times a) (sym (later b d m k)) ∙ (sym (later b a (times d m) (above a b d h k)) ∙ ap (with_factor b) (sym (first_of_all a d m h)))))
+    ∙ (ap (times a) (sym (later b d m k)) ∙ (sym (later b a (times d m) (above a b d h k))
+    ∙ ap (with_factor b) (sym (first_of_all a d m h)))))
 
 -- atoms may be put in either order
 pub with_swap : (a b : Atom) (m : Monomial) → with_factor a (with_factor b m) ≡ with_factor b (with_factor a m)
@@ -76,11 +83,15 @@ with_swap a b one = cases (with_factor a (times b one) ≡ with_factor b (times 
     (λ e. first_of_all a b one (less_not a b e) ∙ sym (later b a one (less_turned a b e)))
     (λ e. rw e refl)
     (λ e. later a b one e ∙ sym (first_of_all b a one (less_not b a (greater_turned a b e))))
-with_swap a b (times d m) = either (with_factor a (with_factor b (times d m)) ≡ with_factor b (with_factor a (times d m))) a d
-    (λ h. either (with_factor a (with_factor b (times d m)) ≡ with_factor b (with_factor a (times d m))) b d (λ k. both_first a b d m h k) (λ k. one_first a b d m h k))
+with_swap a b (times d m) = either (with_factor a (with_factor b (times d m))
+    ≡ with_factor b (with_factor a (times d m))) a d
+    (λ h. either (with_factor a (with_factor b (times d m)) ≡ with_factor b (with_factor a (times d m))) b d (λ k.
+    both_first a b d m h k) (λ k. one_first a b d m h k))
     (λ h. either (with_factor a (with_factor b (times d m)) ≡ with_factor b (with_factor a (times d m))) b d
     (λ k. sym (one_first b a d m k h))
-    (λ k. ap (with_factor a) (later b d m k) ∙ (later a d (with_factor b m) h ∙ (ap (times d) (with_swap a b m) ∙ (sym (later b d (with_factor a m) k) ∙ ap (with_factor b) (sym (later a d m h)))))))
+    (λ k. ap (with_factor a) (later b d m k) ∙ (later a d (with_factor b m) h
+    ∙ (ap (times d) (with_swap a b m) ∙ (sym (later b d (with_factor a m) k)
+    ∙ ap (with_factor b) (sym (later a d m h)))))))
 
 -- an atom of the second part of a product
 pub join_with : (m : Monomial) (a : Atom) (n : Monomial) → join m (with_factor a n) ≡ with_factor a (join m n)
@@ -95,7 +106,8 @@ join_added a (times b m) n = either (join (with_factor a (times b m)) n ≡ with
     (λ h. ap (λ k. join k n) (later a b m h) ∙ join_added a m (with_factor b n))
 
 -- so may atoms by number
-pub atoms_swap : (fs : List Form) (x y : ℕ) (m : Monomial) → with_atom fs x (with_atom fs y m) ≡ with_atom fs y (with_atom fs x m)
+pub atoms_swap : (fs : List Form) (x y : ℕ) (m : Monomial) → with_atom fs x (with_atom fs y m)
+    ≡ with_atom fs y (with_atom fs x m)
 atoms_swap fs zero y m = refl
 atoms_swap fs (suc i) zero m = refl
 atoms_swap fs (suc i) (suc j) m = with_swap (atom_at fs i) (atom_at fs j) m
@@ -106,7 +118,8 @@ join_atom fs zero m n = refl
 join_atom fs (suc i) m n = join_added (atom_at fs i) m n
 
 -- the atoms of the first part are put into the second, the last first
-pub join_atoms : (fs : List Form) (a b c d : ℕ) (n : Monomial) → join (monomial_form fs (a ∷ b ∷ c ∷ d ∷ [])) n ≡ with_atom fs a (with_atom fs b (with_atom fs c (with_atom fs d n)))
+pub join_atoms : (fs : List Form) (a b c d : ℕ) (n : Monomial) → join (monomial_form fs (a ∷ b ∷ c ∷ d ∷ [])) n
+    ≡ with_atom fs a (with_atom fs b (with_atom fs c (with_atom fs d n)))
 join_atoms fs a b c d n =
     join_atom fs a (monomial_form fs (b ∷ c ∷ d ∷ [])) n
     ∙ (ap (with_atom fs a) (join_atom fs b (monomial_form fs (c ∷ d ∷ [])) n)
@@ -117,4 +130,5 @@ join_atoms fs a b c d n =
 pub factors-monomial_form : (fs : List Form) (xs : List ℕ) → factors (monomial_form fs xs) ≡ size xs
 factors-monomial_form fs [] = refl
 factors-monomial_form fs (zero ∷ xs) = factors-monomial_form fs xs ∙ sym (zero-add (size xs))
-factors-monomial_form fs (suc k ∷ xs) = factors_with (atom_at fs k) (monomial_form fs xs) ∙ (let h = factors-monomial_form fs xs in omega (arith, h))
+factors-monomial_form fs (suc k ∷ xs) = factors_with (atom_at fs k) (monomial_form fs xs)
+    ∙ (let h = factors-monomial_form fs xs in omega (arith, h))

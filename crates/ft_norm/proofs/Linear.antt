@@ -1,5 +1,6 @@
 -- Terms of at most one atom, beside the terms that they stand for.
-use Rattle.std.proofs.Common.{ℕ, suc, zero, Option, None, Some, ◌≡◌, ◌≢◌, ◌+◌, ◌<◌, ◌≤◌, List, [], ◌∷◌, ◌++◌, get_or, length, take, refl, sym, ap, ◌∙◌, arith, map}
+use Rattle.std.proofs.Common.{ℕ, suc, zero, Option, None, Some, ◌≡◌, ◌≢◌, ◌+◌, ◌<◌, ◌≤◌, List, [], ◌∷◌, ◌++◌, get_or}
+use Rattle.std.proofs.Common.{length, take, refl, sym, ap, ◌∙◌, arith, map}
 use Rattle.std.specs.Prelude.{IfNone}
 use Rattle.std.proofs.lemmas.List.{get_or_default, map-append}
 use Rattle.ft_norm.specs.declared.entry.LinearTerm.{LinearTerm}
@@ -15,7 +16,8 @@ full_itself : (x y : LinearTerm) → full x ≡ full y → x ≡ y
 full_itself x y e =
     let a : x.atom ≡ y.atom = ap (λ (t : Term). get_or t.atoms 3 0) e in
     let c : x.coefficient ≡ y.coefficient = ap (λ (t : Term). t.coefficient) e in
-    ap (λ z. let t : LinearTerm = record { atom = z; coefficient = x.coefficient } in t) a ∙ ap (λ z. let t : LinearTerm = record { atom = y.atom; coefficient = z } in t) c
+    ap (λ z. let t : LinearTerm = record { atom = z; coefficient = x.coefficient } in t) a
+    ∙ ap (λ z. let t : LinearTerm = record { atom = y.atom; coefficient = z } in t) c
 
 -- so are lists of them
 pub linears_itself : (xs ys : List LinearTerm) → map full xs ≡ map full ys → xs ≡ ys
@@ -38,8 +40,10 @@ linear_degree [] = omega arith
 linear_degree (x ∷ xs) = let h = linear_degree xs in let a = present_bound x.atom in omega (arith, h, a)
 
 -- a term of at most one atom is one of these
-pub full_last : (t : Term) → IsMonomial t.atoms → size t.atoms ≤ 1 → t ≡ full (record { atom = get_or t.atoms 3 0; coefficient = t.coefficient })
-full_last t h s = ap (λ (x : List ℕ). let y : Term = record { atoms = x; coefficient = t.coefficient } in y) (last_number t.atoms h s)
+pub full_last : (t : Term) → IsMonomial t.atoms → size t.atoms ≤ 1 → t
+    ≡ full (record { atom = get_or t.atoms 3 0; coefficient = t.coefficient })
+full_last t h s = ap (λ (x : List ℕ). let y : Term = record { atoms = x; coefficient = t.coefficient } in
+    y) (last_number t.atoms h s)
 
 -- a term of them has no greater degree than all of them
 pub term_degree : (ts : List Term) (i : ℕ) (d : Term) → i < length ts → size (get_or ts i d).atoms ≤ greatest ts
@@ -49,18 +53,25 @@ term_degree (t ∷ ts) (suc i) d l = let h = term_degree ts i d (omega (arith, l
 
 -- the same of a term that was read
 pub read_degree : (ts : List Term) (i : ℕ) (t : Term) → i < length ts → t ≡ get_or ts i t → size t.atoms ≤ greatest ts
-read_degree ts i t l r = let e = ap (λ (u : Term). size u.atoms) r in let h = term_degree ts i t l in omega (arith, e, h)
+read_degree ts i t l r = let e = ap (λ (u : Term). size u.atoms) r in let h = term_degree ts i t l in
+    omega (arith, e, h)
 
 -- one more is taken over
-pub linear_more : (ts : List Term) (d : Term) (x : LinearTerm) (xs : List LinearTerm) (i : ℕ) → AreTerms ts → greatest ts ≤ 1 → map full xs ≡ take i ts → i < length ts
-    → x.atom ≡ get_or (get_or ts i d).atoms 3 0 → x.coefficient ≡ (get_or ts i d).coefficient → map full (xs ++ x ∷ []) ≡ take (i + 1) ts
+pub linear_more : (ts : List Term) (d : Term) (x : LinearTerm) (xs : List LinearTerm) (i : ℕ) → AreTerms ts →
+    greatest ts ≤ 1 → map full xs ≡ take i ts → i < length ts
+    → x.atom ≡ get_or (get_or ts i d).atoms 3 0 → x.coefficient ≡ (get_or ts i d).coefficient → map full (xs ++ x ∷ [])
+    ≡ take (i + 1) ts
 linear_more ts d x xs i h g e l a c =
     let t = get_or ts i d in
     let b = term_degree ts i d l in
-    let f : full x ≡ t = ap (λ n. let y : Term = record { atoms = 0 ∷ 0 ∷ 0 ∷ n ∷ []; coefficient = x.coefficient } in y) a ∙ (ap (λ n. let y : Term = record { atoms = 0 ∷ 0 ∷ 0 ∷ get_or t.atoms 3 0 ∷ []; coefficient = n } in y) c ∙ sym (full_last t (term_ordered ts i d h l) (omega (arith, b, g)))) in
-    map-append full xs (x ∷ []) ∙ (ap (λ q. map full xs ++ q ∷ []) f ∙ taken_more ts (map full xs) t i e l (sym (get_or_default ts i t d l)))
+    let f : full x ≡ t = ap (λ n. let y : Term = record { atoms = 0 ∷ 0 ∷ 0 ∷ n ∷ []; coefficient = x.coefficient } in
+    y) a ∙ (ap (λ n. let y : Term = record { atoms = 0 ∷ 0 ∷ 0 ∷ get_or t.atoms 3 0 ∷ []; coefficient = n } in y) c
+    ∙ sym (full_last t (term_ordered ts i d h l) (omega (arith, b, g)))) in
+    map-append full xs (x ∷ []) ∙ (ap (λ q. map full xs ++ q ∷ []) f
+    ∙ taken_more ts (map full xs) t i e l (sym (get_or_default ts i t d l)))
 
 -- where the first term is no atom alone, the terms are none
-pub lone_other : (o : Option ℕ) (ts : List Term) (d : Term) → IfNone o ((k : ℕ) → get_or ts 0 d ≢ alone_term (k + 1)) → IfNone o ((k : ℕ) → ts ≢ alone_term (k + 1) ∷ [])
+pub lone_other : (o : Option ℕ) (ts : List Term) (d : Term) → IfNone o ((k : ℕ) → get_or ts 0 d ≢ alone_term (k + 1)) →
+    IfNone o ((k : ℕ) → ts ≢ alone_term (k + 1) ∷ [])
 lone_other None ts d h = λ k e. h k (ap (λ (us : List Term). get_or us 0 d) e)
 lone_other (Some x) ts d h = tt

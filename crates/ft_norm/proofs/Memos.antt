@@ -1,5 +1,6 @@
 -- What a memo remembers, while forms are made.
-use Rattle.std.proofs.Common.{◌≡◌, ◌+◌, ◌≤◌, ℕ, true, false, List, None, Some, Result, Ok, Err, nat_eq, slice_get, sym, ap, ◌∙◌}
+use Rattle.std.proofs.Common.{◌≡◌, ◌+◌, ◌≤◌, ℕ, true, false, List, None, Some, Result, Ok, Err, nat_eq, slice_get, sym}
+use Rattle.std.proofs.Common.{ap, ◌∙◌}
 use Rattle.std.specs.Prelude.{IfOk}
 use Rattle.indexmap.specs.IndexMap.{IsUnchanged, get}
 use Rattle.ft_static.specs.Form.{Form as Normal, Polynomial, Updates, updates}
@@ -15,11 +16,14 @@ use Rattle.ft_norm.proofs.Made.{Stands, held_count, integer_tree, memory_tree}
 use Rattle.ft_norm.proofs.HeldForms.{integer_from, memory_from, polynomials_kept}
 
 -- a fresh memo remembers nothing wrong
-pub remembers_none : (ns : List Node) (fs : List Normal) (ints : List Form) (memory : Form) (m : Memo) → IsFresh m → Remembers ns fs ints memory m
+pub remembers_none : (ns : List Node) (fs : List Normal) (ints : List Form) (memory : Form) (m : Memo) → IsFresh m →
+    Remembers ns fs ints memory m
 remembers_none ns fs ints memory m n = record { each = λ k f e. let z : Some f ≡ None = sym e ∙ n k in cc }
 
 -- what is remembered stays right where the list of forms grows
-pub remembers_kept : (ns : List Node) (fs gs : List Normal) (ints : List Form) (memory : Form) (m : Memo) → Keeps fs gs → AreIntegers fs ints → IsMemory fs memory → Remembers ns fs ints memory m → Remembers ns gs ints memory m
+pub remembers_kept : (ns : List Node) (fs gs : List Normal) (ints : List Form) (memory : Form) (m : Memo) →
+    Keeps fs gs → AreIntegers fs ints → IsMemory fs memory → Remembers ns fs ints memory m →
+    Remembers ns gs ints memory m
 remembers_kept ns fs gs ints memory m k i w r = record {
   each = λ n f e.
       let p = polynomials_kept fs gs ints k i in
@@ -30,15 +34,19 @@ remembers_kept ns fs gs ints memory m k i w r = record {
 }
 
 -- so does what is remembered where no entry changes
-pub remembers_same : (ns : List Node) (fs : List Normal) (ints : List Form) (memory : Form) (m l : Memo) → IsUnchanged m.made l.made → Remembers ns fs ints memory m → Remembers ns fs ints memory l
+pub remembers_same : (ns : List Node) (fs : List Normal) (ints : List Form) (memory : Form) (m l : Memo) →
+    IsUnchanged m.made l.made → Remembers ns fs ints memory m → Remembers ns fs ints memory l
 remembers_same ns fs ints memory m l u r = record { each = λ k f e. r.each k f (rw u at e) }
 
 -- the forms that are remembered are those of their trees
-pub stands_from : (ns : List Node) (fs : List Normal) (ints : List Form) (memory : Form) (m : Memo) (h : AreNodes ns) → Remembers ns fs ints memory m → Stands (polynomials fs ints) (updates_held fs memory) ns h fs (get nat_eq m.made)
+pub stands_from : (ns : List Node) (fs : List Normal) (ints : List Form) (memory : Form) (m : Memo) (h : AreNodes ns) →
+    Remembers ns fs ints memory m → Stands (polynomials fs ints) (updates_held fs memory) ns h fs (get nat_eq m.made)
 stands_from ns fs ints memory m h r = record { each = r.each }
 
 -- and the other way round, after the list has grown
-pub remembered : (ns : List Node) (fs gs : List Normal) (ints : List Form) (memory : Form) (m : Memo) (h : AreNodes ns) → Keeps fs gs → AreIntegers fs ints → IsMemory fs memory → Stands (polynomials fs ints) (updates_held fs memory) ns h gs (get nat_eq m.made) → Remembers ns gs ints memory m
+pub remembered : (ns : List Node) (fs gs : List Normal) (ints : List Form) (memory : Form) (m : Memo) (h : AreNodes ns)
+    → Keeps fs gs → AreIntegers fs ints → IsMemory fs memory →
+    Stands (polynomials fs ints) (updates_held fs memory) ns h gs (get nat_eq m.made) → Remembers ns gs ints memory m
 remembered ns fs gs ints memory m h k i w s = record {
   each = λ n f e.
       let p = polynomials_kept fs gs ints k i in
@@ -49,14 +57,17 @@ remembered ns fs gs ints memory m h k i w s = record {
 }
 
 -- what is known of a form that is held as that of a node's tree
-pub record Tells (ns : List Node) (fs gs : List Normal) (ints : List Form) (memory : Form) (n : ℕ) (f : Form) : Type 0 where
-  pub form : held gs f ≡ Some (form_under (polynomials fs ints) (updates_held fs memory) (tree_at ns n))
-  pub of_integer : (x : Node) → slice_get ns n ≡ Some x → is_memory x.shape ≡ false → IsInteger gs f
-  pub of_memory : (x : Node) → slice_get ns n ≡ Some x → is_memory x.shape ≡ true → IsMemory gs f
-  pub count : updates (updates_held gs f) ≤ updates (updates_held fs memory) + n
+pub record Tells (ns : List Node) (fs gs : List Normal) (ints : List Form) (memory : Form) (n : ℕ) (f : Form) : Type 0
+  where
+    pub form : held gs f ≡ Some (form_under (polynomials fs ints) (updates_held fs memory) (tree_at ns n))
+    pub of_integer : (x : Node) → slice_get ns n ≡ Some x → is_memory x.shape ≡ false → IsInteger gs f
+    pub of_memory : (x : Node) → slice_get ns n ≡ Some x → is_memory x.shape ≡ true → IsMemory gs f
+    pub count : updates (updates_held gs f) ≤ updates (updates_held fs memory) + n
 
 -- it is of the node's sort, and a memory has as many updates as the variable's, and one for each lower node at the most
-pub told : (ns : List Node) (h : AreNodes ns) (fs gs : List Normal) (ints : List Form) (memory : Form) (n : ℕ) (f : Form) (x : Node) → slice_get ns n ≡ Some x → held gs f ≡ Some (form_under (polynomials fs ints) (updates_held fs memory) (tree_at ns n)) → Tells ns fs gs ints memory n f
+pub told : (ns : List Node) (h : AreNodes ns) (fs gs : List Normal) (ints : List Form) (memory : Form) (n : ℕ)
+    (f : Form) (x : Node) → slice_get ns n ≡ Some x → held gs f
+    ≡ Some (form_under (polynomials fs ints) (updates_held fs memory) (tree_at ns n)) → Tells ns fs gs ints memory n f
 told ns h fs gs ints memory n f x e q =
     let ps = polynomials fs ints in
     let u = updates_held fs memory in
@@ -68,19 +79,28 @@ told ns h fs gs ints memory n f x e q =
     }
 
 -- so does an answer that is held so
-pub told_answer : {E : Type 0} (ns : List Node) (h : AreNodes ns) (fs gs : List Normal) (ints : List Form) (memory : Form) (n : ℕ) (r : Result Form E) (x : Node) → slice_get ns n ≡ Some x → IfOk r (λ f. held gs f ≡ Some (form_under (polynomials fs ints) (updates_held fs memory) (tree_at ns n))) → IfOk r (λ f. Tells ns fs gs ints memory n f)
+pub told_answer : {E : Type 0} (ns : List Node) (h : AreNodes ns) (fs gs : List Normal) (ints : List Form)
+    (memory : Form) (n : ℕ) (r : Result Form E) (x : Node) → slice_get ns n ≡ Some x →
+    IfOk r (λ f. held gs f ≡ Some (form_under (polynomials fs ints) (updates_held fs memory) (tree_at ns n))) →
+    IfOk r (λ f. Tells ns fs gs ints memory n f)
 told_answer ns h fs gs ints memory n (Ok f) x e q = told ns h fs gs ints memory n f x e q
 told_answer ns h fs gs ints memory n (Err d) x e q = tt
 
 -- the sorts and the count that an answer tells
-pub integer_told : {E : Type 0} (ns : List Node) (fs gs : List Normal) (ints : List Form) (memory : Form) (n : ℕ) (r : Result Form E) → IfOk r (λ f. Tells ns fs gs ints memory n f) → (x : Node) → slice_get ns n ≡ Some x → is_memory x.shape ≡ false → IfOk r (λ f. IsInteger gs f)
+pub integer_told : {E : Type 0} (ns : List Node) (fs gs : List Normal) (ints : List Form) (memory : Form) (n : ℕ)
+    (r : Result Form E) → IfOk r (λ f. Tells ns fs gs ints memory n f) → (x : Node) → slice_get ns n ≡ Some x →
+    is_memory x.shape ≡ false → IfOk r (λ f. IsInteger gs f)
 integer_told ns fs gs ints memory n (Ok f) t = t.of_integer
 integer_told ns fs gs ints memory n (Err d) t = λ x e s. tt
 
-pub memory_told : {E : Type 0} (ns : List Node) (fs gs : List Normal) (ints : List Form) (memory : Form) (n : ℕ) (r : Result Form E) → IfOk r (λ f. Tells ns fs gs ints memory n f) → (x : Node) → slice_get ns n ≡ Some x → is_memory x.shape ≡ true → IfOk r (λ f. IsMemory gs f)
+pub memory_told : {E : Type 0} (ns : List Node) (fs gs : List Normal) (ints : List Form) (memory : Form) (n : ℕ)
+    (r : Result Form E) → IfOk r (λ f. Tells ns fs gs ints memory n f) → (x : Node) → slice_get ns n ≡ Some x →
+    is_memory x.shape ≡ true → IfOk r (λ f. IsMemory gs f)
 memory_told ns fs gs ints memory n (Ok f) t = t.of_memory
 memory_told ns fs gs ints memory n (Err d) t = λ x e s. tt
 
-pub count_told : {E : Type 0} (ns : List Node) (fs gs : List Normal) (ints : List Form) (memory : Form) (n : ℕ) (r : Result Form E) → IfOk r (λ f. Tells ns fs gs ints memory n f) → IfOk r (λ f. updates (updates_held gs f) ≤ updates (updates_held fs memory) + n)
+pub count_told : {E : Type 0} (ns : List Node) (fs gs : List Normal) (ints : List Form) (memory : Form) (n : ℕ)
+    (r : Result Form E) → IfOk r (λ f. Tells ns fs gs ints memory n f) →
+    IfOk r (λ f. updates (updates_held gs f) ≤ updates (updates_held fs memory) + n)
 count_told ns fs gs ints memory n (Ok f) t = t.count
 count_told ns fs gs ints memory n (Err d) t = tt

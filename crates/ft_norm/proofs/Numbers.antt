@@ -1,5 +1,6 @@
 -- The numbers of a monomial, one by one.
-use Rattle.std.proofs.Common.{ℕ, zero, suc, Bool, true, false, cond, not, ◌==◌, zero-add, ◌≡◌, ◌+◌, ◌<◌, ◌≤◌, List, [], ◌∷◌, get_or, length, add-one, refl, sym, ap, ◌∙◌, arith}
+use Rattle.std.proofs.Common.{ℕ, zero, suc, Bool, true, false, cond, not, ◌==◌, zero-add, ◌≡◌, ◌+◌, ◌<◌, ◌≤◌, List, []}
+use Rattle.std.proofs.Common.{◌∷◌, get_or, length, add-one, refl, sym, ap, ◌∙◌, arith}
 use Rattle.std.proofs.lemmas.Bool.{eqb-true}
 use Rattle.std.proofs.lemmas.List.Recursion.{is_count_by}
 use Rattle.std.specs.Cmp.{nat_cmp_is}
@@ -24,7 +25,13 @@ four P f (a ∷ b ∷ c ∷ d ∷ x ∷ xs) e = absurd (omega (arith, e))
 
 -- numbers without an atom are those of the empty monomial
 pub no_numbers : (xs : List ℕ) → length xs ≡ 4 → size xs ≡ 0 → xs ≡ none
-no_numbers xs l = four (λ ys. size ys ≡ 0 → ys ≡ none) (λ a b c d e. rw (absent a (omega (arith, e)), absent b (omega (arith, e)), absent c (omega (arith, e)), absent d (omega (arith, e))) refl) xs l
+no_numbers xs l = four (λ ys. size ys ≡ 0 → ys ≡ none) (λ a b c d e.
+    rw (
+      absent a (omega (arith, e)),
+      absent b (omega (arith, e)),
+      absent c (omega (arith, e)),
+      absent d (omega (arith, e)),
+    ) refl) xs l
   where
     absent : (x : ℕ) → present x ≡ 0 → x ≡ 0
     absent zero e = refl
@@ -53,9 +60,11 @@ some_present (suc k) l = refl
 pub last_number : (xs : List ℕ) → IsMonomial xs → size xs ≤ 1 → xs ≡ 0 ∷ 0 ∷ 0 ∷ get_or xs 3 0 ∷ []
 last_number xs h = four (λ ys. AreOrdered ys → size ys ≤ 1 → ys ≡ 0 ∷ 0 ∷ 0 ∷ get_or ys 3 0 ∷ []) go xs h.0 h.1
   where
-    go : (a b c d : ℕ) → AreOrdered (a ∷ b ∷ c ∷ d ∷ []) → size (a ∷ b ∷ c ∷ d ∷ []) ≤ 1 → a ∷ b ∷ c ∷ d ∷ [] ≡ 0 ∷ 0 ∷ 0 ∷ d ∷ []
+    go : (a b c d : ℕ) → AreOrdered (a ∷ b ∷ c ∷ d ∷ []) → size (a ∷ b ∷ c ∷ d ∷ []) ≤ 1 → a ∷ b ∷ c ∷ d ∷ []
+        ≡ 0 ∷ 0 ∷ 0 ∷ d ∷ []
     go zero zero zero d o e = refl
-    go zero zero (suc k) d o e = absurd (let p = some_present d (let w = o.1.1.0 in omega (arith, w)) in omega (arith, e, p))
+    go zero zero (suc k) d o e = absurd (let p = some_present d (let w = o.1.1.0 in omega (arith, w)) in
+        omega (arith, e, p))
     go zero (suc k) c d o e = absurd (let p = some_present c (let w = o.1.0 in omega (arith, w)) in omega (arith, e, p))
     go (suc k) b c d o e = absurd (let p = some_present b (let w = o.0 in omega (arith, w)) in omega (arith, e, p))
 
@@ -68,10 +77,14 @@ one_number xs h s = go (get_or xs 3 0) (sym (last_number xs h (omega (arith, s))
     go (suc k) e = (k, sym e ∙ rw add-one refl)
 
 -- a monomial with room for an atom begins with none
-pub opens : (xs : List ℕ) (x : ℕ) → IsMonomial xs → (x ≡ 0 → ⊥) → present x + size xs ≤ 4 → xs ≡ 0 ∷ get_or xs 1 0 ∷ get_or xs 2 0 ∷ get_or xs 3 0 ∷ []
-opens xs x h n r = four (λ ys. AreOrdered ys → size ys ≤ 3 → ys ≡ 0 ∷ get_or ys 1 0 ∷ get_or ys 2 0 ∷ get_or ys 3 0 ∷ []) go xs h.0 h.1 (let p = some_present x (omega (arith, n)) in omega (arith, p, r))
+pub opens : (xs : List ℕ) (x : ℕ) → IsMonomial xs → (x ≡ 0 → ⊥) → present x + size xs ≤ 4 → xs
+    ≡ 0 ∷ get_or xs 1 0 ∷ get_or xs 2 0 ∷ get_or xs 3 0 ∷ []
+opens xs x h n r = four (λ ys. AreOrdered ys → size ys ≤ 3 → ys
+    ≡ 0 ∷ get_or ys 1 0 ∷ get_or ys 2 0 ∷ get_or ys 3 0 ∷ []) go xs h.0 h.1 (let p =
+    some_present x (omega (arith, n)) in omega (arith, p, r))
   where
-    go : (a b c d : ℕ) → AreOrdered (a ∷ b ∷ c ∷ d ∷ []) → size (a ∷ b ∷ c ∷ d ∷ []) ≤ 3 → a ∷ b ∷ c ∷ d ∷ [] ≡ 0 ∷ b ∷ c ∷ d ∷ []
+    go : (a b c d : ℕ) → AreOrdered (a ∷ b ∷ c ∷ d ∷ []) → size (a ∷ b ∷ c ∷ d ∷ []) ≤ 3 → a ∷ b ∷ c ∷ d ∷ []
+        ≡ 0 ∷ b ∷ c ∷ d ∷ []
     go zero b c d o s = refl
     go (suc k) b c d o s = absurd (
         let p = some_present b (let w = o.0 in omega (arith, w)) in

@@ -1,5 +1,6 @@
 -- Monomials and terms in order: what keeps the order, and what follows from it.
-use Rattle.std.proofs.Common.{ℕ, suc, zero, ◌≡◌, ◌+◌, ◌-◌, ◌/◌, ◌^◌, ◌<◌, ◌≤◌, List, [], ◌∷◌, ◌++◌, length, get_or, refl, sym, ap, ◌∙◌, subst, arith, take, drop, set, map}
+use Rattle.std.proofs.Common.{ℕ, suc, zero, ◌≡◌, ◌+◌, ◌-◌, ◌/◌, ◌^◌, ◌<◌, ◌≤◌, List, [], ◌∷◌, ◌++◌, length, get_or}
+use Rattle.std.proofs.Common.{refl, sym, ap, ◌∙◌, subst, arith, take, drop, set, map}
 use Rattle.std.proofs.lemmas.Cmp.{nat_list_cmp_total}
 use Rattle.std.proofs.lemmas.List.{get_or_default}
 use Rattle.std.specs.FinMap.{nat_cmp-IsAntisymmetric}
@@ -17,7 +18,8 @@ pub atoms_equal : (xs ys : List ℕ) → cmp_atoms xs ys ≡ Equal → xs ≡ ys
 atoms_equal [] [] e = refl
 atoms_equal [] (y ∷ ys) e = cc
 atoms_equal (x ∷ xs) [] e = cc
-atoms_equal (x ∷ xs) (y ∷ ys) e = let t = then_both (nat_cmp x y) (cmp_atoms xs ys) e in rw (nat_cmp-IsAntisymmetric x y t.0, atoms_equal xs ys t.1) refl
+atoms_equal (x ∷ xs) (y ∷ ys) e = let t = then_both (nat_cmp x y) (cmp_atoms xs ys) e in
+    rw (nat_cmp-IsAntisymmetric x y t.0, atoms_equal xs ys t.1) refl
 
 -- a comparison turned round
 pub atoms_turned : (xs ys : List ℕ) → cmp_atoms xs ys ≡ Greater → cmp_atoms ys xs ≡ Less
@@ -29,7 +31,8 @@ precedes_through xs ys [] e h = tt
 precedes_through xs ys (t ∷ ts) e h = nat_list_cmp_total.trans xs ys t.atoms e h
 
 -- a term put where it keeps the order
-pub terms_insert : (ts : List Term) (i : ℕ) (v : Term) → AreTerms ts → IsPlace ts v.atoms i → IsMonomial v.atoms → 0 < v.coefficient → v.coefficient < 2 ^ 64 → AreTerms (take i ts ++ v ∷ drop i ts)
+pub terms_insert : (ts : List Term) (i : ℕ) (v : Term) → AreTerms ts → IsPlace ts v.atoms i → IsMonomial v.atoms →
+    0 < v.coefficient → v.coefficient < 2 ^ 64 → AreTerms (take i ts ++ v ∷ drop i ts)
 terms_insert [] zero v h p o c w = (o, c, w, tt, tt)
 terms_insert [] (suc i) v h p o c w = absurd (let x = p.within in omega arith)
 terms_insert (t ∷ ts) zero v h p o c w = (o, c, w, p.before v (omega arith), h)
@@ -45,7 +48,8 @@ terms_insert (t ∷ ts) (suc i) v h p o c w = (
   }) o c w,
 )
   where
-    precede : (us : List Term) (k : ℕ) → Precedes t.atoms us → IsPlace (t ∷ us) v.atoms (suc k) → Precedes t.atoms (take k us ++ v ∷ drop k us)
+    precede : (us : List Term) (k : ℕ) → Precedes t.atoms us → IsPlace (t ∷ us) v.atoms (suc k) →
+        Precedes t.atoms (take k us ++ v ∷ drop k us)
     precede us zero g q = q.after v 0 (omega arith)
     precede [] (suc k) g q = absurd (let x = q.within in omega arith)
     precede (u ∷ us) (suc k) g q = g
@@ -57,19 +61,28 @@ terms_remove [] (suc i) h = tt
 terms_remove (t ∷ ts) zero h = h.4
 terms_remove (t ∷ ts) (suc i) h = (h.0, h.1, h.2, precede ts i h.3 h.4, terms_remove ts i h.4)
   where
-    precede : (us : List Term) (k : ℕ) → Precedes t.atoms us → AreTerms us → Precedes t.atoms (take k us ++ drop (suc k) us)
+    precede : (us : List Term) (k : ℕ) → Precedes t.atoms us → AreTerms us →
+        Precedes t.atoms (take k us ++ drop (suc k) us)
     precede [] zero g q = tt
     precede [] (suc k) g q = tt
     precede (u ∷ us) zero g q = precedes_through t.atoms u.atoms us g q.3
     precede (u ∷ us) (suc k) g q = g
 
 -- another coefficient
-pub terms_set : (ts : List Term) (i : ℕ) (y d : Term) → AreTerms ts → i < length ts → y.atoms ≡ (get_or ts i d).atoms → 0 < y.coefficient → y.coefficient < 2 ^ 64 → AreTerms (set ts i y)
+pub terms_set : (ts : List Term) (i : ℕ) (y d : Term) → AreTerms ts → i < length ts → y.atoms ≡ (get_or ts i d).atoms →
+    0 < y.coefficient → y.coefficient < 2 ^ 64 → AreTerms (set ts i y)
 terms_set [] i y d h l f c w = absurd (omega arith)
 terms_set (t ∷ ts) zero y d h l f c w = (rw f h.0, c, w, rw f h.3, h.4)
-terms_set (t ∷ ts) (suc i) y d h l f c w = (h.0, h.1, h.2, precede ts i h.3 (omega arith) f, terms_set ts i y d h.4 (omega arith) f c w)
+terms_set (t ∷ ts) (suc i) y d h l f c w = (
+  h.0,
+  h.1,
+  h.2,
+  precede ts i h.3 (omega arith) f,
+  terms_set ts i y d h.4 (omega arith) f c w,
+)
   where
-    precede : (us : List Term) (k : ℕ) → Precedes t.atoms us → k < length us → y.atoms ≡ (get_or us k d).atoms → Precedes t.atoms (set us k y)
+    precede : (us : List Term) (k : ℕ) → Precedes t.atoms us → k < length us → y.atoms ≡ (get_or us k d).atoms →
+        Precedes t.atoms (set us k y)
     precede [] k g l f = absurd (omega arith)
     precede (u ∷ us) zero g l f = rw f g
     precede (u ∷ us) (suc k) g l f = g
@@ -99,7 +112,8 @@ term_ordered (t ∷ ts) zero d h l = h.0
 term_ordered (t ∷ ts) (suc i) d h l = term_ordered ts i d h.4 (omega arith)
 
 -- the same of a term that was read
-pub read_ordered : (ts : List Term) (t : Term) (i : ℕ) → AreTerms ts → i < length ts → t ≡ get_or ts i t → IsMonomial t.atoms
+pub read_ordered : (ts : List Term) (t : Term) (i : ℕ) → AreTerms ts → i < length ts → t ≡ get_or ts i t →
+    IsMonomial t.atoms
 read_ordered ts t i h l r = let P : Term → Type 0 = λ u. IsMonomial u.atoms in subst P (sym r) (term_ordered ts i t h l)
 
 -- and a word as its coefficient
@@ -109,20 +123,27 @@ term_word (t ∷ ts) zero d h l = h.2
 term_word (t ∷ ts) (suc i) d h l = term_word ts i d h.4 (omega arith)
 
 -- a term compares as it does in its place, whatever is read beyond the terms
-read_compares : (ts : List Term) (xs : List ℕ) (t : Term) (k : ℕ) (o : Ordering) → k < length ts → o ≡ cmp_atoms (get_or ts k t).atoms xs → (d : Term) → cmp_atoms (get_or ts k d).atoms xs ≡ o
+read_compares : (ts : List Term) (xs : List ℕ) (t : Term) (k : ℕ) (o : Ordering) → k < length ts → o
+    ≡ cmp_atoms (get_or ts k t).atoms xs → (d : Term) → cmp_atoms (get_or ts k d).atoms xs ≡ o
 read_compares ts xs t k o l e d = ap (λ (u : Term). cmp_atoms u.atoms xs) (get_or_default ts k d t l) ∙ sym e
 
 -- a search ends where the term stands
-pub search_there : (ts : List Term) (xs : List ℕ) (t : Term) (k : ℕ) (o : Ordering) → k < length ts → o ≡ cmp_atoms (get_or ts k t).atoms xs → o ≡ Equal → IsThere ts xs k
-search_there ts xs t k o l e g = record { within = l; same = λ d. atoms_equal (get_or ts k d).atoms xs (read_compares ts xs t k o l e d ∙ g) }
+pub search_there : (ts : List Term) (xs : List ℕ) (t : Term) (k : ℕ) (o : Ordering) → k < length ts → o
+    ≡ cmp_atoms (get_or ts k t).atoms xs → o ≡ Equal → IsThere ts xs k
+search_there ts xs t k o l e g = record {
+  within = l;
+  same = λ d. atoms_equal (get_or ts k d).atoms xs (read_compares ts xs t k o l e d ∙ g);
+}
 
 -- it goes on after a lower term
-pub search_after : (ts : List Term) (xs : List ℕ) (t : Term) (k : ℕ) (o : Ordering) → k < length ts → o ≡ cmp_atoms (get_or ts k t).atoms xs → o ≡ Less
+pub search_after : (ts : List Term) (xs : List ℕ) (t : Term) (k : ℕ) (o : Ordering) → k < length ts → o
+    ≡ cmp_atoms (get_or ts k t).atoms xs → o ≡ Less
     → (d : Term) (j : ℕ) → j + 1 ≡ k + 1 → cmp_atoms (get_or ts j d).atoms xs ≡ Less
 search_after ts xs t k o l e g d j q = let s : j ≡ k = omega (arith, q) in rw s (read_compares ts xs t k o l e d ∙ g)
 
 -- and before a greater one
-pub search_before : (ts : List Term) (xs : List ℕ) (t : Term) (k : ℕ) (o : Ordering) → k < length ts → o ≡ cmp_atoms (get_or ts k t).atoms xs → o ≡ Greater
+pub search_before : (ts : List Term) (xs : List ℕ) (t : Term) (k : ℕ) (o : Ordering) → k < length ts → o
+    ≡ cmp_atoms (get_or ts k t).atoms xs → o ≡ Greater
     → (d : Term) → k < length ts → cmp_atoms xs (get_or ts k d).atoms ≡ Less
 search_before ts xs t k o l e g d m = atoms_turned (get_or ts k d).atoms xs (read_compares ts xs t k o l e d ∙ g)
 

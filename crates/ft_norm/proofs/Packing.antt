@@ -1,5 +1,6 @@
 -- Packed terms, beside the terms that they stand for.
-use Rattle.std.proofs.Common.{ℕ, suc, zero, ◌≡◌, ◌<◌, ◌+◌, ◌*◌, ◌/◌, ◌%◌, ◌^◌, List, [], ◌∷◌, ◌++◌, get_or, length, refl, ap, arith, map}
+use Rattle.std.proofs.Common.{ℕ, suc, zero, ◌≡◌, ◌<◌, ◌+◌, ◌*◌, ◌/◌, ◌%◌, ◌^◌, List, [], ◌∷◌, ◌++◌, get_or, length}
+use Rattle.std.proofs.Common.{refl, ap, arith, map}
 use Rattle.ft_norm.specs.declared.entry.Term.{Term}
 use Rattle.ft_norm.specs.declared.packed.PackedTerm.{PackedTerm}
 use Rattle.ft_norm.specs.Entries.{size}
@@ -10,7 +11,8 @@ parts_known : (x y : ℕ) → x % 2 ^ 24 ≡ y % 2 ^ 24 → x / 2 ^ 24 ≡ y / 2
 parts_known x y e f = omega (arith, e, f)
 
 -- three bytes are known by their number
-bytes_known : (a b c x y z : ℕ) → a < 256 → b < 256 → x < 256 → y < 256 → a + 256 * b + 65536 * c ≡ x + 256 * y + 65536 * z → (a ≡ x) × (b ≡ y) × (c ≡ z)
+bytes_known : (a b c x y z : ℕ) → a < 256 → b < 256 → x < 256 → y < 256 → a + 256 * b + 65536 * c
+    ≡ x + 256 * y + 65536 * z → (a ≡ x) × (b ≡ y) × (c ≡ z)
 bytes_known a b c x y z h i j k e = (omega (arith, e), omega (arith, e), omega (arith, e))
 
 -- the upper byte of a number of four bytes
@@ -36,13 +38,18 @@ packed_known p q h k e =
     let a : p.first % 2 ^ 24 ≡ q.first % 2 ^ 24 = cc in
     let b : p.second % 2 ^ 24 ≡ q.second % 2 ^ 24 = cc in
     let c : p.third % 2 ^ 24 ≡ q.third % 2 ^ 24 = cc in
-    let d : p.first / 2 ^ 24 + 256 * (p.second / 2 ^ 24) + 65536 * (p.third / 2 ^ 24) ≡ q.first / 2 ^ 24 + 256 * (q.second / 2 ^ 24) + 65536 * (q.third / 2 ^ 24) = cc in
-    let u = bytes_known _ _ _ _ _ _ (upper_byte p.first h.first) (upper_byte p.second h.second) (upper_byte q.first k.first) (upper_byte q.second k.second) d in
+    let d : p.first / 2 ^ 24 + 256 * (p.second / 2 ^ 24) + 65536 * (p.third / 2 ^ 24)
+    ≡ q.first / 2 ^ 24 + 256 * (q.second / 2 ^ 24) + 65536 * (q.third / 2 ^ 24) = cc in
+    let u = bytes_known _ _ _ _ _ _ (upper_byte p.first h.first) (upper_byte p.second h.second)
+    (upper_byte q.first k.first) (upper_byte q.second k.second) d in
     let w = halves_known p.high p.low q.high q.low h.low k.low (ap (λ (t : Term). t.coefficient) e) in
-    rebuilt p.first p.second p.third p.high p.low q.first q.second q.third q.high q.low (parts_known p.first q.first a u.0) (parts_known p.second q.second b u.1) (parts_known p.third q.third c u.2) w.0 w.1
+    rebuilt p.first p.second p.third p.high p.low q.first q.second q.third q.high q.low
+    (parts_known p.first q.first a u.0) (parts_known p.second q.second b u.1) (parts_known p.third q.third c u.2) w.0
+    w.1
 
 -- so have lists of them
-pub packed_itself : (ps qs : List PackedTerm) → ArePacked ps → ArePacked qs → map unpacked ps ≡ map unpacked qs → ps ≡ qs
+pub packed_itself : (ps qs : List PackedTerm) → ArePacked ps → ArePacked qs → map unpacked ps ≡ map unpacked qs → ps
+    ≡ qs
 packed_itself [] [] h k e = refl
 packed_itself [] (q ∷ qs) h k e = cc
 packed_itself (p ∷ ps) [] h k e = cc

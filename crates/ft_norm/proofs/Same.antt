@@ -12,7 +12,8 @@ use Rattle.ft_norm.specs.Held.{IsHeld, held, polynomial, updates_held}
 use Rattle.ft_norm.specs.Entries.{AreEntries, IsDistinct, forms_of}
 
 -- numbers are equal exactly when the forms are
-pub one_number : (es : List Entry) (fs : List Normal) (a b : Form) → AreEntries es → forms_of es ≡ fs → IsHeld fs a → IsTrue (a.0 == b.0) ↔ (held fs a ≡ held fs b)
+pub one_number : (es : List Entry) (fs : List Normal) (a b : Form) → AreEntries es → forms_of es ≡ fs → IsHeld fs a →
+    IsTrue (a.0 == b.0) ↔ (held fs a ≡ held fs b)
 one_number es fs a b h v i = (
   λ t. ap (λ k. held fs (record { 0 = k })) ((Decides-eqb a.0 b.0).0 t),
   λ e. (Decides-eqb a.0 b.0).1 (elim i [
@@ -25,7 +26,8 @@ one_number es fs a b h v i = (
     d = subst IsDistinct v h.distinct
 
 -- expressions with one form denote the same
-pub one_form_denotes : (x y : Expression) (s : Valuation) (f g : Option Normal) → f ≡ g → f ≡ Some (norm x) → g ≡ Some (norm y) → HasWords x → HasWords y → IsLawful s → denotation x s ≡ denotation y s
+pub one_form_denotes : (x y : Expression) (s : Valuation) (f g : Option Normal) → f ≡ g → f ≡ Some (norm x) → g
+    ≡ Some (norm y) → HasWords x → HasWords y → IsLawful s → denotation x s ≡ denotation y s
 one_form_denotes x y s f g e h k a b lawful =
     let n : Some (norm x) ≡ Some (norm y) = sym h ∙ (e ∙ k) in
     let m : norm x ≡ norm y = cc in

@@ -19,9 +19,12 @@ use Rattle.ft_norm.specs.contracts.packed.PackedTermPartialEq.TheImpl as packed
 -- the test of two factors
 pub factor_decides : (a b : Factor) → Decides ((factor.ghosts).eq a b) (a ≡ b)
 factor_decides (Variable i) (Variable j) = Decides-like _ (λ e. ap Variable e) (λ e. cc) (Decides-eqb i j)
-factor_decides (Operation o p q) (Operation n r s) = Decides-like _ (λ h. rw (h.0, h.1.0, h.1.1) refl) (λ e. (cc, (cc, cc))) (Decides-and _ _ (op_decides o n) (Decides-and _ _ (Decides-eqb p r) (Decides-eqb q s)))
-factor_decides (Sel p q) (Sel r s) = Decides-like _ (λ h. rw (h.0, h.1) refl) (λ e. (cc, cc)) (Decides-and _ _ (Decides-eqb p r) (Decides-eqb q s))
-factor_decides (Rem p m) (Rem r n) = Decides-like _ (λ h. rw (h.0, h.1) refl) (λ e. (cc, cc)) (Decides-and _ _ (Decides-eqb p r) (Decides-eqb m n))
+factor_decides (Operation o p q) (Operation n r s) = Decides-like _ (λ h. rw (h.0, h.1.0, h.1.1) refl) (λ e.
+    (cc, (cc, cc))) (Decides-and _ _ (op_decides o n) (Decides-and _ _ (Decides-eqb p r) (Decides-eqb q s)))
+factor_decides (Sel p q) (Sel r s) = Decides-like _ (λ h. rw (h.0, h.1) refl) (λ e.
+    (cc, cc)) (Decides-and _ _ (Decides-eqb p r) (Decides-eqb q s))
+factor_decides (Rem p m) (Rem r n) = Decides-like _ (λ h. rw (h.0, h.1) refl) (λ e.
+    (cc, cc)) (Decides-and _ _ (Decides-eqb p r) (Decides-eqb m n))
 factor_decides (Variable i) (Rem r s) = (λ t. absurd (true≢false (sym t)), λ e. cc)
 factor_decides (Operation o p q) (Rem r s) = (λ t. absurd (true≢false (sym t)), λ e. cc)
 factor_decides (Sel p q) (Rem r s) = (λ t. absurd (true≢false (sym t)), λ e. cc)
@@ -37,21 +40,36 @@ factor_decides (Sel p q) (Operation n r s) = (λ t. absurd (true≢false (sym t)
 
 -- that of two terms
 term_decides : (a b : Term) → Decides ((term.ghosts).eq a b) (a ≡ b)
-term_decides a b = Decides-like _ (λ h. ap (λ x. let t : Term = record { atoms = x; coefficient = a.coefficient } in t) h.0 ∙ ap (λ x. let t : Term = record { atoms = b.atoms; coefficient = x } in t) h.1)
+term_decides a b = Decides-like _ (λ h. ap (λ x. let t : Term = record { atoms = x; coefficient = a.coefficient } in
+    t) h.0 ∙ ap (λ x. let t : Term = record { atoms = b.atoms; coefficient = x } in t) h.1)
     (λ e. (ap (λ (t : Term). t.atoms) e, ap (λ (t : Term). t.coefficient) e))
     (Decides-and _ _ (slice_eq-Decides Decides-eqb a.atoms b.atoms _ refl) (Decides-eqb a.coefficient b.coefficient))
 
 -- and of two terms of at most one atom
 linear_decides : (a b : LinearTerm) → Decides ((linear.ghosts).eq a b) (a ≡ b)
-linear_decides a b = Decides-like _ (λ h. ap (λ x. let t : LinearTerm = record { atom = x; coefficient = a.coefficient } in t) h.0 ∙ ap (λ x. let t : LinearTerm = record { atom = b.atom; coefficient = x } in t) h.1)
+linear_decides a b = Decides-like _ (λ h. ap (λ x. let t : LinearTerm = record {
+  atom = x;
+  coefficient = a.coefficient;
+} in t) h.0 ∙ ap (λ x. let t : LinearTerm = record { atom = b.atom; coefficient = x } in
+    t) h.1)
     (λ e. (ap (λ (t : LinearTerm). t.atom) e, ap (λ (t : LinearTerm). t.coefficient) e))
     (Decides-and _ _ (Decides-eqb a.atom b.atom) (Decides-eqb a.coefficient b.coefficient))
 
 -- and of two packed terms
 packed_decides : (a b : PackedTerm) → Decides ((packed.ghosts).eq a b) (a ≡ b)
-packed_decides a b = Decides-like _ (λ h. rebuilt a.first a.second a.third a.high a.low b.first b.second b.third b.high b.low h.0 h.1.0 h.1.1.0 h.1.1.1.0 h.1.1.1.1)
-    (λ e. (ap (λ (p : PackedTerm). p.first) e, (ap (λ (p : PackedTerm). p.second) e, (ap (λ (p : PackedTerm). p.third) e, (ap (λ (p : PackedTerm). p.high) e, ap (λ (p : PackedTerm). p.low) e)))))
-    (Decides-and _ _ (Decides-eqb a.first b.first) (Decides-and _ _ (Decides-eqb a.second b.second) (Decides-and _ _ (Decides-eqb a.third b.third) (Decides-and _ _ (Decides-eqb a.high b.high) (Decides-eqb a.low b.low)))))
+packed_decides a b = Decides-like _ (λ h. rebuilt a.first a.second a.third a.high a.low b.first b.second b.third b.high
+    b.low h.0 h.1.0 h.1.1.0 h.1.1.1.0 h.1.1.1.1)
+    (λ e. (
+      ap (λ (p : PackedTerm). p.first) e,
+      (
+        ap (λ (p : PackedTerm). p.second) e,
+        (ap (λ (p : PackedTerm). p.third) e, (ap (λ (p : PackedTerm). p.high) e, ap (λ (p : PackedTerm). p.low) e)),
+      ),
+    ))
+    (Decides-and _ _ (Decides-eqb a.first b.first)
+    (Decides-and _ _ (Decides-eqb a.second b.second)
+    (Decides-and _ _ (Decides-eqb a.third b.third)
+    (Decides-and _ _ (Decides-eqb a.high b.high) (Decides-eqb a.low b.low)))))
 
 -- those of lists of them
 pub terms_decide : (xs ys : List Term) (r : Bool) → r ≡ pointwise (term.ghosts).eq xs ys → Decides r (xs ≡ ys)
@@ -60,5 +78,6 @@ terms_decide = slice_eq-Decides term_decides
 pub linears_decide : (xs ys : List LinearTerm) (r : Bool) → r ≡ pointwise (linear.ghosts).eq xs ys → Decides r (xs ≡ ys)
 linears_decide = slice_eq-Decides linear_decides
 
-pub packed_lists_decide : (xs ys : List PackedTerm) (r : Bool) → r ≡ pointwise (packed.ghosts).eq xs ys → Decides r (xs ≡ ys)
+pub packed_lists_decide : (xs ys : List PackedTerm) (r : Bool) → r ≡ pointwise (packed.ghosts).eq xs ys →
+    Decides r (xs ≡ ys)
 packed_lists_decide = slice_eq-Decides packed_decides

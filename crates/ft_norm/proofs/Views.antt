@@ -1,5 +1,6 @@
 -- Terms of one view and of another.
-use Rattle.std.proofs.Common.{ℕ, suc, ◌≡◌, ◌≤◌, ◌-◌, List, [], ◌∷◌, drop, get_or, length, map, refl, sym, take, ap, arith, subst}
+use Rattle.std.proofs.Common.{ℕ, suc, ◌≡◌, ◌≤◌, ◌-◌, List, [], ◌∷◌, drop, get_or, length, map, refl, sym, take, ap}
+use Rattle.std.proofs.Common.{arith, subst}
 use Rattle.std.proofs.lemmas.List.{take_all}
 use Rattle.ft_norm.specs.declared.entry.LinearTerm.{LinearTerm}
 use Rattle.ft_norm.specs.declared.entry.Term.{Term}
@@ -25,37 +26,46 @@ pub atom_full : (x : ℕ) (ts : List Term) → 2 ≤ greatest ts → terms_of (A
 atom_full x ts h e = let g = ap greatest e in let l = present_bound x in omega (arith, g, l, h)
 
 -- an atom alone is the terms of no view of more
-pub atom_other : (x : ℕ) (q : Terms) → IsView q → ((y : ℕ) → q ≡ Atom y → ⊥) → ((us : _) → q ≡ Linear us → ⊥) → terms_of (Atom x) ≡ terms_of q → ⊥
+pub atom_other : (x : ℕ) (q : Terms) → IsView q → ((y : ℕ) → q ≡ Atom y → ⊥) → ((us : _) → q ≡ Linear us → ⊥) →
+    terms_of (Atom x) ≡ terms_of q → ⊥
 atom_other x (Atom y) v m n e = m y refl
 atom_other x (Linear us) v m n e = n us refl
 atom_other x (Packed ps) v m n e = atom_full x (map unpacked ps.now) v.0 e
 atom_other x (Full ts) v m n e = atom_full x ts.now v.0 e
 
 -- nor are terms of at most one atom
-pub linear_other : (xs : List LinearTerm) (q : Terms) → IsView q → ((y : ℕ) → q ≡ Atom y → ⊥) → ((us : _) → q ≡ Linear us → ⊥) → map full xs ≡ terms_of q → ⊥
+pub linear_other : (xs : List LinearTerm) (q : Terms) → IsView q → ((y : ℕ) → q ≡ Atom y → ⊥) →
+    ((us : _) → q ≡ Linear us → ⊥) → map full xs ≡ terms_of q → ⊥
 linear_other xs (Atom y) v m n e = m y refl
 linear_other xs (Linear us) v m n e = n us refl
 linear_other xs (Packed ps) v m n e = linear_full xs (map unpacked ps.now) v.0 e
 linear_other xs (Full ts) v m n e = linear_full xs ts.now v.0 e
 
 -- packed terms are those of no other view
-pub packed_other : (ps : List PackedTerm) (q : Terms) → (2 ≤ greatest (map unpacked ps)) × ArePacked ps → IsView q → ((us : _) → q ≡ Packed us → ⊥) → map unpacked ps ≡ terms_of q → ⊥
+pub packed_other : (ps : List PackedTerm) (q : Terms) → (2 ≤ greatest (map unpacked ps)) × ArePacked ps → IsView q →
+    ((us : _) → q ≡ Packed us → ⊥) → map unpacked ps ≡ terms_of q → ⊥
 packed_other ps (Atom x) h v n e = atom_full x (map unpacked ps) h.0 (sym e)
 packed_other ps (Linear xs) h v n e = linear_full xs.now (map unpacked ps) h.0 (sym e)
 packed_other ps (Packed us) h v n e = n us refl
 packed_other ps (Full ts) h v n e = packed_full ps ts.now h.1 v.1 e
 
 -- nor are terms with an atom of a great number
-pub full_other : (ts : List Term) (q : Terms) → (2 ≤ greatest ts) × (HaveSmall ts → ⊥) → IsView q → ((us : _) → q ≡ Full us → ⊥) → ts ≡ terms_of q → ⊥
+pub full_other : (ts : List Term) (q : Terms) → (2 ≤ greatest ts) × (HaveSmall ts → ⊥) → IsView q →
+    ((us : _) → q ≡ Full us → ⊥) → ts ≡ terms_of q → ⊥
 full_other ts (Atom x) h v n e = atom_full x ts h.0 (sym e)
 full_other ts (Linear xs) h v n e = linear_full xs.now ts h.0 (sym e)
 full_other ts (Packed ps) h v n e = packed_full ps.now ts v.1 h.1 (sym e)
 full_other ts (Full us) h v n e = n us refl
 
 -- terms without their first, which has no atom, are of the same view
-pub rest_view : (ts : List Term) → (2 ≤ greatest ts) × (HaveSmall ts → ⊥) → 1 ≤ length ts → size (get_or ts 0 blank).atoms ≡ 0
+pub rest_view : (ts : List Term) → (2 ≤ greatest ts) × (HaveSmall ts → ⊥) → 1 ≤ length ts →
+    size (get_or ts 0 blank).atoms ≡ 0
     → (2 ≤ greatest (take (length ts - 1) (drop 1 ts))) × (HaveSmall (take (length ts - 1) (drop 1 ts)) → ⊥)
 rest_view [] h l e = absurd (omega (arith, l))
 rest_view (t ∷ ts) h l e =
     let rest : take (suc (length ts) - 1) ts ≡ ts = take_all (suc (length ts) - 1) ts (omega arith) in
-    subst (λ us. (2 ≤ greatest us) × (HaveSmall us → ⊥)) (sym rest) (omega (arith, h.0, e), λ s. h.1 (none_small t.atoms e, s))
+    subst (λ us. (2 ≤ greatest us) × (HaveSmall us → ⊥)) (sym rest) (
+      omega (arith, h.0, e),
+      λ s.
+          h.1 (none_small t.atoms e, s),
+    )

@@ -21,9 +21,8 @@ use crate::substitution::Memo;
 use crate::sum::{difference_terms, negated_terms, sum_terms};
 use crate::terms::{Terms, terms_at};
 use crate::walk::{Walk, below_newest, constant_in, walk_from};
-use ft_isa::{NoMemory, Op, apply};
+use ft_isa::{NoMemory, Op, Steps, apply};
 use ft_static::Nodes;
-use ft_steps::Steps;
 use indexmap::IndexSet;
 use smallvec::SmallVec;
 use std::alloc::{AllocError, Global};
@@ -117,7 +116,7 @@ impl Interner {
         ensures form { IfOk result (λ f. held self.new f ≡ Some (memory_form unchanged)) }
         ensures sort { IfOk result (λ f. IsMemory self.new f) }
     {
-        let form = self.put(Entry::Unchanged)?;
+        let form = self.intern(Entry::Unchanged)?;
         Ok(form)
     }
 
@@ -133,13 +132,7 @@ impl Interner {
             Op::Add => self.add(a, b)?,
             Op::Sub => self.sub(a, b)?,
             Op::Mul => self.mul(a, b)?,
-            Op::Ltu => self.folded(op, a, b)?,
-            Op::Eq => self.folded(op, a, b)?,
-            Op::And => self.folded(op, a, b)?,
-            Op::Or => self.folded(op, a, b)?,
-            Op::Xor => self.folded(op, a, b)?,
-            Op::Shl => self.folded(op, a, b)?,
-            Op::Shr => self.folded(op, a, b)?,
+            _ => self.folded(op, a, b)?,
         };
         Ok(form)
     }
@@ -192,7 +185,7 @@ impl Interner {
         ensures sort { IfOk result (λ f. IsMemory self.new f) }
     {
         let older = below_newest(self.entries.as_slice(), memory.0, at.0);
-        let form = self.put(Entry::Update {
+        let form = self.intern(Entry::Update {
             at: at.0,
             value: value.0,
             older,
@@ -240,8 +233,8 @@ impl Interner {
         a.0 == b.0
     }
 
-    /// The number of an entry: that of the equal entry that is held, or the next one.
-    fn put(&mut self, entry: Entry) -> Result<Form, AllocError>
+    /// Interns an entry: answers the number of the equal entry that is held, or adds it under the next number.
+    fn intern(&mut self, entry: Entry) -> Result<Form, AllocError>
         requires reach { reach_of_entry self.old entry ≤ length self.old }
         requires canonical { IsCanonical entry }
         ensures kept { Keeps self.old self.new }
@@ -289,7 +282,7 @@ impl Interner {
             Some(place) => Ok(Form(place)),
             None => {
                 let entry = entry_of(self.alloc, terms)?;
-                self.put(entry)
+                self.intern(entry)
             }
         }
     }
@@ -308,7 +301,7 @@ impl Interner {
             };
             SmallVec::from_buf(self.alloc, [term])
         };
-        self.put(Entry::Linear(terms))
+        self.intern(Entry::Linear(terms))
     }
 
     /// The form of an atom with the coefficient 1.
@@ -317,7 +310,7 @@ impl Interner {
         ensures kept { Keeps self.old self.new }
         ensures form { IfOk result (λ f. held self.new f ≡ Some (integer_form (alone (atom_form self.old factor)))) }
     {
-        self.put(Entry::Atom(factor))
+        self.intern(Entry::Atom(factor))
     }
 
     /// The form of a sum. It is one of the two where the other is 0.

@@ -12,9 +12,8 @@ ghost use Rattle.ft_norm.specs.Parts.{HaveSorts, form_of_parts, updates_of_parts
 use crate::form::Form;
 use crate::interner::Interner;
 use crate::parts::{Parts, parts_of};
-use ft_isa::NoMemory;
+use ft_isa::{NoMemory, Steps};
 use ft_static::{Nodes, Shape};
-use ft_steps::Steps;
 use indexmap::IndexMap;
 use std::alloc::Global;
 use std::sync::ledger::Ledger;

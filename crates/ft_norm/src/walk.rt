@@ -10,7 +10,7 @@ ghost use Rattle.ft_norm.specs.Walks.{EndsWithin, form_of_walk};
 
 use crate::entry::{Atoms, Entry, LinearTerm, degree};
 use crate::terms::{Terms, terms_at};
-use ft_steps::Steps;
+use ft_isa::Steps;
 use std::sync::ledger::Ledger;
 
 /// Where a walk ends: at the value of an update, or at the entry from which nothing more is known.

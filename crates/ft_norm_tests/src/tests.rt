@@ -1,10 +1,9 @@
 ghost use Rattle.std.specs.Prelude.{◌≡◌, ◌+◌, ◌<◌, ◌≤◌, IfOk};
 ghost use Rattle.ft_norm.specs.Held.{IsInteger, IsMemory, Keeps};
 
-use ft_isa::{NoMemory, Op};
+use ft_isa::{NoMemory, Op, Steps};
 use ft_norm::{Form, Interner};
 use ft_static::{Node, Nodes, Shape, examples_of_nodes};
-use ft_steps::Steps;
 use std::marker::Brand;
 use std::sync::ledger::{Blank, Ledger};
 use std::test::Fail;

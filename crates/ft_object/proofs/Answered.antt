@@ -12,12 +12,14 @@ use Rattle.ft_format.proofs.ReadWhole.{read_spells}
 use Rattle.ft_format.proofs.Write.{spells_unbroken, spells_read}
 
 -- what is given is spelled
-pub spelled : (bytes : List ℕ) (r : Result Object DecodeError) → AreBytes bytes → Judges r (broken bytes) → IfOk r (λ o. o ≡ object_of bytes) → IfOk r (Spells bytes (version_at bytes))
+pub spelled : (bytes : List ℕ) (r : Result Object DecodeError) → AreBytes bytes → Judges r (broken bytes) →
+    IfOk r (λ o. o ≡ object_of bytes) → IfOk r (Spells bytes (version_at bytes))
 spelled bytes (Ok o) b judged read = subst (Spells bytes (version_at bytes)) (sym read) (read_spells bytes b judged)
 spelled bytes (Err e) b judged read = tt
 
 -- what is spelled is given, unless memory runs out
-pub given : (bytes : List ℕ) (r : Result Object DecodeError) (v : Version) (o : Object) → Judges r (broken bytes) → IfOk r (λ x. x ≡ object_of bytes) → Spells bytes v o → Gives r o
+pub given : (bytes : List ℕ) (r : Result Object DecodeError) (v : Version) (o : Object) → Judges r (broken bytes) →
+    IfOk r (λ x. x ≡ object_of bytes) → Spells bytes v o → Gives r o
 given bytes (Ok x) v o judged read h = read ∙ spells_read bytes v o h
 given bytes (Err (whys.Object e)) v o judged read h = let n = spells_unbroken bytes v o h in absurd (cc)
 given bytes (Err whys.NoMemory) v o judged read h = tt

@@ -5,7 +5,8 @@ use Rattle.std.proofs.lemmas.List.{take_all}
 use Rattle.ft_isa.proofs.Lists.{take_there}
 
 -- one value more
-pub copied_more : {X : Type 0} (xs done : List X) (i : ℕ) (x : X) → slice_get xs i ≡ Some x → done ≡ take i xs → done ++ x ∷ [] ≡ take (i + 1) xs
+pub copied_more : {X : Type 0} (xs done : List X) (i : ℕ) (x : X) → slice_get xs i ≡ Some x → done ≡ take i xs → done
+    ++ x ∷ [] ≡ take (i + 1) xs
 copied_more xs done i x there h =
     let e : i + 1 ≡ suc i = omega arith in
     ap (λ l. l ++ x ∷ []) h ∙ sym (take_there xs i x there) ∙ ap (λ k. take k xs) (sym e)

@@ -1,5 +1,6 @@
 -- Pending stores by index, as the code goes over them.
-use Rattle.std.proofs.Common.{◌≡◌, ◌≢◌, ℕ, zero, suc, ◌+◌, ◌<◌, ◌≤◌, cond, [], ◌∷◌, ◌++◌, length, take, Option, Some, None, refl, ap, sym, ◌∙◌, arith, nat_eq, slice_index_or, slice_set, Bool, true, false}
+use Rattle.std.proofs.Common.{◌≡◌, ◌≢◌, ℕ, zero, suc, ◌+◌, ◌<◌, ◌≤◌, cond, [], ◌∷◌, ◌++◌, length, take, Option, Some}
+use Rattle.std.proofs.Common.{None, refl, ap, sym, ◌∙◌, arith, nat_eq, slice_index_or, slice_set, Bool, true, false}
 use Rattle.std.proofs.lemmas.List.{take_more, length-append}
 use Rattle.std.proofs.Math.Seq.{take-length}
 use Rattle.std.proofs.lemmas.Option.{get_or_from_slice_get}
@@ -13,7 +14,8 @@ option_or-cond true v o p = refl
 option_or-cond false v o p = refl
 
 -- one more entry is the newest
-pub newest_at-append : (q : Pending) (e : ℕ × ℕ) (a : ℕ) → newest_at (q ++ e ∷ []) a ≡ cond (nat_eq e.0 a) (Some e.1) (newest_at q a)
+pub newest_at-append : (q : Pending) (e : ℕ × ℕ) (a : ℕ) → newest_at (q ++ e ∷ []) a
+    ≡ cond (nat_eq e.0 a) (Some e.1) (newest_at q a)
 unfolding newest_at
 newest_at-append [] e a = refl
 newest_at-append (f ∷ q) e a =
@@ -22,28 +24,34 @@ newest_at-append (f ∷ q) e a =
 
 -- one more entry of a queue that is gone over, oldest first
 newest_at-take : (q : Pending) (i a : ℕ) (d : ℕ × ℕ) → i < length q
-    → newest_at (take (i + 1) q) a ≡ cond (nat_eq (slice_index_or q i d).0 a) (Some (slice_index_or q i d).1) (newest_at (take i q) a)
-newest_at-take q i a d below = ap (λ t. newest_at t a) (take_more q i d below) ∙ newest_at-append (take i q) (slice_index_or q i d) a
+    → newest_at (take (i + 1) q) a ≡ cond (nat_eq (slice_index_or q i d).0 a) (Some (slice_index_or q i d).1)
+    (newest_at (take i q) a)
+newest_at-take q i a d below = ap (λ t. newest_at t a) (take_more q i d below)
+    ∙ newest_at-append (take i q) (slice_index_or q i d) a
 
-pub newest_at-take_here : (q : Pending) (i a : ℕ) (d : ℕ × ℕ) → i < length q → (slice_index_or q i d).0 ≡ a → Some (slice_index_or q i d).1 ≡ newest_at (take (i + 1) q) a
+pub newest_at-take_here : (q : Pending) (i a : ℕ) (d : ℕ × ℕ) → i < length q → (slice_index_or q i d).0 ≡ a →
+    Some (slice_index_or q i d).1 ≡ newest_at (take (i + 1) q) a
 newest_at-take_here q i a d below here =
     let e = slice_index_or q i d in
     sym (newest_at-take q i a d below ∙ ap (λ b. cond b (Some e.1) (newest_at (take i q) a)) (eq-eqb e.0 a here))
 
-pub newest_at-take_other : (q : Pending) (i a : ℕ) (d : ℕ × ℕ) → i < length q → (slice_index_or q i d).0 ≢ a → newest_at (take i q) a ≡ newest_at (take (i + 1) q) a
+pub newest_at-take_other : (q : Pending) (i a : ℕ) (d : ℕ × ℕ) → i < length q → (slice_index_or q i d).0 ≢ a →
+    newest_at (take i q) a ≡ newest_at (take (i + 1) q) a
 newest_at-take_other q i a d below other =
     let e = slice_index_or q i d in
     sym (newest_at-take q i a d below ∙ ap (λ b. cond b (Some e.1) (newest_at (take i q) a)) (ne_eqb e.0 a other))
 
 -- another address in an entry that is there
-pub set-with_address : (q : Pending) (i v : ℕ) (e : ℕ × ℕ) → i < length q → e ≡ slice_index_or q i e → slice_set q i (v, e.1) ≡ with_address q i v
+pub set-with_address : (q : Pending) (i v : ℕ) (e : ℕ × ℕ) → i < length q → e ≡ slice_index_or q i e →
+    slice_set q i (v, e.1) ≡ with_address q i v
 unfolding with_address
 set-with_address [] i v e below is = absurd (omega arith)
 set-with_address (f ∷ q) zero v e below is = ap (λ (x : ℕ × ℕ). (v, x.1) ∷ q) is
 set-with_address (f ∷ q) (suc i) v e below is = ap (λ r. f ∷ r) (set-with_address q i v e (omega arith) is)
 
 -- another value in an entry that is there
-pub set-with_value : (q : Pending) (i v : ℕ) (e : ℕ × ℕ) → i < length q → e ≡ slice_index_or q i e → slice_set q i (e.0, v) ≡ with_value q i v
+pub set-with_value : (q : Pending) (i v : ℕ) (e : ℕ × ℕ) → i < length q → e ≡ slice_index_or q i e →
+    slice_set q i (e.0, v) ≡ with_value q i v
 unfolding with_value
 set-with_value [] i v e below is = absurd (omega arith)
 set-with_value (f ∷ q) zero v e below is = ap (λ (x : ℕ × ℕ). (x.0, v) ∷ q) is
@@ -63,19 +71,22 @@ with_value-beyond (f ∷ q) zero v beyond = absurd (omega arith)
 with_value-beyond (f ∷ q) (suc i) v beyond = ap (λ r. f ∷ r) (with_value-beyond q i v (omega arith))
 
 -- the entry that is gone over has the address
-pub newest_now : (q : Pending) (i a : ℕ) (e : ℕ × ℕ) → i < length q → slice_get q i ≡ Some e → e.0 ≡ a → Some e.1 ≡ newest_at (take (i + 1) q) a
+pub newest_now : (q : Pending) (i a : ℕ) (e : ℕ × ℕ) → i < length q → slice_get q i ≡ Some e → e.0 ≡ a → Some e.1
+    ≡ newest_at (take (i + 1) q) a
 newest_now q i a e below h here =
     let g = get_or_from_slice_get q i e (0, 0) h in
     ap (λ (x : ℕ × ℕ). Some x.1) (sym g) ∙ newest_at-take_here q i a (0, 0) below (ap (λ (x : ℕ × ℕ). x.0) g ∙ here)
 
 -- the entry that is gone over has another address
-pub newest_before : (q : Pending) (i a : ℕ) (e : ℕ × ℕ) → i < length q → slice_get q i ≡ Some e → e.0 ≢ a → newest_at (take i q) a ≡ newest_at (take (i + 1) q) a
+pub newest_before : (q : Pending) (i a : ℕ) (e : ℕ × ℕ) → i < length q → slice_get q i ≡ Some e → e.0 ≢ a →
+    newest_at (take i q) a ≡ newest_at (take (i + 1) q) a
 newest_before q i a e below h other =
     let g = get_or_from_slice_get q i e (0, 0) h in
     newest_at-take_other q i a (0, 0) below (λ is. other (ap (λ (x : ℕ × ℕ). x.0) (sym g) ∙ is))
 
 -- another address in an entry that was found
-pub address_put : (q : Pending) (i v : ℕ) (e : ℕ × ℕ) → Some e ≡ slice_get q i → slice_set q i (v, e.1) ≡ with_address q i v
+pub address_put : (q : Pending) (i v : ℕ) (e : ℕ × ℕ) → Some e ≡ slice_get q i → slice_set q i (v, e.1)
+    ≡ with_address q i v
 unfolding with_address
 address_put [] i v e h = absurd (cc)
 address_put (f ∷ q) zero v e h = let same : e ≡ f = cc in ap (λ (x : ℕ × ℕ). (v, x.1) ∷ q) same
@@ -102,7 +113,8 @@ value_none (f ∷ q) zero v h = absurd (cc)
 value_none (f ∷ q) (suc i) v h = ap (λ r. f ∷ r) (value_none q i v h)
 
 -- a queue of at most eight pairs fits into an empty one in two parts
-pub refilled : (xs ys zs : Pending) (n m : ℕ) → length zs ≤ 8 → xs ++ ys ≡ zs → n ≡ min (length xs) 8 → m ≡ min (length ys) (8 - length (take n xs)) → take n xs ++ take m ys ≡ zs
+pub refilled : (xs ys zs : Pending) (n m : ℕ) → length zs ≤ 8 → xs ++ ys ≡ zs → n ≡ min (length xs) 8 → m
+    ≡ min (length ys) (8 - length (take n xs)) → take n xs ++ take m ys ≡ zs
 refilled xs ys zs n m few is first second =
     let sum : length xs + length ys ≡ length zs = sym (length-append xs ys) ∙ ap length is in
     let n_is : n ≡ length xs = omega (arith, sum) in

@@ -1,5 +1,6 @@
 -- Runs under a plan of which the first outputs get no line, and what a recovery comes to by them.
-use Rattle.std.proofs.Common.{◌≡◌, ◌≢◌, ℕ, ◌+◌, ◌-◌, ◌^◌, ◌<◌, ◌≤◌, List, [], ◌++◌, length, Option, None, Result, refl, ap, sym, subst, ◌∙◌, arith}
+use Rattle.std.proofs.Common.{◌≡◌, ◌≢◌, ℕ, ◌+◌, ◌-◌, ◌^◌, ◌<◌, ◌≤◌, List, [], ◌++◌, length, Option, None, Result, refl}
+use Rattle.std.proofs.Common.{ap, sym, subst, ◌∙◌, arith}
 use Rattle.std.specs.Prelude.{drop}
 use Rattle.std.proofs.Math.Seq.{drop-append_seam}
 use Rattle.std.proofs.lemmas.List.{append-nil}
@@ -24,8 +25,7 @@ use Rattle.ft_machine.specs.Goes.{HasRun, goes_on}
 use Rattle.ft_machine.proofs.Counting.{few_fit, run_few}
 use Rattle.ft_machine.proofs.Driven.{run_whole}
 use Rattle.ft_machine.proofs.Putting.{lines-append}
-use Rattle.ft_machine.proofs.Runs.{run_grows}
-use Rattle.ft_machine.proofs.Spanned.{rest_of}
+use Rattle.ft_semantics.proofs.Runs.{outputs_grow}
 use Rattle.ft_tolerance.proofs.Masking.{tolerant}
 use Rattle.ft_recover.specs.declared.recover_end.RecoverEnd.{RecoverEnd}
 use Rattle.ft_recover.specs.declared.recover_end.RecoverEnd.TheVariants as ending
@@ -38,21 +38,28 @@ use Rattle.ft_recover.proofs.Stretches.{drop_append}
 counted_all : (now long : ℕ) → now ≡ 0 + long → now ≡ long
 counted_all now long h = omega (arith, h)
 
-module _ (o : Object) (strike : Option Strike) (w : List Wild) (s : State) (most n passed left now : ℕ) (old new : SinkLog) (small : most < 2 ^ 64) where
+module _ (o : Object) (strike : Option Strike) (w : List Wild) (s : State) (most n passed left now : ℕ)
+    (old new : SinkLog) (small : most < 2 ^ 64) where
   -- a run that no put ended
-  pub ran_past : (pause : Pause) → ¬ (pause ≡ pauses.Refused) → HasRun o strike w s most n pause → Passes o passed 0 (outputs_after o strike w n) (goes_on pause) left now old new → RunsTo o strike w most s now
+  pub ran_past : (pause : Pause) → ¬ (pause ≡ pauses.Refused) → HasRun o strike w s most n pause →
+      Passes o passed 0 (outputs_after o strike w n) (goes_on pause) left now old new → RunsTo o strike w most s now
   ran_past pause went r h =
       let same = sym (run_whole o strike w s most n pause went r) in
       record {
         state_is = r.state_is ∙ ap (λ (x : Ran). x.state) same;
-        count_is = counted_all now (length (outputs_after o strike w n)) (h.count_is (few_fit (length (outputs_after o strike w n)) n most (run_few o strike w n) r.few small)) ∙ ap (λ (x : Ran). length x.outputs) same;
+        count_is = counted_all now (length (outputs_after o strike w n))
+            (h.count_is (few_fit (length (outputs_after o strike w n)) n most (run_few o strike w n) r.few small))
+            ∙ ap (λ (x : Ran). length x.outputs) same;
       }
 
-  puts_whole : (pause : Pause) → ¬ (pause ≡ pauses.Refused) → HasRun o strike w s most n pause → new ≡ with_lines (output_lines o (drop passed (outputs_after o strike w n))) old
+  puts_whole : (pause : Pause) → ¬ (pause ≡ pauses.Refused) → HasRun o strike w s most n pause → new
+      ≡ with_lines (output_lines o (drop passed (outputs_after o strike w n))) old
       → new ≡ with_lines (output_lines o (drop passed (outputs_after o strike w most))) old
-  puts_whole pause went r h = subst (λ (x : Ran). new ≡ with_lines (output_lines o (drop passed x.outputs)) old) (sym (run_whole o strike w s most n pause went r)) h
+  puts_whole pause went r h = subst (λ (x : Ran). new ≡ with_lines (output_lines o (drop passed x.outputs)) old)
+      (sym (run_whole o strike w s most n pause went r)) h
 
-  pub puts_past : (pause : Pause) → ¬ (pause ≡ pauses.Refused) → HasRun o strike w s most n pause → Passes o passed 0 (outputs_after o strike w n) (goes_on pause) left now old new
+  pub puts_past : (pause : Pause) → ¬ (pause ≡ pauses.Refused) → HasRun o strike w s most n pause →
+      Passes o passed 0 (outputs_after o strike w n) (goes_on pause) left now old new
       → new ≡ with_lines (output_lines o (drop passed (outputs_after o strike w most))) old
   puts_past pauses.Running went r h = puts_whole pauses.Running went r h.lines
   puts_past pauses.Done went r h = puts_whole pauses.Done went r h.lines
@@ -60,15 +67,18 @@ module _ (o : Object) (strike : Option Strike) (w : List Wild) (s : State) (most
   puts_past pauses.Refused went r h = absurd (went refl)
 
   -- a run that a put ended
-  pub breaks_past : (pause : Pause) → pause ≡ pauses.Refused → n ≤ most → Passes o passed 0 (outputs_after o strike w n) (goes_on pause) left now old new → BreaksOff (output_lines o (drop passed (outputs_after o strike w most))) old new
+  pub breaks_past : (pause : Pause) → pause ≡ pauses.Refused → n ≤ most →
+      Passes o passed 0 (outputs_after o strike w n) (goes_on pause) left now old new →
+      BreaksOff (output_lines o (drop passed (outputs_after o strike w most))) old new
   breaks_past pause refused few h =
       let xs = outputs_after o strike w n in
-      let grown = run_grows o strike w n (most - n) in
-      let whole : outputs_after o strike w most ≡ xs ++ grown.0 = ap (outputs_after o strike w) (sym (rest_of n most few)) ∙ grown.1 in
-      let parts = ap (drop passed) whole ∙ drop_append passed xs grown.0 in
+      let grown = outputs_grow o strike w n most few in
+      let parts = ap (drop passed) (sym grown.1) ∙ drop_append passed xs grown.0 in
       let put = subst (λ p. Passes o passed 0 xs (goes_on p) left now old new) refused h in
-      subst (λ ls. BreaksOff ls old new) (sym (ap (output_lines o) parts ∙ lines-append o (drop passed xs) (drop (passed - length xs) grown.0)))
-      (breaks_before (output_lines o (drop passed xs)) (output_lines o (drop (passed - length xs) grown.0)) old new put.lines)
+      subst (λ ls. BreaksOff ls old new) (sym (ap (output_lines o) parts
+      ∙ lines-append o (drop passed xs) (drop (passed - length xs) grown.0)))
+      (breaks_before (output_lines o (drop passed xs)) (output_lines o (drop (passed - length xs) grown.0)) old new
+      put.lines)
 
 -- BOTH RUNS
 
@@ -80,36 +90,46 @@ begins : (os os' : List Output) (s s' : Status) → Agrees os s os' s' → IsPre
 begins os os' s s' (equal e f) = ([], append-nil os ∙ e)
 begins os os' s s' (stopped e f) = f
 
-module _ (o : Object) (strike : Option Strike) (w : List Wild) (n : ℕ) (spellable : IsSpellable o) (accepted : IsAccepted o) (old mid : SinkLog) where
-  agrees : Agrees (outputs_after o strike w n) (status_after o strike w n) (outputs_after o None w n) (status_after o None w n)
+module _ (o : Object) (strike : Option Strike) (w : List Wild) (n : ℕ) (spellable : IsSpellable o)
+    (accepted : IsAccepted o) (old mid : SinkLog) where
+  agrees : Agrees (outputs_after o strike w n) (status_after o strike w n) (outputs_after o None w n)
+      (status_after o None w n)
   agrees = tolerant o strike w n spellable accepted
 
   -- what the struck run committed begins the whole output
   front : IsPrefix (outputs_after o strike w n) (outputs_after o None w n)
-  front = begins (outputs_after o strike w n) (outputs_after o None w n) (status_after o strike w n) (status_after o None w n) agrees
+  front = begins (outputs_after o strike w n) (outputs_after o None w n) (status_after o strike w n)
+      (status_after o None w n) agrees
 
   -- a run that is not detected ends as the run without a fault
   pub same_status : status_after o strike w n ≢ Detected → status_after o strike w n ≡ status_after o None w n
   same_status never = (same_run agrees never).1
 
-  pub same_lines : status_after o strike w n ≢ Detected → mid ≡ with_lines (output_lines o (outputs_after o strike w n)) old → mid ≡ with_lines (whole_output o w n) old
+  pub same_lines : status_after o strike w n ≢ Detected → mid
+      ≡ with_lines (output_lines o (outputs_after o strike w n)) old → mid ≡ with_lines (whole_output o w n) old
   same_lines never h = subst (λ xs. mid ≡ with_lines (output_lines o xs) old) (same_run agrees never).0 h
 
   both_lines : output_lines o (outputs_after o strike w n) ++ output_lines o front.0 ≡ whole_output o w n
   both_lines = sym (lines-append o (outputs_after o strike w n) front.0) ∙ ap (output_lines o) front.1
 
   -- a put of the struck run failed
-  pub breaks_early : BreaksOff (output_lines o (outputs_after o strike w n)) old mid → BreaksOff (whole_output o w n) old mid
-  breaks_early h = subst (λ ls. BreaksOff ls old mid) both_lines (breaks_before (output_lines o (outputs_after o strike w n)) (output_lines o front.0) old mid h)
+  pub breaks_early : BreaksOff (output_lines o (outputs_after o strike w n)) old mid →
+      BreaksOff (whole_output o w n) old mid
+  breaks_early h = subst (λ ls. BreaksOff ls old mid) both_lines
+      (breaks_before (output_lines o (outputs_after o strike w n)) (output_lines o front.0) old mid h)
 
   -- the second run puts what is left
-  pub puts_again : {A E : Type 0} (r : Result A E) (committed : ℕ) (new : SinkLog) → committed ≡ length (outputs_after o strike w n) → mid ≡ with_lines (output_lines o (outputs_after o strike w n)) old
-      → Puts (end_of_puts r) (output_lines o (drop committed (outputs_after o None w n))) mid new → Puts (end_of_puts r) (whole_output o w n) old new
+  pub puts_again : {A E : Type 0} (r : Result A E) (committed : ℕ) (new : SinkLog) → committed
+      ≡ length (outputs_after o strike w n) → mid ≡ with_lines (output_lines o (outputs_after o strike w n)) old
+      → Puts (end_of_puts r) (output_lines o (drop committed (outputs_after o None w n))) mid new →
+      Puts (end_of_puts r) (whole_output o w n) old new
   puts_again r committed new is a h =
       let left_over : drop committed (outputs_after o None w n) ≡ front.0
-      = ap (λ c. drop c (outputs_after o None w n)) is ∙ ap (drop (length (outputs_after o strike w n))) (sym front.1) ∙ drop-append_seam (outputs_after o strike w n) front.0 in
+      = ap (λ c. drop c (outputs_after o None w n)) is ∙ ap (drop (length (outputs_after o strike w n))) (sym front.1)
+      ∙ drop-append_seam (outputs_after o strike w n) front.0 in
       subst (λ ls. Puts (end_of_puts r) ls old new) both_lines
-      (puts_then (end_of_puts r) (output_lines o (outputs_after o strike w n)) (output_lines o front.0) old mid new (made_by r) a
+      (puts_then (end_of_puts r) (output_lines o (outputs_after o strike w n)) (output_lines o front.0) old mid new
+      (made_by r) a
       (subst (λ xs. Puts (end_of_puts r) (output_lines o xs) mid new) left_over h))
 
 -- HOW A RECOVERY ENDS
@@ -133,7 +153,8 @@ module _ (s : Status) (restart : Option ℕ) where
   finishes_restart ending.WriteFault h = tt
   finishes_restart ending.NoMemory h = tt
 
-  pub finishes_puts : (e : RecoverEnd) (lines : List (List ℕ)) (old new : SinkLog) → Finishes e s restart → new ≡ with_lines lines old → Puts (put_end e) lines old new
+  pub finishes_puts : (e : RecoverEnd) (lines : List (List ℕ)) (old new : SinkLog) → Finishes e s restart → new
+      ≡ with_lines lines old → Puts (put_end e) lines old new
   finishes_puts (ending.Done again) lines old new h put = put
   finishes_puts (ending.OutOfSteps again) lines old new h put = put
   finishes_puts ending.WriteFault lines old new h put = absurd h

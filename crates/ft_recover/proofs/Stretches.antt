@@ -1,5 +1,6 @@
 -- Outputs of which the first get no line.
-use Rattle.std.proofs.Common.{◌≡◌, ℕ, zero, suc, ◌+◌, ◌-◌, ◌%◌, ◌^◌, ◌<◌, List, [], ◌∷◌, ◌++◌, length, Result, is_ok, true, refl, ap, sym, subst, ◌∙◌, arith}
+use Rattle.std.proofs.Common.{◌≡◌, ℕ, zero, suc, ◌+◌, ◌-◌, ◌%◌, ◌^◌, ◌<◌, List, [], ◌∷◌, ◌++◌, length, Result, is_ok}
+use Rattle.std.proofs.Common.{true, refl, ap, sym, subst, ◌∙◌, arith}
 use Rattle.std.specs.Prelude.{drop}
 use Rattle.std.proofs.Math.Nat.{sub-zero}
 use Rattle.std.proofs.lemmas.List.{append-nil, length-append}
@@ -42,15 +43,18 @@ fewer p n m left after is h next = omega (arith, is, h, next)
 none_left : (p n m left : ℕ) → m ≡ n + 1 → left ≡ p - n → left ≡ 0 → left ≡ p - m
 none_left p n m left is h none = omega (arith, is, h, none)
 
-module _ (o : Object) (passed count : ℕ) (before : List Output) (x : Output) (left now : ℕ) (first old : SinkLog) (h : Passes o passed count before true left now first old) where
+module _ (o : Object) (passed count : ℕ) (before : List Output) (x : Output) (left now : ℕ) (first old : SinkLog)
+    (h : Passes o passed count before true left now first old) where
   long : length (before ++ x ∷ []) ≡ length before + 1
   long = length-append before (x ∷ [])
 
   -- one more gets no line
-  pub passes_over : (left' now' : ℕ) → 0 < left → left' ≡ left - 1 → now' ≡ (now + 1) % 2 ^ 64 → Passes o passed count (before ++ x ∷ []) true left' now' first old
+  pub passes_over : (left' now' : ℕ) → 0 < left → left' ≡ left - 1 → now' ≡ (now + 1) % 2 ^ 64 →
+      Passes o passed count (before ++ x ∷ []) true left' now' first old
   passes_over left' now' some less more =
       let same : drop passed (before ++ x ∷ []) ≡ drop passed before
-      = drop_append passed before (x ∷ []) ∙ ap (λ n. drop passed before ++ drop n (x ∷ [])) (sym h.left_is) ∙ ap (λ xs. drop passed before ++ xs) (drop_one left x some) ∙ append-nil (drop passed before) in
+      = drop_append passed before (x ∷ []) ∙ ap (λ n. drop passed before ++ drop n (x ∷ [])) (sym h.left_is)
+      ∙ ap (λ xs. drop passed before ++ xs) (drop_one left x some) ∙ append-nil (drop passed before) in
       record {
         left_is = fewer passed (length before) (length (before ++ x ∷ [])) left left' long h.left_is less;
         count_is = count_next count now now' before x h.count_is more;
@@ -58,7 +62,9 @@ module _ (o : Object) (passed count : ℕ) (before : List Output) (x : Output) (
       }
 
   -- one more was put, or its put failed
-  pub passes_put : (r : Result (Unit {0}) Failed) (now' : ℕ) (new : SinkLog) → left ≡ 0 → now' ≡ (now + 1) % 2 ^ 64 → Puts (end_of_puts r) (line_at o x ∷ []) old new → Passes o passed count (before ++ x ∷ []) (is_ok r) left now' first new
+  pub passes_put : (r : Result (Unit {0}) Failed) (now' : ℕ) (new : SinkLog) → left ≡ 0 → now' ≡ (now + 1) % 2 ^ 64 →
+      Puts (end_of_puts r) (line_at o x ∷ []) old new →
+      Passes o passed count (before ++ x ∷ []) (is_ok r) left now' first new
   passes_put r now' new none more put =
       let same : drop passed (before ++ x ∷ []) ≡ drop passed before ++ x ∷ []
       = drop_append passed before (x ∷ []) ∙ ap (λ n. drop passed before ++ drop n (x ∷ [])) (sym h.left_is ∙ none) in
@@ -66,5 +72,8 @@ module _ (o : Object) (passed count : ℕ) (before : List Output) (x : Output) (
         left_is = none_left passed (length before) (length (before ++ x ∷ [])) left long h.left_is none;
         count_is = count_next count now now' before x h.count_is more;
         lines = subst (λ xs. Puts (end_of_going (is_ok r)) (output_lines o xs) first new) (sym same)
-            (outputs_next o (drop passed before) x r first old new (record { lines = h.lines; pieces = ap (λ (log : SinkLog). log.pieces) h.lines }) put).lines;
+            (outputs_next o (drop passed before) x r first old new (record {
+              lines = h.lines;
+              pieces = ap (λ (log : SinkLog). log.pieces) h.lines;
+            }) put).lines;
       }

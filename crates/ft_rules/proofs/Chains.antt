@@ -1,5 +1,6 @@
 -- The exits of a row: what comes after a premise that holds, and the refusal of one that fails.
-use Rattle.std.proofs.Common.{◌≡◌, ◌+◌, ◌≤◌, ℕ, suc, eqb, List, [], ◌∷◌, ◌++◌, true, drop, length, Result, Ok, Err, Some, arith, refl, sym, ap, ◌∙◌, subst}
+use Rattle.std.proofs.Common.{◌≡◌, ◌+◌, ◌≤◌, ℕ, suc, eqb, List, [], ◌∷◌, ◌++◌, true, drop, length, Result, Ok, Err}
+use Rattle.std.proofs.Common.{Some, arith, refl, sym, ap, ◌∙◌, subst}
 use Rattle.std.specs.Result.{IsErrAnd}
 use Rattle.std.proofs.lemmas.List.{length-drop, length_push}
 use Rattle.std.proofs.lemmas.Bool.{ltb-true}
@@ -29,17 +30,20 @@ pub refused : (x y : Outcome) (e : RuleError) → x ≡ y → IsRefusal y e → 
 refused x y e s h = subst (λ z. IsRefusal z e) (sym s) h
 
 -- the exit of some premises at one that fails
-pub passes_exit : {A : Type 0} (r : Result A RuleError) (e : RuleError) (x y : Outcome) (after : A → Outcome) → IsErrAnd r (λ f. f ≡ e) → x ≡ y → IsRefusal y e → Passes x after r
+pub passes_exit : {A : Type 0} (r : Result A RuleError) (e : RuleError) (x y : Outcome) (after : A → Outcome) →
+    IsErrAnd r (λ f. f ≡ e) → x ≡ y → IsRefusal y e → Passes x after r
 passes_exit (Ok a) e x y after h s k = absurd h
 passes_exit (Err f) e x y after h s k = subst (λ (g : RuleError). IsRefusal x g) (sym h) (refused x y e s k)
 
 -- the exit of some premises when out of memory
-pub passes_stop : {A : Type 0} (r : Result A RuleError) (x : Outcome) (after : A → Outcome) → IsErrAnd r (λ f. f ≡ NoMemory) → Passes x after r
+pub passes_stop : {A : Type 0} (r : Result A RuleError) (x : Outcome) (after : A → Outcome) →
+    IsErrAnd r (λ f. f ≡ NoMemory) → Passes x after r
 passes_stop (Ok a) x after h = absurd h
 passes_stop (Err f) x after h = subst (λ (g : RuleError). IsRefusal x g) (sym h) tt
 
 -- premises that come after others
-pub passes_after : {A : Type 0} (r : Result A RuleError) (x y : Outcome) (after : A → Outcome) → x ≡ y → Passes y after r → Passes x after r
+pub passes_after : {A : Type 0} (r : Result A RuleError) (x y : Outcome) (after : A → Outcome) → x ≡ y →
+    Passes y after r → Passes x after r
 passes_after r x y after e h = subst (λ z. Passes z after r) (sym e) h
 
 -- WHOLE ROWS
@@ -53,13 +57,17 @@ grows_none fs gs c keeps held =
     record { memory = omega (arith, m); queue = λ l. omega (arith, q, l) }
 
 -- its memory and its static queue stay
-pub grows_same : (fs gs : List Normal) (c d : Context) → Keeps fs gs → HoldsForms fs c → updates (context_in gs d).memory ≡ updates (context_in gs c).memory → length (context_in gs d).queue ≡ length (context_in gs c).queue → Grows fs gs c d
+pub grows_same : (fs gs : List Normal) (c d : Context) → Keeps fs gs → HoldsForms fs c →
+    updates (context_in gs d).memory ≡ updates (context_in gs c).memory → length (context_in gs d).queue
+    ≡ length (context_in gs c).queue → Grows fs gs c d
 grows_same fs gs c d keeps held a b =
     let g = grows_none fs gs c keeps held in
     record { memory = omega (arith, g.memory, a); queue = λ l. let h = g.queue l in omega (arith, h, b) }
 
 -- the exit of a row at a premise that fails
-pub does_exit : (r : Result Next RuleError) (e : RuleError) (x y : Outcome) (o : Object) (fs gs : List Normal) (c : Context) → IsErrAnd r (λ f. f ≡ e) → x ≡ y → IsRefusal y e → Keeps fs gs → HoldsForms fs c → NamesTypes o c → Does x o fs gs c c r
+pub does_exit : (r : Result Next RuleError) (e : RuleError) (x y : Outcome) (o : Object) (fs gs : List Normal)
+    (c : Context) → IsErrAnd r (λ f. f ≡ e) → x ≡ y → IsRefusal y e → Keeps fs gs → HoldsForms fs c → NamesTypes o c →
+    Does x o fs gs c c r
 does_exit (Ok n) e x y o fs gs c h s k keeps held types = absurd h
 does_exit (Err f) e x y o fs gs c h s k keeps held types = record {
   row = subst (λ (g : RuleError). IsRefusal x g) (sym h) (refused x y e s k);
@@ -71,7 +79,8 @@ does_exit (Err f) e x y o fs gs c h s k keeps held types = record {
 }
 
 -- the exit of a row when out of memory
-pub does_stop : (r : Result Next RuleError) (x : Outcome) (o : Object) (fs gs : List Normal) (c : Context) → IsErrAnd r (λ f. f ≡ NoMemory) → Keeps fs gs → HoldsForms fs c → NamesTypes o c → Does x o fs gs c c r
+pub does_stop : (r : Result Next RuleError) (x : Outcome) (o : Object) (fs gs : List Normal) (c : Context) →
+    IsErrAnd r (λ f. f ≡ NoMemory) → Keeps fs gs → HoldsForms fs c → NamesTypes o c → Does x o fs gs c c r
 does_stop (Ok n) x o fs gs c h keeps held types = absurd h
 does_stop (Err f) x o fs gs c h keeps held types = record {
   row = subst (λ (g : RuleError). IsRefusal x g) (sym h) tt;
@@ -83,24 +92,49 @@ does_stop (Err f) x o fs gs c h keeps held types = record {
 }
 
 -- a row that goes on with this context
-pub does_go : (x : Outcome) (o : Object) (fs gs : List Normal) (c d : Context) → x ≡ Goes (context_in gs d) → Keeps fs gs → HoldsForms gs d → NamesTypes o d → Grows fs gs c d → Does x o fs gs c d (Ok On)
-does_go x o fs gs c d h keeps held types g = record { row = h; before = tt; kept = keeps; held = held; types = types; grows = g }
+pub does_go : (x : Outcome) (o : Object) (fs gs : List Normal) (c d : Context) → x ≡ Goes (context_in gs d) →
+    Keeps fs gs → HoldsForms gs d → NamesTypes o d → Grows fs gs c d → Does x o fs gs c d (Ok On)
+does_go x o fs gs c d h keeps held types g = record {
+  row = h;
+  before = tt;
+  kept = keeps;
+  held = held;
+  types = types;
+  grows = g;
+}
 
 -- a row that ends the block
-pub does_end : (x : Outcome) (o : Object) (fs gs : List Normal) (c : Context) → x ≡ Ends → Keeps fs gs → HoldsForms fs c → NamesTypes o c → Does x o fs gs c c (Ok End)
-does_end x o fs gs c h keeps held types = record { row = h; before = tt; kept = keeps; held = forms_kept fs gs c keeps held; types = types; grows = grows_none fs gs c keeps held }
+pub does_end : (x : Outcome) (o : Object) (fs gs : List Normal) (c : Context) → x ≡ Ends → Keeps fs gs →
+    HoldsForms fs c → NamesTypes o c → Does x o fs gs c c (Ok End)
+does_end x o fs gs c h keeps held types = record {
+  row = h;
+  before = tt;
+  kept = keeps;
+  held = forms_kept fs gs c keeps held;
+  types = types;
+  grows = grows_none fs gs c keeps held;
+}
 
 -- a row that notes what is known of a register
 pub does_note : (x : Outcome) (o : Object) (fs gs : List Normal) (c d : Context) (rd : ℕ) (k : RegForm) (p : Polynomial)
-    → x ≡ Goes (with_type rd (record { colour = k.colour; basic = k.basic; form = p }) (context_in fs c)) → held gs k.form ≡ Some (integer_form p) → IsBase (length o.types) k.basic.base
+    → x ≡ Goes (with_type rd (record { colour = k.colour; basic = k.basic; form = p }) (context_in fs c)) →
+    held gs k.form ≡ Some (integer_form p) → IsBase (length o.types) k.basic.base
     → Keeps fs gs → HoldsForms fs c → NamesTypes o c
-    → ((hs : List Normal) → context_in hs d ≡ with_type rd (typed_in hs k) (context_in hs c)) → ((hs : List Normal) → HoldsForms hs c → IsInteger hs k.form → HoldsForms hs d) → ((q : Object) → NamesTypes q c → IsBase (length q.types) k.basic.base → NamesTypes q d)
+    → ((hs : List Normal) → context_in hs d ≡ with_type rd (typed_in hs k) (context_in hs c)) →
+    ((hs : List Normal) → HoldsForms hs c → IsInteger hs k.form → HoldsForms hs d) →
+    ((q : Object) → NamesTypes q c → IsBase (length q.types) k.basic.base → NamesTypes q d)
     → Does x o fs gs c d (Ok On)
 does_note x o fs gs c d rd k p goes made base keeps held types noted still named =
-    let t : typed_in gs k ≡ record { colour = k.colour; basic = k.basic; form = p } = (let e = polynomial_found gs k.form p made in λ i. record { colour = k.colour; basic = k.basic; form = e i }) in
+    let t : typed_in gs k ≡ record { colour = k.colour; basic = k.basic; form = p } =
+    (let e = polynomial_found gs k.form p made in λ i. record { colour = k.colour; basic = k.basic; form = e i }) in
     let e : context_in gs d ≡ with_type rd (record { colour = k.colour; basic = k.basic; form = p }) (context_in fs c) =
-    noted gs ∙ ap (λ (y : Typed). with_type rd y (context_in gs c)) t ∙ ap (with_type rd (record { colour = k.colour; basic = k.basic; form = p })) (context_stays fs gs c keeps held) in
-    does_go x o fs gs c d (goes ∙ ap Goes (sym e)) keeps (still gs (forms_kept fs gs c keeps held) (integer_from gs k.form p made)) (named o types base) (grows_same fs gs c d keeps held (ap (λ (y : Defined). updates y.memory) (noted gs)) (ap (λ (y : Defined). length y.queue) (noted gs)))
+    noted gs ∙ ap (λ (y : Typed). with_type rd y (context_in gs c)) t
+    ∙ ap (with_type rd (record { colour = k.colour; basic = k.basic; form = p })) (context_stays fs gs c keeps held)
+    in
+    does_go x o fs gs c d (goes ∙ ap Goes (sym e)) keeps
+    (still gs (forms_kept fs gs c keeps held) (integer_from gs k.form p made)) (named o types base)
+    (grows_same fs gs c d keeps held (ap (λ (y : Defined). updates y.memory) (noted gs))
+    (ap (λ (y : Defined). length y.queue) (noted gs)))
 
 -- THE STATIC QUEUE
 
@@ -112,26 +146,44 @@ empty_is (p ∷ q) n e = rw (sym e) (apart (suc (length q)) 0 (λ s. absurd (ome
 
 -- a blue store
 pub does_commit : (x : Outcome) (o : Object) (fs gs : List Normal) (c d : Context) (m : Form) (u : Updates)
-    → x ≡ Goes (record (context_in fs c) { queue = drop 1 (context_in fs c).queue; memory = u }) → Found gs m ≡ Some (memory_form u) → updates u ≤ updates (context_in fs c).memory + 1 → Keeps fs gs → HoldsForms fs c → NamesTypes o c
-    → context_in gs d ≡ record (context_in gs c) { queue = drop 1 (context_in gs c).queue; memory = updates_held gs m } → (HoldsForms gs c → IsMemory gs m → HoldsForms gs d) → (NamesTypes o c → NamesTypes o d)
+    → x ≡ Goes (record (context_in fs c) { queue = drop 1 (context_in fs c).queue; memory = u }) → Found gs m
+    ≡ Some (memory_form u) → updates u ≤ updates (context_in fs c).memory + 1 → Keeps fs gs → HoldsForms fs c →
+    NamesTypes o c
+    → context_in gs d ≡ record (context_in gs c) {
+      queue = drop 1 (context_in gs c).queue;
+      memory = updates_held gs m;
+    } → (HoldsForms gs c → IsMemory gs m → HoldsForms gs d) →
+    (NamesTypes o c → NamesTypes o d)
     → Does x o fs gs c d (Ok On)
 does_commit x o fs gs c d m u goes made more keeps held types committed still named =
     let e : context_in gs d ≡ record (context_in fs c) { queue = drop 1 (context_in fs c).queue; memory = u } =
     committed
-    ∙ ap (λ (k : Defined). record k { queue = drop 1 k.queue; memory = updates_held gs m }) (context_stays fs gs c keeps held)
-    ∙ ap (λ (v : Updates). record (context_in fs c) { queue = drop 1 (context_in fs c).queue; memory = v }) (updates_found gs m u made) in
-    does_go x o fs gs c d (goes ∙ ap Goes (sym e)) keeps (still (forms_kept fs gs c keeps held) (memory_from gs m u made)) (named types) (record { memory = (let w = ap (λ (k : Defined). updates k.memory) e in omega (arith, w, more)); queue = λ l. (let w = ap (λ (k : Defined). length k.queue) e in let z = length-drop 1 (context_in fs c).queue in omega (arith, w, z, l)) })
+    ∙ ap (λ (k : Defined). record k { queue = drop 1 k.queue; memory = updates_held gs m })
+    (context_stays fs gs c keeps held)
+    ∙ ap (λ (v : Updates). record (context_in fs c) { queue = drop 1 (context_in fs c).queue; memory = v })
+    (updates_found gs m u made) in
+    does_go x o fs gs c d (goes ∙ ap Goes (sym e)) keeps
+    (still (forms_kept fs gs c keeps held) (memory_from gs m u made)) (named types)
+    (record {
+      memory = (let w = ap (λ (k : Defined). updates k.memory) e in omega (arith, w, more));
+      queue = λ l. (let w = ap (λ (k : Defined). length k.queue) e in let z = length-drop 1 (context_in fs c).queue in
+          omega (arith, w, z, l));
+    })
 
 -- the row of an instruction that is this one
-pub row_of : (o : Object) (k : Defined) (gs : List Normal) (d : Context) (r : Result Next RuleError) (i j : Instr) → i ≡ j → Answers (row o k j) gs d r → Answers (row o k i) gs d r
+pub row_of : (o : Object) (k : Defined) (gs : List Normal) (d : Context) (r : Result Next RuleError) (i j : Instr) → i
+    ≡ j → Answers (row o k j) gs d r → Answers (row o k i) gs d r
 row_of o k gs d r i j e h = subst (λ (x : Instr). Answers (row o k x) gs d r) (sym e) h
 
 -- the steps of an instruction that is this one
-pub steps_of : (o : Object) (k : Defined) (i j : Instr) (s t : ℕ) → i ≡ j → t ≤ s + rule_cost o k j → t ≤ s + rule_cost o k i
+pub steps_of : (o : Object) (k : Defined) (i j : Instr) (s t : ℕ) → i ≡ j → t ≤ s + rule_cost o k j →
+    t ≤ s + rule_cost o k i
 steps_of o k i j s t e h = subst (λ (x : Instr). t ≤ s + rule_cost o k x) (sym e) h
 
 -- a pair more, where there was room
-pub grows_pair : (fs : List Normal) (c d : Context) (p : FormPair) (n : ℕ) → context_in fs d ≡ record (context_in fs c) { queue = (context_in fs c).queue ++ p ∷ [] } → length (context_in fs c).queue ≡ n → ltb n 8 ≡ true → Grows fs fs c d
+pub grows_pair : (fs : List Normal) (c d : Context) (p : FormPair) (n : ℕ) → context_in fs d
+    ≡ record (context_in fs c) { queue = (context_in fs c).queue ++ p ∷ [] } → length (context_in fs c).queue ≡ n →
+    ltb n 8 ≡ true → Grows fs fs c d
 grows_pair fs c d p n e l h =
     let m = ap (λ (k : Defined). updates k.memory) e in
     let q = ap (λ (k : Defined). length k.queue) e in
@@ -142,11 +194,14 @@ grows_pair fs c d p n e l h =
 -- OVER MORE FORMS
 
 -- a row from a context that stays where the list of forms has grown
-pub row_on : (o : Object) (fs gs hs : List Normal) (c d : Context) (i : Instr) (r : Result Next RuleError) → Keeps fs gs → HoldsForms fs c → Answers (row o (context_in gs c) i) hs d r → Answers (row o (context_in fs c) i) hs d r
+pub row_on : (o : Object) (fs gs hs : List Normal) (c d : Context) (i : Instr) (r : Result Next RuleError) →
+    Keeps fs gs → HoldsForms fs c → Answers (row o (context_in gs c) i) hs d r →
+    Answers (row o (context_in fs c) i) hs d r
 row_on o fs gs hs c d i r k h a = subst (λ (x : Defined). Answers (row o x i) hs d r) (context_stays fs gs c k h) a
 
 -- so does what it grows to
-pub grows_on : (fs gs hs : List Normal) (c d : Context) → Keeps fs gs → HoldsForms fs c → Grows gs hs c d → Grows fs hs c d
+pub grows_on : (fs gs hs : List Normal) (c d : Context) → Keeps fs gs → HoldsForms fs c → Grows gs hs c d →
+    Grows fs hs c d
 grows_on fs gs hs c d k h g =
     let e = context_stays fs gs c k h in
     let m = ap (λ (x : Defined). updates x.memory) e in
@@ -154,5 +209,6 @@ grows_on fs gs hs c d k h g =
     record { memory = omega (arith, m, g.memory); queue = λ l. g.queue (omega (arith, q, l)) }
 
 -- and its steps
-pub steps_on : (o : Object) (fs gs : List Normal) (c : Context) (i : Instr) (s t : ℕ) → Keeps fs gs → HoldsForms fs c → t ≤ s + rule_cost o (context_in gs c) i → t ≤ s + rule_cost o (context_in fs c) i
+pub steps_on : (o : Object) (fs gs : List Normal) (c : Context) (i : Instr) (s t : ℕ) → Keeps fs gs → HoldsForms fs c →
+    t ≤ s + rule_cost o (context_in gs c) i → t ≤ s + rule_cost o (context_in fs c) i
 steps_on o fs gs c i s t k h l = subst (λ (x : Defined). t ≤ s + rule_cost o x i) (context_stays fs gs c k h) l

@@ -14,25 +14,30 @@ use Rattle.ft_tolerance.proofs.Whole.{accepted_fits}
 use Rattle.ft_tolerance.proofs.AnyAnswers.{AreSame, step_same}
 
 -- the step is the same whatever answers are left
-pub clean_same : (r : CleanRun) (s : State) (w u v : List Wild) → IsClean r s → AreSame (step r.object s u) (step r.object (state_after r.object None w r.taken) v)
+pub clean_same : (r : CleanRun) (s : State) (w u v : List Wild) → IsClean r s →
+    AreSame (step r.object s u) (step r.object (state_after r.object None w r.taken) v)
 clean_same r s w u v h =
     let there = state_after r.object None w r.taken in
-    let same = step_same r.object there.status there u v refl (accepted_fits r.object w r.taken h.spellable h.accepted).untroubled in
+    let same = step_same r.object there.status there u v refl
+    (accepted_fits r.object w r.taken h.spellable h.accepted).untroubled in
     record {
       state = ap (λ x. (step r.object x u).state) (h.state w) ∙ same.state;
       output = ap (λ x. (step r.object x u).output) (h.state w) ∙ same.output;
     }
 
 -- the run after one more step
-pub clean_next : (r : CleanRun) (s t : State) (v : List Wild) → IsClean r s → t ≡ (step r.object s v).state → IsClean (record r { taken = r.taken + 1 }) t
+pub clean_next : (r : CleanRun) (s t : State) (v : List Wild) → IsClean r s → t ≡ (step r.object s v).state →
+    IsClean (record r { taken = r.taken + 1 }) t
 clean_next r s t v h e = record {
   spellable = h.spellable;
   accepted = h.accepted;
-  state = λ w. e ∙ (clean_same r s w v (wild_after r.object None w r.taken) h).state ∙ sym (ap (λ (x : Ran). x.state) (run-add_one r.object None w r.taken));
+  state = λ w. e ∙ (clean_same r s w v (wild_after r.object None w r.taken) h).state
+      ∙ sym (ap (λ (x : Ran). x.state) (run-add_one r.object None w r.taken));
 }
 
 pub told_same : (x y : Stepping) → AreSame x y → told x ≡ told y
-told_same x y h = ap (λ e. told_output e x.state.status) h.output ∙ ap (λ (t : State). told_output y.output t.status) h.state
+told_same x y h = ap (λ e. told_output e x.state.status) h.output
+    ∙ ap (λ (t : State). told_output y.output t.status) h.state
 
 told_detected : (x : Option Output) (s : Status) → told_output x s ≡ Detected → s ≡ status.Detected
 told_detected (Some e) s h = absurd (cc)
@@ -45,4 +50,5 @@ pub clean_undetected : (r : CleanRun) (s : State) (v : List Wild) → IsClean r 
 clean_undetected r s v h e =
     let next = clean_next r s (step r.object s v).state v h refl in
     let found = told_detected (step r.object s v).output (step r.object s v).state.status e in
-    (accepted_fits r.object v (r.taken + 1) h.spellable h.accepted).undetected (sym (ap (λ (t : State). t.status) (next.state v)) ∙ found)
+    (accepted_fits r.object v (r.taken + 1) h.spellable h.accepted).undetected
+    (sym (ap (λ (t : State). t.status) (next.state v)) ∙ found)

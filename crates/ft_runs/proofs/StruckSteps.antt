@@ -1,5 +1,5 @@
 -- A run that is struck once: its beginning, and a step of it.
-use Rattle.std.proofs.Common.{◌≡◌, ◌⊎◌, inl, inr, ℕ, ◌+◌, ◌<◌, if◌then◌else◌, true, List, None, Some, refl, sym, ap, ◌∙◌, subst, arith, eq-eqb, ne_eqb}
+use Rattle.std.proofs.Common.{◌≡◌, ◌⊎◌, inl, inr, ℕ, ◌+◌, ◌<◌, true, List, None, Some, sym, ap, ◌∙◌, subst, arith}
 use Rattle.ft_isa.specs.declared.colour.Colour.{Colour}
 use Rattle.ft_isa.specs.declared.plan.Site.{Site}
 use Rattle.ft_isa.specs.declared.plan.Strike.{Strike}
@@ -7,17 +7,19 @@ use Rattle.ft_isa.specs.declared.plan.Wild.{Wild}
 use Rattle.ft_types.specs.declared.object.Object.{Object}
 use Rattle.ft_types.specs.Spellable.{IsSpellable}
 use Rattle.ft_typing.specs.Accepted.{IsAccepted}
-use Rattle.ft_semantics.specs.declared.status.Status.{Status}
-use Rattle.ft_semantics.specs.declared.status.Status.TheVariants.{Running, Done, Detected}
+use Rattle.ft_semantics.specs.declared.status.Status.TheVariants.{Detected}
 use Rattle.ft_semantics.specs.State.{State}
-use Rattle.ft_semantics.specs.Step.{Stepping, step, step_at}
+use Rattle.ft_semantics.specs.Step.{Stepping, step}
 use Rattle.ft_semantics.specs.Strike.{is_there, struck_state}
 use Rattle.ft_semantics.specs.Run.{Ran, run-add_one, state_after, wild_after}
 use Rattle.ft_machine.specs.declared.stepped.Stepped.TheVariants as stepped
 use Rattle.ft_machine.specs.Answers.{told, told_output, told_status}
 use Rattle.ft_tolerance.specs.TypedState.{Place}
 use Rattle.ft_tolerance.specs.Soundness.{EndsOrFits}
-use Rattle.ft_tolerance.specs.Alike.{Follows, keeps_alike, is_detected, IsAlikeOrDetected, is_alike, has_stopped, IsAlikeAfter, colour_of_site}
+use Rattle.ft_tolerance.specs.Alike.{Follows, keeps_alike, is_detected, IsAlikeOrDetected, is_alike, has_stopped}
+use Rattle.ft_tolerance.specs.Alike.{IsAlikeAfter, colour_of_site}
+use Rattle.ft_semantics.proofs.Runs.{HasStopped, stays_at}
+use Rattle.ft_semantics.proofs.Struck.{struck_there, spared}
 use Rattle.ft_runs.specs.Runs.{CleanRun, IsClean, StruckRun, struck_now, IsStruckRun}
 use Rattle.ft_tolerance.proofs.Whole.{along, accepted_fits}
 use Rattle.ft_tolerance.proofs.Masking.{before, alike_at_once, alike_next, follows_along}
@@ -25,21 +27,22 @@ use Rattle.ft_tolerance.proofs.Masking.{before, alike_at_once, alike_next, follo
 -- WHAT A STEP TELLS
 
 -- a state that was detected answers so
-detected_told : (o : Object) (x : Status) (t : State) (v : List Wild) → x ≡ Detected → t.status ≡ Detected → told (step_at o x t v) ≡ stepped.Detected
-detected_told o Running t v e d = cc
-detected_told o Done t v e d = cc
-detected_told o Detected t v e d = ap told_status d
+detected_told : (o : Object) (t : State) (v : List Wild) → t.status ≡ Detected → told (step o t v) ≡ stepped.Detected
+detected_told o t v d = ap told (stays_at o t.status t v (subst HasStopped (sym d) tt)) ∙ ap told_status d
 
 -- a step that follows another tells the same, or that it is detected
 follows_told : (c : Colour) (x y : Stepping) → Follows c x y → (told y ≡ told x) ⊎ (told y ≡ stepped.Detected)
-follows_told c x y (keeps_alike h e) = inl (ap (λ s. told_output y.output s) (sym h.status) ∙ ap (λ z. told_output z x.state.status) (sym e))
+follows_told c x y (keeps_alike h e) = inl (ap (λ s. told_output y.output s) (sym h.status)
+    ∙ ap (λ z. told_output z x.state.status) (sym e))
 follows_told c x y (is_detected d e) = inr (ap (λ z. told_output z y.state.status) e ∙ ap told_status d)
 
 -- a step from a state that is alike or detected tells what the other tells, or that it is detected
-told_next : (c : Colour) (o : Object) (p : Place) (s t : State) (w v : List Wild) → IsSpellable o → IsAccepted o → EndsOrFits o p s → IsAlikeOrDetected c s t
+told_next : (c : Colour) (o : Object) (p : Place) (s t : State) (w v : List Wild) → IsSpellable o → IsAccepted o →
+    EndsOrFits o p s → IsAlikeOrDetected c s t
     → (told (step o t v) ≡ told (step o s w)) ⊎ (told (step o t v) ≡ stepped.Detected)
-told_next c o p s t w v spelled acc fits (is_alike h) = follows_told c _ _ (follows_along c o p s t w v spelled acc fits h)
-told_next c o p s t w v spelled acc fits (has_stopped d) = inr (detected_told o t.status t v d d)
+told_next c o p s t w v spelled acc fits (is_alike h) =
+    follows_told c _ _ (follows_along c o p s t w v spelled acc fits h)
+told_next c o p s t w v spelled acc fits (has_stopped d) = inr (detected_told o t v d)
 
 -- BEGINNING AND STEPS
 
@@ -48,14 +51,20 @@ abbrev struck_colour : StruckRun → Colour
 struck_colour r = colour_of_site (state_after r.object None r.wild r.strike.step) r.strike.site
 
 -- after a step since the strike, the state in which the next step is taken is that after the steps taken
-pub struck_later : (r : StruckRun) → r.strike.step < r.taken → struck_now r ≡ state_after r.object (Some r.strike) r.wild r.taken
-struck_later r lt =
-    let s = state_after r.object (Some r.strike) r.wild r.taken in
-    ap (λ b. if b then struck_state s r.strike.site r.strike.value else s) (ne_eqb r.strike.step r.taken (λ e. omega (arith, e)))
+pub struck_later : (r : StruckRun) → r.strike.step < r.taken → struck_now r
+    ≡ state_after r.object (Some r.strike) r.wild r.taken
+struck_later r lt = spared r.strike r.taken (λ e. omega (arith, e))
+    (state_after r.object (Some r.strike) r.wild r.taken)
 
 -- the strike of a run without a fault
-pub struck_begins : (r : CleanRun) (s t : State) (site : Site) (v : ℕ) (w : List Wild) → IsClean r s → is_there s site ≡ true → t ≡ struck_state s site v
-    → IsStruckRun (record { object = r.object; strike = record { step = r.taken; site = site; value = v }; wild = w; taken = r.taken }) t w
+pub struck_begins : (r : CleanRun) (s t : State) (site : Site) (v : ℕ) (w : List Wild) → IsClean r s → is_there s site
+    ≡ true → t ≡ struck_state s site v
+    → IsStruckRun (record {
+      object = r.object;
+      strike = record { step = r.taken; site = site; value = v };
+      wild = w;
+      taken = r.taken;
+    }) t w
 struck_begins r s t site v w h found e =
     let x : Strike = record { step = r.taken; site = site; value = v } in
     let there = state_after r.object (Some x) w r.taken in
@@ -68,13 +77,15 @@ struck_begins r s t site v w h found e =
       state =
           e
           ∙ ap (λ u. struck_state u site v) (h.state w ∙ ap (λ (y : Ran). y.state) same)
-          ∙ sym (ap (λ b. if b then struck_state there site v else there) (eq-eqb r.taken r.taken refl));
+          ∙ sym (struck_there x there);
       left_is = sym (accepted_fits r.object w r.taken h.spellable h.accepted).wild ∙ ap (λ (y : Ran). y.wild) same;
       alike = alike_at_once r.object site v r.taken w t (e ∙ ap (λ u. struck_state u site v) (h.state w));
     }
 
 -- the run after one more step
-pub struck_next : (r : StruckRun) (s t : State) (left left' : List Wild) → IsStruckRun r s left → t ≡ (step r.object s left).state → left' ≡ (step r.object s left).wild → IsStruckRun (record r { taken = r.taken + 1 }) t left'
+pub struck_next : (r : StruckRun) (s t : State) (left left' : List Wild) → IsStruckRun r s left → t
+    ≡ (step r.object s left).state → left' ≡ (step r.object s left).wild →
+    IsStruckRun (record r { taken = r.taken + 1 }) t left'
 struck_next r s t left left' h es el =
     let next = run-add_one r.object (Some r.strike) r.wild r.taken in
     let le = h.struck in
@@ -96,14 +107,18 @@ struck_next r s t left left' h es el =
           ∙ sym (ap (λ (y : Ran). y.wild) next);
       alike =
           subst (λ (u : State). IsAlikeAfter r.object r.strike r.wild (r.taken + 1) u) (sym es)
-          (subst (λ (u : State). IsAlikeOrDetected (struck_colour r) u (step r.object s left).state) (sym (ap (λ (y : Ran). y.state) (run-add_one r.object None r.wild r.taken)))
-          (alike_next (struck_colour r) r.object _ (state_after r.object None r.wild r.taken) s (wild_after r.object None r.wild r.taken) left h.spellable h.accepted
+          (subst (λ (u : State). IsAlikeOrDetected (struck_colour r) u (step r.object s left).state)
+          (sym (ap (λ (y : Ran). y.state) (run-add_one r.object None r.wild r.taken)))
+          (alike_next (struck_colour r) r.object _ (state_after r.object None r.wild r.taken) s
+          (wild_after r.object None r.wild r.taken) left h.spellable h.accepted
           (along r.object r.wild r.taken h.spellable h.accepted).after h.alike));
     }
 
 -- a step answers as that of the run without the fault, or that the run is detected
 pub struck_told : (r : StruckRun) (s : State) (left : List Wild) → IsStruckRun r s left
-    → (told (step r.object s left) ≡ told (step r.object (state_after r.object None r.wild r.taken) r.wild)) ⊎ (told (step r.object s left) ≡ stepped.Detected)
+    → (told (step r.object s left) ≡ told (step r.object (state_after r.object None r.wild r.taken) r.wild)) ⊎
+    (told (step r.object s left) ≡ stepped.Detected)
 struck_told r s left h =
-    told_next (struck_colour r) r.object _ (state_after r.object None r.wild r.taken) s r.wild left h.spellable h.accepted
+    told_next (struck_colour r) r.object _ (state_after r.object None r.wild r.taken) s r.wild left h.spellable
+    h.accepted
     (along r.object r.wild r.taken h.spellable h.accepted).after h.alike

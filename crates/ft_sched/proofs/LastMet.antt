@@ -1,5 +1,6 @@
 -- The last place of what passes a test, as the list grows and as its front goes on.
-use Rattle.std.proofs.Common.{◌≡◌, ℕ, zero, suc, ◌<◌, Bool, true, false, cond, ◌||◌, ◌==◌, nat_lt, List, [], ◌∷◌, ◌++◌, length, drop, refl, sym, ap, ◌∙◌, subst, arith}
+use Rattle.std.proofs.Common.{◌≡◌, ℕ, zero, suc, ◌<◌, Bool, true, false, cond, ◌||◌, ◌==◌, nat_lt, List, [], ◌∷◌, ◌++◌}
+use Rattle.std.proofs.Common.{length, drop, refl, sym, ap, ◌∙◌, subst, arith}
 use Rattle.std.specs.Prelude.{slice_index_or}
 use Rattle.std.specs.List.{list_any, slice_set}
 use Rattle.std.proofs.lemmas.Bool.{cases_eq, ltb-true, lt-ltb, ne_eqb}
@@ -13,9 +14,11 @@ or_more : (n : ℕ) (t b : Bool) (m : ℕ) → or_first (cond t (suc n) m) b ≡
 or_more n true b m = refl
 or_more n false b m = refl
 
-pub last_more : (test : Instr → Bool) (is : List Instr) (i : Instr) → last_place test (is ++ i ∷ []) ≡ cond (test i) (suc (length is)) (last_place test is)
+pub last_more : (test : Instr → Bool) (is : List Instr) (i : Instr) → last_place test (is ++ i ∷ [])
+    ≡ cond (test i) (suc (length is)) (last_place test is)
 last_more test [] i = refl
-last_more test (j ∷ is) i = ap (λ n. or_first n (test j)) (last_more test is i) ∙ or_more (length is) (test i) (test j) (last_place test is)
+last_more test (j ∷ is) i = ap (λ n. or_first n (test j)) (last_more test is i)
+    ∙ or_more (length is) (test i) (test j) (last_place test is)
 
 -- one order of numbers for another
 same_order : (a b c d : ℕ) → (a < b → c < d) → (c < d → a < b) → nat_lt a b ≡ nat_lt c d
@@ -48,7 +51,8 @@ behind_next f zero true = same_order (suc f) 1 f 0 (λ h. omega arith) (λ h. om
 behind_next f zero false = same_order (suc f) 0 f 0 (λ h. omega arith) (λ h. omega arith)
 behind_next f (suc n) t = same_order (suc f) (suc (suc n)) f (suc n) (λ h. omega arith) (λ h. omega arith)
 
-pub is_behind : (test : Instr → Bool) (is : List Instr) (f : ℕ) → nat_lt f (last_place test is) ≡ list_any test (drop f is)
+pub is_behind : (test : Instr → Bool) (is : List Instr) (f : ℕ) → nat_lt f (last_place test is)
+    ≡ list_any test (drop f is)
 is_behind test [] zero = below_none 0
 is_behind test [] (suc f) = below_none (suc f)
 is_behind test (i ∷ is) zero = behind_first (last_place test is) (test i) (list_any test is) (is_behind test is zero)
@@ -57,9 +61,12 @@ is_behind test (i ∷ is) (suc f) = behind_next f (last_place test is) (test i) 
 -- MARKS
 
 -- the place of a register after one is marked
-pub marked_at : (ps : List ℕ) (r p q : ℕ) → r < length ps → slice_index_or (slice_set ps r p) q 0 ≡ cond (r == q) p (slice_index_or ps q 0)
+pub marked_at : (ps : List ℕ) (r p q : ℕ) → r < length ps → slice_index_or (slice_set ps r p) q 0
+    ≡ cond (r == q) p (slice_index_or ps q 0)
 marked_at ps r p q l =
     ⊎_elim
-    (λ (e : q ≡ r). subst (λ z. slice_index_or (slice_set ps r p) z 0 ≡ cond (r == z) p (slice_index_or ps z 0)) (sym e) (get_or-set_same ps r p 0 l ∙ ap (λ b. cond b p (slice_index_or ps r 0)) (sym (eq-eqb r r refl))))
-    (λ (ne : q ≡ r → ⊥). get_or-set_other ps r q p 0 ne ∙ ap (λ b. cond b p (slice_index_or ps q 0)) (sym (ne_eqb r q (λ (f : r ≡ q). ne (sym f)))))
+    (λ (e : q ≡ r). subst (λ z. slice_index_or (slice_set ps r p) z 0 ≡ cond (r == z) p (slice_index_or ps z 0)) (sym e)
+    (get_or-set_same ps r p 0 l ∙ ap (λ b. cond b p (slice_index_or ps r 0)) (sym (eq-eqb r r refl))))
+    (λ (ne : q ≡ r → ⊥). get_or-set_other ps r q p 0 ne
+    ∙ ap (λ b. cond b p (slice_index_or ps q 0)) (sym (ne_eqb r q (λ (f : r ≡ q). ne (sym f)))))
     (cases_eq q r)

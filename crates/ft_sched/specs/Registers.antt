@@ -2,7 +2,7 @@
 use Rattle.std.specs.Prelude.{ℕ, Bool, false, Option, Some, None}
 use Rattle.ft_isa.specs.declared.reg.Reg.{Reg}
 use Rattle.ft_isa.specs.declared.instr.Instr.{Instr}
-use Rattle.ft_isa.specs.declared.instr.Instr.TheVariants.{OpReg, OpWord, Mov, Ld, St, JmpG, JmpB, BzG, BzB, Halt, Idx}
+use Rattle.ft_isa.specs.declared.instr.Instr.TheVariants.{OpReg, OpWord, Ld, St, JmpG, JmpB, BzG, BzB, Idx}
 use Rattle.ft_exchange.specs.Exchange.{written, is_register, touches}
 
 -- the number of a register, if one is given
@@ -14,29 +14,22 @@ number_of (Some r) = Some r.number
 abbrev pub first_read : Instr → Option ℕ
 first_read (OpReg op rd rs rt) = Some rs.number
 first_read (OpWord op rd rs value) = Some rs.number
-first_read (Mov rd value basic) = None
 first_read (Ld colour rd rs) = Some rs.number
 first_read (St colour rd rs) = Some rd.number
 first_read (JmpG rd) = Some rd.number
 first_read (JmpB rd subst) = Some rd.number
 first_read (BzG rz rd) = Some rz.number
 first_read (BzB rz rd subst) = Some rz.number
-first_read Halt = None
 first_read (Idx rd rs first m) = Some rs.number
+first_read i = None
 
 -- the second one, if it reads two
 abbrev pub second_read : Instr → Option ℕ
 second_read (OpReg op rd rs rt) = Some rt.number
-second_read (OpWord op rd rs value) = None
-second_read (Mov rd value basic) = None
-second_read (Ld colour rd rs) = None
 second_read (St colour rd rs) = Some rs.number
-second_read (JmpG rd) = None
-second_read (JmpB rd subst) = None
 second_read (BzG rz rd) = Some rd.number
 second_read (BzB rz rd subst) = Some rd.number
-second_read Halt = None
-second_read (Idx rd rs first m) = None
+second_read i = None
 
 -- whether an instruction writes a register, if one is given
 abbrev pub writes : Option ℕ → Instr → Bool

@@ -10,9 +10,8 @@ ghost use Rattle.ft_exchange.specs.Scheduled.{IsScheduled};
 use crate::blocks::schedule_block;
 use crate::order::Order;
 use ft_checker::Checked;
-use ft_copy::copy_with_instrs;
 use ft_isa::NoMemory;
-use ft_types::{Object, Program, Table};
+use ft_types::{Object, Program, Table, copy_with_instrs};
 use std::alloc::Global;
 
 /// The schedule of a program.

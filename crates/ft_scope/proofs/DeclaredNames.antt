@@ -1,5 +1,6 @@
 -- Declarations one after the other.
-use Rattle.std.proofs.Common.{◌≡◌, ℕ, suc, ◌+◌, ◌<◌, List, [], ◌∷◌, ◌++◌, length, take, drop, get_or, refl, ap, ◌∙◌, drop-cons, add-one}
+use Rattle.std.proofs.Common.{◌≡◌, ℕ, suc, ◌+◌, ◌<◌, List, [], ◌∷◌, ◌++◌, length, take, drop, get_or, refl, ap, ◌∙◌}
+use Rattle.std.proofs.Common.{drop-cons, add-one}
 use Rattle.std.proofs.Math.Seq.{take-suc}
 use Rattle.ft_syntax.specs.declared.decl.Decl.{Decl}
 use Rattle.ft_syntax.specs.declared.decl.Decl.TheVariants.{Cell}
@@ -11,12 +12,16 @@ unfolding declared_list
 declared_first d ds = refl
 
 -- the declarations from i on, of which the first is known
-pub declared_drop : (all : List Decl) (i : ℕ) (d : Decl) → i < length all → declared_list (drop i all) ≡ declared (get_or all i d) ∷ declared_list (drop (i + 1) all)
-declared_drop all i d h = rw add-one (ap declared_list (drop-cons all i d h) ∙ declared_first (get_or all i d) (drop (suc i) all))
+pub declared_drop : (all : List Decl) (i : ℕ) (d : Decl) → i < length all → declared_list (drop i all)
+    ≡ declared (get_or all i d) ∷ declared_list (drop (i + 1) all)
+declared_drop all i d h = rw add-one (ap declared_list (drop-cons all i d h)
+    ∙ declared_first (get_or all i d) (drop (suc i) all))
 
 -- the declarations before i + 1, of which the last is known
-pub declared_take : (all : List Decl) (i : ℕ) (d : Decl) → i < length all → declared_list (take (i + 1) all) ≡ declared_list (take i all) ++ declared (get_or all i d) ∷ []
-declared_take all i d h = rw add-one (ap declared_list (take-suc all i d h) ∙ declared_push (take i all) (get_or all i d))
+pub declared_take : (all : List Decl) (i : ℕ) (d : Decl) → i < length all → declared_list (take (i + 1) all)
+    ≡ declared_list (take i all) ++ declared (get_or all i d) ∷ []
+declared_take all i d h = rw add-one (ap declared_list (take-suc all i d h)
+    ∙ declared_push (take i all) (get_or all i d))
 
 -- what an index outside a list gives
 abbrev pub outside : Decl

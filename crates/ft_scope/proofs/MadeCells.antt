@@ -1,5 +1,7 @@
 -- Cells one after the other.
-use Rattle.std.proofs.Common.{◌≡◌, true, false, add-one, ℕ, suc, zero, ◌+◌, List, [], ◌∷◌, ◌++◌, length, map, replicate, Option, Some, None, refl, sym, ap, ◌∙◌, arith, append_assoc, append-nil, length-append, cond, Bor, Result, Ok, Err}
+use Rattle.std.proofs.Common.{◌≡◌, true, false, add-one, ℕ, suc, zero, ◌+◌, List, [], ◌∷◌, ◌++◌, length, map, replicate}
+use Rattle.std.proofs.Common.{Option, Some, None, refl, sym, ap, ◌∙◌, arith, append_assoc, append-nil, length-append}
+use Rattle.std.proofs.Common.{cond, Bor, Result, Ok, Err}
 use Rattle.std.specs.Prelude.{OnOk}
 use Rattle.std.proofs.lemmas.List.{map_push}
 use Rattle.ft_syntax.specs.Syntax.{Named, Declared, cell, var, array}
@@ -13,19 +15,23 @@ pub texts_push : (ds : List Declared) (d : Declared) → cell_texts (ds ++ d ∷
 texts_push [] d = refl
 texts_push (cell m u ∷ ds) d = ap (λ v. m.text ∷ v) (texts_push ds d)
 texts_push (var m ∷ ds) d = texts_push ds d
-texts_push (array m l at u ∷ ds) d = ap (λ v. replicate l m.text ++ v) (texts_push ds d) ∙ sym (append_assoc (replicate l m.text) (cell_texts ds) (cell_texts (d ∷ [])))
+texts_push (array m l at u ∷ ds) d = ap (λ v. replicate l m.text ++ v) (texts_push ds d)
+    ∙ sym (append_assoc (replicate l m.text) (cell_texts ds) (cell_texts (d ∷ [])))
 
-pub places_push : (ds : List Declared) (d : Declared) → cell_places (ds ++ d ∷ []) ≡ cell_places ds ++ cell_places (d ∷ [])
+pub places_push : (ds : List Declared) (d : Declared) → cell_places (ds ++ d ∷ []) ≡ cell_places ds
+    ++ cell_places (d ∷ [])
 places_push [] d = refl
 places_push (cell m u ∷ ds) d = ap (λ v. None ∷ v) (places_push ds d)
 places_push (var m ∷ ds) d = places_push ds d
-places_push (array m l at u ∷ ds) d = ap (λ v. places_from 0 l ++ v) (places_push ds d) ∙ sym (append_assoc (places_from 0 l) (cell_places ds) (cell_places (d ∷ [])))
+places_push (array m l at u ∷ ds) d = ap (λ v. places_from 0 l ++ v) (places_push ds d)
+    ∙ sym (append_assoc (places_from 0 l) (cell_places ds) (cell_places (d ∷ [])))
 
 pub words_push : (ds : List Declared) (d : Declared) → cell_words (ds ++ d ∷ []) ≡ cell_words ds ++ cell_words (d ∷ [])
 words_push [] d = refl
 words_push (cell m u ∷ ds) d = ap (λ v. u ∷ v) (words_push ds d)
 words_push (var m ∷ ds) d = words_push ds d
-words_push (array m l at u ∷ ds) d = ap (λ v. replicate l u ++ v) (words_push ds d) ∙ sym (append_assoc (replicate l u) (cell_words ds) (cell_words (d ∷ [])))
+words_push (array m l at u ∷ ds) d = ap (λ v. replicate l u ++ v) (words_push ds d)
+    ∙ sym (append_assoc (replicate l u) (cell_words ds) (cell_words (d ∷ [])))
 
 -- one more cell of an array
 alike_next : {A : Type 0} (x : A) (l : ℕ) → replicate (suc l) x ≡ replicate l x ++ x ∷ []
@@ -44,24 +50,33 @@ places_next k (suc l) =
 more_places : (k l : ℕ) → places_from k (l + 1) ≡ places_from k l ++ Some (k + l) ∷ []
 more_places k l = let e : l + 1 ≡ suc l = omega arith in ap (places_from k) e ∙ places_next k l
 
-pub texts_grow : (ds : List Declared) (n : Named) (l at w : ℕ) → cell_texts (ds ++ array n (l + 1) at w ∷ []) ≡ cell_texts (ds ++ array n l at w ∷ []) ++ n.text ∷ []
+pub texts_grow : (ds : List Declared) (n : Named) (l at w : ℕ) → cell_texts (ds ++ array n (l + 1) at w ∷ [])
+    ≡ cell_texts (ds ++ array n l at w ∷ []) ++ n.text ∷ []
 texts_grow ds n l at w =
-    texts_push ds (array n (l + 1) at w) ∙ ap (λ v. cell_texts ds ++ v) (append-nil (replicate (l + 1) n.text) ∙ more_alike n.text l)
+    texts_push ds (array n (l + 1) at w) ∙ ap (λ v. cell_texts ds ++ v) (append-nil (replicate (l + 1) n.text)
+    ∙ more_alike n.text l)
     ∙ sym (append_assoc (cell_texts ds) (replicate l n.text) (n.text ∷ []))
-    ∙ ap (λ v. v ++ n.text ∷ []) (ap (λ v. cell_texts ds ++ v) (sym (append-nil (replicate l n.text))) ∙ sym (texts_push ds (array n l at w)))
+    ∙ ap (λ v. v ++ n.text ∷ []) (ap (λ v. cell_texts ds ++ v) (sym (append-nil (replicate l n.text)))
+    ∙ sym (texts_push ds (array n l at w)))
 
-pub places_grow : (ds : List Declared) (n : Named) (l at w : ℕ) → cell_places (ds ++ array n (l + 1) at w ∷ []) ≡ cell_places (ds ++ array n l at w ∷ []) ++ Some l ∷ []
+pub places_grow : (ds : List Declared) (n : Named) (l at w : ℕ) → cell_places (ds ++ array n (l + 1) at w ∷ [])
+    ≡ cell_places (ds ++ array n l at w ∷ []) ++ Some l ∷ []
 places_grow ds n l at w =
     let e : 0 + l ≡ l = omega arith in
-    places_push ds (array n (l + 1) at w) ∙ ap (λ v. cell_places ds ++ v) (append-nil (places_from 0 (l + 1)) ∙ more_places 0 l ∙ ap (λ k. places_from 0 l ++ Some k ∷ []) e)
+    places_push ds (array n (l + 1) at w) ∙ ap (λ v. cell_places ds ++ v) (append-nil (places_from 0 (l + 1))
+    ∙ more_places 0 l ∙ ap (λ k. places_from 0 l ++ Some k ∷ []) e)
     ∙ sym (append_assoc (cell_places ds) (places_from 0 l) (Some l ∷ []))
-    ∙ ap (λ v. v ++ Some l ∷ []) (ap (λ v. cell_places ds ++ v) (sym (append-nil (places_from 0 l))) ∙ sym (places_push ds (array n l at w)))
+    ∙ ap (λ v. v ++ Some l ∷ []) (ap (λ v. cell_places ds ++ v) (sym (append-nil (places_from 0 l)))
+    ∙ sym (places_push ds (array n l at w)))
 
-pub words_grow : (ds : List Declared) (n : Named) (l at w : ℕ) → cell_words (ds ++ array n (l + 1) at w ∷ []) ≡ cell_words (ds ++ array n l at w ∷ []) ++ w ∷ []
+pub words_grow : (ds : List Declared) (n : Named) (l at w : ℕ) → cell_words (ds ++ array n (l + 1) at w ∷ [])
+    ≡ cell_words (ds ++ array n l at w ∷ []) ++ w ∷ []
 words_grow ds n l at w =
-    words_push ds (array n (l + 1) at w) ∙ ap (λ v. cell_words ds ++ v) (append-nil (replicate (l + 1) w) ∙ more_alike w l)
+    words_push ds (array n (l + 1) at w) ∙ ap (λ v. cell_words ds ++ v) (append-nil (replicate (l + 1) w)
+    ∙ more_alike w l)
     ∙ sym (append_assoc (cell_words ds) (replicate l w) (w ∷ []))
-    ∙ ap (λ v. v ++ w ∷ []) (ap (λ v. cell_words ds ++ v) (sym (append-nil (replicate l w))) ∙ sym (words_push ds (array n l at w)))
+    ∙ ap (λ v. v ++ w ∷ []) (ap (λ v. cell_words ds ++ v) (sym (append-nil (replicate l w)))
+    ∙ sym (words_push ds (array n l at w)))
 
 -- as many of each
 alike_length : {A : Type 0} (x : A) (l : ℕ) → length (replicate l x) ≡ l
@@ -76,19 +91,34 @@ pub count_texts : (ds : List Declared) → length (cell_texts ds) ≡ cell_count
 count_texts [] = refl
 count_texts (cell n w ∷ ds) = omega (arith, count_texts ds)
 count_texts (var n ∷ ds) = count_texts ds
-count_texts (array n l at w ∷ ds) = omega (arith, count_texts ds, alike_length n.text l, length-append (replicate l n.text) (cell_texts ds))
+count_texts (array n l at w ∷ ds) = omega (
+  arith,
+  count_texts ds,
+  alike_length n.text l,
+  length-append (replicate l n.text) (cell_texts ds),
+)
 
 pub count_places : (ds : List Declared) → length (cell_places ds) ≡ cell_count ds
 count_places [] = refl
 count_places (cell n w ∷ ds) = omega (arith, count_places ds)
 count_places (var n ∷ ds) = count_places ds
-count_places (array n l at w ∷ ds) = omega (arith, count_places ds, places_length 0 l, length-append (places_from 0 l) (cell_places ds))
+count_places (array n l at w ∷ ds) = omega (
+  arith,
+  count_places ds,
+  places_length 0 l,
+  length-append (places_from 0 l) (cell_places ds),
+)
 
 pub count_words : (ds : List Declared) → length (cell_words ds) ≡ cell_count ds
 count_words [] = refl
 count_words (cell n w ∷ ds) = omega (arith, count_words ds)
 count_words (var n ∷ ds) = count_words ds
-count_words (array n l at w ∷ ds) = omega (arith, count_words ds, alike_length w l, length-append (replicate l w) (cell_words ds))
+count_words (array n l at w ∷ ds) = omega (
+  arith,
+  count_words ds,
+  alike_length w l,
+  length-append (replicate l w) (cell_words ds),
+)
 
 array_length : (t : List ℕ) (k l : ℕ) → length (array_names t k l) ≡ l
 array_length t k zero = refl
@@ -98,10 +128,16 @@ pub count_names : (ds : List Declared) → length (cell_names ds) ≡ cell_count
 count_names [] = refl
 count_names (cell n w ∷ ds) = omega (arith, count_names ds)
 count_names (var n ∷ ds) = count_names ds
-count_names (array n l at w ∷ ds) = omega (arith, count_names ds, array_length n.text 0 l, length-append (array_names n.text 0 l) (cell_names ds))
+count_names (array n l at w ∷ ds) = omega (
+  arith,
+  count_names ds,
+  array_length n.text 0 l,
+  length-append (array_names n.text 0 l) (cell_names ds),
+)
 
 -- the declared names and the places make the names
-array_joined : (t : List ℕ) (k l : ℕ) (ts : List (List ℕ)) (ps : List (Option ℕ)) → joined_names (replicate l t ++ ts) (places_from k l ++ ps) ≡ array_names t k l ++ joined_names ts ps
+array_joined : (t : List ℕ) (k l : ℕ) (ts : List (List ℕ)) (ps : List (Option ℕ)) →
+    joined_names (replicate l t ++ ts) (places_from k l ++ ps) ≡ array_names t k l ++ joined_names ts ps
 array_joined t k zero ts ps = refl
 array_joined t k (suc l) ts ps = ap (λ v. cell_name t (Some k) ∷ v) (array_joined t (k + 1) l ts ps)
 
@@ -109,14 +145,18 @@ names_joined : (ds : List Declared) → joined_names (cell_texts ds) (cell_place
 names_joined [] = refl
 names_joined (cell n w ∷ ds) = ap (λ v. n.text ∷ v) (names_joined ds)
 names_joined (var n ∷ ds) = names_joined ds
-names_joined (array n l at w ∷ ds) = array_joined n.text 0 l (cell_texts ds) (cell_places ds) ∙ ap (λ v. array_names n.text 0 l ++ v) (names_joined ds)
+names_joined (array n l at w ∷ ds) = array_joined n.text 0 l (cell_texts ds) (cell_places ds)
+    ∙ ap (λ v. array_names n.text 0 l ++ v) (names_joined ds)
 
 -- so do those of cells that were made
-pub made_names : (c : Cells) (ds : List Declared) → Made c ds → joined_names (map (λ r. r.now) c.names.items) c.places.items ≡ cell_names ds
-made_names c ds m = ap (λ v. joined_names v c.places.items) m.names ∙ ap (joined_names (cell_texts ds)) m.places ∙ names_joined ds
+pub made_names : (c : Cells) (ds : List Declared) → Made c ds →
+    joined_names (map (λ r. r.now) c.names.items) c.places.items ≡ cell_names ds
+made_names c ds m = ap (λ v. joined_names v c.places.items) m.names ∙ ap (joined_names (cell_texts ds)) m.places
+    ∙ names_joined ds
 
 -- lengths that are no wrong ones, one after the other
-pub wrong_first : (d : Declared) (ds : List Declared) → wrong_length (d ∷ []) ≡ None → wrong_length (d ∷ ds) ≡ wrong_length ds
+pub wrong_first : (d : Declared) (ds : List Declared) → wrong_length (d ∷ []) ≡ None → wrong_length (d ∷ ds)
+    ≡ wrong_length ds
 wrong_first (cell n w) ds h = refl
 wrong_first (var n) ds h = refl
 wrong_first (array n l at w) ds h = by (is_length l) h
@@ -125,7 +165,8 @@ wrong_first (array n l at w) ds h = by (is_length l) h
     by true g = refl
     by false g = cc
 
-pub wrong_here : (d : Declared) (ds : List Declared) (at : ℕ) → wrong_length (d ∷ []) ≡ Some at → wrong_length (d ∷ ds) ≡ Some at
+pub wrong_here : (d : Declared) (ds : List Declared) (at : ℕ) → wrong_length (d ∷ []) ≡ Some at → wrong_length (d ∷ ds)
+    ≡ Some at
 wrong_here (cell n w) ds p h = cc
 wrong_here (var n) ds p h = cc
 wrong_here (array n l at w) ds p h = by (is_length l) h
@@ -134,7 +175,8 @@ wrong_here (array n l at w) ds p h = by (is_length l) h
     by true g = cc
     by false g = g
 
-pub wrong_parts : (d : Declared) (ds : List Declared) → wrong_length (d ∷ ds) ≡ None → (wrong_length (d ∷ []) ≡ None) × (wrong_length ds ≡ None)
+pub wrong_parts : (d : Declared) (ds : List Declared) → wrong_length (d ∷ ds) ≡ None → (wrong_length (d ∷ []) ≡ None)
+    × (wrong_length ds ≡ None)
 wrong_parts (cell n w) ds h = (refl, h)
 wrong_parts (var n) ds h = (refl, h)
 wrong_parts (array n l at w) ds h = by (is_length l) h
@@ -152,17 +194,23 @@ made_none c ds n at w m = record {
 }
 
 -- one more cell of an array is made
-pub made_more : (c e : Cells) (ds : List Declared) (n : Named) (name : Bor (List ℕ)) (l at w : ℕ) → n.text ≡ name.now → e.names.items ≡ c.names.items ++ name ∷ [] → e.places.items ≡ c.places.items ++ Some l ∷ [] → e.inits.items ≡ c.inits.items ++ w ∷ [] → Made c (ds ++ array n l at w ∷ []) → Made e (ds ++ array n (l + 1) at w ∷ [])
+pub made_more : (c e : Cells) (ds : List Declared) (n : Named) (name : Bor (List ℕ)) (l at w : ℕ) → n.text ≡ name.now →
+    e.names.items ≡ c.names.items ++ name ∷ [] → e.places.items ≡ c.places.items ++ Some l ∷ [] → e.inits.items
+    ≡ c.inits.items ++ w ∷ [] → Made c (ds ++ array n l at w ∷ []) → Made e (ds ++ array n (l + 1) at w ∷ [])
 made_more c e ds n name l at w is names places inits m = record {
-  names = ap (map (λ r. r.now)) names ∙ map_push (λ r. r.now) c.names.items name ∙ ap (λ v. v ++ name.now ∷ []) m.names ∙ ap (λ v. cell_texts (ds ++ array n l at w ∷ []) ++ v ∷ []) (sym is) ∙ sym (texts_grow ds n l at w);
+  names = ap (map (λ r. r.now)) names ∙ map_push (λ r. r.now) c.names.items name ∙ ap (λ v. v ++ name.now ∷ []) m.names
+      ∙ ap (λ v. cell_texts (ds ++ array n l at w ∷ []) ++ v ∷ []) (sym is) ∙ sym (texts_grow ds n l at w);
   places = places ∙ ap (λ v. v ++ Some l ∷ []) m.places ∙ sym (places_grow ds n l at w);
   inits = inits ∙ ap (λ v. v ++ w ∷ []) m.inits ∙ sym (words_grow ds n l at w);
 }
 
 -- a plain cell is made
-pub made_cell : (c e : Cells) (ds : List Declared) (n : Named) (name : Bor (List ℕ)) (w : ℕ) → n.text ≡ name.now → e.names.items ≡ c.names.items ++ name ∷ [] → e.places.items ≡ c.places.items ++ None ∷ [] → e.inits.items ≡ c.inits.items ++ w ∷ [] → Made c ds → Made e (ds ++ cell n w ∷ [])
+pub made_cell : (c e : Cells) (ds : List Declared) (n : Named) (name : Bor (List ℕ)) (w : ℕ) → n.text ≡ name.now →
+    e.names.items ≡ c.names.items ++ name ∷ [] → e.places.items ≡ c.places.items ++ None ∷ [] → e.inits.items
+    ≡ c.inits.items ++ w ∷ [] → Made c ds → Made e (ds ++ cell n w ∷ [])
 made_cell c e ds n name w is names places inits m = record {
-  names = ap (map (λ r. r.now)) names ∙ map_push (λ r. r.now) c.names.items name ∙ ap (λ v. v ++ name.now ∷ []) m.names ∙ ap (λ v. cell_texts ds ++ v ∷ []) (sym is) ∙ sym (texts_push ds (cell n w));
+  names = ap (map (λ r. r.now)) names ∙ map_push (λ r. r.now) c.names.items name ∙ ap (λ v. v ++ name.now ∷ []) m.names
+      ∙ ap (λ v. cell_texts ds ++ v ∷ []) (sym is) ∙ sym (texts_push ds (cell n w));
   places = places ∙ ap (λ v. v ++ None ∷ []) m.places ∙ sym (places_push ds (cell n w));
   inits = inits ∙ ap (λ v. v ++ w ∷ []) m.inits ∙ sym (words_push ds (cell n w));
 }

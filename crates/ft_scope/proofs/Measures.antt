@@ -1,6 +1,7 @@
 -- Needs and weights of statements in a row, and how large they can be.
 use Rattle.std.proofs.Common.{◌≡◌, ◌+◌, ◌*◌, ◌≤◌, [], max, ap, arith}
-use Rattle.ft_syntax.specs.Plain.{Expression, literal, name, indexed, operation, StatementList, none, assign, assign_at, loop, choose, follow, plain_list}
+use Rattle.ft_syntax.specs.Plain.{Expression, literal, name, indexed, operation, StatementList, none, assign, assign_at}
+use Rattle.ft_syntax.specs.Plain.{loop, choose, follow, plain_list}
 use Rattle.ft_syntax.specs.Size.{expression_nodes, statement_nodes}
 use Rattle.ft_syntax.proofs.PlainForms.{list_empty}
 use Rattle.ft_scope.specs.declared.slot.Slot.{Slot}
@@ -24,7 +25,8 @@ need_follow (loop e body rest) b = omega (arith, need_follow rest b)
 need_follow (choose e if_so if_not rest) b = omega (arith, need_follow rest b)
 
 -- statements in a row weigh what they weigh alone
-pub weight_follow : (a b : StatementList Slot) → statements_weight (follow a b) ≡ statements_weight a + statements_weight b
+pub weight_follow : (a b : StatementList Slot) → statements_weight (follow a b)
+    ≡ statements_weight a + statements_weight b
 weight_follow none b = omega arith
 weight_follow (assign to e rest) b = omega (arith, weight_follow rest b)
 weight_follow (assign_at to i e rest) b = omega (arith, weight_follow rest b)
@@ -32,7 +34,8 @@ weight_follow (loop e body rest) b = omega (arith, weight_follow rest b)
 weight_follow (choose e if_so if_not rest) b = omega (arith, weight_follow rest b)
 
 -- the nodes of statements in a row
-pub nodes_follow : {N : Type 0} → (a b : StatementList N) → statement_nodes (follow a b) ≡ statement_nodes a + statement_nodes b
+pub nodes_follow : {N : Type 0} → (a b : StatementList N) → statement_nodes (follow a b)
+    ≡ statement_nodes a + statement_nodes b
 nodes_follow none b = omega arith
 nodes_follow (assign to e rest) b = omega (arith, nodes_follow rest b)
 nodes_follow (assign_at to i e rest) b = omega (arith, nodes_follow rest b)
@@ -51,7 +54,13 @@ most_need_within none = omega arith
 most_need_within (assign to e rest) = omega (arith, need_within e, most_need_within rest)
 most_need_within (assign_at to i e rest) = omega (arith, need_within i, need_within e, most_need_within rest)
 most_need_within (loop e body rest) = omega (arith, need_within e, most_need_within body, most_need_within rest)
-most_need_within (choose e if_so if_not rest) = omega (arith, need_within e, most_need_within if_so, most_need_within if_not, most_need_within rest)
+most_need_within (choose e if_so if_not rest) = omega (
+  arith,
+  need_within e,
+  most_need_within if_so,
+  most_need_within if_not,
+  most_need_within rest,
+)
 
 -- a name weighs at most 4
 pub slot_within : (s : Slot) → slot_weight s ≤ 4
@@ -71,4 +80,10 @@ statements_within none = omega arith
 statements_within (assign to e rest) = omega (arith, slot_within to, weight_within e, statements_within rest)
 statements_within (assign_at to i e rest) = omega (arith, weight_within i, weight_within e, statements_within rest)
 statements_within (loop e body rest) = omega (arith, weight_within e, statements_within body, statements_within rest)
-statements_within (choose e if_so if_not rest) = omega (arith, weight_within e, statements_within if_so, statements_within if_not, statements_within rest)
+statements_within (choose e if_so if_not rest) = omega (
+  arith,
+  weight_within e,
+  statements_within if_so,
+  statements_within if_not,
+  statements_within rest,
+)

@@ -11,13 +11,15 @@ abbrev pub judged : Result SyntaxTree SourceError → Result Program SourceError
 judged (Ok t) = resolved t
 judged (Err e) = Err e
 
-answer_of : (text : List ℕ) (r : Result Program SourceError) → IsOutcome text r → (a : Result SyntaxTree SourceError) × IsAnswer text a × (r ≡ judged a)
+answer_of : (text : List ℕ) (r : Result Program SourceError) → IsOutcome text r → (a : Result SyntaxTree SourceError)
+    × IsAnswer text a × (r ≡ judged a)
 answer_of text (Ok p) h = (Ok h.0, h.1, sym h.2)
 answer_of text (Err e) (inl h) = (Err e, h, refl)
 answer_of text (Err e) (inr h) = (Ok h.0, h.1, sym h.2)
 
 -- two outcomes are the same
-pub one_outcome : (text : List ℕ) (one : (a b : Result SyntaxTree SourceError) → IsAnswer text a → IsAnswer text b → a ≡ b) (r s : Result Program SourceError) → IsOutcome text r → IsOutcome text s → r ≡ s
+pub one_outcome : (text : List ℕ) (one : (a b : Result SyntaxTree SourceError) → IsAnswer text a → IsAnswer text b → a
+    ≡ b) (r s : Result Program SourceError) → IsOutcome text r → IsOutcome text s → r ≡ s
 one_outcome text one r s h g =
     let a = answer_of text r h in
     let b = answer_of text s g in

@@ -7,6 +7,9 @@ use Rattle.ft_types.proofs.Maps.{get-insert}
 use Rattle.ft_semantics.specs.State.{Registers, held, with_held, green_zero}
 
 -- what a register holds after one is written
-pub held-with_held : (m : Registers) (r : ℕ) (x : Coloured) (q : ℕ) → held (with_held m r x) q ≡ cond (q == r) x (held m q)
+pub held-with_held : (m : Registers) (r : ℕ) (x : Coloured) (q : ℕ) → held (with_held m r x) q
+    ≡ cond (q == r) x (held m q)
 unfolding held
-held-with_held m r x q = rw (get-insert m r x q) (elim (q == r) as (λ b. unwrap_or (cond b (Some x) (finite.get m q)) green_zero ≡ cond b x (unwrap_or (finite.get m q) green_zero)) [ true ↦ refl | false ↦ refl ])
+held-with_held m r x q = rw (get-insert m r x q) (elim (q == r) as (λ b.
+    unwrap_or (cond b (Some x) (finite.get m q)) green_zero ≡ cond b x (unwrap_or (finite.get m q) green_zero))
+    [ true ↦ refl | false ↦ refl ])

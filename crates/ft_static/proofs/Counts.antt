@@ -9,7 +9,9 @@ use Rattle.ft_static.specs.Coefficient.{count}
 use Rattle.ft_static.proofs.Cases.{by_cases}
 
 -- two atoms are counted in either order
-counts_swap : (o p : Ordering) (x : ℕ) → by_order o (by_order p x (suc x) x) (suc (by_order p x (suc x) x)) (by_order p x (suc x) x) ≡ by_order p (by_order o x (suc x) x) (suc (by_order o x (suc x) x)) (by_order o x (suc x) x)
+counts_swap : (o p : Ordering) (x : ℕ) → by_order o (by_order p x (suc x) x) (suc (by_order p x (suc x) x))
+    (by_order p x (suc x) x) ≡ by_order p (by_order o x (suc x) x) (suc (by_order o x (suc x) x))
+    (by_order o x (suc x) x)
 counts_swap Less Less x = refl
 counts_swap Less Equal x = refl
 counts_swap Less Greater x = refl
@@ -23,10 +25,12 @@ counts_swap Greater Greater x = refl
 -- an atom more is counted wherever its place is
 count_with : (k a : Atom) (m : Monomial) → count k (with_factor a m) ≡ count k (times a m)
 count_with k a one = refl
-count_with k a (times b m) = by_cases (λ n. count k n ≡ count k (times a (times b m))) (cmp_atom a b) (times a (times b m)) (times a (times b m)) (times b (with_factor a m))
+count_with k a (times b m) = by_cases (λ n. count k n ≡ count k (times a (times b m))) (cmp_atom a b)
+    (times a (times b m)) (times a (times b m)) (times b (with_factor a m))
     (λ e. refl)
     (λ e. refl)
-    (λ e. ap (λ t. by_order (cmp_atom k b) t (suc t) t) (count_with k a m) ∙ counts_swap (cmp_atom k b) (cmp_atom k a) (count k m))
+    (λ e. ap (λ t. by_order (cmp_atom k b) t (suc t) t) (count_with k a m)
+    ∙ counts_swap (cmp_atom k b) (cmp_atom k a) (count k m))
 
 -- one is counted on either side
 counts_join : (o : Ordering) (x y : ℕ) → x + by_order o y (suc y) y ≡ by_order o x (suc x) x + y
@@ -37,4 +41,5 @@ counts_join Greater x y = refl
 -- each atom stands in the product as often as in both
 pub count_join : (k : Atom) (m n : Monomial) → count k (join m n) ≡ count k m + count k n
 count_join k one n = omega arith
-count_join k (times a m) n = count_join k m (with_factor a n) ∙ (ap (λ t. count k m + t) (count_with k a n) ∙ counts_join (cmp_atom k a) (count k m) (count k n))
+count_join k (times a m) n = count_join k m (with_factor a n)
+    ∙ (ap (λ t. count k m + t) (count_with k a n) ∙ counts_join (cmp_atom k a) (count k m) (count k n))

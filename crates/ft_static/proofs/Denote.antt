@@ -1,6 +1,7 @@
 -- Expressions of either sort denote what their forms do, and a node's form is computed from those of its parts.
 use Rattle.std.proofs.Common.{◌≡◌, ◌↔◌, true, ℕ, List, map, Some, slice_get, sym, ap, ◌∙◌}
-use Rattle.ft_static.specs.Expression.{Expression, integer, memory, Valuation, IsLawful, HasWords, denotation, denoted_word, denoted_memory}
+use Rattle.ft_static.specs.Expression.{Expression, integer, memory, Valuation, IsLawful, HasWords, denotation}
+use Rattle.ft_static.specs.Expression.{denoted_word, denoted_memory}
 use Rattle.ft_static.specs.Form.{Polynomial, Updates, integer_form, memory_form, polynomial_of, updates_of}
 use Rattle.ft_static.specs.FormUnder.{form_of, form_under}
 use Rattle.ft_static.specs.FormValue.{form_denotation}
@@ -14,7 +15,8 @@ use Rattle.ft_static.proofs.FormsDenote.{norm_value, value_norm_memory}
 use Rattle.ft_static.proofs.Under.{form_of-map}
 
 -- a form denotes what its expression does
-pub norm_denotes : (e : Expression) (s : Valuation) → IsLawful s → HasWords e → form_denotation (norm e) s ≡ denotation e s
+pub norm_denotes : (e : Expression) (s : Valuation) → IsLawful s → HasWords e → form_denotation (norm e) s
+    ≡ denotation e s
 norm_denotes (integer e) s lawful h = ap denoted_word (norm_value e s lawful h)
 norm_denotes (memory m) s lawful h = ap denoted_memory (value_norm_memory m s lawful h)
 
@@ -30,9 +32,14 @@ same_forms (integer a) (memory b) = (λ e. cc, λ e. cc)
 same_forms (memory a) (integer b) = (λ e. cc, λ e. cc)
 
 -- expressions that are the same denote the same
-pub same_denotes : (a b : Expression) (s : Valuation) → IsLawful s → HasWords a → HasWords b → same a b ≡ true → denotation a s ≡ denotation b s
-same_denotes a b s lawful h k e = sym (norm_denotes a s lawful h) ∙ (ap (λ f. form_denotation f s) ((same_forms a b).0 e) ∙ norm_denotes b s lawful k)
+pub same_denotes : (a b : Expression) (s : Valuation) → IsLawful s → HasWords a → HasWords b → same a b ≡ true →
+    denotation a s ≡ denotation b s
+same_denotes a b s lawful h k e = sym (norm_denotes a s lawful h)
+    ∙ (ap (λ f. form_denotation f s) ((same_forms a b).0 e) ∙ norm_denotes b s lawful k)
 
 -- the form of a node's tree is that of its shape, from the forms of its parts
-pub node_form : (ps : List Polynomial) (u : Updates) (nodes : List Node) (n : ℕ) (node : Node) → AreNodes nodes → slice_get nodes n ≡ Some node → form_under ps u (tree_at nodes n) ≡ form_of ps u (map (form_under ps u) (trees nodes)) node.shape
-node_form ps u nodes n node h f = ap (form_under ps u) (tree_at-row nodes n node h f) ∙ sym (form_of-map ps u (trees nodes) node.shape)
+pub node_form : (ps : List Polynomial) (u : Updates) (nodes : List Node) (n : ℕ) (node : Node) → AreNodes nodes →
+    slice_get nodes n ≡ Some node → form_under ps u (tree_at nodes n)
+    ≡ form_of ps u (map (form_under ps u) (trees nodes)) node.shape
+node_form ps u nodes n node h f = ap (form_under ps u) (tree_at-row nodes n node h f)
+    ∙ sym (form_of-map ps u (trees nodes) node.shape)

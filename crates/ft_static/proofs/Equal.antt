@@ -6,8 +6,10 @@ use Rattle.std.specs.declared.cmp.Ordering.{Ordering}
 use Rattle.std.specs.declared.cmp.Ordering.TheVariants.{Less, Equal, Greater}
 use Rattle.std.proofs.lemmas.Cmp.{tied_itself}
 use Rattle.ft_static.specs.Form.{Atom, Monomial, Polynomial, Updates}
-use Rattle.ft_static.specs.FormOrder.{cmp_atom, cmp_monomial, cmp_polynomial, cmp_updates, same_polynomial, same_updates}
-use Rattle.ft_static.proofs.Spelled.{cmp_atom_total, cmp_monomial_total, cmp_polynomial_total, cmp_updates_total, atom_equal, monomial_equal, polynomial_equal, updates_equal}
+use Rattle.ft_static.specs.FormOrder.{cmp_atom, cmp_monomial, cmp_polynomial, cmp_updates, same_polynomial}
+use Rattle.ft_static.specs.FormOrder.{same_updates}
+use Rattle.ft_static.proofs.Spelled.{cmp_atom_total, cmp_monomial_total, cmp_polynomial_total, cmp_updates_total}
+use Rattle.ft_static.proofs.Spelled.{atom_equal, monomial_equal, polynomial_equal, updates_equal}
 
 -- the test for `Equal`
 is_equal : (o : Ordering) → is_eq o ≡ true → o ≡ Equal
@@ -29,7 +31,11 @@ equal_monomials m n = (monomial_equal m n, tied cmp_monomial cmp_monomial_total 
 
 -- the test of polynomials is true exactly when they are the same
 pub equal_polynomials : (p q : Polynomial) → same_polynomial p q ≡ true ↔ p ≡ q
-equal_polynomials p q = (λ e. polynomial_equal p q (is_equal (cmp_polynomial p q) e), λ e. ap is_eq (tied cmp_polynomial cmp_polynomial_total p q e))
+equal_polynomials p q = (
+  λ e. polynomial_equal p q (is_equal (cmp_polynomial p q) e),
+  λ e.
+      ap is_eq (tied cmp_polynomial cmp_polynomial_total p q e),
+)
 
 -- a form is the same as itself
 pub same_itself : (p : Polynomial) → same_polynomial p p ≡ true
@@ -37,4 +43,8 @@ same_itself p = (equal_polynomials p p).1 refl
 
 -- that of memory forms too
 pub equal_updates : (u w : Updates) → same_updates u w ≡ true ↔ u ≡ w
-equal_updates u w = (λ e. updates_equal u w (is_equal (cmp_updates u w) e), λ e. ap is_eq (tied cmp_updates cmp_updates_total u w e))
+equal_updates u w = (
+  λ e. updates_equal u w (is_equal (cmp_updates u w) e),
+  λ e.
+      ap is_eq (tied cmp_updates cmp_updates_total u w e),
+)

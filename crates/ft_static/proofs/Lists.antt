@@ -6,7 +6,8 @@ use Rattle.std.specs.declared.cmp.Ordering.{Ordering}
 use Rattle.std.specs.declared.cmp.Ordering.TheVariants.{Less, Equal, Greater}
 use Rattle.std.proofs.lemmas.Bool.Decides.{nat_tests}
 use Rattle.ft_static.proofs.Spelled.{then_assoc}
-use Rattle.ft_static.specs.Form.{Monomial, Polynomial, Updates, one, times, nought, plus, unchanged, update, factors, terms, updates, atoms, monomials, stores}
+use Rattle.ft_static.specs.Form.{Monomial, Polynomial, Updates, one, times, nought, plus, unchanged, update, factors}
+use Rattle.ft_static.specs.Form.{terms, updates, atoms, monomials, stores}
 use Rattle.ft_static.specs.FormOrder.{cmp_atom, cmp_monomial, cmp_polynomial, cmp_updates, cmp_lists, cmp_pairs}
 
 -- the number of atoms
@@ -49,27 +50,51 @@ monomial_lists one (times b n) = rw (zero_first (length (atoms n))) refl
 monomial_lists (times a m) one = rw (zero_last (length (atoms m))) refl
 monomial_lists (times a m) (times b n) =
     ap (λ t. ordering_then (nat_cmp (factors m) (factors n)) (ordering_then (cmp_atom a b) t)) (monomial_lists m n)
-    ∙ rw (length_atoms m, length_atoms n) (again (nat_cmp (factors m) (factors n)) (cmp_atom a b) (slice_cmp cmp_atom (atoms m) (atoms n))
-    ∙ ap (λ t. ordering_then t (ordering_then (cmp_atom a b) (slice_cmp cmp_atom (atoms m) (atoms n)))) (above_one (factors m) (factors n)))
+    ∙ rw (length_atoms m, length_atoms n) (again (nat_cmp (factors m) (factors n)) (cmp_atom a b)
+    (slice_cmp cmp_atom (atoms m) (atoms n))
+    ∙ ap (λ t. ordering_then t (ordering_then (cmp_atom a b) (slice_cmp cmp_atom (atoms m) (atoms n))))
+    (above_one (factors m) (factors n)))
 
 -- polynomials are ordered as lists of pairs of monomial and coefficient
-pub polynomial_lists : (p q : Polynomial) → cmp_polynomial p q ≡ cmp_lists (cmp_pairs cmp_monomial nat_cmp) (monomials p) (monomials q)
+pub polynomial_lists : (p q : Polynomial) → cmp_polynomial p q
+    ≡ cmp_lists (cmp_pairs cmp_monomial nat_cmp) (monomials p) (monomials q)
 polynomial_lists nought nought = refl
 polynomial_lists nought (plus n d q) = rw (zero_first (length (monomials q))) refl
 polynomial_lists (plus m c p) nought = rw (zero_last (length (monomials p))) refl
 polynomial_lists (plus m c p) (plus n d q) =
-    ap (λ t. ordering_then (nat_cmp (terms p) (terms q)) (ordering_then (cmp_monomial m n) (ordering_then (nat_cmp c d) t))) (polynomial_lists p q)
-    ∙ rw (length_monomials p, length_monomials q, sym (then_assoc (cmp_monomial m n) (nat_cmp c d) (ordering_then (nat_cmp (terms p) (terms q)) (slice_cmp (cmp_pairs cmp_monomial nat_cmp) (monomials p) (monomials q)))))
-    (again (nat_cmp (terms p) (terms q)) (ordering_then (cmp_monomial m n) (nat_cmp c d)) (slice_cmp (cmp_pairs cmp_monomial nat_cmp) (monomials p) (monomials q))
-    ∙ ap (λ t. ordering_then t (ordering_then (ordering_then (cmp_monomial m n) (nat_cmp c d)) (slice_cmp (cmp_pairs cmp_monomial nat_cmp) (monomials p) (monomials q)))) (above_one (terms p) (terms q)))
+    ap (λ t. ordering_then (nat_cmp (terms p) (terms q))
+    (ordering_then (cmp_monomial m n) (ordering_then (nat_cmp c d) t))) (polynomial_lists p q)
+    ∙ rw (
+      length_monomials p,
+      length_monomials q,
+      sym
+          (then_assoc (cmp_monomial m n) (nat_cmp c d)
+          (ordering_then (nat_cmp (terms p) (terms q))
+          (slice_cmp (cmp_pairs cmp_monomial nat_cmp) (monomials p) (monomials q)))),
+    )
+    (again (nat_cmp (terms p) (terms q)) (ordering_then (cmp_monomial m n) (nat_cmp c d))
+    (slice_cmp (cmp_pairs cmp_monomial nat_cmp) (monomials p) (monomials q))
+    ∙ ap (λ t. ordering_then t (ordering_then (ordering_then (cmp_monomial m n) (nat_cmp c d))
+    (slice_cmp (cmp_pairs cmp_monomial nat_cmp) (monomials p) (monomials q)))) (above_one (terms p) (terms q)))
 
 -- memory forms are ordered as lists of pairs of address and value
-pub updates_lists : (u w : Updates) → cmp_updates u w ≡ cmp_lists (cmp_pairs cmp_polynomial cmp_polynomial) (stores u) (stores w)
+pub updates_lists : (u w : Updates) → cmp_updates u w
+    ≡ cmp_lists (cmp_pairs cmp_polynomial cmp_polynomial) (stores u) (stores w)
 updates_lists unchanged unchanged = refl
 updates_lists unchanged (update r w x) = rw (zero_first (length (stores x))) refl
 updates_lists (update p v u) unchanged = rw (zero_last (length (stores u))) refl
 updates_lists (update p v u) (update r w x) =
-    ap (λ t. ordering_then (nat_cmp (updates u) (updates x)) (ordering_then (cmp_polynomial p r) (ordering_then (cmp_polynomial v w) t))) (updates_lists u x)
-    ∙ rw (length_stores u, length_stores x, sym (then_assoc (cmp_polynomial p r) (cmp_polynomial v w) (ordering_then (nat_cmp (updates u) (updates x)) (slice_cmp (cmp_pairs cmp_polynomial cmp_polynomial) (stores u) (stores x)))))
-    (again (nat_cmp (updates u) (updates x)) (ordering_then (cmp_polynomial p r) (cmp_polynomial v w)) (slice_cmp (cmp_pairs cmp_polynomial cmp_polynomial) (stores u) (stores x))
-    ∙ ap (λ t. ordering_then t (ordering_then (ordering_then (cmp_polynomial p r) (cmp_polynomial v w)) (slice_cmp (cmp_pairs cmp_polynomial cmp_polynomial) (stores u) (stores x)))) (above_one (updates u) (updates x)))
+    ap (λ t. ordering_then (nat_cmp (updates u) (updates x))
+    (ordering_then (cmp_polynomial p r) (ordering_then (cmp_polynomial v w) t))) (updates_lists u x)
+    ∙ rw (
+      length_stores u,
+      length_stores x,
+      sym (then_assoc (cmp_polynomial p r) (cmp_polynomial v w)
+          (ordering_then (nat_cmp (updates u) (updates x))
+          (slice_cmp (cmp_pairs cmp_polynomial cmp_polynomial) (stores u)
+          (stores x)))),
+    )
+    (again (nat_cmp (updates u) (updates x)) (ordering_then (cmp_polynomial p r) (cmp_polynomial v w))
+    (slice_cmp (cmp_pairs cmp_polynomial cmp_polynomial) (stores u) (stores x))
+    ∙ ap (λ t. ordering_then t (ordering_then (ordering_then (cmp_polynomial p r) (cmp_polynomial v w))
+    (slice_cmp (cmp_pairs cmp_polynomial cmp_polynomial) (stores u) (stores x)))) (above_one (updates u) (updates x)))

@@ -1,9 +1,15 @@
--- Each node of a lawful list stands for one tree, whose numbers are words and whose variables are within the node's scope.
-use Rattle.std.proofs.Common.{ℕ, suc, zero, ◌≡◌, ◌<◌, ◌≤◌, ◌+◌, true, false, List, [], ◌∷◌, ◌++◌, length, get_or, slice_get, Some, refl, sym, ap, ◌∙◌, arith, subst}
+-- Each node of a lawful list stands for one tree, whose numbers are words and whose variables are within the node's
+-- scope.
+use Rattle.std.proofs.Common.{ℕ, suc, zero, ◌≡◌, ◌<◌, ◌≤◌, ◌+◌, true, false, List, [], ◌∷◌, ◌++◌, length, get_or}
+use Rattle.std.proofs.Common.{slice_get, Some, refl, sym, ap, ◌∙◌, arith, subst}
 use Rattle.std.proofs.lemmas.List.{get_or_append_left, get_or_push, length_push}
-use Rattle.ft_static.specs.Expression.{Integer, Memory, Expression, word, variable, operation, sel, rem, memory_variable, upd, integer, memory, HasWords, HasVariablesBelow, AreWords, AreWordsOfMemory, IsWithin, IsMemoryWithin}
+use Rattle.ft_static.specs.Expression.{Integer, Memory, Expression, word, variable, operation, sel, rem}
+use Rattle.ft_static.specs.Expression.{memory_variable, upd, integer, memory, HasWords, HasVariablesBelow, AreWords}
+use Rattle.ft_static.specs.Expression.{AreWordsOfMemory, IsWithin, IsMemoryWithin}
 use Rattle.ft_static.specs.NodeRules.{is_memory, MayName, IsShape, AreNodes}
-use Rattle.ft_static.specs.NodeTree.{integer_part, memory_part, integer_at, memory_at, tree_of, trees_onto, trees, tree_at, HasShape, StandsFor, word_node, variable_node, operation_node, sel_node, rem_node, memory_node, upd_node, HasPartsBelow}
+use Rattle.ft_static.specs.NodeTree.{integer_part, memory_part, integer_at, memory_at, tree_of, trees_onto, trees}
+use Rattle.ft_static.specs.NodeTree.{tree_at, HasShape, StandsFor, word_node, variable_node, operation_node, sel_node}
+use Rattle.ft_static.specs.NodeTree.{rem_node, memory_node, upd_node, HasPartsBelow}
 use Rattle.ft_static.specs.declared.node.Node.{Node}
 use Rattle.ft_static.specs.declared.node.Shape.{Shape}
 use Rattle.ft_static.specs.declared.node.Shape.TheVariants as shape
@@ -23,7 +29,8 @@ parts_below nodes n scope (shape.Upd m a v) h = (h.0.lower, h.1.lower, h.2.lower
 parts_below nodes n scope (shape.Rem a m) h = h.0.lower
 
 -- two lists of trees that agree below n give one tree to a node whose parts are below n
-tree_of-agrees : (n : ℕ) (ts us : List Expression) (x : Shape) → ((k : ℕ) → k < n → get_or ts k none ≡ get_or us k none) → HasPartsBelow n x → tree_of ts x ≡ tree_of us x
+tree_of-agrees : (n : ℕ) (ts us : List Expression) (x : Shape) →
+    ((k : ℕ) → k < n → get_or ts k none ≡ get_or us k none) → HasPartsBelow n x → tree_of ts x ≡ tree_of us x
 tree_of-agrees n ts us (shape.Word w) e h = refl
 tree_of-agrees n ts us (shape.Var i) e h = refl
 tree_of-agrees n ts us (shape.Op o a b) e h = rw (e a h.0, e b h.1) refl
@@ -33,14 +40,17 @@ tree_of-agrees n ts us (shape.Upd m a v) e h = rw (e m h.0, e a h.1, e v h.2) re
 tree_of-agrees n ts us (shape.Rem a m) e h = rw (e a h) refl
 
 -- further nodes keep the trees so far
-trees_onto-keeps : (ts : List Expression) (ns : List Node) (k : ℕ) → k < length ts → get_or (trees_onto ts ns) k none ≡ get_or ts k none
+trees_onto-keeps : (ts : List Expression) (ns : List Node) (k : ℕ) → k < length ts → get_or (trees_onto ts ns) k none
+    ≡ get_or ts k none
 trees_onto-keeps ts [] k h = refl
 trees_onto-keeps ts (x ∷ ns) k h =
     let l = length_push ts (tree_of ts x.shape) in
-    trees_onto-keeps (ts ++ tree_of ts x.shape ∷ []) ns k (omega arith) ∙ get_or_append_left ts (tree_of ts x.shape ∷ []) none k h
+    trees_onto-keeps (ts ++ tree_of ts x.shape ∷ []) ns k (omega arith)
+    ∙ get_or_append_left ts (tree_of ts x.shape ∷ []) none k h
 
 -- each further node gets the tree of its shape
-trees_onto-row : (ts : List Expression) (ns : List Node) (j n : ℕ) (x : Node) → n ≡ length ts + j → slice_get ns j ≡ Some x → HasPartsBelow n x.shape → get_or (trees_onto ts ns) n none ≡ tree_of (trees_onto ts ns) x.shape
+trees_onto-row : (ts : List Expression) (ns : List Node) (j n : ℕ) (x : Node) → n ≡ length ts + j → slice_get ns j
+    ≡ Some x → HasPartsBelow n x.shape → get_or (trees_onto ts ns) n none ≡ tree_of (trees_onto ts ns) x.shape
 trees_onto-row ts [] j n x e f h = cc
 trees_onto-row ts (y ∷ ns) zero n x e f h =
     let q : y ≡ x = cc in
@@ -49,17 +59,21 @@ trees_onto-row ts (y ∷ ns) zero n x e f h =
     trees_onto-keeps (ts ++ tree_of ts y.shape ∷ []) ns n (omega arith)
     ∙ (get_or_push ts (tree_of ts y.shape) none n m
     ∙ (ap (λ (z : Node). tree_of ts z.shape) q
-    ∙ sym (tree_of-agrees n (trees_onto ts (y ∷ ns)) ts x.shape (λ k b. trees_onto-keeps ts (y ∷ ns) k (omega arith)) h)))
+    ∙ sym (tree_of-agrees n (trees_onto ts (y ∷ ns)) ts x.shape (λ k b. trees_onto-keeps ts (y ∷ ns) k (omega arith))
+    h)))
 trees_onto-row ts (y ∷ ns) (suc j) n x e f h =
     let l = length_push ts (tree_of ts y.shape) in
     trees_onto-row (ts ++ tree_of ts y.shape ∷ []) ns j n x (omega arith) f h
 
 -- the tree of a node is that of its shape, from the trees of its parts
-pub tree_at-row : (nodes : List Node) (n : ℕ) (x : Node) → AreNodes nodes → slice_get nodes n ≡ Some x → tree_at nodes n ≡ tree_of (trees nodes) x.shape
-tree_at-row nodes n x h f = trees_onto-row [] nodes n n x (omega arith) f (parts_below nodes n x.scope x.shape (h.each n x f).shape)
+pub tree_at-row : (nodes : List Node) (n : ℕ) (x : Node) → AreNodes nodes → slice_get nodes n ≡ Some x → tree_at nodes n
+    ≡ tree_of (trees nodes) x.shape
+tree_at-row nodes n x h f = trees_onto-row [] nodes n n x (omega arith) f
+    (parts_below nodes n x.scope x.shape (h.each n x f).shape)
 
 -- a node that isn't a memory's has an integer's tree
-pub integer_tree : (ts : List Expression) (x : Shape) → is_memory x ≡ false → tree_of ts x ≡ integer (integer_part (tree_of ts x))
+pub integer_tree : (ts : List Expression) (x : Shape) → is_memory x ≡ false → tree_of ts x
+    ≡ integer (integer_part (tree_of ts x))
 integer_tree ts (shape.Word w) e = refl
 integer_tree ts (shape.Var i) e = refl
 integer_tree ts (shape.Op o a b) e = refl
@@ -69,7 +83,8 @@ integer_tree ts (shape.Upd m a v) e = cc
 integer_tree ts (shape.Rem a m) e = refl
 
 -- a memory's node has a memory's tree
-pub memory_tree : (ts : List Expression) (x : Shape) → is_memory x ≡ true → tree_of ts x ≡ memory (memory_part (tree_of ts x))
+pub memory_tree : (ts : List Expression) (x : Shape) → is_memory x ≡ true → tree_of ts x
+    ≡ memory (memory_part (tree_of ts x))
 memory_tree ts (shape.Word w) e = cc
 memory_tree ts (shape.Var i) e = cc
 memory_tree ts (shape.Op o a b) e = cc
@@ -79,19 +94,23 @@ memory_tree ts (shape.Upd m a v) e = refl
 memory_tree ts (shape.Rem a m) e = cc
 
 -- the tree of a node that is named as an integer
-pub integer_named : (nodes : List Node) (n scope m : ℕ) → AreNodes nodes → MayName nodes n scope false m → tree_at nodes m ≡ integer (integer_at (trees nodes) m)
+pub integer_named : (nodes : List Node) (n scope m : ℕ) → AreNodes nodes → MayName nodes n scope false m →
+    tree_at nodes m ≡ integer (integer_at (trees nodes) m)
 integer_named nodes n scope m h k =
     let e = tree_at-row nodes m k.node h k.found in
     subst (λ t. t ≡ integer (integer_part t)) (sym e) (integer_tree (trees nodes) k.node.shape k.sort)
 
 -- the tree of a node that is named as a memory
-pub memory_named : (nodes : List Node) (n scope m : ℕ) → AreNodes nodes → MayName nodes n scope true m → tree_at nodes m ≡ memory (memory_at (trees nodes) m)
+pub memory_named : (nodes : List Node) (n scope m : ℕ) → AreNodes nodes → MayName nodes n scope true m → tree_at nodes m
+    ≡ memory (memory_at (trees nodes) m)
 memory_named nodes n scope m h k =
     let e = tree_at-row nodes m k.node h k.found in
     subst (λ t. t ≡ memory (memory_part t)) (sym e) (memory_tree (trees nodes) k.node.shape k.sort)
 
 -- a node stands for the tree of its shape where its parts stand for theirs
-stands_shape : (nodes : List Node) (n scope : ℕ) (x : Shape) → AreNodes nodes → HasShape nodes n x → IsShape nodes n scope x → ((k : ℕ) (y : Node) → k < n → slice_get nodes k ≡ Some y → StandsFor nodes k (tree_at nodes k)) → StandsFor nodes n (tree_of (trees nodes) x)
+stands_shape : (nodes : List Node) (n scope : ℕ) (x : Shape) → AreNodes nodes → HasShape nodes n x →
+    IsShape nodes n scope x → ((k : ℕ) (y : Node) → k < n → slice_get nodes k ≡ Some y →
+    StandsFor nodes k (tree_at nodes k)) → StandsFor nodes n (tree_of (trees nodes) x)
 stands_shape nodes n scope x h s p lower = go x s p
   where
     whole : (m : ℕ) → MayName nodes n scope false m → StandsFor nodes m (integer (integer_at (trees nodes) m))
@@ -103,39 +122,57 @@ stands_shape nodes n scope x h s p lower = go x s p
     go : (y : Shape) → HasShape nodes n y → IsShape nodes n scope y → StandsFor nodes n (tree_of (trees nodes) y)
     go (shape.Word w) s p = word_node n w s
     go (shape.Var i) s p = variable_node n i s
-    go (shape.Op o a b) s p = operation_node n o a b (integer_at (trees nodes) a) (integer_at (trees nodes) b) s (whole a p.0) (whole b p.1)
-    go (shape.Sel m a) s p = sel_node n m a (memory_at (trees nodes) m) (integer_at (trees nodes) a) s (stored m p.0) (whole a p.1)
+    go (shape.Op o a b) s p = operation_node n o a b (integer_at (trees nodes) a) (integer_at (trees nodes) b) s
+        (whole a p.0) (whole b p.1)
+    go (shape.Sel m a) s p = sel_node n m a (memory_at (trees nodes) m) (integer_at (trees nodes) a) s (stored m p.0)
+        (whole a p.1)
     go shape.Memory s p = memory_node n s
-    go (shape.Upd m a v) s p = upd_node n m a v (memory_at (trees nodes) m) (integer_at (trees nodes) a) (integer_at (trees nodes) v) s (stored m p.0) (whole a p.1) (whole v p.2)
+    go (shape.Upd m a v) s p = upd_node n m a v (memory_at (trees nodes) m) (integer_at (trees nodes) a)
+        (integer_at (trees nodes) v) s (stored m p.0) (whole a p.1) (whole v p.2)
     go (shape.Rem a m) s p = rem_node n a m (integer_at (trees nodes) a) s (whole a p.0)
 
 -- so do all nodes below a bound
-stands_below : (nodes : List Node) (bound n : ℕ) (x : Node) → AreNodes nodes → n < bound → slice_get nodes n ≡ Some x → StandsFor nodes n (tree_at nodes n)
+stands_below : (nodes : List Node) (bound n : ℕ) (x : Node) → AreNodes nodes → n < bound → slice_get nodes n ≡ Some x →
+    StandsFor nodes n (tree_at nodes n)
 stands_below nodes zero n x h b f = absurd (omega (arith, b))
 stands_below nodes (suc bound) n x h b f = subst (StandsFor nodes n) (sym (tree_at-row nodes n x h f))
-    (stands_shape nodes n x.scope x.shape h (record { node = x; found = f; shape = refl }) (h.each n x f).shape (λ k y l g. stands_below nodes bound k y h (omega (arith, b, l)) g))
+    (stands_shape nodes n x.scope x.shape h (record { node = x; found = f; shape = refl }) (h.each n x f).shape
+    (λ k y l g. stands_below nodes bound k y h (omega (arith, b, l)) g))
 
 -- a node stands for its tree
-pub stands_for_tree : (nodes : List Node) (n : ℕ) (x : Node) → AreNodes nodes → slice_get nodes n ≡ Some x → StandsFor nodes n (tree_at nodes n)
+pub stands_for_tree : (nodes : List Node) (n : ℕ) (x : Node) → AreNodes nodes → slice_get nodes n ≡ Some x →
+    StandsFor nodes n (tree_at nodes n)
 stands_for_tree nodes n x h f = stands_below nodes (suc n) n x h (omega arith) f
 
 -- the tree of a node of this shape
-shaped : (nodes : List Node) (n : ℕ) (x : Shape) → AreNodes nodes → HasShape nodes n x → tree_at nodes n ≡ tree_of (trees nodes) x
+shaped : (nodes : List Node) (n : ℕ) (x : Shape) → AreNodes nodes → HasShape nodes n x → tree_at nodes n
+    ≡ tree_of (trees nodes) x
 shaped nodes n x h s = tree_at-row nodes n s.node h s.found ∙ ap (tree_of (trees nodes)) s.shape
 
 -- and for no other
-pub stands_for_one : (nodes : List Node) (n : ℕ) (t : Expression) → AreNodes nodes → StandsFor nodes n t → tree_at nodes n ≡ t
+pub stands_for_one : (nodes : List Node) (n : ℕ) (t : Expression) → AreNodes nodes → StandsFor nodes n t →
+    tree_at nodes n ≡ t
 stands_for_one nodes _ _ h (word_node n w s) = shaped nodes n (shape.Word w) h s
 stands_for_one nodes _ _ h (variable_node n i s) = shaped nodes n (shape.Var i) h s
 stands_for_one nodes _ _ h (operation_node n o j k a b s p q) =
-    shaped nodes n (shape.Op o j k) h s ∙ rw (stands_for_one nodes j (integer a) h p, stands_for_one nodes k (integer b) h q) refl
+    shaped nodes n (shape.Op o j k) h s ∙ rw (
+      stands_for_one nodes j (integer a) h p,
+      stands_for_one nodes k (integer b) h q,
+    ) refl
 stands_for_one nodes _ _ h (sel_node n j k m a s p q) =
-    shaped nodes n (shape.Sel j k) h s ∙ rw (stands_for_one nodes j (memory m) h p, stands_for_one nodes k (integer a) h q) refl
+    shaped nodes n (shape.Sel j k) h s ∙ rw (
+      stands_for_one nodes j (memory m) h p,
+      stands_for_one nodes k (integer a) h q,
+    ) refl
 stands_for_one nodes _ _ h (rem_node n j m a s p) =
     shaped nodes n (shape.Rem j m) h s ∙ rw (stands_for_one nodes j (integer a) h p) refl
 stands_for_one nodes _ _ h (memory_node n s) = shaped nodes n shape.Memory h s
 stands_for_one nodes _ _ h (upd_node n j k l m a v s p q r) =
-    shaped nodes n (shape.Upd j k l) h s ∙ rw (stands_for_one nodes j (memory m) h p, stands_for_one nodes k (integer a) h q, stands_for_one nodes l (integer v) h r) refl
+    shaped nodes n (shape.Upd j k l) h s ∙ rw (
+      stands_for_one nodes j (memory m) h p,
+      stands_for_one nodes k (integer a) h q,
+      stands_for_one nodes l (integer v) h r,
+    ) refl
 
 mutual
   -- variables below a number are below a greater one
@@ -149,24 +186,34 @@ mutual
   -- those of a memory too
   memory_within_more : (k : Memory) (m n : ℕ) → m ≤ n → IsMemoryWithin m k → IsMemoryWithin n k
   memory_within_more memory_variable m n l h = tt
-  memory_within_more (upd k a v) m n l h = (memory_within_more k m n l h.0, within_more a m n l h.1, within_more v m n l h.2)
+  memory_within_more (upd k a v) m n l h = (
+    memory_within_more k m n l h.0,
+    within_more a m n l h.1,
+    within_more v m n l h.2,
+  )
 
 -- the numbers in an expression are words, and its variables are below n
 abbrev Fits : ℕ → Expression → Type 0
 Fits n t = HasWords t × HasVariablesBelow n t
 
 -- the tree of a shape fits where the trees of its parts do
-fits_shape : (nodes : List Node) (n scope : ℕ) (x : Shape) → AreNodes nodes → IsShape nodes n scope x → ((k : ℕ) (y : Node) → k < n → slice_get nodes k ≡ Some y → Fits y.scope (tree_at nodes k)) → Fits scope (tree_of (trees nodes) x)
+fits_shape : (nodes : List Node) (n scope : ℕ) (x : Shape) → AreNodes nodes → IsShape nodes n scope x →
+    ((k : ℕ) (y : Node) → k < n → slice_get nodes k ≡ Some y → Fits y.scope (tree_at nodes k)) →
+    Fits scope (tree_of (trees nodes) x)
 fits_shape nodes n scope x h p lower = go x p
   where
-    whole : (m : ℕ) → MayName nodes n scope false m → AreWords (integer_at (trees nodes) m) × IsWithin scope (integer_at (trees nodes) m)
+    whole : (m : ℕ) → MayName nodes n scope false m → AreWords (integer_at (trees nodes) m)
+        × IsWithin scope (integer_at (trees nodes) m)
     whole m k =
-        let f : Fits k.node.scope (integer (integer_at (trees nodes) m)) = subst (Fits k.node.scope) (integer_named nodes n scope m h k) (lower m k.node k.lower k.found) in
+        let f : Fits k.node.scope (integer (integer_at (trees nodes) m)) =
+        subst (Fits k.node.scope) (integer_named nodes n scope m h k) (lower m k.node k.lower k.found) in
         (f.0, within_more (integer_at (trees nodes) m) k.node.scope scope k.scope_within f.1)
 
-    stored : (m : ℕ) → MayName nodes n scope true m → AreWordsOfMemory (memory_at (trees nodes) m) × IsMemoryWithin scope (memory_at (trees nodes) m)
+    stored : (m : ℕ) → MayName nodes n scope true m → AreWordsOfMemory (memory_at (trees nodes) m)
+        × IsMemoryWithin scope (memory_at (trees nodes) m)
     stored m k =
-        let f : Fits k.node.scope (memory (memory_at (trees nodes) m)) = subst (Fits k.node.scope) (memory_named nodes n scope m h k) (lower m k.node k.lower k.found) in
+        let f : Fits k.node.scope (memory (memory_at (trees nodes) m)) =
+        subst (Fits k.node.scope) (memory_named nodes n scope m h k) (lower m k.node k.lower k.found) in
         (f.0, memory_within_more (memory_at (trees nodes) m) k.node.scope scope k.scope_within f.1)
 
     go : (y : Shape) → IsShape nodes n scope y → Fits scope (tree_of (trees nodes) y)
@@ -175,15 +222,19 @@ fits_shape nodes n scope x h p lower = go x p
     go (shape.Op o a b) p = let f = whole a p.0 in let g = whole b p.1 in ((f.0, g.0), (f.1, g.1))
     go (shape.Sel m a) p = let f = stored m p.0 in let g = whole a p.1 in ((f.0, g.0), (f.1, g.1))
     go shape.Memory p = (tt, tt)
-    go (shape.Upd m a v) p = let f = stored m p.0 in let g = whole a p.1 in let k = whole v p.2 in ((f.0, g.0, k.0), (f.1, g.1, k.1))
+    go (shape.Upd m a v) p = let f = stored m p.0 in let g = whole a p.1 in let k = whole v p.2 in
+        ((f.0, g.0, k.0), (f.1, g.1, k.1))
     go (shape.Rem a m) p = let f = whole a p.0 in ((f.0, p.1), f.1)
 
 -- so do the trees of all nodes below a bound
-fits_below : (nodes : List Node) (bound n : ℕ) (x : Node) → AreNodes nodes → n < bound → slice_get nodes n ≡ Some x → Fits x.scope (tree_at nodes n)
+fits_below : (nodes : List Node) (bound n : ℕ) (x : Node) → AreNodes nodes → n < bound → slice_get nodes n ≡ Some x →
+    Fits x.scope (tree_at nodes n)
 fits_below nodes zero n x h b f = absurd (omega (arith, b))
 fits_below nodes (suc bound) n x h b f = subst (Fits x.scope) (sym (tree_at-row nodes n x h f))
-    (fits_shape nodes n x.scope x.shape h (h.each n x f).shape (λ k y l g. fits_below nodes bound k y h (omega (arith, b, l)) g))
+    (fits_shape nodes n x.scope x.shape h (h.each n x f).shape (λ k y l g.
+    fits_below nodes bound k y h (omega (arith, b, l)) g))
 
 -- the numbers in a node's tree are words, and its variables are within the node's scope
-pub tree_fits : (nodes : List Node) (n : ℕ) (x : Node) → AreNodes nodes → slice_get nodes n ≡ Some x → HasWords (tree_at nodes n) × HasVariablesBelow x.scope (tree_at nodes n)
+pub tree_fits : (nodes : List Node) (n : ℕ) (x : Node) → AreNodes nodes → slice_get nodes n ≡ Some x →
+    HasWords (tree_at nodes n) × HasVariablesBelow x.scope (tree_at nodes n)
 tree_fits nodes n x h f = fits_below nodes (suc n) n x h (omega arith) f

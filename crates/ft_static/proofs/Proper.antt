@@ -1,19 +1,23 @@
 -- Sums and products of forms in order are in order.
-use Rattle.std.proofs.Common.{ℕ, suc, ◌≡◌, ◌≢◌, ◌+◌, ◌*◌, ◌-◌, ◌%◌, ◌^◌, ◌<◌, ◌≤◌, ◌==◌, true, refl, sym, ap, ◌∙◌, arith, if◌then◌else◌, lit<, lit≤, nat_le, ◌&&◌}
+use Rattle.std.proofs.Common.{ℕ, suc, ◌≡◌, ◌≢◌, ◌+◌, ◌*◌, ◌-◌, ◌%◌, ◌^◌, ◌<◌, ◌≤◌, ◌==◌, true, refl, sym, ap, ◌∙◌}
+use Rattle.std.proofs.Common.{arith, if◌then◌else◌, lit<, lit≤, nat_le, ◌&&◌}
 use Rattle.std.proofs.Math.Nat.{mod-lt, mod-eq_of_lt}
 use Rattle.std.proofs.Common.{Option, Some, None, List, slice_index_or}
 use Rattle.ft_isa.specs.declared.op.Op.{Op}
-use Rattle.ft_isa.specs.declared.op.Op.TheVariants.{Add, Sub, Mul, Ltu, Eq, And, Or, Xor, Shl, Shr}
+use Rattle.ft_isa.specs.declared.op.Op.TheVariants.{Add, Sub, Mul}
 use Rattle.ft_isa.specs.Words.{apply}
 use Rattle.ft_static.specs.Expression.{Integer, Memory, word, variable, operation, sel, rem, memory_variable, upd}
-use Rattle.ft_static.specs.NormalForm.{constant, constant_of, folded, norm_folded, norm_op, remainder, norm_rem, norm_sel, norm_upd, norm_integer, norm_memory, is_not_zero}
+use Rattle.ft_static.specs.NormalForm.{constant, constant_of, folded, norm_folded, norm_op, remainder, norm_rem}
+use Rattle.ft_static.specs.NormalForm.{norm_sel, norm_upd, norm_integer, norm_memory, is_not_zero}
 use Rattle.std.specs.Ordering.{ordering_reverse}
 use Rattle.std.specs.declared.cmp.Ordering.{Ordering}
 use Rattle.std.specs.declared.cmp.Ordering.TheVariants.{Less, Equal, Greater}
 use Rattle.std.proofs.lemmas.Bool.{eqb-false, leb-true, and_parts}
-use Rattle.ft_static.specs.Form.{factors, terms, Atom, Monomial, Polynomial, Updates, variable_atom, operation_atom, sel_atom, rem_atom, one, times, nought, plus, unchanged, update}
+use Rattle.ft_static.specs.Form.{factors, terms, Atom, Monomial, Polynomial, Updates, variable_atom, operation_atom}
+use Rattle.ft_static.specs.Form.{sel_atom, rem_atom, one, times, nought, plus, unchanged, update}
 use Rattle.ft_static.specs.FormOrder.{cmp_atom, cmp_monomial, same_polynomial}
-use Rattle.ft_static.specs.NormalForm.{with_factor, join, led_by, add_term, total, add_multiple, add_products, degree, alone, negation, norm_add, norm_sub, norm_mul}
+use Rattle.ft_static.specs.NormalForm.{with_factor, join, led_by, add_term, total, add_multiple, add_products, degree}
+use Rattle.ft_static.specs.NormalForm.{alone, negation, norm_add, norm_sub, norm_mul}
 use Rattle.ft_static.specs.Proper.{Leads, Below, IsProperAtom, IsProperMonomial, IsProper, AreProperUpdates, IsNormal}
 use Rattle.ft_static.specs.FormUnder.{norm_under, norm_memory_under}
 use Rattle.ft_static.proofs.Spelled.{cmp_atom_total, cmp_monomial_total}
@@ -38,12 +42,14 @@ equal_not_greater o e k = let x : Equal ≡ Greater = sym e ∙ k in cc
 -- factors
 leads_with : (a b : Atom) (m : Monomial) → cmp_atom b a ≢ Greater → Leads b m → Leads b (with_factor a m)
 leads_with a b one h k = h
-leads_with a b (times d m) h k = by_cases (λ n. Leads b n) (cmp_atom a d) (times a (times d m)) (times a (times d m)) (times d (with_factor a m)) (λ e. h) (λ e. h) (λ e. k)
+leads_with a b (times d m) h k = by_cases (λ n. Leads b n) (cmp_atom a d) (times a (times d m)) (times a (times d m))
+    (times d (with_factor a m)) (λ e. h) (λ e. h) (λ e. k)
 
 -- an atom more keeps a monomial in order
 proper_with : (a : Atom) (m : Monomial) → IsProperAtom a → IsProperMonomial m → IsProperMonomial (with_factor a m)
 proper_with a one h k = (h, tt, tt)
-proper_with a (times b m) h k = by_cases (λ n. IsProperMonomial n) (cmp_atom a b) (times a (times b m)) (times a (times b m)) (times b (with_factor a m))
+proper_with a (times b m) h k = by_cases (λ n. IsProperMonomial n) (cmp_atom a b) (times a (times b m))
+    (times a (times b m)) (times b (with_factor a m))
     (λ e. (h, less_not_greater _ e, k))
     (λ e. (h, equal_not_greater _ e, k))
     (λ e. (k.0, leads_with a b m (not_greater _ _ (cmp_atom_total.antisymm b a) e) k.1, proper_with a m h k.2))
@@ -56,7 +62,8 @@ proper_join (times a m) n h k = proper_join m (with_factor a n) h.2 (proper_with
 -- an atom more is one more
 pub factors_with : (a : Atom) (m : Monomial) → factors (with_factor a m) ≡ suc (factors m)
 factors_with a one = refl
-factors_with a (times b m) = by_cases (λ n. factors n ≡ suc (suc (factors m))) (cmp_atom a b) (times a (times b m)) (times a (times b m)) (times b (with_factor a m)) (λ e. refl) (λ e. refl) (λ e. ap suc (factors_with a m))
+factors_with a (times b m) = by_cases (λ n. factors n ≡ suc (suc (factors m))) (cmp_atom a b) (times a (times b m))
+    (times a (times b m)) (times b (with_factor a m)) (λ e. refl) (λ e. refl) (λ e. ap suc (factors_with a m))
 
 -- the numbers of atoms add up
 pub factors_join : (m n : Monomial) → factors (join m n) ≡ factors m + factors n
@@ -73,24 +80,37 @@ below_more k m nought h g = tt
 below_more k m (plus n d p) h g = cmp_monomial_total.trans k m n h g
 
 -- a term above keeps a monomial below
-below_add : (k m : Monomial) (c : ℕ) (p : Polynomial) → cmp_monomial k m ≡ Less → Below k p → IsProper p → Below k (add_term m c p)
+below_add : (k m : Monomial) (c : ℕ) (p : Polynomial) → cmp_monomial k m ≡ Less → Below k p → IsProper p →
+    Below k (add_term m c p)
 below_add k m c nought h g w = below_led k m c nought h tt
-below_add k m c (plus n d p) h g w = by_cases (λ q. Below k q) (cmp_monomial m n) (led_by m c (plus n d p)) (led_by n ((c + d) % 2 ^ 64) p) (plus n d (add_term m c p))
+below_add k m c (plus n d p) h g w = by_cases (λ q. Below k q) (cmp_monomial m n) (led_by m c (plus n d p))
+    (led_by n ((c + d) % 2 ^ 64) p) (plus n d (add_term m c p))
     (λ e. below_led k m c (plus n d p) h g)
     (λ e. below_led k n ((c + d) % 2 ^ 64) p g (below_more k n p g w.4))
     (λ e. g)
 
 -- a lower term first keeps a polynomial in order
-proper_led : (m : Monomial) (c : ℕ) (p : Polynomial) → IsProperMonomial m → factors m ≤ 4 → c < 2 ^ 64 → Below m p → IsProper p → IsProper (led_by m c p)
-proper_led m c p h f l b w = if_cases (λ q. IsProper q) (c == 0) p (plus m c p) (λ e. w) (λ e. (h, f, (let n = eqb-false c 0 e in omega arith), l, b, w))
+proper_led : (m : Monomial) (c : ℕ) (p : Polynomial) → IsProperMonomial m → factors m ≤ 4 → c < 2 ^ 64 → Below m p →
+    IsProper p → IsProper (led_by m c p)
+proper_led m c p h f l b w = if_cases (λ q. IsProper q) (c == 0) p (plus m c p) (λ e. w) (λ e.
+    (h, f, (let n = eqb-false c 0 e in omega arith), l, b, w))
 
 -- a term added keeps it in order
-pub proper_add_term : (m : Monomial) (c : ℕ) (p : Polynomial) → IsProperMonomial m → factors m ≤ 4 → c < 2 ^ 64 → IsProper p → IsProper (add_term m c p)
+pub proper_add_term : (m : Monomial) (c : ℕ) (p : Polynomial) → IsProperMonomial m → factors m ≤ 4 → c < 2 ^ 64 →
+    IsProper p → IsProper (add_term m c p)
 proper_add_term m c nought h f l w = proper_led m c nought h f l tt tt
-proper_add_term m c (plus n d p) h f l w = by_cases (λ q. IsProper q) (cmp_monomial m n) (led_by m c (plus n d p)) (led_by n ((c + d) % 2 ^ 64) p) (plus n d (add_term m c p))
+proper_add_term m c (plus n d p) h f l w = by_cases (λ q. IsProper q) (cmp_monomial m n) (led_by m c (plus n d p))
+    (led_by n ((c + d) % 2 ^ 64) p) (plus n d (add_term m c p))
     (λ e. proper_led m c (plus n d p) h f l e w)
     (λ e. proper_led n ((c + d) % 2 ^ 64) p w.0 w.1 (mod-lt _ (lit< tt)) w.4 w.5)
-    (λ e. (w.0, w.1, w.2, w.3, below_add n m c p (turned _ _ (cmp_monomial_total.antisymm n m) e) w.4 w.5, proper_add_term m c p h f l w.5))
+    (λ e. (
+      w.0,
+      w.1,
+      w.2,
+      w.3,
+      below_add n m c p (turned _ _ (cmp_monomial_total.antisymm n m) e) w.4 w.5,
+      proper_add_term m c p h f l w.5,
+    ))
 
 -- a sum of polynomials in order is in order
 pub proper_total : (p q : Polynomial) → IsProper p → IsProper q → IsProper (total p q)
@@ -98,16 +118,20 @@ proper_total nought q h k = k
 proper_total (plus m c p) q h k = proper_total p (add_term m c q) h.5 (proper_add_term m c q h.0 h.1 h.3 k)
 
 -- and so are the products with one term
-pub proper_multiple : (m : Monomial) (c : ℕ) (p q : Polynomial) → IsProperMonomial m → factors m + degree p ≤ 4 → IsProper p → IsProper q → IsProper (add_multiple m c p q)
+pub proper_multiple : (m : Monomial) (c : ℕ) (p q : Polynomial) → IsProperMonomial m → factors m + degree p ≤ 4 →
+    IsProper p → IsProper q → IsProper (add_multiple m c p q)
 proper_multiple m c nought q h f w v = v
 proper_multiple m c (plus n d p) q h f w v =
     let k = factors_join m n in
-    proper_multiple m c p (add_term (join m n) ((c * d) % 2 ^ 64) q) h (omega arith) w.5 (proper_add_term (join m n) ((c * d) % 2 ^ 64) q (proper_join m n h w.0) (omega arith) (mod-lt _ (lit< tt)) v)
+    proper_multiple m c p (add_term (join m n) ((c * d) % 2 ^ 64) q) h (omega arith) w.5
+    (proper_add_term (join m n) ((c * d) % 2 ^ 64) q (proper_join m n h w.0) (omega arith) (mod-lt _ (lit< tt)) v)
 
 -- and all products
-proper_products : (p q r : Polynomial) → degree p + degree q ≤ 4 → IsProper p → IsProper q → IsProper r → IsProper (add_products p q r)
+proper_products : (p q r : Polynomial) → degree p + degree q ≤ 4 → IsProper p → IsProper q → IsProper r →
+    IsProper (add_products p q r)
 proper_products nought q r f h k w = w
-proper_products (plus m c p) q r f h k w = proper_products p q (add_multiple m c q r) (omega arith) h.5 k (proper_multiple m c q r h.0 (omega arith) k w)
+proper_products (plus m c p) q r f h k w = proper_products p q (add_multiple m c q r) (omega arith) h.5 k
+    (proper_multiple m c q r h.0 (omega arith) k w)
 
 -- numbers of terms
 terms_led : (m : Monomial) (c : ℕ) (p : Polynomial) → terms (led_by m c p) ≤ suc (terms p)
@@ -116,7 +140,8 @@ terms_led m c p = if_cases (λ q. terms q ≤ suc (terms p)) (c == 0) p (plus m 
 -- a term added is at most one more
 terms_add_term : (m : Monomial) (c : ℕ) (p : Polynomial) → terms (add_term m c p) ≤ suc (terms p)
 terms_add_term m c nought = terms_led m c nought
-terms_add_term m c (plus n d p) = by_cases (λ q. terms q ≤ suc (suc (terms p))) (cmp_monomial m n) (led_by m c (plus n d p)) (led_by n ((c + d) % 2 ^ 64) p) (plus n d (add_term m c p))
+terms_add_term m c (plus n d p) = by_cases (λ q. terms q ≤ suc (suc (terms p))) (cmp_monomial m n)
+    (led_by m c (plus n d p)) (led_by n ((c + d) % 2 ^ 64) p) (plus n d (add_term m c p))
     (λ e. terms_led m c (plus n d p))
     (λ e. let h = terms_led n ((c + d) % 2 ^ 64) p in omega arith)
     (λ e. let h = terms_add_term m c p in omega arith)
@@ -124,27 +149,35 @@ terms_add_term m c (plus n d p) = by_cases (λ q. terms q ≤ suc (suc (terms p)
 -- the products with one term are at most as many
 terms_multiple : (m : Monomial) (c : ℕ) (p q : Polynomial) → terms (add_multiple m c p q) ≤ terms p + terms q
 terms_multiple m c nought q = omega arith
-terms_multiple m c (plus n d p) q = let h = terms_multiple m c p (add_term (join m n) ((c * d) % 2 ^ 64) q) in let k = terms_add_term (join m n) ((c * d) % 2 ^ 64) q in omega arith
+terms_multiple m c (plus n d p) q = let h = terms_multiple m c p (add_term (join m n) ((c * d) % 2 ^ 64) q) in
+    let k = terms_add_term (join m n) ((c * d) % 2 ^ 64) q in omega arith
 
 -- all products are at most the product of the numbers
 terms_products : (p q r : Polynomial) → terms (add_products p q r) ≤ terms p * terms q + terms r
 terms_products nought q r = omega arith
-terms_products (plus m c p) q r = let h = terms_products p q (add_multiple m c q r) in let k = terms_multiple m c q r in let e : suc (terms p) * terms q ≡ terms p * terms q + terms q = grind arith in omega arith
+terms_products (plus m c p) q r = let h = terms_products p q (add_multiple m c q r) in let k = terms_multiple m c q r in
+    let e : suc (terms p) * terms q ≡ terms p * terms q + terms q = grind arith in omega arith
 
 -- an atom alone is in order
 pub proper_alone : (a : Atom) → IsProperAtom a → IsProper (alone a)
 proper_alone a h = ((h, tt, tt), lit≤ tt, lit< tt, lit< tt, tt, tt)
 
 -- the form of add is normal
-pub proper_norm_add : (p q : Polynomial) → IsProper p → IsProper q → terms p ≤ 64 → terms q ≤ 64 → IsProper (norm_add p q) × (terms (norm_add p q) ≤ 64)
-proper_norm_add p q h k m n = if_cases (λ t. IsProper t × (terms t ≤ 64)) (nat_le (terms (total p q)) 64) (total p q) (alone (operation_atom Add p q))
+pub proper_norm_add : (p q : Polynomial) → IsProper p → IsProper q → terms p ≤ 64 → terms q ≤ 64 →
+    IsProper (norm_add p q) × (terms (norm_add p q) ≤ 64)
+proper_norm_add p q h k m n = if_cases (λ t. IsProper t × (terms t ≤ 64)) (nat_le (terms (total p q)) 64) (total p q)
+    (alone (operation_atom Add p q))
     (λ e. (proper_total p q h k, leb-true _ _ e))
     (λ e. (proper_alone (operation_atom Add p q) (h, k, m, n), lit≤ tt))
 
 -- the form of mul is normal
-pub proper_norm_mul : (p q : Polynomial) → IsProper p → IsProper q → terms p ≤ 64 → terms q ≤ 64 → IsProper (norm_mul p q) × (terms (norm_mul p q) ≤ 64)
-proper_norm_mul p q h k m n = if_cases (λ t. IsProper t × (terms t ≤ 64)) (nat_le (terms p * terms q) 64 && nat_le (degree p + degree q) 4) (add_products p q nought) (alone (operation_atom Mul p q))
-    (λ e. let b : (nat_le (terms p * terms q) 64 ≡ true) × (nat_le (degree p + degree q) 4 ≡ true) = and_parts _ _ e in let u : terms p * terms q ≤ 64 = leb-true _ _ b.0 in let t = terms_products p q nought in (proper_products p q nought (leb-true _ _ b.1) h k tt, omega arith))
+pub proper_norm_mul : (p q : Polynomial) → IsProper p → IsProper q → terms p ≤ 64 → terms q ≤ 64 →
+    IsProper (norm_mul p q) × (terms (norm_mul p q) ≤ 64)
+proper_norm_mul p q h k m n = if_cases (λ t. IsProper t × (terms t ≤ 64)) (nat_le (terms p * terms q) 64
+    && nat_le (degree p + degree q) 4) (add_products p q nought) (alone (operation_atom Mul p q))
+    (λ e. let b : (nat_le (terms p * terms q) 64 ≡ true) × (nat_le (degree p + degree q) 4 ≡ true) = and_parts _ _ e in
+    let u : terms p * terms q ≤ 64 = leb-true _ _ b.0 in let t = terms_products p q nought in
+    (proper_products p q nought (leb-true _ _ b.1) h k tt, omega arith))
     (λ e. (proper_alone (operation_atom Mul p q) (h, k, m, n), lit≤ tt))
 
 -- negation keeps the monomials
@@ -194,13 +227,7 @@ pub normal_op : (o : Op) (p q : Polynomial) → IsNormal p → IsNormal q → Is
 normal_op Add p q h k = proper_norm_add p q h.0 k.0 h.1 k.1
 normal_op Sub p q h k = normal_sub p q h k
 normal_op Mul p q h k = proper_norm_mul p q h.0 k.0 h.1 k.1
-normal_op Ltu p q h k = normal_folded Ltu p q h k
-normal_op Eq p q h k = normal_folded Eq p q h k
-normal_op And p q h k = normal_folded And p q h k
-normal_op Or p q h k = normal_folded Or p q h k
-normal_op Xor p q h k = normal_folded Xor p q h k
-normal_op Shl p q h k = normal_folded Shl p q h k
-normal_op Shr p q h k = normal_folded Shr p q h k
+normal_op o p q h k = normal_folded o p q h k
 
 -- the form of rem is normal
 pub normal_rem : (p : Polynomial) (m : ℕ) → IsNormal p → IsNormal (norm_rem p m)
@@ -213,14 +240,19 @@ normal_rem p m h = go (constant_of p)
 -- the form of a sel is normal
 pub normal_sel : (u : Updates) (p : Polynomial) → AreProperUpdates u → IsNormal p → IsNormal (norm_sel u p)
 normal_sel unchanged p h k = normal_alone (sel_atom unchanged p) (tt, k.0, k.1)
-normal_sel (update a v u) p h k = if_cases (λ t. IsNormal t) (same_polynomial a p) v (if is_not_zero (constant_of (norm_sub p a)) then norm_sel u p else alone (sel_atom (update a v u) p))
+normal_sel (update a v u) p h k = if_cases (λ t. IsNormal t) (same_polynomial a p) v
+    (if is_not_zero (constant_of (norm_sub p a)) then norm_sel u p else alone (sel_atom (update a v u) p))
     (λ e. (h.2, h.3))
-    (λ e. if_cases (λ t. IsNormal t) (is_not_zero (constant_of (norm_sub p a))) (norm_sel u p) (alone (sel_atom (update a v u) p)) (λ g. normal_sel u p h.4 k) (λ g. normal_alone (sel_atom (update a v u) p) (h, k.0, k.1)))
+    (λ e. if_cases (λ t. IsNormal t) (is_not_zero (constant_of (norm_sub p a))) (norm_sel u p)
+    (alone (sel_atom (update a v u) p)) (λ g. normal_sel u p h.4 k) (λ g.
+    normal_alone (sel_atom (update a v u) p) (h, k.0, k.1)))
 
 -- the form of an upd is in order
-pub proper_upd : (u : Updates) (p v : Polynomial) → AreProperUpdates u → IsNormal p → IsNormal v → AreProperUpdates (norm_upd u p v)
+pub proper_upd : (u : Updates) (p v : Polynomial) → AreProperUpdates u → IsNormal p → IsNormal v →
+    AreProperUpdates (norm_upd u p v)
 proper_upd unchanged p v h k l = (k.0, k.1, l.0, l.1, tt)
-proper_upd (update a w u) p v h k l = if_cases (λ t. AreProperUpdates t) (same_polynomial a p) (update a v u) (update p v (update a w u))
+proper_upd (update a w u) p v h k l = if_cases (λ t. AreProperUpdates t) (same_polynomial a p) (update a v u)
+    (update p v (update a w u))
     (λ e. (h.0, h.1, l.0, l.1, h.4))
     (λ e. (k.0, k.1, l.0, l.1, h))
 
@@ -237,18 +269,25 @@ mutual
   -- the form of a memory is in order
   pub norm_memory_is_proper : (m : Memory) → AreProperUpdates (norm_memory m)
   norm_memory_is_proper memory_variable = tt
-  norm_memory_is_proper (upd m a b) = proper_upd (norm_memory m) (norm_integer a) (norm_integer b) (norm_memory_is_proper m) (norm_is_normal a) (norm_is_normal b)
+  norm_memory_is_proper (upd m a b) = proper_upd (norm_memory m) (norm_integer a) (norm_integer b)
+      (norm_memory_is_proper m) (norm_is_normal a) (norm_is_normal b)
 
 mutual
   -- a form under normal forms is normal
-  pub under_is_normal : (e : Integer) (ps : List Polynomial) (u : Updates) → ((i : ℕ) → IsNormal (slice_index_or ps i nought)) → AreProperUpdates u → IsNormal (norm_under e ps u)
+  pub under_is_normal : (e : Integer) (ps : List Polynomial) (u : Updates) →
+      ((i : ℕ) → IsNormal (slice_index_or ps i nought)) → AreProperUpdates u → IsNormal (norm_under e ps u)
   under_is_normal (word w) ps u h k = normal_constant w
   under_is_normal (variable i) ps u h k = h i
-  under_is_normal (operation o a b) ps u h k = normal_op o (norm_under a ps u) (norm_under b ps u) (under_is_normal a ps u h k) (under_is_normal b ps u h k)
-  under_is_normal (sel m a) ps u h k = normal_sel (norm_memory_under m ps u) (norm_under a ps u) (memory_under_is_proper m ps u h k) (under_is_normal a ps u h k)
+  under_is_normal (operation o a b) ps u h k = normal_op o (norm_under a ps u) (norm_under b ps u)
+      (under_is_normal a ps u h k) (under_is_normal b ps u h k)
+  under_is_normal (sel m a) ps u h k = normal_sel (norm_memory_under m ps u) (norm_under a ps u)
+      (memory_under_is_proper m ps u h k) (under_is_normal a ps u h k)
   under_is_normal (rem a m) ps u h k = normal_rem (norm_under a ps u) m (under_is_normal a ps u h k)
 
   -- that of a memory is in order
-  pub memory_under_is_proper : (m : Memory) (ps : List Polynomial) (u : Updates) → ((i : ℕ) → IsNormal (slice_index_or ps i nought)) → AreProperUpdates u → AreProperUpdates (norm_memory_under m ps u)
+  pub memory_under_is_proper : (m : Memory) (ps : List Polynomial) (u : Updates) →
+      ((i : ℕ) → IsNormal (slice_index_or ps i nought)) → AreProperUpdates u →
+      AreProperUpdates (norm_memory_under m ps u)
   memory_under_is_proper memory_variable ps u h k = k
-  memory_under_is_proper (upd m a b) ps u h k = proper_upd (norm_memory_under m ps u) (norm_under a ps u) (norm_under b ps u) (memory_under_is_proper m ps u h k) (under_is_normal a ps u h k) (under_is_normal b ps u h k)
+  memory_under_is_proper (upd m a b) ps u h k = proper_upd (norm_memory_under m ps u) (norm_under a ps u)
+      (norm_under b ps u) (memory_under_is_proper m ps u h k) (under_is_normal a ps u h k) (under_is_normal b ps u h k)

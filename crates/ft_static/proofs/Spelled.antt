@@ -10,8 +10,10 @@ use base.Stored.{Coded, coded_ℕ, coded_list, coded_via}
 use Rattle.std.proofs.lemmas.Cmp.{tied_itself, nat_list_cmp_total}
 use Rattle.std.proofs.lemmas.List.{append-nil}
 use Rattle.ft_isa.specs.declared.op.Op.{Op}
-use Rattle.ft_isa.specs.declared.op.Op.TheVariants.{Add, Sub, Mul, Ltu, Eq, And, Or, Xor, Shl, Shr}
-use Rattle.ft_static.specs.Form.{Form, integer_form, memory_form, factors, terms, updates, Atom, Monomial, Polynomial, Updates, variable_atom, operation_atom, sel_atom, rem_atom, one, times, nought, plus, unchanged, update}
+use Rattle.ft_isa.specs.declared.op.Op.TheVariants.{Add}
+use Rattle.ft_static.specs.Form.{Form, integer_form, memory_form, factors, terms, updates, Atom, Monomial, Polynomial}
+use Rattle.ft_static.specs.Form.{Updates, variable_atom, operation_atom, sel_atom, rem_atom, one, times, nought, plus}
+use Rattle.ft_static.specs.Form.{unchanged, update}
 use Rattle.ft_static.specs.FormOrder.{operation_kind, cmp_atom, cmp_monomial, cmp_polynomial, cmp_updates}
 
 abbrev mutual
@@ -59,28 +61,12 @@ unlike i j x y h = go (nat_cmp i j) refl
 -- no operation has the kind of the variables, of sel or of rem
 other_kind : (o : Op) → (0 ≢ operation_kind o) × (3 ≢ operation_kind o) × (11 ≢ operation_kind o)
 other_kind Add = (λ e. cc, λ e. cc, λ e. cc)
-other_kind Sub = (λ e. cc, λ e. cc, λ e. cc)
-other_kind Mul = (λ e. cc, λ e. cc, λ e. cc)
-other_kind Ltu = (λ e. cc, λ e. cc, λ e. cc)
-other_kind Eq = (λ e. cc, λ e. cc, λ e. cc)
-other_kind And = (λ e. cc, λ e. cc, λ e. cc)
-other_kind Or = (λ e. cc, λ e. cc, λ e. cc)
-other_kind Xor = (λ e. cc, λ e. cc, λ e. cc)
-other_kind Shl = (λ e. cc, λ e. cc, λ e. cc)
-other_kind Shr = (λ e. cc, λ e. cc, λ e. cc)
+other_kind o = (λ e. cc, λ e. cc, λ e. cc)
 
 -- no two operations have one kind
 same_kind : (o k : Op) → operation_kind o ≡ operation_kind k → o ≡ k
 same_kind Add Add e = refl
-same_kind Sub Sub e = refl
-same_kind Mul Mul e = refl
-same_kind Ltu Ltu e = refl
-same_kind Eq Eq e = refl
-same_kind And And e = refl
-same_kind Or Or e = refl
-same_kind Xor Xor e = refl
-same_kind Shl Shl e = refl
-same_kind Shr Shr e = refl
+same_kind o Add e = cc
 same_kind o k e = cc
 
 -- lists of numbers, by the first that differ
@@ -89,9 +75,15 @@ lex = slice_cmp nat_cmp
 
 mutual
   -- spelled atoms with lists after them compare as the atoms and then the lists
-  pub lex_atom : (a b : Atom) (xs ys : List ℕ) → lex (spell_atom a ++ xs) (spell_atom b ++ ys) ≡ ordering_then (cmp_atom a b) (lex xs ys)
+  pub lex_atom : (a b : Atom) (xs ys : List ℕ) → lex (spell_atom a ++ xs) (spell_atom b ++ ys)
+      ≡ ordering_then (cmp_atom a b) (lex xs ys)
   lex_atom (variable_atom i) (variable_atom j) xs ys = refl
-  lex_atom (operation_atom o p q) (operation_atom k r s) xs ys = simp (append_assoc, lex_polynomial p r, lex_polynomial q s, then_assoc)
+  lex_atom (operation_atom o p q) (operation_atom k r s) xs ys = simp (
+    append_assoc,
+    lex_polynomial p r,
+    lex_polynomial q s,
+    then_assoc,
+  )
   lex_atom (sel_atom u q) (sel_atom w s) xs ys = simp (append_assoc, lex_updates u w, lex_polynomial q s, then_assoc)
   lex_atom (rem_atom p m) (rem_atom r n) xs ys = simp (append_assoc, lex_polynomial p r, then_assoc)
   lex_atom (variable_atom i) (operation_atom o p q) xs ys = unlike _ _ _ _ (other_kind o).0
@@ -103,22 +95,31 @@ mutual
   lex_atom a b xs ys = refl
 
   -- so do monomials
-  pub lex_monomial : (a b : Monomial) (xs ys : List ℕ) → lex (spell_monomial a ++ xs) (spell_monomial b ++ ys) ≡ ordering_then (cmp_monomial a b) (lex xs ys)
+  pub lex_monomial : (a b : Monomial) (xs ys : List ℕ) → lex (spell_monomial a ++ xs) (spell_monomial b ++ ys)
+      ≡ ordering_then (cmp_monomial a b) (lex xs ys)
   lex_monomial (times a m) (times b n) xs ys = simp (append_assoc, lex_atom a b, lex_monomial m n, then_assoc)
   lex_monomial one one xs ys = refl
   lex_monomial one (times b n) xs ys = refl
   lex_monomial (times a m) one xs ys = refl
 
   -- and polynomials
-  pub lex_polynomial : (a b : Polynomial) (xs ys : List ℕ) → lex (spell_polynomial a ++ xs) (spell_polynomial b ++ ys) ≡ ordering_then (cmp_polynomial a b) (lex xs ys)
+  pub lex_polynomial : (a b : Polynomial) (xs ys : List ℕ) → lex (spell_polynomial a ++ xs) (spell_polynomial b ++ ys)
+      ≡ ordering_then (cmp_polynomial a b) (lex xs ys)
   lex_polynomial (plus m c p) (plus n d q) xs ys = simp (append_assoc, lex_monomial m n, lex_polynomial p q, then_assoc)
   lex_polynomial nought nought xs ys = refl
   lex_polynomial nought (plus n d q) xs ys = refl
   lex_polynomial (plus m c p) nought xs ys = refl
 
   -- and memory forms
-  pub lex_updates : (a b : Updates) (xs ys : List ℕ) → lex (spell_updates a ++ xs) (spell_updates b ++ ys) ≡ ordering_then (cmp_updates a b) (lex xs ys)
-  lex_updates (update p v u) (update r w x) xs ys = simp (append_assoc, lex_polynomial p r, lex_polynomial v w, lex_updates u x, then_assoc)
+  pub lex_updates : (a b : Updates) (xs ys : List ℕ) → lex (spell_updates a ++ xs) (spell_updates b ++ ys)
+      ≡ ordering_then (cmp_updates a b) (lex xs ys)
+  lex_updates (update p v u) (update r w x) xs ys = simp (
+    append_assoc,
+    lex_polynomial p r,
+    lex_polynomial v w,
+    lex_updates u x,
+    then_assoc,
+  )
   lex_updates unchanged unchanged xs ys = refl
   lex_updates unchanged (update r w x) xs ys = refl
   lex_updates (update p v u) unchanged xs ys = refl
@@ -179,9 +180,13 @@ mutual
   -- tied atoms are the same
   pub atom_equal : (a b : Atom) → cmp_atom a b ≡ Equal → a ≡ b
   atom_equal (variable_atom i) (variable_atom j) e = ap variable_atom (nat_cmp_equal i j e)
-  atom_equal (operation_atom o p q) (operation_atom k r s) e = let h = then_both _ _ e in let i = then_both _ _ h.1 in let j = same_kind o k (nat_cmp_equal _ _ h.0) in let x = polynomial_equal p r i.0 in let y = polynomial_equal q s i.1 in cc
-  atom_equal (sel_atom u q) (sel_atom w s) e = let h = then_both _ _ e in let x = updates_equal u w h.0 in let y = polynomial_equal q s h.1 in cc
-  atom_equal (rem_atom p m) (rem_atom r n) e = let h = then_both _ _ e in let x = polynomial_equal p r h.0 in let y = nat_cmp_equal m n h.1 in cc
+  atom_equal (operation_atom o p q) (operation_atom k r s) e = let h = then_both _ _ e in let i = then_both _ _ h.1 in
+      let j = same_kind o k (nat_cmp_equal _ _ h.0) in let x = polynomial_equal p r i.0 in
+      let y = polynomial_equal q s i.1 in cc
+  atom_equal (sel_atom u q) (sel_atom w s) e = let h = then_both _ _ e in let x = updates_equal u w h.0 in
+      let y = polynomial_equal q s h.1 in cc
+  atom_equal (rem_atom p m) (rem_atom r n) e = let h = then_both _ _ e in let x = polynomial_equal p r h.0 in
+      let y = nat_cmp_equal m n h.1 in cc
   atom_equal (variable_atom i) (operation_atom o p q) e = absurd ((other_kind o).0 (nat_cmp_equal _ _ e))
   atom_equal (operation_atom o p q) (variable_atom i) e = absurd ((other_kind o).0 (sym (nat_cmp_equal _ _ e)))
   atom_equal (sel_atom u r) (operation_atom o p q) e = absurd ((other_kind o).1 (nat_cmp_equal _ _ e))
@@ -195,21 +200,26 @@ mutual
   monomial_equal one one e = refl
   monomial_equal one (times b n) e = cc
   monomial_equal (times a m) one e = cc
-  monomial_equal (times a m) (times b n) e = let h = then_both _ _ e in let k = then_both _ _ h.1 in let x = atom_equal a b k.0 in let y = monomial_equal m n k.1 in cc
+  monomial_equal (times a m) (times b n) e = let h = then_both _ _ e in let k = then_both _ _ h.1 in
+      let x = atom_equal a b k.0 in let y = monomial_equal m n k.1 in cc
 
   -- tied polynomials are the same
   pub polynomial_equal : (a b : Polynomial) → cmp_polynomial a b ≡ Equal → a ≡ b
   polynomial_equal nought nought e = refl
   polynomial_equal nought (plus n d q) e = cc
   polynomial_equal (plus m c p) nought e = cc
-  polynomial_equal (plus m c p) (plus n d q) e = let h = then_both _ _ e in let k = then_both _ _ h.1 in let l = then_both _ _ k.1 in let x = monomial_equal m n k.0 in let z = nat_cmp_equal c d l.0 in let y = polynomial_equal p q l.1 in cc
+  polynomial_equal (plus m c p) (plus n d q) e = let h = then_both _ _ e in let k = then_both _ _ h.1 in
+      let l = then_both _ _ k.1 in let x = monomial_equal m n k.0 in let z = nat_cmp_equal c d l.0 in
+      let y = polynomial_equal p q l.1 in cc
 
   -- tied memory forms are the same
   pub updates_equal : (a b : Updates) → cmp_updates a b ≡ Equal → a ≡ b
   updates_equal unchanged unchanged e = refl
   updates_equal unchanged (update r w x) e = cc
   updates_equal (update p v u) unchanged e = cc
-  updates_equal (update p v u) (update r w x) e = let h = then_both _ _ e in let k = then_both _ _ h.1 in let l = then_both _ _ k.1 in let i = polynomial_equal p r k.0 in let j = polynomial_equal v w l.0 in let y = updates_equal u x l.1 in cc
+  updates_equal (update p v u) (update r w x) e = let h = then_both _ _ e in let k = then_both _ _ h.1 in
+      let l = then_both _ _ k.1 in let i = polynomial_equal p r k.0 in let j = polynomial_equal v w l.0 in
+      let y = updates_equal u x l.1 in cc
 
 -- a form is told apart by its spelling
 spelled_alike : (xs ys : List ℕ) → xs ≡ ys → lex xs ys ≡ Equal
@@ -225,7 +235,8 @@ spell_form-injective : (f g : Form) → spell_form f ≡ spell_form g → f ≡ 
 unfolding spell_form
 spell_form-injective (integer_form p) (integer_form q) e =
     let h : spell_polynomial p ≡ spell_polynomial q = cc in
-    ap integer_form (polynomial_equal p q (polynomial_spelled p q ∙ spelled_alike (spell_polynomial p) (spell_polynomial q) h))
+    ap integer_form (polynomial_equal p q (polynomial_spelled p q
+    ∙ spelled_alike (spell_polynomial p) (spell_polynomial q) h))
 spell_form-injective (integer_form p) (memory_form u) e = cc
 spell_form-injective (memory_form u) (integer_form p) e = cc
 spell_form-injective (memory_form u) (memory_form v) e =

@@ -1,15 +1,19 @@
 -- Sums and products of polynomials denote sums and products.
-use Rattle.std.proofs.Common.{ℕ, ◌≡◌, ◌+◌, ◌*◌, ◌%◌, ◌^◌, ◌<◌, ◌==◌, refl, sym, ap, ◌∙◌, arith, lit<, zero-add, ◌&&◌, nat_le}
-use Rattle.std.proofs.Math.Nat.{add-mod-mod, mod-add-mod, mod-le, mod-lt, mod-eq_of_lt, mod-mod, mul-add, add-mul, zero-mul, mul-zero, one-mul, mul-one, add-zero}
+use Rattle.std.proofs.Common.{ℕ, ◌≡◌, ◌+◌, ◌*◌, ◌%◌, ◌^◌, ◌<◌, ◌==◌, refl, sym, ap, ◌∙◌, arith, lit<, zero-add, ◌&&◌}
+use Rattle.std.proofs.Common.{nat_le}
+use Rattle.std.proofs.Math.Nat.{add-mod-mod, mod-add-mod, mod-le, mod-lt, mod-eq_of_lt, mod-mod, mul-add, add-mul}
+use Rattle.std.proofs.Math.Nat.{zero-mul, mul-zero, one-mul, mul-one, add-zero}
 use Rattle.std.proofs.lemmas.Bool.{eqb-true}
 use Rattle.std.proofs.lemmas.Nat.{mul-mod_first, mul-mod_second}
 use Rattle.ft_isa.proofs.Operations.{apply_is_word}
 use Rattle.ft_isa.specs.declared.op.Op.TheVariants.{Add, Mul}
 use Rattle.ft_isa.specs.Words.{apply, IsWord}
 use Rattle.ft_static.specs.Expression.{word_at, Valuation, IsLawful}
-use Rattle.ft_static.specs.Form.{terms, Atom, Monomial, Polynomial, Updates, variable_atom, operation_atom, sel_atom, rem_atom, one, times, nought, plus, unchanged, update}
+use Rattle.ft_static.specs.Form.{terms, Atom, Monomial, Polynomial, Updates, variable_atom, operation_atom, sel_atom}
+use Rattle.ft_static.specs.Form.{rem_atom, one, times, nought, plus, unchanged, update}
 use Rattle.ft_static.specs.FormOrder.{cmp_atom, cmp_monomial}
-use Rattle.ft_static.specs.NormalForm.{with_factor, join, led_by, add_term, total, add_multiple, add_products, degree, alone, norm_add, norm_mul}
+use Rattle.ft_static.specs.NormalForm.{with_factor, join, led_by, add_term, total, add_multiple, add_products, degree}
+use Rattle.ft_static.specs.NormalForm.{alone, norm_add, norm_mul}
 use Rattle.ft_static.specs.FormValue.{value_atom, value_monomial, value_polynomial, value_updates}
 use Rattle.ft_static.proofs.Cases.{by_cases, if_cases}
 use Rattle.ft_static.proofs.Words.{with_word_is_word}
@@ -25,7 +29,8 @@ swap_sums w x y z = rw (add-mod-mod, add-mod-mod) (ap (λ t. t % w) (omega arith
 
 -- two terms of one monomial
 merged : (w c d x y : ℕ) → ((c + d) % w * x + y) % w ≡ (c * x + (d * x + y) % w) % w
-merged w c d x y = let e : ((c + d) % w * x + y) % w ≡ ((c + d) * x + y) % w = sym (mod-add-mod ((c + d) % w * x) w y) ∙ ap (λ t. (t + y) % w) (mul-mod_first (c + d) x w) ∙ mod-add-mod ((c + d) * x) w y in
+merged w c d x y = let e : ((c + d) % w * x + y) % w ≡ ((c + d) * x + y) % w = sym (mod-add-mod ((c + d) % w * x) w y)
+    ∙ ap (λ t. (t + y) % w) (mul-mod_first (c + d) x w) ∙ mod-add-mod ((c + d) * x) w y in
     e ∙ rw (add-mod-mod, add-mul) (ap (λ t. t % w) (omega arith))
 
 -- products in another order
@@ -41,12 +46,15 @@ onto_products : (w x y z : ℕ) → (y * ((x * z) % w)) % w ≡ ((x * y) % w * z
 onto_products w x y z = rw (mul-mod_second, mul-mod_first) (ap (λ t. t % w) (grind arith))
 
 -- z and ((c d) mod w) ((x y) mod w) + q is (c x) (d y + z) + q
-multiple_more : (w c d x y z q : ℕ) → (c * x * z + ((c * d) % w * ((x * y) % w) + q) % w) % w ≡ (c * x * ((d * y + z) % w) + q) % w
+multiple_more : (w c d x y z q : ℕ) → (c * x * z + ((c * d) % w * ((x * y) % w) + q) % w) % w
+    ≡ (c * x * ((d * y + z) % w) + q) % w
 multiple_more w c d x y z q =
-    let left : ((c * d) % w * ((x * y) % w)) % w ≡ (c * d * (x * y)) % w = mul-mod_first (c * d) ((x * y) % w) w ∙ mul-mod_second (c * d) (x * y) w in
+    let left : ((c * d) % w * ((x * y) % w)) % w ≡ (c * d * (x * y)) % w = mul-mod_first (c * d) ((x * y) % w) w
+    ∙ mul-mod_second (c * d) (x * y) w in
     let right : (c * x * ((d * y + z) % w)) % w ≡ (c * x * (d * y + z)) % w = mul-mod_second (c * x) (d * y + z) w in
     let sums : c * x * z + (c * d * (x * y) + q) ≡ c * x * (d * y + z) + q = rw mul-add (grind arith) in
-    ap (λ t. (c * x * z + t) % w) (sym (mod-add-mod ((c * d) % w * ((x * y) % w)) w q) ∙ (ap (λ t. (t + q) % w) left ∙ mod-add-mod (c * d * (x * y)) w q))
+    ap (λ t. (c * x * z + t) % w) (sym (mod-add-mod ((c * d) % w * ((x * y) % w)) w q)
+    ∙ (ap (λ t. (t + q) % w) left ∙ mod-add-mod (c * d * (x * y)) w q))
     ∙ (add-mod-mod (c * x * z) (c * d * (x * y) + q) w
     ∙ (ap (λ t. t % w) sums
     ∙ (sym (mod-add-mod (c * x * (d * y + z)) w q)
@@ -75,33 +83,44 @@ value_monomial_is_word one s = lit< tt
 value_monomial_is_word (times a m) s = mod-lt _ (lit< tt)
 
 -- a memory form denotes words
-pub value_updates_are_words : (u : Updates) (s : Valuation) → IsLawful s → (x : ℕ) → IsWord (word_at (value_updates u s) x)
+pub value_updates_are_words : (u : Updates) (s : Valuation) → IsLawful s → (x : ℕ) →
+    IsWord (word_at (value_updates u s) x)
 value_updates_are_words unchanged s lawful x = lawful.memory x
-value_updates_are_words (update p v u) s lawful x = with_word_is_word (value_updates u s) (value_polynomial p s) (value_polynomial v s) x (value_polynomial_is_word v s) (value_updates_are_words u s lawful x)
+value_updates_are_words (update p v u) s lawful x = with_word_is_word (value_updates u s) (value_polynomial p s)
+    (value_polynomial v s) x (value_polynomial_is_word v s) (value_updates_are_words u s lawful x)
 
 -- an atom denotes a word
 pub value_atom_is_word : (a : Atom) (s : Valuation) (lawful : IsLawful s) → value_atom a s < 2 ^ 64
 value_atom_is_word (variable_atom i) s lawful = lawful.integers i
-value_atom_is_word (operation_atom o p q) s lawful = apply_is_word o _ _ (value_polynomial_is_word p s) (value_polynomial_is_word q s)
+value_atom_is_word (operation_atom o p q) s lawful =
+    apply_is_word o _ _ (value_polynomial_is_word p s) (value_polynomial_is_word q s)
 value_atom_is_word (sel_atom u p) s lawful = value_updates_are_words u s lawful _
-value_atom_is_word (rem_atom p m) s lawful = let h = value_polynomial_is_word p s in let k = mod-le (value_polynomial p s) m in omega (arith, h, k)
+value_atom_is_word (rem_atom p m) s lawful = let h = value_polynomial_is_word p s in
+    let k = mod-le (value_polynomial p s) m in omega (arith, h, k)
 
 -- sums
-value_led : (m : Monomial) (c : ℕ) (p : Polynomial) (s : Valuation) → value_polynomial (led_by m c p) s ≡ (c * value_monomial m s + value_polynomial p s) % 2 ^ 64
-value_led m c p s = if_cases (λ q. value_polynomial q s ≡ (c * value_monomial m s + value_polynomial p s) % 2 ^ 64) (c == 0) _ _
+value_led : (m : Monomial) (c : ℕ) (p : Polynomial) (s : Valuation) → value_polynomial (led_by m c p) s
+    ≡ (c * value_monomial m s + value_polynomial p s) % 2 ^ 64
+value_led m c p s = if_cases (λ q. value_polynomial q s ≡ (c * value_monomial m s + value_polynomial p s) % 2 ^ 64)
+    (c == 0) _ _
     (λ e. rw (eqb-true c 0 e, zero-mul) (led (2 ^ 64) (value_polynomial p s) (value_polynomial_is_word p s)))
     (λ e. refl)
 
 -- a term added
-pub value_add_term : (m : Monomial) (c : ℕ) (p : Polynomial) (s : Valuation) → value_polynomial (add_term m c p) s ≡ (c * value_monomial m s + value_polynomial p s) % 2 ^ 64
+pub value_add_term : (m : Monomial) (c : ℕ) (p : Polynomial) (s : Valuation) → value_polynomial (add_term m c p) s
+    ≡ (c * value_monomial m s + value_polynomial p s) % 2 ^ 64
 value_add_term m c nought s = value_led m c nought s
-value_add_term m c (plus n d p) s = by_cases (λ q. value_polynomial q s ≡ (c * value_monomial m s + value_polynomial (plus n d p) s) % 2 ^ 64) (cmp_monomial m n) _ _ _
+value_add_term m c (plus n d p) s = by_cases (λ q. value_polynomial q s
+    ≡ (c * value_monomial m s + value_polynomial (plus n d p) s) % 2 ^ 64) (cmp_monomial m n) _ _ _
     (λ e. value_led m c (plus n d p) s)
-    (λ e. rw (monomial_equal m n e) (value_led n _ p s ∙ merged (2 ^ 64) c d (value_monomial n s) (value_polynomial p s)))
-    (λ e. ap (λ t. (d * value_monomial n s + t) % 2 ^ 64) (value_add_term m c p s) ∙ swap_sums (2 ^ 64) (c * value_monomial m s) (d * value_monomial n s) (value_polynomial p s))
+    (λ e. rw (monomial_equal m n e) (value_led n _ p s
+    ∙ merged (2 ^ 64) c d (value_monomial n s) (value_polynomial p s)))
+    (λ e. ap (λ t. (d * value_monomial n s + t) % 2 ^ 64) (value_add_term m c p s)
+    ∙ swap_sums (2 ^ 64) (c * value_monomial m s) (d * value_monomial n s) (value_polynomial p s))
 
 -- the sum by monomials denotes the sum
-pub value_total : (p q : Polynomial) (s : Valuation) → value_polynomial (total p q) s ≡ (value_polynomial p s + value_polynomial q s) % 2 ^ 64
+pub value_total : (p q : Polynomial) (s : Valuation) → value_polynomial (total p q) s
+    ≡ (value_polynomial p s + value_polynomial q s) % 2 ^ 64
 value_total nought q s = led (2 ^ 64) (value_polynomial q s) (value_polynomial_is_word q s)
 value_total (plus m c p) q s = value_total p (add_term m c q) s
     ∙ (ap (λ t. (value_polynomial p s + t) % 2 ^ 64) (value_add_term m c q s)
@@ -112,45 +131,58 @@ pub value_alone : (a : Atom) (s : Valuation) (lawful : IsLawful s) → value_pol
 value_alone a s lawful = simp (mul-one, one-mul, add-zero, mod-mod) (mod-eq_of_lt (value_atom_is_word a s lawful))
 
 -- the form of add denotes the sum
-pub value_add : (p q : Polynomial) (s : Valuation) (lawful : IsLawful s) → value_polynomial (norm_add p q) s ≡ apply Add (value_polynomial p s) (value_polynomial q s)
+pub value_add : (p q : Polynomial) (s : Valuation) (lawful : IsLawful s) → value_polynomial (norm_add p q) s
+    ≡ apply Add (value_polynomial p s) (value_polynomial q s)
 unfolding apply
-value_add p q s lawful = if_cases (λ t. value_polynomial t s ≡ apply Add (value_polynomial p s) (value_polynomial q s)) (nat_le (terms (total p q)) 64) _ _
+value_add p q s lawful = if_cases (λ t. value_polynomial t s ≡ apply Add (value_polynomial p s) (value_polynomial q s))
+    (nat_le (terms (total p q)) 64) _ _
     (λ e. value_total p q s)
     (λ e. value_alone (operation_atom Add p q) s lawful)
 
 -- products
-pub value_with_factor : (a : Atom) (m : Monomial) (s : Valuation) → value_monomial (with_factor a m) s ≡ (value_atom a s * value_monomial m s) % 2 ^ 64
+pub value_with_factor : (a : Atom) (m : Monomial) (s : Valuation) → value_monomial (with_factor a m) s
+    ≡ (value_atom a s * value_monomial m s) % 2 ^ 64
 value_with_factor a one s = refl
-value_with_factor a (times b m) s = by_cases (λ n. value_monomial n s ≡ (value_atom a s * value_monomial (times b m) s) % 2 ^ 64) (cmp_atom a b) _ _ _
+value_with_factor a (times b m) s = by_cases (λ n. value_monomial n s
+    ≡ (value_atom a s * value_monomial (times b m) s) % 2 ^ 64) (cmp_atom a b) _ _ _
     (λ e. refl)
     (λ e. refl)
-    (λ e. ap (λ t. (value_atom b s * t) % 2 ^ 64) (value_with_factor a m s) ∙ swap_products (2 ^ 64) (value_atom a s) (value_atom b s) (value_monomial m s))
+    (λ e. ap (λ t. (value_atom b s * t) % 2 ^ 64) (value_with_factor a m s)
+    ∙ swap_products (2 ^ 64) (value_atom a s) (value_atom b s) (value_monomial m s))
 
 -- the product of monomials denotes the product
-pub value_join : (m n : Monomial) (s : Valuation) → value_monomial (join m n) s ≡ (value_monomial m s * value_monomial n s) % 2 ^ 64
+pub value_join : (m n : Monomial) (s : Valuation) → value_monomial (join m n) s
+    ≡ (value_monomial m s * value_monomial n s) % 2 ^ 64
 value_join one n s = rw one-mul (sym (mod-eq_of_lt (value_monomial_is_word n s)))
 value_join (times a m) n s = value_join m (with_factor a n) s
     ∙ (ap (λ t. (value_monomial m s * t) % 2 ^ 64) (value_with_factor a n s)
     ∙ onto_products (2 ^ 64) (value_atom a s) (value_monomial m s) (value_monomial n s))
 
 -- the products with one term
-value_add_multiple : (m : Monomial) (c : ℕ) (p q : Polynomial) (s : Valuation) → value_polynomial (add_multiple m c p q) s ≡ (c * value_monomial m s * value_polynomial p s + value_polynomial q s) % 2 ^ 64
+value_add_multiple : (m : Monomial) (c : ℕ) (p q : Polynomial) (s : Valuation) →
+    value_polynomial (add_multiple m c p q) s ≡ (c * value_monomial m s * value_polynomial p s + value_polynomial q s) %
+    2 ^ 64
 value_add_multiple m c nought q s = rw mul-zero (led (2 ^ 64) (value_polynomial q s) (value_polynomial_is_word q s))
 value_add_multiple m c (plus n d p) q s = value_add_multiple m c p (add_term (join m n) ((c * d) % 2 ^ 64) q) s
-    ∙ (ap (λ t. (c * value_monomial m s * value_polynomial p s + t) % 2 ^ 64) (value_add_term (join m n) ((c * d) % 2 ^ 64) q s
+    ∙ (ap (λ t. (c * value_monomial m s * value_polynomial p s + t) % 2 ^ 64)
+    (value_add_term (join m n) ((c * d) % 2 ^ 64) q s
     ∙ ap (λ t. ((c * d) % 2 ^ 64 * t + value_polynomial q s) % 2 ^ 64) (value_join m n s))
-    ∙ multiple_more (2 ^ 64) c d (value_monomial m s) (value_monomial n s) (value_polynomial p s) (value_polynomial q s))
+    ∙ multiple_more (2 ^ 64) c d (value_monomial m s) (value_monomial n s) (value_polynomial p s)
+    (value_polynomial q s))
 
 -- all products
-value_products : (p q r : Polynomial) (s : Valuation) → value_polynomial (add_products p q r) s ≡ (value_polynomial p s * value_polynomial q s + value_polynomial r s) % 2 ^ 64
+value_products : (p q r : Polynomial) (s : Valuation) → value_polynomial (add_products p q r) s
+    ≡ (value_polynomial p s * value_polynomial q s + value_polynomial r s) % 2 ^ 64
 value_products nought q r s = rw zero-mul (led (2 ^ 64) (value_polynomial r s) (value_polynomial_is_word r s))
 value_products (plus m c p) q r s = value_products p q (add_multiple m c q r) s
     ∙ (ap (λ t. (value_polynomial p s * value_polynomial q s + t) % 2 ^ 64) (value_add_multiple m c q r s)
     ∙ product_more (2 ^ 64) c (value_monomial m s) (value_polynomial p s) (value_polynomial q s) (value_polynomial r s))
 
 -- the form of mul denotes the product
-pub value_mul : (p q : Polynomial) (s : Valuation) (lawful : IsLawful s) → value_polynomial (norm_mul p q) s ≡ apply Mul (value_polynomial p s) (value_polynomial q s)
+pub value_mul : (p q : Polynomial) (s : Valuation) (lawful : IsLawful s) → value_polynomial (norm_mul p q) s
+    ≡ apply Mul (value_polynomial p s) (value_polynomial q s)
 unfolding apply
-value_mul p q s lawful = if_cases (λ t. value_polynomial t s ≡ apply Mul (value_polynomial p s) (value_polynomial q s)) (nat_le (terms p * terms q) 64 && nat_le (degree p + degree q) 4) _ _
+value_mul p q s lawful = if_cases (λ t. value_polynomial t s ≡ apply Mul (value_polynomial p s) (value_polynomial q s))
+    (nat_le (terms p * terms q) 64 && nat_le (degree p + degree q) 4) _ _
     (λ e. value_products p q nought s ∙ rw add-zero refl)
     (λ e. value_alone (operation_atom Mul p q) s lawful)

@@ -22,8 +22,10 @@ pub word_at-with_word : (m : WordMap) (k v q : ℕ) → word_at (with_word m k v
 word_at-with_word m k v q = ap (λ o. unwrap_or o 0) (get-with_word m k v q) ∙ cond_read (q == k) v (map.get m q)
 
 -- words stay words where a word is put
-pub with_word_is_word : (m : WordMap) (k v q : ℕ) → IsWord v → IsWord (word_at m q) → IsWord (word_at (with_word m k v) q)
-with_word_is_word m k v q h w = rw (word_at-with_word m k v q) (if_cases IsWord (q == k) v (word_at m q) (λ e. h) (λ e. w))
+pub with_word_is_word : (m : WordMap) (k v q : ℕ) → IsWord v → IsWord (word_at m q) →
+    IsWord (word_at (with_word m k v) q)
+with_word_is_word m k v q h w = rw (word_at-with_word m k v q) (if_cases IsWord (q == k) v (word_at m q) (λ e. h) (λ e.
+    w))
 
 -- the later of two choices by one test
 shadowed : {X : Type 0} (b : Bool) (x y z : X) → cond b y (cond b x z) ≡ cond b y z
@@ -32,4 +34,9 @@ shadowed false x y z = refl
 
 -- of two words put at one address the later one stays
 pub with_word-with_word : (m : WordMap) (k v w : ℕ) → with_word (with_word m k v) k w ≡ with_word m k w
-with_word-with_word m k v w = same_map nat_cmp_total nat_cmp-IsAntisymmetric _ _ (λ q. rw (get-with_word (with_word m k v) k w q, get-with_word m k w q, get-with_word m k v q) (shadowed (q == k) (Some v) (Some w) (map.get m q)))
+with_word-with_word m k v w = same_map nat_cmp_total nat_cmp-IsAntisymmetric _ _ (λ q.
+    rw (
+      get-with_word (with_word m k v) k w q,
+      get-with_word m k w q,
+      get-with_word m k v q,
+    ) (shadowed (q == k) (Some v) (Some w) (map.get m q)))

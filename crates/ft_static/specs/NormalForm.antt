@@ -3,7 +3,7 @@ use Rattle.std.specs.Prelude.{ℕ, ◌+◌, ◌*◌, ◌-◌, ◌%◌, ◌^◌, 
 use Rattle.std.specs.declared.cmp.Ordering.{Ordering}
 use Rattle.std.specs.declared.cmp.Ordering.TheVariants.{Less, Equal, Greater}
 use Rattle.ft_isa.specs.declared.op.Op.{Op}
-use Rattle.ft_isa.specs.declared.op.Op.TheVariants.{Add, Sub, Mul, Ltu, Eq, And, Or, Xor, Shl, Shr}
+use Rattle.ft_isa.specs.declared.op.Op.TheVariants.{Add, Sub, Mul}
 use Rattle.ft_isa.specs.Words.{apply}
 use Rattle.ft_static.specs.Expression.{Integer, Memory, Expression, word, variable, operation, sel, rem, memory_variable, upd, integer, memory}
 use Rattle.ft_static.specs.Form.{Form, integer_form, memory_form, factors, terms, Atom, Monomial, Polynomial, Updates, variable_atom, operation_atom, sel_atom, rem_atom, one, times, nought, plus, unchanged, update}
@@ -113,18 +113,12 @@ abbrev pub norm_upd : Updates → Polynomial → Polynomial → Updates
 norm_upd unchanged p v = update p v unchanged
 norm_upd (update a w u) p v = if same_polynomial a p then update a v u else update p v (update a w u)
 
--- an operation on p and q
+-- an operation on p and q: a sum, a difference and a product by monomials, and any other folds
 abbrev pub norm_op : Op → Polynomial → Polynomial → Polynomial
 norm_op Add p q = norm_add p q
 norm_op Sub p q = norm_sub p q
 norm_op Mul p q = norm_mul p q
-norm_op Ltu p q = norm_folded Ltu p q
-norm_op Eq p q = norm_folded Eq p q
-norm_op And p q = norm_folded And p q
-norm_op Or p q = norm_folded Or p q
-norm_op Xor p q = norm_folded Xor p q
-norm_op Shl p q = norm_folded Shl p q
-norm_op Shr p q = norm_folded Shr p q
+norm_op o p q = norm_folded o p q
 
 -- the remainder of a number that is known, and the atom otherwise
 abbrev pub remainder : Option ℕ → ℕ → Atom → Polynomial

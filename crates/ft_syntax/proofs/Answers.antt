@@ -1,10 +1,13 @@
 -- A text has one answer, and some.
-use Rattle.std.proofs.Common.{◌≡◌, ◌≢◌, ◌<◌, ◌≤◌, ℕ, List, [], length, Result, Ok, Err, refl, sym, ap, ◌∙◌, arith, ◌⊎◌, inl, inr, ⊎_elim}
+use Rattle.std.proofs.Common.{◌≡◌, ◌≢◌, ◌<◌, ◌≤◌, ℕ, List, [], length, Result, Ok, Err, refl, sym, ap, ◌∙◌, arith, ◌⊎◌}
+use Rattle.std.proofs.Common.{inl, inr, ⊎_elim}
 use Rattle.ft_lexer.specs.Scan.{Lexeme, all_of, scan}
 use Rattle.ft_lexer.specs.declared.lex_error.LexError.{LexError}
 use Rattle.ft_lexer.specs.declared.lex_error.LexError.TheVariants as lex_errors
 use Rattle.ft_syntax.specs.declared.source_error.SourceError.{SourceError}
-use Rattle.ft_syntax.specs.declared.source_error.SourceError.TheVariants.{TooLong, Byte, Number, Syntax, Deep, Twice, Unknown, Array, Length, Cells, Registers, Weight, NoMemory}
+use Rattle.ft_syntax.specs.declared.source_error.SourceError.TheVariants.{TooLong, Byte, Number, Syntax, Deep, Twice}
+use Rattle.ft_syntax.specs.declared.source_error.SourceError.TheVariants.{Unknown, Array, Length, Cells, Registers}
+use Rattle.ft_syntax.specs.declared.source_error.SourceError.TheVariants.{Weight, NoMemory}
 use Rattle.ft_syntax.specs.Syntax.{SyntaxTree}
 use Rattle.std.specs.Prelude.{Bool, true, false, nat_le}
 use Rattle.ft_syntax.specs.Limits.{text_limit, nothing_open}
@@ -27,11 +30,17 @@ lexed_answer (Err (lex_errors.Number at)) end = Err (Number at)
 lexed_answer (Ok ts) end = answer_of (walk end nothing_open (decls []) ts)
 
 abbrev IsComputed : List ℕ → Result SyntaxTree SourceError → Type 0
-IsComputed text r = ((length text ≤ text_limit) × (lexed_answer (all_of (scan text)) (length text) ≡ r)) ⊎ ((text_limit < length text) × (r ≡ Err TooLong))
+IsComputed text r = ((length text ≤ text_limit) × (lexed_answer (all_of (scan text)) (length text) ≡ r)) ⊎
+    ((text_limit < length text) × (r ≡ Err TooLong))
 
 -- an answer of the lexemes is the machine's
-judged_answer : (text : List ℕ) (ts : List Lexeme) (r : Answer) → HasLexemes text ts → Judged ts (length text) r → IsComputed text (answer_of r)
-judged_answer text ts r has j = inl (has.short, ap (λ v. lexed_answer v (length text)) has.scanned ∙ ap answer_of (judged_only ts (length text) r j))
+judged_answer : (text : List ℕ) (ts : List Lexeme) (r : Answer) → HasLexemes text ts → Judged ts (length text) r →
+    IsComputed text (answer_of r)
+judged_answer text ts r has j = inl (
+  has.short,
+  ap (λ v. lexed_answer v (length text)) has.scanned
+      ∙ ap answer_of (judged_only ts (length text) r j),
+)
 
 computed : (text : List ℕ) (r : Result SyntaxTree SourceError) → IsAnswer text r → IsComputed text r
 computed text (Ok t) (ts, has, d, k) = judged_answer text ts (Ok t) has (d, k)
@@ -52,21 +61,29 @@ computed text (Err NoMemory) h = absurd h
 -- a text has one answer
 pub one_answer : (text : List ℕ) (r s : Result SyntaxTree SourceError) → IsAnswer text r → IsAnswer text s → r ≡ s
 one_answer text r s h k = ⊎_elim
-    (λ (short, a). ⊎_elim (λ (short2, b). sym a ∙ b) (λ (long, b). absurd (omega (arith, short, long))) (computed text s k))
-    (λ (long, a). ⊎_elim (λ (short, b). absurd (omega (arith, short, long))) (λ (long2, b). a ∙ sym b) (computed text s k))
+    (λ (short, a). ⊎_elim (λ (short2, b). sym a ∙ b) (λ (long, b). absurd (omega (arith, short, long)))
+    (computed text s k))
+    (λ (long, a). ⊎_elim (λ (short, b). absurd (omega (arith, short, long))) (λ (long2, b). a
+    ∙ sym b) (computed text s k))
     (computed text r h)
 
-some_judged : (text : List ℕ) (ts : List Lexeme) (r : Answer) → HasLexemes text ts → Judged ts (length text) r → (s : Result SyntaxTree SourceError) × IsAnswer text s
+some_judged : (text : List ℕ) (ts : List Lexeme) (r : Answer) → HasLexemes text ts → Judged ts (length text) r →
+    (s : Result SyntaxTree SourceError) × IsAnswer text s
 some_judged text ts (Ok t) has (d, k) = (Ok t, (ts, has, d, k))
 some_judged text ts (Err (syntax_at at)) has f = (Err (Syntax at), (ts, has, f))
 some_judged text ts (Err (deep_at at)) has f = (Err (Deep at), (ts, has, f))
 
-some_lexed : (text : List ℕ) (r : Result (List Lexeme) LexError) → length text ≤ text_limit → all_of (scan text) ≡ r → (s : Result SyntaxTree SourceError) × IsAnswer text s
+some_lexed : (text : List ℕ) (r : Result (List Lexeme) LexError) → length text ≤ text_limit → all_of (scan text) ≡ r →
+    (s : Result SyntaxTree SourceError) × IsAnswer text s
 some_lexed text (Err (lex_errors.Byte at)) h e = (Err (Byte at), (h, e))
 some_lexed text (Err (lex_errors.Number at)) h e = (Err (Number at), (h, e))
-some_lexed text (Ok ts) h e = some_judged text ts (walk (length text) nothing_open (decls []) ts) (record { short = h; scanned = e }) (judged ts (length text))
+some_lexed text (Ok ts) h e = some_judged text ts (walk (length text) nothing_open (decls []) ts) (record {
+  short = h;
+  scanned = e;
+}) (judged ts (length text))
 
-some_within : (text : List ℕ) (b : Bool) → nat_le (length text) text_limit ≡ b → (s : Result SyntaxTree SourceError) × IsAnswer text s
+some_within : (text : List ℕ) (b : Bool) → nat_le (length text) text_limit ≡ b → (s : Result SyntaxTree SourceError)
+    × IsAnswer text s
 some_within text true h = some_lexed text (all_of (scan text)) (grind arith) refl
 some_within text false h = (Err TooLong, grind arith)
 
@@ -75,7 +92,8 @@ pub some_answer : (text : List ℕ) → (s : Result SyntaxTree SourceError) × I
 some_answer text = some_within text (nat_le (length text) text_limit) refl
 
 -- an error of the scan refuses the text
-pub lex_refused : (text : List ℕ) (e : SourceError) → length text ≤ text_limit → LexRefused e (all_of (scan text)) → e ≢ NoMemory → IsRefused text e
+pub lex_refused : (text : List ℕ) (e : SourceError) → length text ≤ text_limit → LexRefused e (all_of (scan text)) →
+    e ≢ NoMemory → IsRefused text e
 lex_refused text (Byte at) short h other = (short, h)
 lex_refused text (Number at) short h other = (short, h)
 lex_refused text NoMemory short h other = absurd (other refl)
@@ -91,7 +109,8 @@ lex_refused text (Registers need) short h other = h
 lex_refused text (Weight weight) short h other = h
 
 -- a refusal of the lexemes refuses the text
-pub list_refused : (text : List ℕ) (ts : List Lexeme) (e : SourceError) → length text ≤ text_limit → all_of (scan text) ≡ Ok ts → RefusedBy ts (length text) e → e ≢ NoMemory → IsRefused text e
+pub list_refused : (text : List ℕ) (ts : List Lexeme) (e : SourceError) → length text ≤ text_limit → all_of (scan text)
+    ≡ Ok ts → RefusedBy ts (length text) e → e ≢ NoMemory → IsRefused text e
 list_refused text ts (Syntax at) short scanned h other = (ts, record { short = short; scanned = scanned }, h)
 list_refused text ts (Deep at) short scanned h other = (ts, record { short = short; scanned = scanned }, h)
 list_refused text ts NoMemory short scanned h other = absurd (other refl)

@@ -1,14 +1,28 @@
 -- The states of the machine with derivations in place of trees, and the lexemes that each of them has read.
 use Rattle.std.proofs.Common.{◌≡◌, List, ◌∷◌, Option, Some, None, refl, ap, ◌∙◌}
-use Rattle.ft_lexer.specs.declared.kind.Kind.TheVariants.{Name, Number, Cell, Var, While, If, Else, Assign, LParen, RParen, LBrace, RBrace, Plus, Minus, Star, Less, EqEq, LBracket}
+use Rattle.ft_lexer.specs.declared.kind.Kind.TheVariants.{Name, Number, Cell, Var, While, If, Else, Assign, LParen}
+use Rattle.ft_lexer.specs.declared.kind.Kind.TheVariants.{RParen, LBrace, RBrace, Plus, Minus, Star, Less, EqEq}
+use Rattle.ft_lexer.specs.declared.kind.Kind.TheVariants.{LBracket}
 use Rattle.ft_lexer.specs.Numeral.{numeral}
 use Rattle.ft_lexer.specs.Scan.{Lexeme}
 use Rattle.ft_isa.specs.declared.op.Op.{Op}
 use Rattle.ft_isa.specs.declared.op.Op.TheVariants.{Add, Sub, Mul, Ltu, Eq}
 use Rattle.ft_syntax.specs.Plain.{none}
 use Rattle.ft_syntax.specs.Syntax.{Named}
-use Rattle.ft_syntax.specs.Machine.{NamedExpression, Waiting, Context, State, Block, top, in_loop, in_yes, in_no, paren, index_of, target_of, value_of, loop_test, choice_test, decls, cell_name, cell_is, cell_length, cell_close, cell_sized, cell_number, cell_end, var_name, var_end, stmts, target_is, assign_is, loop_open, choice_open, want, had_name, had, loop_brace, choice_brace, may_else, else_brace, close, join, join_signed, product_of, sum_of, shift_of, bits_of, less_of}
-use Rattle.ft_syntax.specs.Grammar.{of_kind, BitSign, bit_kind, bit_op, ShiftSign, shift_kind, shift_op, Equality, Comparison, Bits, Shift, Sum, Product, Atom, comparison, equals, some_bits, less, a_shift, mask, a_sum, shift, product, plus, minus, atom, times, equality_then, comparison_then, bits_then, shift_then, sum_then, product_then, atom_then, equality_tree, comparison_tree, bits_tree, shift_tree, sum_tree, product_tree, atom_tree, Index, index_then, index_tree, Head, head_then, Statements, statements_then, statements_tree, Extent, extent_then, extent_of, Declarations, declarations_then, declarations_tree}
+use Rattle.ft_syntax.specs.Machine.{NamedExpression, Waiting, Context, State, Block, top, in_loop, in_yes, in_no, paren}
+use Rattle.ft_syntax.specs.Machine.{index_of, target_of, value_of, loop_test, choice_test, decls, cell_name, cell_is}
+use Rattle.ft_syntax.specs.Machine.{cell_length, cell_close, cell_sized, cell_number, cell_end, var_name, var_end}
+use Rattle.ft_syntax.specs.Machine.{stmts, target_is, assign_is, loop_open, choice_open, want, had_name, had}
+use Rattle.ft_syntax.specs.Machine.{loop_brace, choice_brace, may_else, else_brace, close, join, join_signed}
+use Rattle.ft_syntax.specs.Machine.{product_of, sum_of, shift_of, bits_of, less_of}
+use Rattle.ft_syntax.specs.Grammar.{of_kind, BitSign, bit_kind, bit_op, ShiftSign, shift_kind, shift_op, Equality}
+use Rattle.ft_syntax.specs.Grammar.{Comparison, Bits, Shift, Sum, Product, Atom, comparison, equals, some_bits, less}
+use Rattle.ft_syntax.specs.Grammar.{a_shift, mask, a_sum, shift, product, plus, minus, atom, times, equality_then}
+use Rattle.ft_syntax.specs.Grammar.{comparison_then, bits_then, shift_then, sum_then, product_then, atom_then}
+use Rattle.ft_syntax.specs.Grammar.{equality_tree, comparison_tree, bits_tree, shift_tree, sum_tree, product_tree}
+use Rattle.ft_syntax.specs.Grammar.{atom_tree, Index, index_then, index_tree, Head, head_then, Statements}
+use Rattle.ft_syntax.specs.Grammar.{statements_then, statements_tree, Extent, extent_then, extent_of, Declarations}
+use Rattle.ft_syntax.specs.Grammar.{declarations_then, declarations_tree}
 
 -- the states again, with derivations in place of trees
 
@@ -53,7 +67,14 @@ kept_product None = None
 kept_product (Some p) = Some (product_tree p.0)
 
 abbrev pub kept_waiting : WaitingC → Waiting
-kept_waiting p = record { equal = kept_equal p.equal; less = kept_less p.less; bits = kept_bits p.bits; shift = kept_shift p.shift; sum = kept_sum p.sum; product = kept_product p.product }
+kept_waiting p = record {
+  equal = kept_equal p.equal;
+  less = kept_less p.less;
+  bits = kept_bits p.bits;
+  shift = kept_shift p.shift;
+  sum = kept_sum p.sum;
+  product = kept_product p.product;
+}
 
 abbrev pub show_equal : Option (Equality × Named) → List Lexeme → List Lexeme
 show_equal None rest = rest
@@ -81,7 +102,8 @@ show_product None rest = rest
 show_product (Some p) rest = product_then p.0 (of_kind Star p.1 ∷ rest)
 
 abbrev pub show_waiting : WaitingC → List Lexeme → List Lexeme
-show_waiting p rest = show_equal p.equal (show_less p.less (show_bits p.bits (show_shift p.shift (show_sum p.sum (show_product p.product rest)))))
+show_waiting p rest = show_equal p.equal (show_less p.less
+    (show_bits p.bits (show_shift p.shift (show_sum p.sum (show_product p.product rest)))))
 
 abbrev made_product : Option (Product × Named) → Atom → Product
 made_product None a = atom a
@@ -126,7 +148,8 @@ lessC p a = made_less p.less (bitsC p a)
 abbrev pub closeC : WaitingC → Atom → Equality
 closeC p a = made_equal p.equal (lessC p a)
 
-product_one : (o : Option (Product × Named)) (a : Atom) → product_tree (made_product o a) ≡ join Mul (kept_product o) (atom_tree a)
+product_one : (o : Option (Product × Named)) (a : Atom) → product_tree (made_product o a)
+    ≡ join Mul (kept_product o) (atom_tree a)
 product_one None a = refl
 product_one (Some p) a = refl
 
@@ -135,19 +158,23 @@ sum_one None a = refl
 sum_one (Some (added s l)) a = refl
 sum_one (Some (taken s l)) a = refl
 
-shift_one : (o : Option (Shift × ShiftSign × Named)) (a : Sum) → shift_tree (made_shift o a) ≡ join_signed (kept_shift o) (sum_tree a)
+shift_one : (o : Option (Shift × ShiftSign × Named)) (a : Sum) → shift_tree (made_shift o a)
+    ≡ join_signed (kept_shift o) (sum_tree a)
 shift_one None a = refl
 shift_one (Some p) a = refl
 
-bits_one : (o : Option (Bits × BitSign × Named)) (a : Shift) → bits_tree (made_bits o a) ≡ join_signed (kept_bits o) (shift_tree a)
+bits_one : (o : Option (Bits × BitSign × Named)) (a : Shift) → bits_tree (made_bits o a)
+    ≡ join_signed (kept_bits o) (shift_tree a)
 bits_one None a = refl
 bits_one (Some p) a = refl
 
-less_one : (o : Option (Comparison × Named)) (a : Bits) → comparison_tree (made_less o a) ≡ join Ltu (kept_less o) (bits_tree a)
+less_one : (o : Option (Comparison × Named)) (a : Bits) → comparison_tree (made_less o a)
+    ≡ join Ltu (kept_less o) (bits_tree a)
 less_one None a = refl
 less_one (Some p) a = refl
 
-equal_one : (o : Option (Equality × Named)) (a : Comparison) → equality_tree (made_equal o a) ≡ join Eq (kept_equal o) (comparison_tree a)
+equal_one : (o : Option (Equality × Named)) (a : Comparison) → equality_tree (made_equal o a)
+    ≡ join Eq (kept_equal o) (comparison_tree a)
 equal_one None a = refl
 equal_one (Some p) a = refl
 
@@ -169,47 +196,61 @@ less_is p a = less_one p.less (bitsC p a) ∙ ap (join Ltu (kept_less p.less)) (
 pub close_is : (p : WaitingC) (a : Atom) → equality_tree (closeC p a) ≡ close (kept_waiting p) (atom_tree a)
 close_is p a = equal_one p.equal (lessC p a) ∙ ap (join Eq (kept_equal p.equal)) (less_is p a)
 
-product_show : (o : Option (Product × Named)) (a : Atom) (rest : List Lexeme) → show_product o (atom_then a rest) ≡ product_then (made_product o a) rest
+product_show : (o : Option (Product × Named)) (a : Atom) (rest : List Lexeme) → show_product o (atom_then a rest)
+    ≡ product_then (made_product o a) rest
 product_show None a rest = refl
 product_show (Some p) a rest = refl
 
-sum_show : (o : Option SignC) (a : Product) (rest : List Lexeme) → show_sum o (product_then a rest) ≡ sum_then (made_sum o a) rest
+sum_show : (o : Option SignC) (a : Product) (rest : List Lexeme) → show_sum o (product_then a rest)
+    ≡ sum_then (made_sum o a) rest
 sum_show None a rest = refl
 sum_show (Some (added s l)) a rest = refl
 sum_show (Some (taken s l)) a rest = refl
 
-shift_show : (o : Option (Shift × ShiftSign × Named)) (a : Sum) (rest : List Lexeme) → show_shift o (sum_then a rest) ≡ shift_then (made_shift o a) rest
+shift_show : (o : Option (Shift × ShiftSign × Named)) (a : Sum) (rest : List Lexeme) → show_shift o (sum_then a rest)
+    ≡ shift_then (made_shift o a) rest
 shift_show None a rest = refl
 shift_show (Some p) a rest = refl
 
-bits_show : (o : Option (Bits × BitSign × Named)) (a : Shift) (rest : List Lexeme) → show_bits o (shift_then a rest) ≡ bits_then (made_bits o a) rest
+bits_show : (o : Option (Bits × BitSign × Named)) (a : Shift) (rest : List Lexeme) → show_bits o (shift_then a rest)
+    ≡ bits_then (made_bits o a) rest
 bits_show None a rest = refl
 bits_show (Some p) a rest = refl
 
-less_show : (o : Option (Comparison × Named)) (a : Bits) (rest : List Lexeme) → show_less o (bits_then a rest) ≡ comparison_then (made_less o a) rest
+less_show : (o : Option (Comparison × Named)) (a : Bits) (rest : List Lexeme) → show_less o (bits_then a rest)
+    ≡ comparison_then (made_less o a) rest
 less_show None a rest = refl
 less_show (Some p) a rest = refl
 
-equal_show : (o : Option (Equality × Named)) (a : Comparison) (rest : List Lexeme) → show_equal o (comparison_then a rest) ≡ equality_then (made_equal o a) rest
+equal_show : (o : Option (Equality × Named)) (a : Comparison) (rest : List Lexeme) →
+    show_equal o (comparison_then a rest) ≡ equality_then (made_equal o a) rest
 equal_show None a rest = refl
 equal_show (Some p) a rest = refl
 
-pub product_shows : (p : WaitingC) (a : Atom) (rest : List Lexeme) → show_product p.product (atom_then a rest) ≡ product_then (productC p a) rest
+pub product_shows : (p : WaitingC) (a : Atom) (rest : List Lexeme) → show_product p.product (atom_then a rest)
+    ≡ product_then (productC p a) rest
 product_shows p a rest = product_show p.product a rest
 
-pub sum_shows : (p : WaitingC) (a : Atom) (rest : List Lexeme) → show_sum p.sum (show_product p.product (atom_then a rest)) ≡ sum_then (sumC p a) rest
+pub sum_shows : (p : WaitingC) (a : Atom) (rest : List Lexeme) →
+    show_sum p.sum (show_product p.product (atom_then a rest)) ≡ sum_then (sumC p a) rest
 sum_shows p a rest = ap (show_sum p.sum) (product_shows p a rest) ∙ sum_show p.sum (productC p a) rest
 
-pub shift_shows : (p : WaitingC) (a : Atom) (rest : List Lexeme) → show_shift p.shift (show_sum p.sum (show_product p.product (atom_then a rest))) ≡ shift_then (shiftC p a) rest
+pub shift_shows : (p : WaitingC) (a : Atom) (rest : List Lexeme) →
+    show_shift p.shift (show_sum p.sum (show_product p.product (atom_then a rest))) ≡ shift_then (shiftC p a) rest
 shift_shows p a rest = ap (show_shift p.shift) (sum_shows p a rest) ∙ shift_show p.shift (sumC p a) rest
 
-pub bits_shows : (p : WaitingC) (a : Atom) (rest : List Lexeme) → show_bits p.bits (show_shift p.shift (show_sum p.sum (show_product p.product (atom_then a rest)))) ≡ bits_then (bitsC p a) rest
+pub bits_shows : (p : WaitingC) (a : Atom) (rest : List Lexeme) →
+    show_bits p.bits (show_shift p.shift (show_sum p.sum (show_product p.product (atom_then a rest))))
+    ≡ bits_then (bitsC p a) rest
 bits_shows p a rest = ap (show_bits p.bits) (shift_shows p a rest) ∙ bits_show p.bits (shiftC p a) rest
 
-pub less_shows : (p : WaitingC) (a : Atom) (rest : List Lexeme) → show_less p.less (show_bits p.bits (show_shift p.shift (show_sum p.sum (show_product p.product (atom_then a rest))))) ≡ comparison_then (lessC p a) rest
+pub less_shows : (p : WaitingC) (a : Atom) (rest : List Lexeme) →
+    show_less p.less (show_bits p.bits (show_shift p.shift
+    (show_sum p.sum (show_product p.product (atom_then a rest))))) ≡ comparison_then (lessC p a) rest
 less_shows p a rest = ap (show_less p.less) (bits_shows p a rest) ∙ less_show p.less (bitsC p a) rest
 
-pub close_shows : (p : WaitingC) (a : Atom) (rest : List Lexeme) → show_waiting p (atom_then a rest) ≡ equality_then (closeC p a) rest
+pub close_shows : (p : WaitingC) (a : Atom) (rest : List Lexeme) → show_waiting p (atom_then a rest)
+    ≡ equality_then (closeC p a) rest
 close_shows p a rest = ap (show_equal p.equal) (less_shows p a rest) ∙ equal_show p.equal (lessC p a) rest
 
 pub data BlockC : Type 0 where
@@ -254,7 +295,8 @@ abbrev pub kept_block : BlockC → Block
 kept_block (topC ds) = top (declarations_tree ds)
 kept_block (in_loopC h ss b) = in_loop (equality_tree h.test) (statements_tree ss none) (kept_block b)
 kept_block (in_yesC h ss b) = in_yes (equality_tree h.test) (statements_tree ss none) (kept_block b)
-kept_block (in_noC h first r w l ss b) = in_no (equality_tree h.test) (statements_tree first none) (statements_tree ss none) (kept_block b)
+kept_block (in_noC h first r w l ss b) = in_no (equality_tree h.test) (statements_tree first none)
+    (statements_tree ss none) (kept_block b)
 
 abbrev pub kept_context : ContextC → Context
 kept_context (parenC p l x) = paren (kept_waiting p) (kept_context x)
@@ -285,20 +327,25 @@ kept (had_nameC p n x) = had_name (kept_waiting p) n (kept_context x)
 kept (hadC p a x) = had (kept_waiting p) (atom_tree a) (kept_context x)
 kept (loop_braceC w l e r ss b) = loop_brace (equality_tree e) (statements_tree ss none) (kept_block b)
 kept (choice_braceC w l e r ss b) = choice_brace (equality_tree e) (statements_tree ss none) (kept_block b)
-kept (may_elseC h first r ss b) = may_else (equality_tree h.test) (statements_tree first none) (statements_tree ss none) (kept_block b)
-kept (else_braceC h first r w ss b) = else_brace (equality_tree h.test) (statements_tree first none) (statements_tree ss none) (kept_block b)
+kept (may_elseC h first r ss b) = may_else (equality_tree h.test) (statements_tree first none) (statements_tree ss none)
+    (kept_block b)
+kept (else_braceC h first r w ss b) = else_brace (equality_tree h.test) (statements_tree first none)
+    (statements_tree ss none) (kept_block b)
 
 abbrev pub show_block : BlockC → List Lexeme → List Lexeme
 show_block (topC ds) rest = declarations_then ds rest
 show_block (in_loopC h ss b) rest = show_block b (statements_then ss (head_then While h rest))
 show_block (in_yesC h ss b) rest = show_block b (statements_then ss (head_then If h rest))
-show_block (in_noC h first r w l ss b) rest = show_block b (statements_then ss (head_then If h (statements_then first (of_kind RBrace r ∷ of_kind Else w ∷ of_kind LBrace l ∷ rest))))
+show_block (in_noC h first r w l ss b) rest = show_block b
+    (statements_then ss (head_then If h (statements_then first
+    (of_kind RBrace r ∷ of_kind Else w ∷ of_kind LBrace l ∷ rest))))
 
 abbrev pub show_context : ContextC → List Lexeme → List Lexeme
 show_context (parenC p l x) rest = show_context x (show_waiting p (of_kind LParen l ∷ rest))
 show_context (index_ofC p n l x) rest = show_context x (show_waiting p (of_kind Name n ∷ of_kind LBracket l ∷ rest))
 show_context (target_ofC n l ss b) rest = show_block b (statements_then ss (of_kind Name n ∷ of_kind LBracket l ∷ rest))
-show_context (value_ofC n o l ss b) rest = show_block b (statements_then ss (of_kind Name n ∷ index_then o (of_kind Assign l ∷ rest)))
+show_context (value_ofC n o l ss b) rest = show_block b
+    (statements_then ss (of_kind Name n ∷ index_then o (of_kind Assign l ∷ rest)))
 show_context (loop_testC w l ss b) rest = show_block b (statements_then ss (of_kind While w ∷ of_kind LParen l ∷ rest))
 show_context (choice_testC w l ss b) rest = show_block b (statements_then ss (of_kind If w ∷ of_kind LParen l ∷ rest))
 
@@ -308,10 +355,13 @@ show (declsC ds) rest = declarations_then ds rest
 show (cell_nameC ds w) rest = declarations_then ds (of_kind Cell w ∷ rest)
 show (cell_isC ds w n) rest = declarations_then ds (of_kind Cell w ∷ of_kind Name n ∷ rest)
 show (cell_lengthC ds w n l) rest = declarations_then ds (of_kind Cell w ∷ of_kind Name n ∷ of_kind LBracket l ∷ rest)
-show (cell_closeC ds w n l m) rest = declarations_then ds (of_kind Cell w ∷ of_kind Name n ∷ of_kind LBracket l ∷ of_kind Number m ∷ rest)
+show (cell_closeC ds w n l m) rest = declarations_then ds
+    (of_kind Cell w ∷ of_kind Name n ∷ of_kind LBracket l ∷ of_kind Number m ∷ rest)
 show (cell_sizedC ds w n x) rest = declarations_then ds (of_kind Cell w ∷ of_kind Name n ∷ extent_then (Some x) rest)
-show (cell_numberC ds w n o l) rest = declarations_then ds (of_kind Cell w ∷ of_kind Name n ∷ extent_then o (of_kind Assign l ∷ rest))
-show (cell_endC ds w n o l v) rest = declarations_then ds (of_kind Cell w ∷ of_kind Name n ∷ extent_then o (of_kind Assign l ∷ of_kind Number v ∷ rest))
+show (cell_numberC ds w n o l) rest = declarations_then ds
+    (of_kind Cell w ∷ of_kind Name n ∷ extent_then o (of_kind Assign l ∷ rest))
+show (cell_endC ds w n o l v) rest = declarations_then ds
+    (of_kind Cell w ∷ of_kind Name n ∷ extent_then o (of_kind Assign l ∷ of_kind Number v ∷ rest))
 show (var_nameC ds w) rest = declarations_then ds (of_kind Var w ∷ rest)
 show (var_endC ds w n) rest = declarations_then ds (of_kind Var w ∷ of_kind Name n ∷ rest)
 show (stmtsC ss b) rest = show_block b (statements_then ss rest)
@@ -322,7 +372,11 @@ show (choice_openC w ss b) rest = show_block b (statements_then ss (of_kind If w
 show (wantC p x) rest = show_context x (show_waiting p rest)
 show (had_nameC p n x) rest = show_context x (show_waiting p (of_kind Name n ∷ rest))
 show (hadC p a x) rest = show_context x (show_waiting p (atom_then a rest))
-show (loop_braceC w l e r ss b) rest = show_block b (statements_then ss (of_kind While w ∷ of_kind LParen l ∷ equality_then e (of_kind RParen r ∷ rest)))
-show (choice_braceC w l e r ss b) rest = show_block b (statements_then ss (of_kind If w ∷ of_kind LParen l ∷ equality_then e (of_kind RParen r ∷ rest)))
-show (may_elseC h first r ss b) rest = show_block b (statements_then ss (head_then If h (statements_then first (of_kind RBrace r ∷ rest))))
-show (else_braceC h first r w ss b) rest = show_block b (statements_then ss (head_then If h (statements_then first (of_kind RBrace r ∷ of_kind Else w ∷ rest))))
+show (loop_braceC w l e r ss b) rest = show_block b
+    (statements_then ss (of_kind While w ∷ of_kind LParen l ∷ equality_then e (of_kind RParen r ∷ rest)))
+show (choice_braceC w l e r ss b) rest = show_block b
+    (statements_then ss (of_kind If w ∷ of_kind LParen l ∷ equality_then e (of_kind RParen r ∷ rest)))
+show (may_elseC h first r ss b) rest = show_block b
+    (statements_then ss (head_then If h (statements_then first (of_kind RBrace r ∷ rest))))
+show (else_braceC h first r w ss b) rest = show_block b
+    (statements_then ss (head_then If h (statements_then first (of_kind RBrace r ∷ of_kind Else w ∷ rest))))

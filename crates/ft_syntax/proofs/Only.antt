@@ -11,18 +11,22 @@ use Rattle.ft_syntax.proofs.Complete.{complete}
 use Rattle.ft_syntax.proofs.Reached.{steps, sound, viable, viable_steps, accepted_steps, steps_append, option_case}
 use Rattle.ft_syntax.proofs.Judged.{accepted}
 
-through : (s s' : State) (ts us : List Lexeme) (c : Tally) (end : ℕ) → steps s ts ≡ Some s' → IsShallow c ts → walk end c s (ts ++ us) ≡ walk end (tallied c ts) s' us
+through : (s s' : State) (ts us : List Lexeme) (c : Tally) (end : ℕ) → steps s ts ≡ Some s' → IsShallow c ts →
+    walk end c s (ts ++ us) ≡ walk end (tallied c ts) s' us
 through s s' [] us c end h k = let e : s ≡ s' = cc in ap (λ v. walk end c v us) e
 through s s' (t ∷ ts) us c end h k = ⊎_elim
     (λ none. let e = ap (option_and_then (λ v. steps v ts)) none in absurd (cc))
     (λ (s1, some).
     let go : steps s1 ts ≡ Some s' = sym (ap (option_and_then (λ v. steps v ts)) some) ∙ h in
     let rest : State → Answer = λ v. walk end (tally t.kind c) v (ts ++ us) in
-    ap (λ d. go_on t d (step s t) rest) k.0 ∙ ap (λ o. go_on t false o rest) some ∙ through s1 s' ts us (tally t.kind c) end go k.1)
+    ap (λ d. go_on t d (step s t) rest) k.0 ∙ ap (λ o. go_on t false o rest) some
+    ∙ through s1 s' ts us (tally t.kind c) end go k.1)
     (option_case (step s t))
 
-through_all : (s : State) (ts : List Lexeme) (end : ℕ) → steps (decls []) ts ≡ Some s → IsShallow nothing_open ts → walk end nothing_open (decls []) ts ≡ at_end end (final s)
-through_all s ts end h k = ap (walk end nothing_open (decls [])) (sym (append-nil ts)) ∙ through (decls []) s ts [] nothing_open end h k
+through_all : (s : State) (ts : List Lexeme) (end : ℕ) → steps (decls []) ts ≡ Some s → IsShallow nothing_open ts →
+    walk end nothing_open (decls []) ts ≡ at_end end (final s)
+through_all s ts end h k = ap (walk end nothing_open (decls [])) (sym (append-nil ts))
+    ∙ through (decls []) s ts [] nothing_open end h k
 
 stops_at : (ts : List Lexeme) (end at : ℕ) → StopsAt ts at → walk end nothing_open (decls []) ts ≡ Err (syntax_at at)
 stops_at ts end at q =
@@ -53,7 +57,8 @@ last_two s t s2 h = ⊎_elim
     (option_case (step s t))
 
 -- the state before the last token
-before_one : (s : State) (ts : List Lexeme) (t : Lexeme) (s2 : State) → steps s (ts ++ t ∷ []) ≡ Some s2 → (s1 : State) × (steps s ts ≡ Some s1) × (step s1 t ≡ Some s2)
+before_one : (s : State) (ts : List Lexeme) (t : Lexeme) (s2 : State) → steps s (ts ++ t ∷ []) ≡ Some s2 → (s1 : State)
+    × (steps s ts ≡ Some s1) × (step s1 t ≡ Some s2)
 before_one s [] t s2 h = (s, refl, last_two s t s2 h)
 before_one s (x ∷ ts) t s2 h = ⊎_elim
     (λ none. let e = ap (option_and_then (λ v. steps v (ts ++ t ∷ []))) none in absurd (cc))

@@ -1,15 +1,23 @@
 -- Each state that the machine reaches has a derivation so far, and can be completed.
-use Rattle.std.proofs.Common.{◌≡◌, ℕ, List, [], ◌∷◌, ◌++◌, Option, Some, None, refl, sym, ap, subst, ◌∙◌, append_assoc, append-nil, ◌⊎◌, inl, inr, ⊎_elim}
+use Rattle.std.proofs.Common.{◌≡◌, ℕ, List, [], ◌∷◌, ◌++◌, Option, Some, None, refl, sym, ap, subst, ◌∙◌, append_assoc}
+use Rattle.std.proofs.Common.{append-nil, ◌⊎◌, inl, inr, ⊎_elim}
 use Rattle.std.specs.Prelude.{option_and_then, codes}
 use Rattle.ft_lexer.specs.declared.kind.Kind.{Kind}
-use Rattle.ft_lexer.specs.declared.kind.Kind.TheVariants.{Name, Number, Assign, Semi, LParen, RParen, LBrace, RBrace, LBracket, RBracket}
+use Rattle.ft_lexer.specs.declared.kind.Kind.TheVariants.{Name, Number, Assign, Semi, LParen, RParen, LBrace, RBrace}
+use Rattle.ft_lexer.specs.declared.kind.Kind.TheVariants.{LBracket, RBracket}
 use Rattle.ft_lexer.specs.Scan.{Lexeme}
 use Rattle.ft_syntax.specs.Plain.{literal, indexed, none, assigning, loop, choose, follow}
 use Rattle.ft_syntax.specs.Syntax.{SyntaxTree}
-use Rattle.ft_syntax.specs.Machine.{NamedExpression, NamedStatements, Waiting, Context, State, Block, top, in_loop, in_yes, in_no, paren, index_of, target_of, value_of, loop_test, choice_test, decls, cell_name, cell_is, cell_length, cell_close, cell_sized, cell_number, cell_end, var_name, var_end, stmts, target_is, assign_is, loop_open, choice_open, want, had_name, had, loop_brace, choice_brace, may_else, else_brace, step, final, tree_at, close, empty}
+use Rattle.ft_syntax.specs.Machine.{NamedExpression, NamedStatements, Waiting, Context, State, Block, top, in_loop}
+use Rattle.ft_syntax.specs.Machine.{in_yes, in_no, paren, index_of, target_of, value_of, loop_test, choice_test, decls}
+use Rattle.ft_syntax.specs.Machine.{cell_name, cell_is, cell_length, cell_close, cell_sized, cell_number, cell_end}
+use Rattle.ft_syntax.specs.Machine.{var_name, var_end, stmts, target_is, assign_is, loop_open, choice_open, want}
+use Rattle.ft_syntax.specs.Machine.{had_name, had, loop_brace, choice_brace, may_else, else_brace, step, final, tree_at}
+use Rattle.ft_syntax.specs.Machine.{close, empty}
 use Rattle.ft_syntax.proofs.Followed.{more_followed}
 use Rattle.ft_syntax.proofs.Complete.{accepts, NoElse, settled, complete}
-use Rattle.ft_syntax.specs.Grammar.{Statements, choosing, nothing, more, statements_then, statements_tree, Declarations, undeclared, declarations_then, declarations_tree, Derives, IsViable}
+use Rattle.ft_syntax.specs.Grammar.{Statements, choosing, nothing, more, statements_then, statements_tree, Declarations}
+use Rattle.ft_syntax.specs.Grammar.{undeclared, declarations_then, declarations_tree, Derives, IsViable}
 use Rattle.ft_syntax.proofs.Derived.{topC, StateC, declsC, stmtsC, may_elseC, kept, show}
 use Rattle.ft_syntax.proofs.NextState.{unsome, next}
 
@@ -39,13 +47,16 @@ reached c (t ∷ ts) s h = ⊎_elim
     (option_case (step (kept c) t))
 
 -- a state where the program may end has a derivation of what was read
-ended_block : (ds : Declarations) (ss : Statements) (p : SyntaxTree) → tree_at (statements_tree ss none) (top (declarations_tree ds)) ≡ Some p → Derives (declarations_then ds (statements_then ss [])) p
+ended_block : (ds : Declarations) (ss : Statements) (p : SyntaxTree) →
+    tree_at (statements_tree ss none) (top (declarations_tree ds)) ≡ Some p →
+    Derives (declarations_then ds (statements_then ss [])) p
 ended_block ds ss p h = (ds, ss, refl, cc)
 
 derived : (c : StateC) (p : SyntaxTree) → final (kept c) ≡ Some p → Derives (show c []) p
 derived (declsC ds) p h = (ds, nothing, refl, cc)
 derived (stmtsC ss (topC ds)) p h = ended_block ds ss p h
-derived (may_elseC d first r ss (topC ds)) p h = ended_block ds (more ss (choosing d first r)) p (ap (λ v. tree_at v (top (declarations_tree ds))) (more_followed ss (choosing d first r)) ∙ h)
+derived (may_elseC d first r ss (topC ds)) p h = ended_block ds (more ss (choosing d first r)) p
+    (ap (λ v. tree_at v (top (declarations_tree ds))) (more_followed ss (choosing d first r)) ∙ h)
 derived _ p h = absurd cc
 
 -- tokens that complete a state
@@ -73,13 +84,24 @@ abbrev wanted : Kind → Lexeme
 wanted k = record { kind = k; text = wanted_text k; at = 0 }
 
 complete_block : (b : Block) (ss : NamedStatements) → Completes (stmts ss b)
-complete_block (top ds) ss = record { tokens = []; program = record { decls = ds; body = ss }; accepted = refl; no_else = tt }
+complete_block (top ds) ss = record {
+  tokens = [];
+  program = record { decls = ds; body = ss };
+  accepted = refl;
+  no_else = tt;
+}
 complete_block (in_loop e before b) ss =
     let r = complete_block b (follow before (loop e ss none)) in
     record { tokens = wanted RBrace ∷ r.tokens; program = r.program; accepted = r.accepted; no_else = tt }
 complete_block (in_yes e before b) ss =
     let r = complete_block b (follow before (choose e ss none none)) in
-    record { tokens = wanted RBrace ∷ r.tokens; program = r.program; accepted = settled e ss before b r.tokens r.no_else ∙ r.accepted; no_else = tt }
+    record {
+      tokens = wanted RBrace ∷ r.tokens;
+      program = r.program;
+      accepted = settled e ss before b r.tokens r.no_else
+          ∙ r.accepted;
+      no_else = tt;
+    }
 complete_block (in_no e first before b) ss =
     let r = complete_block b (follow before (choose e first ss none)) in
     record { tokens = wanted RBrace ∷ r.tokens; program = r.program; accepted = r.accepted; no_else = tt }
@@ -93,16 +115,31 @@ complete_context (index_of q n x) p a =
     record { tokens = wanted RBracket ∷ r.tokens; program = r.program; accepted = r.accepted; no_else = tt }
 complete_context (target_of n ss b) p a =
     let r = complete_block b (follow ss (assigning n (Some (close p a)) (literal 0) none)) in
-    record { tokens = wanted RBracket ∷ wanted Assign ∷ wanted Number ∷ wanted Semi ∷ r.tokens; program = r.program; accepted = r.accepted; no_else = tt }
+    record {
+      tokens = wanted RBracket ∷ wanted Assign ∷ wanted Number ∷ wanted Semi ∷ r.tokens;
+      program = r.program;
+      accepted = r.accepted;
+      no_else = tt;
+    }
 complete_context (value_of n o ss b) p a =
     let r = complete_block b (follow ss (assigning n o (close p a) none)) in
     record { tokens = wanted Semi ∷ r.tokens; program = r.program; accepted = r.accepted; no_else = tt }
 complete_context (loop_test ss b) p a =
     let r = complete_block (in_loop (close p a) ss b) none in
-    record { tokens = wanted RParen ∷ wanted LBrace ∷ r.tokens; program = r.program; accepted = r.accepted; no_else = tt }
+    record {
+      tokens = wanted RParen ∷ wanted LBrace ∷ r.tokens;
+      program = r.program;
+      accepted = r.accepted;
+      no_else = tt;
+    }
 complete_context (choice_test ss b) p a =
     let r = complete_block (in_yes (close p a) ss b) none in
-    record { tokens = wanted RParen ∷ wanted LBrace ∷ r.tokens; program = r.program; accepted = r.accepted; no_else = tt }
+    record {
+      tokens = wanted RParen ∷ wanted LBrace ∷ r.tokens;
+      program = r.program;
+      accepted = r.accepted;
+      no_else = tt;
+    }
 
 complete_want : (x : Context) (p : Waiting) → Completes (want p x)
 complete_want x p =
@@ -110,13 +147,49 @@ complete_want x p =
     record { tokens = wanted Number ∷ r.tokens; program = r.program; accepted = r.accepted; no_else = tt }
 
 completed : (s : State) → Completes s
-completed (decls ds) = record { tokens = []; program = record { decls = ds; body = none }; accepted = refl; no_else = tt }
-completed (cell_name ds) = record { tokens = wanted Name ∷ wanted Assign ∷ wanted Number ∷ wanted Semi ∷ []; program = _; accepted = refl; no_else = tt }
-completed (cell_is ds n) = record { tokens = wanted Assign ∷ wanted Number ∷ wanted Semi ∷ []; program = _; accepted = refl; no_else = tt }
-completed (cell_length ds n) = record { tokens = wanted Number ∷ wanted RBracket ∷ wanted Assign ∷ wanted Number ∷ wanted Semi ∷ []; program = _; accepted = refl; no_else = tt }
-completed (cell_close ds n l) = record { tokens = wanted RBracket ∷ wanted Assign ∷ wanted Number ∷ wanted Semi ∷ []; program = _; accepted = refl; no_else = tt }
-completed (cell_sized ds n o) = record { tokens = wanted Assign ∷ wanted Number ∷ wanted Semi ∷ []; program = _; accepted = refl; no_else = tt }
-completed (cell_number ds n o) = record { tokens = wanted Number ∷ wanted Semi ∷ []; program = _; accepted = refl; no_else = tt }
+completed (decls ds) = record {
+  tokens = [];
+  program = record { decls = ds; body = none };
+  accepted = refl;
+  no_else = tt;
+}
+completed (cell_name ds) = record {
+  tokens = wanted Name ∷ wanted Assign ∷ wanted Number ∷ wanted Semi ∷ [];
+  program = _;
+  accepted = refl;
+  no_else = tt;
+}
+completed (cell_is ds n) = record {
+  tokens = wanted Assign ∷ wanted Number ∷ wanted Semi ∷ [];
+  program = _;
+  accepted = refl;
+  no_else = tt;
+}
+completed (cell_length ds n) = record {
+  tokens = wanted Number ∷ wanted RBracket ∷ wanted Assign ∷ wanted Number ∷
+      wanted Semi ∷ [];
+  program = _;
+  accepted = refl;
+  no_else = tt;
+}
+completed (cell_close ds n l) = record {
+  tokens = wanted RBracket ∷ wanted Assign ∷ wanted Number ∷ wanted Semi ∷ [];
+  program = _;
+  accepted = refl;
+  no_else = tt;
+}
+completed (cell_sized ds n o) = record {
+  tokens = wanted Assign ∷ wanted Number ∷ wanted Semi ∷ [];
+  program = _;
+  accepted = refl;
+  no_else = tt;
+}
+completed (cell_number ds n o) = record {
+  tokens = wanted Number ∷ wanted Semi ∷ [];
+  program = _;
+  accepted = refl;
+  no_else = tt;
+}
 completed (cell_end ds n o v) = record { tokens = wanted Semi ∷ []; program = _; accepted = refl; no_else = tt }
 completed (var_name ds) = record { tokens = wanted Name ∷ wanted Semi ∷ []; program = _; accepted = refl; no_else = tt }
 completed (var_end ds n) = record { tokens = wanted Semi ∷ []; program = _; accepted = refl; no_else = tt }
@@ -136,7 +209,12 @@ completed (choice_open ss b) =
 completed (want p x) = complete_want x p
 completed (had_name p n x) =
     let r = complete_context x p (indexed n (literal 0)) in
-    record { tokens = wanted LBracket ∷ wanted Number ∷ wanted RBracket ∷ r.tokens; program = r.program; accepted = r.accepted; no_else = tt }
+    record {
+      tokens = wanted LBracket ∷ wanted Number ∷ wanted RBracket ∷ r.tokens;
+      program = r.program;
+      accepted = r.accepted;
+      no_else = tt;
+    }
 completed (had p a x) = complete_context x p a
 completed (loop_brace e ss b) =
     let r = complete_block (in_loop e ss b) none in
@@ -146,13 +224,19 @@ completed (choice_brace e ss b) =
     record { tokens = wanted LBrace ∷ r.tokens; program = r.program; accepted = r.accepted; no_else = tt }
 completed (may_else e first ss b) =
     let r = complete_block b (follow ss (choose e first none none)) in
-    record { tokens = r.tokens; program = r.program; accepted = settled e first ss b r.tokens r.no_else ∙ r.accepted; no_else = r.no_else }
+    record {
+      tokens = r.tokens;
+      program = r.program;
+      accepted = settled e first ss b r.tokens r.no_else ∙ r.accepted;
+      no_else = r.no_else;
+    }
 completed (else_brace e first ss b) =
     let r = complete_block (in_no e first ss b) none in
     record { tokens = wanted LBrace ∷ r.tokens; program = r.program; accepted = r.accepted; no_else = tt }
 
 -- a list is accepted where the machine goes through it to a state where the program may end
-pub accepted_steps : (s : State) (ts : List Lexeme) (p : SyntaxTree) → accepts s ts ≡ Some p → (s' : State) × (steps s ts ≡ Some s') × (final s' ≡ Some p)
+pub accepted_steps : (s : State) (ts : List Lexeme) (p : SyntaxTree) → accepts s ts ≡ Some p → (s' : State)
+    × (steps s ts ≡ Some s') × (final s' ≡ Some p)
 accepted_steps s [] p h = (s, refl, h)
 accepted_steps s (t ∷ ts) p h = ⊎_elim
     (λ none. let e = ap (option_and_then (λ s'. accepts s' ts)) none in absurd (cc))
@@ -186,13 +270,15 @@ viable ts s h =
     let r = completed s in
     (r.tokens, r.program, sound (ts ++ r.tokens) r.program (steps_then (decls []) s ts r.tokens h ∙ r.accepted))
 
-stuck_then : (s s' : State) (ts us : List Lexeme) (t : Lexeme) → steps s ts ≡ Some s' → step s' t ≡ None → accepts s ((ts ++ t ∷ []) ++ us) ≡ None
+stuck_then : (s s' : State) (ts us : List Lexeme) (t : Lexeme) → steps s ts ≡ Some s' → step s' t ≡ None →
+    accepts s ((ts ++ t ∷ []) ++ us) ≡ None
 stuck_then s s' ts us t h stuck =
     ap (accepts s) (append_assoc ts (t ∷ []) us) ∙ steps_then s s' ts (t ∷ us) h
     ∙ ap (option_and_then (λ s'. accepts s' us)) stuck
 
 -- where the machine stops, the list isn't viable
-pub not_viable : (ts : List Lexeme) (s : State) (t : Lexeme) → steps (decls []) ts ≡ Some s → step s t ≡ None → IsViable (ts ++ t ∷ []) → ⊥
+pub not_viable : (ts : List Lexeme) (s : State) (t : Lexeme) → steps (decls []) ts ≡ Some s → step s t ≡ None →
+    IsViable (ts ++ t ∷ []) → ⊥
 not_viable ts s t h stuck (us, p, d) =
     let a = complete ((ts ++ t ∷ []) ++ us) p d in
     let b = stuck_then (decls []) s ts us t h stuck in
@@ -206,7 +292,8 @@ one_tree ts p q d e =
     cc
 
 -- a list of which more is accepted is one that the machine goes through
-pub gone_through : (s : State) (ts us : List Lexeme) (p : SyntaxTree) → accepts s (ts ++ us) ≡ Some p → (s' : State) × (steps s ts ≡ Some s')
+pub gone_through : (s : State) (ts us : List Lexeme) (p : SyntaxTree) → accepts s (ts ++ us) ≡ Some p → (s' : State)
+    × (steps s ts ≡ Some s')
 gone_through s [] us p h = (s, refl)
 gone_through s (t ∷ ts) us p h = ⊎_elim
     (λ none. let e = ap (option_and_then (λ s'. accepts s' (ts ++ us))) none in absurd (cc))

@@ -14,7 +14,8 @@ pub lexemes_push : (ts : List Token) (t : Token) → lexemes (ts ++ t ∷ []) �
 lexemes_push [] t = refl
 lexemes_push (x ∷ ts) t = ap (λ v. lexeme x ∷ v) (lexemes_push ts t)
 
-pub after_push : (ts : List Lexeme) (t : Lexeme) (r : Result (List Lexeme) LexError) → after (ts ++ t ∷ []) r ≡ after ts (with_token t r)
+pub after_push : (ts : List Lexeme) (t : Lexeme) (r : Result (List Lexeme) LexError) → after (ts ++ t ∷ []) r
+    ≡ after ts (with_token t r)
 unfolding after
 after_push [] t r = refl
 after_push (x ∷ ts) t r = ap (with_token x) (after_push ts t r)

@@ -1,23 +1,22 @@
 -- A run of an accepted object without a fault is the same whatever answers to wild loads there are.
-use Rattle.std.proofs.Common.{◌≡◌, ℕ, zero, suc, Bool, true, false, not, ◌&&◌, if◌then◌else◌, ◌==◌, nat_lt, length, List, ◌++◌, Option, Some, None, is_some, refl, ap, ◌∙◌}
+use Rattle.std.proofs.Common.{◌≡◌, ℕ, zero, suc, true, false, not, ◌&&◌, List, ◌++◌, Option, Some, None, is_some, refl}
+use Rattle.std.proofs.Common.{ap, ◌∙◌}
 use Rattle.std.specs.Option.{option_or, option_to_list}
 use Rattle.ft_isa.specs.declared.colour.Colour.{Colour}
 use Rattle.ft_isa.specs.declared.colour.Colour.TheVariants.{Green, Blue}
-use Rattle.ft_isa.specs.declared.instr.Instr.{Instr}
-use Rattle.ft_isa.specs.declared.instr.Instr.TheVariants.{OpReg, OpWord, Mov, Ld, St, JmpG, JmpB, BzG, BzB, Halt, Idx}
 use Rattle.ft_isa.specs.declared.reg.Reg.{Reg}
 use Rattle.ft_isa.specs.declared.plan.Wild.{Wild}
 use Rattle.ft_isa.specs.Pending.{newest_at}
 use Rattle.ft_types.specs.declared.object.Object.{Object}
 use Rattle.ft_semantics.specs.declared.status.Status.{Status}
-use Rattle.ft_semantics.specs.declared.status.Status.TheVariants.{Running, Done, Detected}
+use Rattle.ft_semantics.specs.declared.status.Status.TheVariants.{Running}
 use Rattle.ft_typing.specs.Accepted.{IsAccepted}
-use Rattle.ft_types.specs.Objects.{instr_at}
 use Rattle.ft_types.specs.Spellable.{IsSpellable}
 use Rattle.ft_semantics.specs.State.{State, word, cell_at}
-use Rattle.ft_semantics.specs.Step.{Stepping, step, step_at, advance, fetch, execute, load, found, commits, quiet, detected}
+use Rattle.ft_semantics.specs.Step.{Stepping, step, step_at, load, found}
 use Rattle.ft_semantics.specs.StepTable.{is_wild}
 use Rattle.ft_semantics.specs.Run.{run, state_after, outputs_after, wild_after}
+use Rattle.ft_semantics.proofs.StepKinds.{step_at_is}
 use Rattle.ft_tolerance.specs.Soundness.{IsUntroubled}
 use Rattle.ft_tolerance.proofs.Whole.{accepted_fits}
 
@@ -26,18 +25,9 @@ pub record AreSame (x y : Stepping) : Type 0 where
   pub state : x.state ≡ y.state
   pub output : x.output ≡ y.output
 
-same_if : (b : Bool) (x y x' y' : Stepping) → AreSame x x' → AreSame y y' → AreSame (if b then x else y) (if b then x' else y')
-same_if true x y x' y' p q = p
-same_if false x y x' y' p q = q
-
-quiet_same : (s : State) (w v : List Wild) → AreSame (quiet s w) (quiet s v)
-quiet_same s w v = record { state = refl; output = refl }
-
-detected_same : (s : State) (w v : List Wild) → AreSame (detected s w) (detected s v)
-detected_same s w v = record { state = refl; output = refl }
-
 -- a load that finds a word asks for no answer
-load_same : (c : Colour) (rd : Reg) (x : Option ℕ) (s : State) (w v : List Wild) → is_some x ≡ true → AreSame (load c rd x s w) (load c rd x s v)
+load_same : (c : Colour) (rd : Reg) (x : Option ℕ) (s : State) (w v : List Wild) → is_some x ≡ true →
+    AreSame (load c rd x s w) (load c rd x s v)
 load_same c rd (Some n) s w v h = record { state = refl; output = refl }
 load_same c rd None s w v h = absurd (cc)
 
@@ -55,39 +45,14 @@ finds : (c : Colour) (s : State) (a : ℕ) → is_wild c s a ≡ false → is_so
 finds Green s a h = some_of (newest_at s.queue a) (cell_at s.cells a) h
 finds Blue s a h = some_alone (cell_at s.cells a) h
 
-execute_same : (i : Instr) (s : State) (w v : List Wild) → ((c : Colour) (rd rs : Reg) → Some i ≡ Some (Ld c rd rs) → is_wild c s (word s rs) ≡ false) → AreSame (execute i s w) (execute i s v)
-execute_same (OpReg op rd rs rt) s w v h = record { state = refl; output = refl }
-execute_same (OpWord op rd rs value) s w v h = record { state = refl; output = refl }
-execute_same (Mov rd value basic) s w v h = record { state = refl; output = refl }
-execute_same (Ld c rd rs) s w v h = load_same c rd (found c s (word s rs)) s w v (finds c s (word s rs) (h c rd rs refl))
-execute_same (St Green rd rs) s w v h = same_if (nat_lt (length s.queue) 8) _ _ _ _ (record { state = refl; output = refl }) (detected_same s w v)
-execute_same (St Blue rd rs) s w v h = same_if (commits (word s rd) (word s rs) s) _ _ _ _ (record { state = refl; output = refl }) (detected_same s w v)
-execute_same (JmpG rd) s w v h = same_if (s.d == 0) _ _ _ _ (record { state = refl; output = refl }) (detected_same s w v)
-execute_same (JmpB rd u) s w v h = same_if (not (s.d == 0) && (s.d == word s rd)) _ _ _ _ (record { state = refl; output = refl }) (detected_same s w v)
-execute_same (BzG rz rd) s w v h =
-    same_if (word s rz == 0) _ _ _ _
-    (same_if (s.d == 0) _ _ _ _ (record { state = refl; output = refl }) (detected_same s w v))
-    (same_if (s.d == 0) _ _ _ _ (record { state = refl; output = refl }) (detected_same s w v))
-execute_same (BzB rz rd u) s w v h =
-    same_if (word s rz == 0) _ _ _ _
-    (same_if (not (s.d == 0) && (s.d == word s rd)) _ _ _ _ (record { state = refl; output = refl }) (detected_same s w v))
-    (same_if (s.d == 0) _ _ _ _ (record { state = refl; output = refl }) (detected_same s w v))
-execute_same Halt s w v h = record { state = refl; output = refl }
-execute_same (Idx rd rs first m) s w v h = record { state = refl; output = refl }
-
-fetch_same : (x : Option Instr) (s : State) (w v : List Wild) → AreSame (fetch x s w) (fetch x s v)
-fetch_same (Some i) s w v = record { state = refl; output = refl }
-fetch_same None s w v = detected_same s w v
-
-advance_same : (o : Object) (x : Option Instr) (s : State) (w v : List Wild) → ((c : Colour) (rd rs : Reg) → x ≡ Some (Ld c rd rs) → is_wild c s (word s rs) ≡ false) → AreSame (advance o x s w) (advance o x s v)
-advance_same o None s w v h = same_if (s.pc_green == s.pc_blue) _ _ _ _ (fetch_same (instr_at o s.pc_green) s w v) (detected_same s w v)
-advance_same o (Some i) s w v h = execute_same i s w v h
-
 -- a step that meets no wild load
-pub step_same : (o : Object) (x : Status) (s : State) (w v : List Wild) → s.status ≡ x → (s.status ≡ Running → IsUntroubled o s) → AreSame (step_at o x s w) (step_at o x s v)
-step_same o Running s w v e h = advance_same o s.fetched s w v (h e).load
-step_same o Done s w v e h = quiet_same s w v
-step_same o Detected s w v e h = quiet_same s w v
+pub step_same : (o : Object) (x : Status) (s : State) (w v : List Wild) → s.status ≡ x →
+    (s.status ≡ Running → IsUntroubled o s) → AreSame (step_at o x s w) (step_at o x s v)
+step_same o x s w v is h =
+    step_at_is s (λ f. AreSame (f w) (f v)) (λ t e. record { state = refl; output = refl }) (λ a y e.
+    record { state = refl; output = refl }) o x
+    (λ go c rd rs e. load_same c rd (found c s (word s rs)) s w v
+    (finds c s (word s rs) ((h (is ∙ go)).load c rd rs e)))
 
 -- two runs are in the same state, with the same outputs
 pub record AreSameRuns (o : Object) (w v : List Wild) (n : ℕ) : Type 0 where
@@ -100,10 +65,12 @@ any_answers o w v zero spelled acc = record { state = refl; outputs = refl }
 any_answers o w v (suc n) spelled acc =
     let h = any_answers o w v n spelled acc in
     let s = state_after o None w n in
-    let same = step_same o s.status s (wild_after o None w n) (wild_after o None v n) refl (accepted_fits o w n spelled acc).untroubled in
+    let same = step_same o s.status s (wild_after o None w n) (wild_after o None v n) refl
+    (accepted_fits o w n spelled acc).untroubled in
     record {
       state = same.state ∙ ap (λ (t : State). (step o t (wild_after o None v n)).state) h.state;
       outputs =
           ap (λ xs. xs ++ option_to_list (step o s (wild_after o None w n)).output) h.outputs
-          ∙ ap (λ x. outputs_after o None v n ++ option_to_list x) (same.output ∙ ap (λ (t : State). (step o t (wild_after o None v n)).output) h.state);
+          ∙ ap (λ x. outputs_after o None v n ++ option_to_list x) (same.output
+          ∙ ap (λ (t : State). (step o t (wild_after o None v n)).output) h.state);
     }

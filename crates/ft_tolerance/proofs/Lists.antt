@@ -9,9 +9,12 @@ pub record Found {X : Type 0} (test : X → Bool) (xs : List X) (x : X) : Type 0
   pub passes : test x ≡ true
 
 -- the test's answer at the first element
-found_by : {X : Type 0} (test : X → Bool) (y : X) (ys : List X) (x : X) (b : Bool) → test y ≡ b → cond b (Some y) (find test ys) ≡ Some x → (find test ys ≡ Some x → Found test ys x) → Found test (y ∷ ys) x
-found_by test y ys x true is h rest = let same : y ≡ x = cc in record { place = 0; there = ap Some same; passes = subst (λ z. test z ≡ true) same is }
-found_by test y ys x false other h rest = let f = rest h in record { place = suc f.place; there = f.there; passes = f.passes }
+found_by : {X : Type 0} (test : X → Bool) (y : X) (ys : List X) (x : X) (b : Bool) → test y ≡ b →
+    cond b (Some y) (find test ys) ≡ Some x → (find test ys ≡ Some x → Found test ys x) → Found test (y ∷ ys) x
+found_by test y ys x true is h rest = let same : y ≡ x = cc in
+    record { place = 0; there = ap Some same; passes = subst (λ z. test z ≡ true) same is }
+found_by test y ys x false other h rest = let f = rest h in
+    record { place = suc f.place; there = f.there; passes = f.passes }
 
 -- what a test finds is there and passes
 pub found_there : {X : Type 0} (test : X → Bool) (xs : List X) (x : X) → find test xs ≡ Some x → Found test xs x

@@ -19,20 +19,29 @@ pub record Along (o : Object) (p : Place) (s : State) (w v : List Wild) : Type 0
   pub wild : w ≡ v
 
 -- one more step
-along_step : (o : Object) (p : Place) (s : State) (w v : List Wild) → IsSpellable o → IsAccepted o → EndsOrFits o p s → w ≡ v → Along o (next_place o s.fetched s p) (step o s w).state (step o s w).wild v
-along_step o p s w v spelled acc (ended d) e = subst (λ (x : Status). Along o (next_place o s.fetched s p) (step_at o x s w).state (step_at o x s w).wild v) (sym d) (record { after = ended d; wild = e })
-along_step o p s w v spelled acc (running go at fits) e = let k = keeps o p s w spelled acc at go fits in record { after = k.after; wild = k.wild ∙ e }
+along_step : (o : Object) (p : Place) (s : State) (w v : List Wild) → IsSpellable o → IsAccepted o → EndsOrFits o p s →
+    w ≡ v → Along o (next_place o s.fetched s p) (step o s w).state (step o s w).wild v
+along_step o p s w v spelled acc (ended d) e = subst (λ (x : Status).
+    Along o (next_place o s.fetched s p) (step_at o x s w).state (step_at o x s w).wild v) (sym d)
+    (record { after = ended d; wild = e })
+along_step o p s w v spelled acc (running go at fits) e = let k = keeps o p s w spelled acc at go fits in
+    record { after = k.after; wild = k.wild ∙ e }
 
 -- the run after n steps
-pub along : (o : Object) (w : List Wild) (n : ℕ) → IsSpellable o → IsAccepted o → Along o (place o w n) (state_after o None w n) (wild_after o None w n) w
+pub along : (o : Object) (w : List Wild) (n : ℕ) → IsSpellable o → IsAccepted o →
+    Along o (place o w n) (state_after o None w n) (wild_after o None w n) w
 unfolding run place
-along o w zero spelled acc = record { after = running refl (start_is_place o spelled) (start_fits o spelled acc); wild = refl }
+along o w zero spelled acc = record {
+  after = running refl (start_is_place o spelled) (start_fits o spelled acc);
+  wild = refl;
+}
 along o w (suc n) spelled acc =
     let h = along o w n spelled acc in
     along_step o (place o w n) (state_after o None w n) (wild_after o None w n) w spelled acc h.after h.wild
 
 -- what is so of each state of the run
-fits_by : (o : Object) (w : List Wild) (n : ℕ) → IsSpellable o → IsAccepted o → EndsOrFits o (place o w n) (state_after o None w n) → wild_after o None w n ≡ w → FitsAfter o w n
+fits_by : (o : Object) (w : List Wild) (n : ℕ) → IsSpellable o → IsAccepted o →
+    EndsOrFits o (place o w n) (state_after o None w n) → wild_after o None w n ≡ w → FitsAfter o w n
 fits_by o w n spelled acc (ended d) e = record {
   is_place = λ go. absurd (cc);
   fits = λ go. absurd (cc);

@@ -1,5 +1,6 @@
 -- What the parts of a command conclude.
-use Rattle.std.proofs.Common.{◌≡◌, ◌≢◌, false, nat_le, ℕ, ◌<◌, List, [], ◌∷◌, length, Option, Some, None, Err, inl, inr, ⊎_elim, refl, sym, ap, ◌∙◌, subst}
+use Rattle.std.proofs.Common.{◌≡◌, ◌≢◌, false, nat_le, ℕ, ◌<◌, List, [], ◌∷◌, length, Option, Some, None, Err, inl, inr}
+use Rattle.std.proofs.Common.{⊎_elim, refl, sym, ap, ◌∙◌, subst}
 use Rattle.std.specs.Prelude.{◌⊎◌, IsTrue}
 use Rattle.std.proofs.lemmas.Bool.{lt-leb}
 use Rattle.std.proofs.lemmas.Option.{same_Some, none-some}
@@ -33,10 +34,12 @@ use Rattle.ft_checker.specs.declared.error.CheckError.{CheckError}
 use Rattle.ft_checker.specs.declared.error.CheckError.TheVariants as checks
 use Rattle.ft_checker.specs.Judges.{IsRefusalOf}
 use Rattle.ft_tool.specs.Replies.{Answer, one_piece, ran, status_of_run}
-use Rattle.ft_tool.specs.Answers.{tried, Withstands, RunsUnless, RunsObject, TrialsObject, SpellsFile, ComesTo, FailsIn, Concludes, BreaksOff}
+use Rattle.ft_tool.specs.Answers.{tried, Withstands, RunsUnless, RunsObject, TrialsObject, SpellsFile, ComesTo, FailsIn}
+use Rattle.ft_tool.specs.Answers.{Concludes, BreaksOff}
 use Rattle.ft_tool.specs.Told.{OfFiles}
 use Rattle.ft_tool.specs.Files.{LoadsObject, FaultCause, IsRefusedBy, IsNotAccepted}
-use Rattle.ft_tool.specs.Endings.{PartEnd, Concluded, Unloaded, Unwritten, Unfinished, part_end, is_early_end, ends_early, EndsSo, Ends, ending_of_run}
+use Rattle.ft_tool.specs.Endings.{PartEnd, Concluded, Unloaded, Unwritten, Unfinished, part_end, is_early_end}
+use Rattle.ft_tool.specs.Endings.{ends_early, EndsSo, Ends, ending_of_run}
 use Rattle.ft_tool.proofs.Mapped.{some_files, files_with}
 
 -- an ending says the same of an answer that is known less well
@@ -48,7 +51,8 @@ EndsSo-map Unloaded P Q old new L M f g h = (h.0, g h.1)
 EndsSo-map Unwritten P Q old new L M f g h = record { answer = h.answer; is = f h.answer h.is; broken = h.broken }
 EndsSo-map Unfinished P Q old new L M f g h = h
 
-pub Ends-map : (e : Ending) (P Q : Answer → Type 0) (old new : SinkLog) (L M : Type 0) → ((a : Answer) → P a → Q a) → (L → M) → Ends e P old new L → Ends e Q old new M
+pub Ends-map : (e : Ending) (P Q : Answer → Type 0) (old new : SinkLog) (L M : Type 0) → ((a : Answer) → P a → Q a) →
+    (L → M) → Ends e P old new L → Ends e Q old new M
 Ends-map e P Q old new L M f g h = EndsSo-map (part_end e) P Q old new L M f g h
 
 -- a call that ends has an answer, or ends early
@@ -64,7 +68,8 @@ pub answered_or_early : (e : Ending) (P : Answer → Type 0) (old new : SinkLog)
 answered_or_early e P old new L h = answered_so (part_end e) P old new L h
 
 -- a call that ends without an answer ends early
-pub unanswered : (e : Ending) (Is : Answer → Type 0) (old new : SinkLog) (L : Type 0) → ((a : Answer) → Is a → ⊥) → Ends e Is old new L → IsTrue (ends_early e)
+pub unanswered : (e : Ending) (Is : Answer → Type 0) (old new : SinkLog) (L : Type 0) → ((a : Answer) → Is a → ⊥) →
+    Ends e Is old new L → IsTrue (ends_early e)
 unanswered e Is old new L none h =
     ⊎_elim (λ (x : (a : Answer) × Is a). absurd (none x.0 x.1)) (λ early. early) (answered_or_early e Is old new L h)
 
@@ -77,13 +82,22 @@ count_kept Unwritten Is old new L h other = absurd (other refl)
 count_kept Unfinished Is old new L h other = ap (λ (l : SinkLog). l.failures) h
 
 -- bytes that are refused spell no object, and else the call ends early
-pub unspelled : (told : Option Files) (name : Word) (e : ObjectFault) (end : Ending) (old new : SinkLog) (L : Type 0) → LoadsObject told name (Err e)
+pub unspelled : (told : Option Files) (name : Word) (e : ObjectFault) (end : Ending) (old new : SinkLog) (L : Type 0) →
+    LoadsObject told name (Err e)
     → Ends end (IsRefusedBy e) old new L → OfFiles told (λ files. (SpellsFile files name → ⊥) ⊎ IsTrue (ends_early end))
 unspelled told name (Refused e) end old new L h ends =
-    let m = files_with told name h.0 h.1.0 in
-    (m.0, (m.1.0, inl (λ s. none-some e (sym (spells_unbroken s.0 s.1.1.1.0 s.1.1.0 s.1.1.1.1) ∙ ap broken (same_Some s.0 h.0 (sym s.1.0 ∙ m.1.1)) ∙ h.1.1))))
-unspelled told name Failed end old new L h ends = let m = some_files told in (m.0, (m.1.0, inr (unanswered end (IsRefusedBy Failed) old new L (λ a is. is) ends)))
-unspelled told name no_memory end old new L h ends = let m = some_files told in (m.0, (m.1.0, inr (unanswered end (IsRefusedBy no_memory) old new L (λ a is. is) ends)))
+    let m = files_with told name h.0 h.1.0 in (
+      m.0,
+      (
+        m.1.0,
+        inl (λ s. none-some e (sym (spells_unbroken s.0 s.1.1.1.0 s.1.1.0 s.1.1.1.1)
+            ∙ ap broken (same_Some s.0 h.0 (sym s.1.0 ∙ m.1.1)) ∙ h.1.1)),
+      ),
+    )
+unspelled told name Failed end old new L h ends = let m = some_files told in
+    (m.0, (m.1.0, inr (unanswered end (IsRefusedBy Failed) old new L (λ a is. is) ends)))
+unspelled told name no_memory end old new L h ends = let m = some_files told in
+    (m.0, (m.1.0, inr (unanswered end (IsRefusedBy no_memory) old new L (λ a is. is) ends)))
 
 -- an object that is not accepted is refused, and else the call ends early
 pub unaccepted : (x : Option Refusal) (e : CheckError) (end : Ending) (old new : SinkLog) (L : Type 0) → IsRefusalOf x e
@@ -91,7 +105,8 @@ pub unaccepted : (x : Option Refusal) (e : CheckError) (end : Ending) (old new :
 unaccepted x checks.EntryType end old new L h ends = inl (λ none. none-some _ (sym none ∙ h))
 unaccepted x (checks.CellType k) end old new L h ends = inl (λ none. none-some _ (sym none ∙ h))
 unaccepted x (checks.Refused b i why) end old new L h ends = inl (λ none. none-some _ (sym none ∙ h))
-unaccepted x checks.NoMemory end old new L h ends = inr (unanswered end (IsNotAccepted checks.NoMemory) old new L (λ a is. is) ends)
+unaccepted x checks.NoMemory end old new L h ends =
+    inr (unanswered end (IsNotAccepted checks.NoMemory) old new L (λ a is. is) ends)
 
 -- a run whose lines were put
 concludes : (r : Run) (o : objects.Object) (w : List Wild) (v : Status) (old new : SinkLog) → w ≡ r.wild
@@ -146,15 +161,20 @@ pub undetected : (o : objects.Object) (w : List Wild) → IsSpellable o → refu
 undetected o w spellable h = never_detected o w spellable ((accepted_is_unrefused o).1 h)
 
 -- an object that is accepted withstands each plan
-withstands : (o : objects.Object) (strike : Option Strike) (w : List Wild) → IsSpellable o → refusal o ≡ None → Withstands o strike w
+withstands : (o : objects.Object) (strike : Option Strike) (w : List Wild) → IsSpellable o → refusal o ≡ None →
+    Withstands o strike w
 withstands o strike w spellable h = record {
   agrees = λ n. tolerant o strike w n spellable ((accepted_is_unrefused o).1 h);
   undetected = undetected o w spellable h;
 }
 
 -- an object that is accepted is run
-pub run_accepted : (r : Run) (o : objects.Object) → IsSpellable o → refusal o ≡ None → (a : Answer) → a ≡ tried r o → RunsObject r o a
-run_accepted r o spellable h a is = subst (λ x. RunsUnless x r o a) (sym h) (is, withstands o r.strike r.wild spellable h)
+pub run_accepted : (r : Run) (o : objects.Object) → IsSpellable o → refusal o ≡ None → (a : Answer) → a ≡ tried r o →
+    RunsObject r o a
+run_accepted r o spellable h a is = subst (λ x. RunsUnless x r o a) (sym h) (
+  is,
+  withstands o r.strike r.wild spellable h,
+)
 
 -- a run of an accepted object
 pub run_ends : (e : RunEnd) (r : Run) (o x : objects.Object) (w : List Wild) (old new : SinkLog) → IsSpellable o
@@ -170,7 +190,8 @@ run_ends e r o x w old new spelled unrefused same is status put =
 -- bytes beyond the limit are refused by their length
 pub too_long : (bytes : List ℕ) → 67108864 < length bytes → broken bytes ≡ Some (Length 67108864)
 unfolding broken
-too_long bytes long = let beyond : nat_le (length bytes) 67108864 ≡ false = lt-leb (length bytes) 67108864 long in rw beyond refl
+too_long bytes long = let beyond : nat_le (length bytes) 67108864 ≡ false = lt-leb (length bytes) 67108864 long in
+    rw beyond refl
 
 -- a load of an object that failed
 pub object_failed : (name : Word) (e : ObjectFault) (old new : ShelfLog) → FaultCause name e old new → e ≡ Failed

@@ -11,11 +11,13 @@ use Rattle.ft_tool.specs.Answers.{OverAssembly}
 use Rattle.ft_tool.specs.Files.{IsTextRefused}
 
 -- the object of a text
-pub object_assembled : (text : List ℕ) (o : objects.Object) → Applies text (Is o) → (a : Answer) → UpgradesObject o a → OverAssembly text a
+pub object_assembled : (text : List ℕ) (o : objects.Object) → Applies text (Is o) → (a : Answer) → UpgradesObject o a →
+    OverAssembly text a
 object_assembled text o h a is = (Is o, (h, is))
 
 -- a text that is refused
-pub text_refused : (text : List ℕ) (e : AsmError) → IsRefusal text e → (a : Answer) → IsTextRefused e a → OverAssembly text a
+pub text_refused : (text : List ℕ) (e : AsmError) → IsRefusal text e → (a : Answer) → IsTextRefused e a →
+    OverAssembly text a
 text_refused text (errors.Text line) h a is = (Text line, (h, is))
 text_refused text (errors.Order line) h a is = (Order line, (h, is))
 text_refused text errors.TooLong h a is = (TooLong, (h, is))

@@ -11,13 +11,28 @@ use Rattle.ft_tool.specs.Sources.{OverText, CompilesProgram, IsSourceRefused}
 use Rattle.ft_tool.specs.Objects.{UpgradesObject}
 
 -- the answer to a source that is refused is one over its text
-pub source_refused : (Over : Program → Answer → Type 0) (text : List ℕ) (e : SourceError) → (e ≢ NoMemory → IsRefusalOf text e) → (a : Answer) → IsSourceRefused e a → OverText Over text a
+pub source_refused : (Over : Program → Answer → Type 0) (text : List ℕ) (e : SourceError) →
+    (e ≢ NoMemory → IsRefusalOf text e) → (a : Answer) → IsSourceRefused e a → OverText Over text a
 source_refused Over text e err a is = inr (e, (err is.named, is))
 
 -- the bytes of an object that stands for the program of a text are an answer over it
-pub object_compiled : (text : List ℕ) (o : Object) → (p : Program) × IsProgramOf text p × StandsFor p o → (a : Answer) → UpgradesObject o a → OverText CompilesProgram text a
-object_compiled text o h a is = inl (h.0, (h.1, record { object = o; stands = h.2; bytes = is.bytes; spelled = is.spelled; answer = is.answer }))
+pub object_compiled : (text : List ℕ) (o : Object) → (p : Program) × IsProgramOf text p × StandsFor p o → (a : Answer) →
+    UpgradesObject o a → OverText CompilesProgram text a
+object_compiled text o h a is = inl (
+  h.0,
+  (
+    h.1,
+    record {
+      object = o;
+      stands = h.2;
+      bytes = is.bytes;
+      spelled = is.spelled;
+      answer = is.answer;
+    },
+  ),
+)
 
 -- so is that to a source that is too long
-pub long_source : (Over : Program → Answer → Type 0) (text : List ℕ) → 1048576 < length text → (a : Answer) → IsSourceRefused TooLong a → OverText Over text a
+pub long_source : (Over : Program → Answer → Type 0) (text : List ℕ) → 1048576 < length text → (a : Answer) →
+    IsSourceRefused TooLong a → OverText Over text a
 long_source Over text long a is = inr (TooLong, (inl long, is))

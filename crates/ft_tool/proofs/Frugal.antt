@@ -1,5 +1,6 @@
 -- Takes in a loop, each of which gives a byte but the last.
-use Rattle.std.proofs.Common.{◌≡◌, ℕ, ◌+◌, ◌-◌, ◌<◌, ◌≤◌, List, [], ◌∷◌, ◌++◌, length, take, sum, All, Option, Some, None, refl, ap, sym, subst, ◌∙◌, arith, length-append}
+use Rattle.std.proofs.Common.{◌≡◌, ℕ, ◌+◌, ◌-◌, ◌<◌, ◌≤◌, List, [], ◌∷◌, ◌++◌, length, take, sum, All, Option, Some}
+use Rattle.std.proofs.Common.{None, refl, ap, sym, subst, ◌∙◌, arith, length-append}
 use Rattle.std.proofs.Math.Seq.{take-append_seam}
 use Rattle.std.proofs.KnownBytes.{Consumes-trans}
 use Rattle.std.proofs.lemmas.List.Elements.{All-push}
@@ -32,7 +33,8 @@ pub record GaveSome (takes takes' : Option (List ℕ)) (total : ℕ) : Type 0 wh
   pub some : All (λ count. 0 < count) sizes
 
 -- one more take gave bytes
-pub gave_more : (takes takes' takes'' : Option (List ℕ)) (total total' n : ℕ) → GaveSome takes takes' total → takes'' ≡ append_told takes' (n ∷ []) → 0 < n → total' ≡ total + n → GaveSome takes takes'' total'
+pub gave_more : (takes takes' takes'' : Option (List ℕ)) (total total' n : ℕ) → GaveSome takes takes' total → takes''
+    ≡ append_told takes' (n ∷ []) → 0 < n → total' ≡ total + n → GaveSome takes takes'' total'
 gave_more takes takes' takes'' total total' n h is some more = record {
   sizes = h.sizes ++ n ∷ [];
   made = is ∙ ap (λ told. append_told told (n ∷ [])) h.made ∙ told_more takes h.sizes (n ∷ []);
@@ -41,8 +43,10 @@ gave_more takes takes' takes'' total total' n h is some more = record {
 }
 
 -- one more take, the last, gave bytes or none
-pub takes_last : (most : ℕ) (old mid new : SourceLog) (bytes more : List ℕ) (n : ℕ) → GaveSome old.takes mid.takes (length bytes) → Consumes old.left mid.left bytes
-    → new.takes ≡ append_told mid.takes (n ∷ []) → Consumes mid.left new.left more → length more ≡ n → length bytes + n ≤ most → TakesAtMost most old new
+pub takes_last : (most : ℕ) (old mid new : SourceLog) (bytes more : List ℕ) (n : ℕ) →
+    GaveSome old.takes mid.takes (length bytes) → Consumes old.left mid.left bytes
+    → new.takes ≡ append_told mid.takes (n ∷ []) → Consumes mid.left new.left more → length more ≡ n →
+    length bytes + n ≤ most → TakesAtMost most old new
 takes_last most old mid new bytes more n h taken is gave same few = record {
   bytes = bytes ++ more;
   sizes = h.sizes ++ n ∷ [];
@@ -60,7 +64,9 @@ kept_none (Some xs) None h = absurd h
 kept_none (Some xs) (Some ys) h = sym h
 
 -- one more take, the last, failed
-pub takes_failed : (most : ℕ) (old mid new : SourceLog) (bytes : List ℕ) → GaveSome old.takes mid.takes (length bytes) → Consumes old.left mid.left bytes
-    → new.takes ≡ append_told mid.takes (0 ∷ []) → Keeps mid.left new.left → length bytes ≤ most → TakesAtMost most old new
+pub takes_failed : (most : ℕ) (old mid new : SourceLog) (bytes : List ℕ) → GaveSome old.takes mid.takes (length bytes) →
+    Consumes old.left mid.left bytes
+    → new.takes ≡ append_told mid.takes (0 ∷ []) → Keeps mid.left new.left → length bytes ≤ most →
+    TakesAtMost most old new
 takes_failed most old mid new bytes h taken is kept few =
     takes_last most old mid new bytes [] 0 h taken is (kept_none mid.left new.left kept) refl (omega (arith, few))

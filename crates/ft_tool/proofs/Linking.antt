@@ -1,5 +1,6 @@
 -- What is answered of a link: the modules that are added in turn, and what ends it.
-use Rattle.std.proofs.Common.{◌≡◌, ℕ, ◌+◌, ◌<◌, ◌≤◌, Bool, drop, get_or, true, List, [], ◌∷◌, ◌++◌, length, Option, Some, None, Ok, Err, inl, inr, refl, sym, ap, ◌∙◌, subst, arith}
+use Rattle.std.proofs.Common.{◌≡◌, ℕ, ◌+◌, ◌<◌, ◌≤◌, Bool, drop, get_or, true, List, [], ◌∷◌, ◌++◌, length, Option}
+use Rattle.std.proofs.Common.{Some, None, Ok, Err, inl, inr, refl, sym, ap, ◌∙◌, subst, arith}
 use Rattle.std.specs.Prelude.{◌⊎◌, IsTrue, IfErr, Result}
 use Rattle.std.proofs.lemmas.List.{append-nil, append_assoc, drop_more, length_push}
 use Rattle.std.proofs.lemmas.Option.{none-some}
@@ -22,7 +23,8 @@ use Rattle.ft_link_map.specs.declared.map_error.MapError.TheVariants as maps
 use Rattle.ft_link_map.specs.MapLines.{MapLine, AreSaid}
 use Rattle.ft_link_map.specs.MapAnswers.{answer_of, Is, IsRefusal}
 use Rattle.ft_modules.specs.Linked.{linked}
-use Rattle.ft_modules.specs.LinkRefusals.{LinkRefusal, link_refusal, Cells, Rows, CodeOf, TooBig, NoBlock, Stub, Missing, Types}
+use Rattle.ft_modules.specs.LinkRefusals.{LinkRefusal, link_refusal, Cells, Rows, CodeOf, TooBig, NoBlock, Stub}
+use Rattle.ft_modules.specs.LinkRefusals.{Missing, Types}
 use Rattle.ft_modules.specs.ModulesRun.{modules_outputs, modules_status}
 use Rattle.ft_linker.specs.declared.link_error.LinkError.{LinkError}
 use Rattle.ft_linker.specs.declared.link_error.LinkError.TheVariants as links
@@ -35,9 +37,12 @@ use Rattle.ft_tool.specs.declared.load.ObjectFault.TheVariants.{Refused, Failed,
 use Rattle.ft_tool.specs.declared.ending.Ending.{Ending}
 use Rattle.ft_tool.specs.Replies.{Answer, IsToldFile}
 use Rattle.ft_tool.specs.Objects.{UpgradesObject}
-use Rattle.ft_tool.specs.Links.{IsMap, EndsAtMap, bad_line, line_twice, unlinked, EndsAtObject, not_accepted, not_added, no_object, no_module, LinksObject, LinksUnless, LinksAdded, LinksFiles, LinksText, LinksFile, ComesInTurn}
+use Rattle.ft_tool.specs.Links.{IsMap, EndsAtMap, bad_line, line_twice, unlinked, EndsAtObject, not_accepted, not_added}
+use Rattle.ft_tool.specs.Links.{no_object, no_module, LinksObject, LinksUnless, LinksAdded, LinksFiles, LinksText}
+use Rattle.ft_tool.specs.Links.{LinksFile, ComesInTurn}
 use Rattle.ft_tool.specs.LinkTurns.{EndsWithFile, AddsFile, AddsObject, HasAdded, FailsInTurn, MakesInTurn, MakesOfText}
-use Rattle.ft_tool.specs.Calls.{LoadList, asked_after, HasMade, object_load, map_load, EndsAtFile, LoadsInTurn, LoadsLink}
+use Rattle.ft_tool.specs.Calls.{LoadList, asked_after, HasMade, object_load, map_load, EndsAtFile, LoadsInTurn}
+use Rattle.ft_tool.specs.Calls.{LoadsLink}
 use Rattle.ft_tool.specs.Answers.{FailsIn}
 use Rattle.ft_tool.specs.Told.{OfFiles}
 use Rattle.ft_tool.specs.Files.{LoadsObject, IsRefusedBy, IsNotAccepted, IsMapRefused, IsUnlinkedBy}
@@ -48,7 +53,8 @@ use Rattle.ft_tool.proofs.Mapped.{some_files}
 -- ENDINGS
 
 -- an error whose ending says the same of an answer that is known less well
-pub err_ends : {T : Type 0} (r : Result T Ending) (P Q : Answer → Type 0) (old new : SinkLog) (L M : Type 0) → ((a : Answer) → P a → Q a) → (L → M)
+pub err_ends : {T : Type 0} (r : Result T Ending) (P Q : Answer → Type 0) (old new : SinkLog) (L M : Type 0) →
+    ((a : Answer) → P a → Q a) → (L → M)
     → IfErr r (λ e. Ends e P old new L) → IfErr r (λ e. Ends e Q old new M)
 err_ends (Ok v) P Q old new L M f g h = tt
 err_ends (Err e) P Q old new L M f g h = Ends-map e P Q old new L M f g h
@@ -61,7 +67,8 @@ known_less P Q Early f (inr early) = inr early
 -- OBJECTS
 
 -- a refusal of modules, by the error that tells it
-told_refusal : (x : Option LinkRefusal) (e : LinkError) → IsRefusalOf x e → (a : Answer) → IsUnlinkedBy e a → (r : LinkRefusal) × ((x ≡ Some r) × (a ≡ unlinked r))
+told_refusal : (x : Option LinkRefusal) (e : LinkError) → IsRefusalOf x e → (a : Answer) → IsUnlinkedBy e a →
+    (r : LinkRefusal) × ((x ≡ Some r) × (a ≡ unlinked r))
 told_refusal x (links.Cells m) h a is = (Cells m, (h, is))
 told_refusal x (links.Rows m) h a is = (Rows m, (h, is))
 told_refusal x (links.Code m b i) h a is = (CodeOf m b i, (h, is))
@@ -73,17 +80,24 @@ told_refusal x (links.Types line) h a is = (Types line, (h, is))
 told_refusal x links.NoMemory h a is = absurd is
 
 -- an object that is added
-pub adds_object : (modules modules' : List Object) (o : Object) → refusal o ≡ None → added_refusal modules o ≡ None → modules' ≡ modules ++ o ∷ [] → AddsObject modules o modules'
-adds_object modules modules' o accepted unrefused added = record { accepted = accepted; unrefused = unrefused; added = added }
+pub adds_object : (modules modules' : List Object) (o : Object) → refusal o ≡ None → added_refusal modules o ≡ None →
+    modules' ≡ modules ++ o ∷ [] → AddsObject modules o modules'
+adds_object modules modules' o accepted unrefused added = record {
+  accepted = accepted;
+  unrefused = unrefused;
+  added = added;
+}
 
 -- an object that is not added
-pub ends_unadded : (modules : List Object) (o : Object) (e : LinkError) → refusal o ≡ None → IsRefusalOf (added_refusal modules o) e → (a : Answer) → IsUnlinkedBy e a → EndsAtObject modules o a
+pub ends_unadded : (modules : List Object) (o : Object) (e : LinkError) → refusal o ≡ None →
+    IsRefusalOf (added_refusal modules o) e → (a : Answer) → IsUnlinkedBy e a → EndsAtObject modules o a
 ends_unadded modules o e accepted h a is =
     let r = told_refusal (added_refusal modules o) e h a is in
     not_added accepted r.0 r.1.0 r.1.1
 
 -- an object that is not accepted
-pub ends_unaccepted : (modules : List Object) (o : Object) (e : CheckError) → judges.IsRefusalOf (refusal o) e → (a : Answer) → IsNotAccepted e a → EndsAtObject modules o a
+pub ends_unaccepted : (modules : List Object) (o : Object) (e : CheckError) → judges.IsRefusalOf (refusal o) e →
+    (a : Answer) → IsNotAccepted e a → EndsAtObject modules o a
 ends_unaccepted modules o checks.EntryType h a is = not_accepted refusals.EntryType h is
 ends_unaccepted modules o (checks.CellType k) h a is = not_accepted (refusals.CellType k) h is
 ends_unaccepted modules o (checks.Refused b i why) h a is = not_accepted (refusals.Refused b i why) h is
@@ -92,42 +106,67 @@ ends_unaccepted modules o checks.NoMemory h a is = absurd is
 -- FILES
 
 -- the file of a module that ends the link, by the object that its bytes spell
-pub ends_with_object : (told : Option Files) (modules : List Object) (name : Word) (bytes : List ℕ) → LoadsObject told name (Ok bytes) → (a : Answer) → EndsAtObject modules (object_of bytes) a → EndsWithFile told modules name a
+pub ends_with_object : (told : Option Files) (modules : List Object) (name : Word) (bytes : List ℕ) →
+    LoadsObject told name (Ok bytes) → (a : Answer) → EndsAtObject modules (object_of bytes) a →
+    EndsWithFile told modules name a
 ends_with_object told modules name bytes h a is = (bytes, (h.0, no_module (object_of bytes) (version_at bytes, h.1) is))
 
 -- by the rule that its bytes break
-pub ends_with_fault : (told : Option Files) (modules : List Object) (name : Word) (e : ObjectFault) → LoadsObject told name (Err e) → (a : Answer) → IsRefusedBy e a → EndsWithFile told modules name a
+pub ends_with_fault : (told : Option Files) (modules : List Object) (name : Word) (e : ObjectFault) →
+    LoadsObject told name (Err e) → (a : Answer) → IsRefusedBy e a → EndsWithFile told modules name a
 ends_with_fault told modules name (Refused e) h a is = (h.0, (h.1.0, no_object e h.1.1 is))
 ends_with_fault told modules name Failed h a is = absurd is
 ends_with_fault told modules name no_memory h a is = absurd is
 
 -- the file of a module that is added
-pub adds_file : (told : Option Files) (modules modules' : List Object) (name : Word) (bytes : List ℕ) → LoadsObject told name (Ok bytes) → AddsObject modules (object_of bytes) modules' → AddsFile told name modules modules'
-adds_file told modules modules' name bytes h g =
-    (bytes, (h.0, (object_of bytes, (record { spelled = (version_at bytes, h.1); accepted = g.accepted; unrefused = g.unrefused }, g.added))))
+pub adds_file : (told : Option Files) (modules modules' : List Object) (name : Word) (bytes : List ℕ) →
+    LoadsObject told name (Ok bytes) → AddsObject modules (object_of bytes) modules' →
+    AddsFile told name modules modules'
+adds_file told modules modules' name bytes h g = (
+  bytes,
+  (
+    h.0,
+    (
+      object_of bytes,
+      (
+        record {
+          spelled = (version_at bytes, h.1);
+          accepted = g.accepted;
+          unrefused = g.unrefused;
+        },
+        g.added,
+      ),
+    ),
+  ),
+)
 
 -- LOADS
 
-asked_after-append : (loads more : LoadList) (asked : Option LoadList) → asked_after (loads ++ more) asked ≡ asked_after more (asked_after loads asked)
+asked_after-append : (loads more : LoadList) (asked : Option LoadList) → asked_after (loads ++ more) asked
+    ≡ asked_after more (asked_after loads asked)
 asked_after-append [] more asked = refl
 asked_after-append (load ∷ loads) more asked = asked_after-append loads more (append_told asked (load ∷ []))
 
 -- loads after loads
-made_more : (loads more : LoadList) (asked between asked' : Option LoadList) → HasMade loads asked between → HasMade more between asked' → HasMade (loads ++ more) asked asked'
+made_more : (loads more : LoadList) (asked between asked' : Option LoadList) → HasMade loads asked between →
+    HasMade more between asked' → HasMade (loads ++ more) asked asked'
 made_more loads more asked between asked' h g = g ∙ ap (asked_after more) h ∙ sym (asked_after-append loads more asked)
 
 -- a call that ends early may make no load
-no_loads : (told : Option Files) (modules : List Object) (names : List Word) → LoadsInTurn told (IsTrue true) modules names []
+no_loads : (told : Option Files) (modules : List Object) (names : List Word) →
+    LoadsInTurn told (IsTrue true) modules names []
 no_loads told modules [] = refl
 no_loads told modules (name ∷ names) = inl (refl, refl)
 
-pub makes_none : (told : Option Files) (linkage : LinkMap) (asked : Option LoadList) → MakesInTurn told linkage true asked asked
+pub makes_none : (told : Option Files) (linkage : LinkMap) (asked : Option LoadList) →
+    MakesInTurn told linkage true asked asked
 makes_none told linkage asked = ([], (no_loads told [] linkage.files, refl))
 
 -- MODULES IN TURN
 
 -- nothing was added yet
-pub added_none : (told : Option Files) (linkage : LinkMap) (asked : Option LoadList) → HasAdded told linkage [] linkage.files asked asked
+pub added_none : (told : Option Files) (linkage : LinkMap) (asked : Option LoadList) →
+    HasAdded told linkage [] linkage.files asked asked
 added_none told linkage asked = record {
   loads = [];
   made = refl;
@@ -138,8 +177,11 @@ added_none told linkage asked = record {
 }
 
 -- one more was added
-added_object : (told : Option Files) (linkage : LinkMap) (modules : List Object) (name : Word) (names : List Word) (asked between asked' : Option LoadList) → HasAdded told linkage modules (name ∷ names) asked between
-    → (modules' : List Object) → (g : AddsFile told name modules modules') → HasMade (object_load name ∷ []) between asked' → HasAdded told linkage (modules ++ g.1.1.0 ∷ []) names asked asked'
+added_object : (told : Option Files) (linkage : LinkMap) (modules : List Object) (name : Word) (names : List Word)
+    (asked between asked' : Option LoadList) → HasAdded told linkage modules (name ∷ names) asked between
+    → (modules' : List Object) → (g : AddsFile told name modules modules') →
+    HasMade (object_load name ∷ []) between asked' →
+    HasAdded told linkage (modules ++ g.1.1.0 ∷ []) names asked asked'
 added_object told linkage modules name names asked between asked' h modules' g made = record {
   loads = h.loads ++ object_load name ∷ [];
   made = made_more h.loads (object_load name ∷ []) asked between asked' h.made made;
@@ -147,17 +189,23 @@ added_object told linkage modules name names asked between asked' h modules' g m
   answers = λ a x. h.answers a (g.0, (g.1.0, inr (g.1.1.0, (g.1.1.1.0, x))));
   comes = λ file x. h.comes file (inr (g.0, (g.1.0, (g.1.1.0, (g.1.1.1.0, x)))));
   in_turn = λ early more x.
-      subst (λ ls. LoadsInTurn told (IsTrue early) [] linkage.files ls) (sym (append_assoc h.loads (object_load name ∷ []) more))
+      subst (λ ls. LoadsInTurn told (IsTrue early) [] linkage.files ls)
+      (sym (append_assoc h.loads (object_load name ∷ []) more))
       (h.in_turn early (object_load name ∷ more) (inr (more, (refl, inr (g.0, (g.1.0, (g.1.1.0, (g.1.1.1.0, x))))))));
 }
 
-pub added_more : (told : Option Files) (linkage : LinkMap) (modules modules' : List Object) (name : Word) (names : List Word) (asked between asked' : Option LoadList) → HasAdded told linkage modules (name ∷ names) asked between
-    → AddsFile told name modules modules' → HasMade (object_load name ∷ []) between asked' → HasAdded told linkage modules' names asked asked'
+pub added_more : (told : Option Files) (linkage : LinkMap) (modules modules' : List Object) (name : Word)
+    (names : List Word) (asked between asked' : Option LoadList) →
+    HasAdded told linkage modules (name ∷ names) asked between
+    → AddsFile told name modules modules' → HasMade (object_load name ∷ []) between asked' →
+    HasAdded told linkage modules' names asked asked'
 added_more told linkage modules modules' name names asked between asked' h g made =
-    subst (λ ms. HasAdded told linkage ms names asked asked') (sym g.1.1.1.1) (added_object told linkage modules name names asked between asked' h modules' g made)
+    subst (λ ms. HasAdded told linkage ms names asked asked') (sym g.1.1.1.1)
+    (added_object told linkage modules name names asked between asked' h modules' g made)
 
 -- the file of the next module ends the link
-pub ends_in_turn : (told : Option Files) (linkage : LinkMap) (modules : List Object) (name : Word) (names : List Word) (asked between : Option LoadList) → HasAdded told linkage modules (name ∷ names) asked between
+pub ends_in_turn : (told : Option Files) (linkage : LinkMap) (modules : List Object) (name : Word) (names : List Word)
+    (asked between : Option LoadList) → HasAdded told linkage modules (name ∷ names) asked between
     → (a : Answer) → EndsWithFile told modules name a → LinksFiles told linkage [] linkage.files a
 ends_in_turn told linkage modules name names asked between h a g = h.answers a (g.0, (g.1.0, inl g.1.1))
 
@@ -169,12 +217,24 @@ fails_in_turn : (linkage : LinkMap) (modules : List Object) (name : Word) (names
 fails_in_turn linkage modules name names shelf between shelf' h g = (name, (h.comes name (inl refl), g))
 
 -- the loads of a link that ended there
-pub makes_to_end : (told : Option Files) (linkage : LinkMap) (modules : List Object) (name : Word) (names : List Word) (asked between asked' : Option LoadList) (early : Bool) → HasAdded told linkage modules (name ∷ names) asked between
-    → ((a : Answer) × EndsWithFile told modules name a) ⊎ IsTrue early → HasMade (object_load name ∷ []) between asked' → MakesInTurn told linkage early asked asked'
+pub makes_to_end : (told : Option Files) (linkage : LinkMap) (modules : List Object) (name : Word) (names : List Word)
+    (asked between asked' : Option LoadList) (early : Bool) → HasAdded told linkage modules (name ∷ names) asked between
+    → ((a : Answer) × EndsWithFile told modules name a) ⊎ IsTrue early →
+    HasMade (object_load name ∷ []) between asked' → MakesInTurn told linkage early asked asked'
 makes_to_end told linkage modules name names asked between asked' early h g made = (
   h.loads ++ object_load name ∷ [],
   (
-    h.in_turn early (object_load name ∷ []) (inr ([], (refl, inl (refl, known_less ((a : Answer) × EndsWithFile told modules name a) (EndsAtFile told modules name) (IsTrue early) (λ x. (x.1.0, (x.1.1.0, (x.0, x.1.1.1)))) g)))),
+    h.in_turn early (object_load name ∷ []) (inr (
+      [],
+      (
+        refl,
+        inl (
+          refl,
+          known_less ((a : Answer) × EndsWithFile told modules name a) (EndsAtFile told modules name)
+              (IsTrue early) (λ x. (x.1.0, (x.1.1.0, (x.0, x.1.1.1)))) g,
+        ),
+      ),
+    )),
     made_more h.loads (object_load name ∷ []) asked between asked' h.made made,
   ),
 )
@@ -182,28 +242,40 @@ makes_to_end told linkage modules name names asked between asked' early h g made
 -- THE NEXT FILE OF A LOOP, by its name, over a shelf that tells what it told
 
 -- the rest of the files begins with the next one
-at_file : (told : Option Files) (linkage : LinkMap) (modules : List Object) (files : List Word) (i : ℕ) (file : Word) (asked between : Option LoadList) → i < length files → file ≡ get_or files i file
-    → HasAdded told linkage modules (drop i files) asked between → HasAdded told linkage modules (file ∷ drop (i + 1) files) asked between
+at_file : (told : Option Files) (linkage : LinkMap) (modules : List Object) (files : List Word) (i : ℕ) (file : Word)
+    (asked between : Option LoadList) → i < length files → file ≡ get_or files i file
+    → HasAdded told linkage modules (drop i files) asked between →
+    HasAdded told linkage modules (file ∷ drop (i + 1) files) asked between
 at_file told linkage modules files i file asked between within is h =
-    subst (λ rest. HasAdded told linkage modules rest asked between) (drop_more files i file within ∙ ap (λ f. f ∷ drop (i + 1) files) (sym is)) h
+    subst (λ rest. HasAdded told linkage modules rest asked between) (drop_more files i file within
+    ∙ ap (λ f. f ∷ drop (i + 1) files) (sym is)) h
 
 -- it was added
-pub added_next : (told again : Option Files) (linkage : LinkMap) (modules modules' : List Object) (files : List Word) (i : ℕ) (file name : Word) (asked between asked' : Option LoadList) → again ≡ told → name ≡ file
-    → i < length files → file ≡ get_or files i file → HasAdded told linkage modules (drop i files) asked between → AddsFile again name modules modules' → HasMade (object_load name ∷ []) between asked'
+pub added_next : (told again : Option Files) (linkage : LinkMap) (modules modules' : List Object) (files : List Word)
+    (i : ℕ) (file name : Word) (asked between asked' : Option LoadList) → again ≡ told → name ≡ file
+    → i < length files → file ≡ get_or files i file → HasAdded told linkage modules (drop i files) asked between →
+    AddsFile again name modules modules' → HasMade (object_load name ∷ []) between asked'
     → HasAdded told linkage modules' (drop (i + 1) files) asked asked'
 added_next told again linkage modules modules' files i file name asked between asked' e f within is h adds made =
-    added_more told linkage modules modules' file (drop (i + 1) files) asked between asked' (at_file told linkage modules files i file asked between within is h)
+    added_more told linkage modules modules' file (drop (i + 1) files) asked between asked'
+    (at_file told linkage modules files i file asked between within is h)
     (subst (λ t. AddsFile t file modules modules') e (subst (λ n. AddsFile again n modules modules') f adds))
     (subst (λ n. HasMade (object_load n ∷ []) between asked') f made)
 
 -- it ends the link
-same_end : (told again : Option Files) (modules : List Object) (file name : Word) → again ≡ told → name ≡ file → (a : Answer) → EndsWithFile again modules name a → EndsWithFile told modules file a
-same_end told again modules file name e f a h = subst (λ t. EndsWithFile t modules file a) e (subst (λ n. EndsWithFile again modules n a) f h)
+same_end : (told again : Option Files) (modules : List Object) (file name : Word) → again ≡ told → name ≡ file →
+    (a : Answer) → EndsWithFile again modules name a → EndsWithFile told modules file a
+same_end told again modules file name e f a h = subst (λ t. EndsWithFile t modules file a) e
+    (subst (λ n. EndsWithFile again modules n a) f h)
 
-pub ends_next : (told again : Option Files) (linkage : LinkMap) (modules : List Object) (files : List Word) (i : ℕ) (file name : Word) (asked between : Option LoadList) → again ≡ told → name ≡ file
-    → i < length files → file ≡ get_or files i file → HasAdded told linkage modules (drop i files) asked between → (a : Answer) → EndsWithFile again modules name a → LinksFiles told linkage [] linkage.files a
+pub ends_next : (told again : Option Files) (linkage : LinkMap) (modules : List Object) (files : List Word) (i : ℕ)
+    (file name : Word) (asked between : Option LoadList) → again ≡ told → name ≡ file
+    → i < length files → file ≡ get_or files i file → HasAdded told linkage modules (drop i files) asked between →
+    (a : Answer) → EndsWithFile again modules name a → LinksFiles told linkage [] linkage.files a
 ends_next told again linkage modules files i file name asked between e f within is h a g =
-    ends_in_turn told linkage modules file (drop (i + 1) files) asked between (at_file told linkage modules files i file asked between within is h) a (same_end told again modules file name e f a g)
+    ends_in_turn told linkage modules file (drop (i + 1) files) asked between
+    (at_file told linkage modules files i file asked between within is h) a
+    (same_end told again modules file name e f a g)
 
 -- its load failed
 pub fails_next : (linkage : LinkMap) (modules : List Object) (files : List Word) (i : ℕ) (file name : Word)
@@ -217,12 +289,16 @@ fails_next linkage modules files i file name shelf between shelf' f within is h 
     (subst (λ b. Rose b shelf'.failures) e g.0, g.1 ∙ ap Some f)
 
 -- the loads up to there
-pub makes_next : (told again : Option Files) (linkage : LinkMap) (modules : List Object) (files : List Word) (i : ℕ) (file name : Word) (asked between asked' : Option LoadList) (early : Bool) → again ≡ told → name ≡ file
-    → i < length files → file ≡ get_or files i file → HasAdded told linkage modules (drop i files) asked between → ((a : Answer) × EndsWithFile again modules name a) ⊎ IsTrue early
+pub makes_next : (told again : Option Files) (linkage : LinkMap) (modules : List Object) (files : List Word) (i : ℕ)
+    (file name : Word) (asked between asked' : Option LoadList) (early : Bool) → again ≡ told → name ≡ file
+    → i < length files → file ≡ get_or files i file → HasAdded told linkage modules (drop i files) asked between →
+    ((a : Answer) × EndsWithFile again modules name a) ⊎ IsTrue early
     → HasMade (object_load name ∷ []) between asked' → MakesInTurn told linkage early asked asked'
 makes_next told again linkage modules files i file name asked between asked' early e f within is h g made =
-    makes_to_end told linkage modules file (drop (i + 1) files) asked between asked' early (at_file told linkage modules files i file asked between within is h)
-    (known_less ((a : Answer) × EndsWithFile again modules name a) ((a : Answer) × EndsWithFile told modules file a) (IsTrue early) (λ x. (x.0, same_end told again modules file name e f x.0 x.1)) g)
+    makes_to_end told linkage modules file (drop (i + 1) files) asked between asked' early
+    (at_file told linkage modules files i file asked between within is h)
+    (known_less ((a : Answer) × EndsWithFile again modules name a) ((a : Answer) × EndsWithFile told modules file a)
+    (IsTrue early) (λ x. (x.0, same_end told again modules file name e f x.0 x.1)) g)
     (subst (λ n. HasMade (object_load n ∷ []) between asked') f made)
 
 -- no call that went well failed to load
@@ -230,43 +306,64 @@ pub ok_no_err : {A B : Type 0} (x : A) (y : B) (r s : Result A B) → r ≡ Ok x
 ok_no_err x y r s a b e = cc
 
 -- all were added
-pub links_all : (told : Option Files) (linkage : LinkMap) (modules : List Object) (asked asked' : Option LoadList) → HasAdded told linkage modules [] asked asked' → (a : Answer) → LinksAdded linkage modules a → LinksFiles told linkage [] linkage.files a
+pub links_all : (told : Option Files) (linkage : LinkMap) (modules : List Object) (asked asked' : Option LoadList) →
+    HasAdded told linkage modules [] asked asked' → (a : Answer) → LinksAdded linkage modules a →
+    LinksFiles told linkage [] linkage.files a
 links_all told linkage modules asked asked' h a is = h.answers a is
 
-pub makes_all : (told : Option Files) (linkage : LinkMap) (modules : List Object) (asked asked' : Option LoadList) (early : Bool) → HasAdded told linkage modules [] asked asked' → MakesInTurn told linkage early asked asked'
-makes_all told linkage modules asked asked' early h =
-    (h.loads, (subst (λ ls. LoadsInTurn told (IsTrue early) [] linkage.files ls) (append-nil h.loads) (h.in_turn early [] refl), h.made))
+pub makes_all : (told : Option Files) (linkage : LinkMap) (modules : List Object) (asked asked' : Option LoadList)
+    (early : Bool) → HasAdded told linkage modules [] asked asked' → MakesInTurn told linkage early asked asked'
+makes_all told linkage modules asked asked' early h = (
+  h.loads,
+  (
+    subst (λ ls. LoadsInTurn told (IsTrue early) [] linkage.files ls) (append-nil h.loads)
+        (h.in_turn early [] refl),
+    h.made,
+  ),
+)
 
-pub as_many : (told : Option Files) (linkage : LinkMap) (modules : List Object) (asked asked' : Option LoadList) → HasAdded told linkage modules [] asked asked' → length modules ≡ length linkage.files
+pub as_many : (told : Option Files) (linkage : LinkMap) (modules : List Object) (asked asked' : Option LoadList) →
+    HasAdded told linkage modules [] asked asked' → length modules ≡ length linkage.files
 as_many told linkage modules asked asked' h = omega (arith, h.count)
 
 -- THE LINKED OBJECT
 
-object_linked : (linkage : LinkMap) (first : Object) (others : List Object) (o : Object) → o ≡ linked linkage first others → IsAccepted o
-    → ((n : ℕ) → outputs_after o None [] n ≡ modules_outputs linkage first others n) → ((n : ℕ) → status_after o None [] n ≡ modules_status linkage first others n)
-    → ((strike : _) (w : _) (n : ℕ) → Agrees (outputs_after o strike w n) (status_after o strike w n) (modules_outputs linkage first others n) (modules_status linkage first others n))
+object_linked : (linkage : LinkMap) (first : Object) (others : List Object) (o : Object) → o
+    ≡ linked linkage first others → IsAccepted o
+    → ((n : ℕ) → outputs_after o None [] n ≡ modules_outputs linkage first others n) →
+    ((n : ℕ) → status_after o None [] n ≡ modules_status linkage first others n)
+    → ((strike : _) (w : _) (n : ℕ) → Agrees (outputs_after o strike w n) (status_after o strike w n)
+    (modules_outputs linkage first others n) (modules_status linkage first others n))
     → (a : Answer) → UpgradesObject o a → LinksObject linkage first others a
 object_linked linkage first others o e accepted outputs status tolerates a written = record {
   accepted = subst IsAccepted e accepted;
-  outputs = λ n. subst (λ (x : Object). outputs_after x None [] n ≡ modules_outputs linkage first others n) e (outputs n);
+  outputs = λ n. subst (λ (x : Object). outputs_after x None [] n ≡ modules_outputs linkage first others n) e
+      (outputs n);
   status = λ n. subst (λ (x : Object). status_after x None [] n ≡ modules_status linkage first others n) e (status n);
-  tolerates = λ strike w n. subst (λ (x : Object). Agrees (outputs_after x strike w n) (status_after x strike w n) (modules_outputs linkage first others n) (modules_status linkage first others n)) e (tolerates strike w n);
+  tolerates = λ strike w n. subst (λ (x : Object).
+      Agrees (outputs_after x strike w n) (status_after x strike w n) (modules_outputs linkage first others n)
+      (modules_status linkage first others n)) e (tolerates strike w n);
   written = subst (λ x. UpgradesObject x a) e written;
 }
 
 -- what the linker gives
-pub links_object : (linkage : LinkMap) (modules : List Object) (o : Object) → IsLinked linkage modules o → refusal_of linkage modules ≡ None → (a : Answer) → UpgradesObject o a → LinksAdded linkage modules a
+pub links_object : (linkage : LinkMap) (modules : List Object) (o : Object) → IsLinked linkage modules o →
+    refusal_of linkage modules ≡ None → (a : Answer) → UpgradesObject o a → LinksAdded linkage modules a
 links_object linkage modules o h unrefused a written =
-    let none : link_refusal linkage h.first h.others ≡ None = subst (λ ms. refusal_of linkage ms ≡ None) h.modules_are unrefused in
+    let none : link_refusal linkage h.first h.others
+    ≡ None = subst (λ ms. refusal_of linkage ms ≡ None) h.modules_are unrefused in
     subst (λ ms. LinksAdded linkage ms a) (sym h.modules_are)
-    (subst (λ x. LinksUnless x linkage h.first h.others a) (sym none) (object_linked linkage h.first h.others o h.linked_is h.accepted h.outputs h.status h.tolerates a written))
+    (subst (λ x. LinksUnless x linkage h.first h.others a) (sym none)
+    (object_linked linkage h.first h.others o h.linked_is h.accepted h.outputs h.status h.tolerates a written))
 
 -- what it refuses
-refused_so : (linkage : LinkMap) (modules : List Object) (r : LinkRefusal) → refusal_of linkage modules ≡ Some r → (a : Answer) → a ≡ unlinked r → LinksAdded linkage modules a
+refused_so : (linkage : LinkMap) (modules : List Object) (r : LinkRefusal) → refusal_of linkage modules ≡ Some r →
+    (a : Answer) → a ≡ unlinked r → LinksAdded linkage modules a
 refused_so linkage [] r e a is = absurd (none-some r e)
 refused_so linkage (first ∷ others) r e a is = subst (λ x. LinksUnless x linkage first others a) (sym e) is
 
-pub links_refused : (linkage : LinkMap) (modules : List Object) (e : LinkError) → IsRefusalOf (refusal_of linkage modules) e → (a : Answer) → IsUnlinkedBy e a → LinksAdded linkage modules a
+pub links_refused : (linkage : LinkMap) (modules : List Object) (e : LinkError) →
+    IsRefusalOf (refusal_of linkage modules) e → (a : Answer) → IsUnlinkedBy e a → LinksAdded linkage modules a
 links_refused linkage modules e h a is =
     let r = told_refusal (refusal_of linkage modules) e h a is in
     refused_so linkage modules r.0 r.1.0 a r.1.1
@@ -274,24 +371,31 @@ links_refused linkage modules e h a is =
 -- THE MAP
 
 -- a text that is a map
-pub is_map : (text : List ℕ) (linkage : LinkMap) → length text ≤ 65536 → (said : List MapLine) → AreSaid text said → answer_of said ≡ Is linkage → IsMap text linkage
+pub is_map : (text : List ℕ) (linkage : LinkMap) → length text ≤ 65536 → (said : List MapLine) → AreSaid text said →
+    answer_of said ≡ Is linkage → IsMap text linkage
 is_map text linkage short said lines is = record { short = short; lines = said; are_said = lines; is = is }
 
 -- a text that is refused
-pub map_refused : (text : List ℕ) → length text ≤ 65536 → (said : List MapLine) → AreSaid text said → (e : MapError) → IsRefusal e (answer_of said) → (a : Answer) → IsMapRefused e a → EndsAtMap text a
-map_refused text short said lines (maps.Line line) h a is = bad_line line (record { short = short; lines = said; are_said = lines; is = h }) is
-map_refused text short said lines (maps.Twice line) h a is = line_twice line (record { short = short; lines = said; are_said = lines; is = h }) is
+pub map_refused : (text : List ℕ) → length text ≤ 65536 → (said : List MapLine) → AreSaid text said → (e : MapError) →
+    IsRefusal e (answer_of said) → (a : Answer) → IsMapRefused e a → EndsAtMap text a
+map_refused text short said lines (maps.Line line) h a is =
+    bad_line line (record { short = short; lines = said; are_said = lines; is = h }) is
+map_refused text short said lines (maps.Twice line) h a is =
+    line_twice line (record { short = short; lines = said; are_said = lines; is = h }) is
 map_refused text short said lines maps.NoMemory h a is = absurd is
 
 -- the loads after a text that was read
-pub makes_no_module : (told : Option Files) (text : List ℕ) (early : Bool) (asked : Option LoadList) → ((a : Answer) × EndsAtMap text a) ⊎ IsTrue early → MakesOfText told text early asked asked
+pub makes_no_module : (told : Option Files) (text : List ℕ) (early : Bool) (asked : Option LoadList) →
+    ((a : Answer) × EndsAtMap text a) ⊎ IsTrue early → MakesOfText told text early asked asked
 makes_no_module told text early asked h = inl (h, refl)
 
 -- the loads of a link
-pub loads_of_text : (told : Option Files) (name : Word) (text : List ℕ) (early : Bool) (asked between asked' : Option LoadList) → IsToldFile told name text → HasMade (map_load name ∷ []) asked between
+pub loads_of_text : (told : Option Files) (name : Word) (text : List ℕ) (early : Bool)
+    (asked between asked' : Option LoadList) → IsToldFile told name text → HasMade (map_load name ∷ []) asked between
     → MakesOfText told text early between asked' → LoadsLink told name (IsTrue early) asked asked'
 loads_of_text told name text early asked between asked' file made (inl x) = inl (record {
-  none = known_less ((a : Answer) × EndsAtMap text a) ((t : List ℕ) × (IsToldFile told name t × ((a : Answer) × EndsAtMap t a))) (IsTrue early) (λ y. (text, (file, y))) x.0;
+  none = known_less ((a : Answer) × EndsAtMap text a) ((t : List ℕ)
+      × (IsToldFile told name t × ((a : Answer) × EndsAtMap t a))) (IsTrue early) (λ y. (text, (file, y))) x.0;
   made = x.1 ∙ made;
 })
 loads_of_text told name text early asked between asked' file made (inr x) = inr (record {
@@ -334,5 +438,7 @@ failed_between name text lent shelf between shelf' e f b file x =
       ),
     )
 
-pub links_between : (told again : Option Files) (name : Word) (text lent : List ℕ) → again ≡ told → lent ≡ text → IsToldFile told name text → (a : Answer) → LinksText again lent a → LinksFile told name a
-links_between told again name text lent e f file a h = (text, (file, subst (λ t. LinksText t text a) e (subst (λ b. LinksText again b a) f h)))
+pub links_between : (told again : Option Files) (name : Word) (text lent : List ℕ) → again ≡ told → lent ≡ text →
+    IsToldFile told name text → (a : Answer) → LinksText again lent a → LinksFile told name a
+links_between told again name text lent e f file a h =
+    (text, (file, subst (λ t. LinksText t text a) e (subst (λ b. LinksText again b a) f h)))

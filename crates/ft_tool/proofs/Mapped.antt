@@ -1,11 +1,13 @@
 -- Files and scripts with the contents that were loaded and taken.
-use Rattle.std.proofs.Common.{◌≡◌, ℕ, zero, suc, ◌<◌, Bool, true, false, cond, List, [], ◌∷◌, length, get_or, Option, Some, None, Result, Ok, Err, refl, sym, ap, ◌∙◌, subst, arith}
+use Rattle.std.proofs.Common.{◌≡◌, ℕ, zero, suc, ◌<◌, Bool, true, false, cond, List, [], ◌∷◌, length, get_or, Option}
+use Rattle.std.proofs.Common.{Some, None, Result, Ok, Err, refl, sym, ap, ◌∙◌, subst, arith}
 use Rattle.std.specs.Prelude.{IfSome}
 use Rattle.std.specs.Option.{unwrap_or}
 use Rattle.std.proofs.Common.{Ordering, Less, Equal, Greater}
 use Rattle.std.specs.Ordering.{nat_cmp, is_eq, eq_by_cmp}
 use Rattle.std.specs.Cmp.Lexicographic.{slice_cmp}
-use Rattle.std.specs.FinMap.{empty, get, insert, get-empty, get-insert, nat_cmp-IsAntisymmetric, slice_cmp-IsAntisymmetric}
+use Rattle.std.specs.FinMap.{empty, get, insert, get-empty, get-insert, nat_cmp-IsAntisymmetric}
+use Rattle.std.specs.FinMap.{slice_cmp-IsAntisymmetric}
 use Rattle.std.proofs.lemmas.Cmp.{nat_list_cmp_total, tied_itself}
 use Rattle.std.proofs.lemmas.Option.{none-some}
 use Rattle.ft_edge.specs.declared.shelf.Load.{Load}
@@ -44,13 +46,15 @@ none_bytes : HasBytes empty
 none_bytes name bytes e = absurd (none-some bytes (sym (get-empty (slice_cmp nat_cmp) name) ∙ e))
 
 -- one more file of bytes
-chosen : (t : Bool) (old : Option (List ℕ)) (more bytes : List ℕ) → AreBytes more → (old ≡ Some bytes → AreBytes bytes) → cond t (Some more) old ≡ Some bytes → AreBytes bytes
+chosen : (t : Bool) (old : Option (List ℕ)) (more bytes : List ℕ) → AreBytes more →
+    (old ≡ Some bytes → AreBytes bytes) → cond t (Some more) old ≡ Some bytes → AreBytes bytes
 chosen true old more bytes is rest e = subst AreBytes (ap (λ o. unwrap_or o []) e) is
 chosen false old more bytes is rest e = rest e
 
 more_bytes : (files : Files) (name more : List ℕ) → HasBytes files → AreBytes more → HasBytes (insert files name more)
 more_bytes files name more all is q bytes e =
-    chosen (eq_by_cmp (slice_cmp nat_cmp) q name) (get files q) more bytes is (all q bytes) (sym (get-insert nat_list_cmp_total files name more q) ∙ e)
+    chosen (eq_by_cmp (slice_cmp nat_cmp) q name) (get files q) more bytes is (all q bytes)
+    (sym (get-insert nat_list_cmp_total files name more q) ∙ e)
 
 -- a file that was put is there, and so is one that was there, if it has another name or the same content
 put_there : (files : Files) (name bytes : List ℕ) → get (insert files name bytes) name ≡ Some bytes
@@ -58,12 +62,15 @@ put_there files name bytes =
     get-insert nat_list_cmp_total files name bytes name
     ∙ ap (λ r. cond (is_eq r) (Some bytes) (get files name)) (tied_itself nat_list_cmp_total name)
 
-kept_by : (r : Ordering) (name other bytes more : List ℕ) (old : Option (List ℕ)) → slice_cmp nat_cmp name other ≡ r → (other ≡ name → more ≡ bytes) → old ≡ Some bytes → cond (is_eq r) (Some more) old ≡ Some bytes
+kept_by : (r : Ordering) (name other bytes more : List ℕ) (old : Option (List ℕ)) → slice_cmp nat_cmp name other ≡ r →
+    (other ≡ name → more ≡ bytes) → old ≡ Some bytes → cond (is_eq r) (Some more) old ≡ Some bytes
 kept_by Less name other bytes more old e same is = is
-kept_by Equal name other bytes more old e same is = ap Some (same (sym (slice_cmp-IsAntisymmetric nat_cmp-IsAntisymmetric name other e)))
+kept_by Equal name other bytes more old e same is =
+    ap Some (same (sym (slice_cmp-IsAntisymmetric nat_cmp-IsAntisymmetric name other e)))
 kept_by Greater name other bytes more old e same is = is
 
-put_kept : (files : Files) (name other bytes more : List ℕ) → (other ≡ name → more ≡ bytes) → get files name ≡ Some bytes → get (insert files other more) name ≡ Some bytes
+put_kept : (files : Files) (name other bytes more : List ℕ) → (other ≡ name → more ≡ bytes) → get files name
+    ≡ Some bytes → get (insert files other more) name ≡ Some bytes
 put_kept files name other bytes more same is =
     get-insert nat_list_cmp_total files other more name
     ∙ kept_by (slice_cmp nat_cmp name other) name other bytes more (get files name) refl same is
@@ -74,17 +81,27 @@ some_files (Some told) = (told, (refl, tt))
 some_files None = (empty, (none_bytes, tt))
 
 -- with this content
-pub files_with : (told : Option Files) (name bytes : List ℕ) → IsToldFile told name bytes → OfFiles told (λ files. IsFile files name bytes)
+pub files_with : (told : Option Files) (name bytes : List ℕ) → IsToldFile told name bytes →
+    OfFiles told (λ files. IsFile files name bytes)
 files_with (Some told) name bytes h = (told, (refl, h))
-files_with None name bytes h = (insert empty name bytes, (more_bytes empty name bytes none_bytes h, put_there empty name bytes))
+files_with None name bytes h = (
+  insert empty name bytes,
+  (more_bytes empty name bytes none_bytes h, put_there empty name bytes),
+)
 
 -- with these two contents
-pub files_with_both : (told : Option Files) (name bytes other more : List ℕ) → IsToldFile told name bytes → IsToldFile told other more → (other ≡ name → more ≡ bytes)
+pub files_with_both : (told : Option Files) (name bytes other more : List ℕ) → IsToldFile told name bytes →
+    IsToldFile told other more → (other ≡ name → more ≡ bytes)
     → OfFiles told (λ files. IsFile files name bytes × IsFile files other more)
 files_with_both (Some told) name bytes other more h g same = (told, (refl, (h, g)))
 files_with_both None name bytes other more h g same =
-    let first = insert empty name bytes in
-    (insert first other more, (more_bytes first other more (more_bytes empty name bytes none_bytes h) g, (put_kept first name other bytes more same (put_there empty name bytes), put_there first other more)))
+    let first = insert empty name bytes in (
+      insert first other more,
+      (
+        more_bytes first other more (more_bytes empty name bytes none_bytes h) g,
+        (put_kept first name other bytes more same (put_there empty name bytes), put_there first other more),
+      ),
+    )
 
 -- there is a script
 pub some_script : (left : Option (List ℕ)) → OfScript left (λ script. Unit {0})
@@ -92,15 +109,18 @@ some_script (Some told) = (told, (refl, tt))
 some_script None = ([], (no_bytes, tt))
 
 -- what a load gives
-told_file : (told : Option Files) (name bytes : List ℕ) → IfSome told (λ fs. get fs name ≡ Some bytes) → AreBytes bytes → IsToldFile told name bytes
+told_file : (told : Option Files) (name bytes : List ℕ) → IfSome told (λ fs. get fs name ≡ Some bytes) →
+    AreBytes bytes → IsToldFile told name bytes
 told_file (Some told) name bytes h is = h
 told_file None name bytes h is = is
 
-longer_file : (told : Option Files) (name : List ℕ) (limit : ℕ) → IfSome told (λ fs. IsLonger fs name limit) → (bytes : List ℕ) × (IsToldFile told name bytes × (limit < length bytes))
+longer_file : (told : Option Files) (name : List ℕ) (limit : ℕ) → IfSome told (λ fs. IsLonger fs name limit) →
+    (bytes : List ℕ) × (IsToldFile told name bytes × (limit < length bytes))
 longer_file (Some told) name limit h = (h.bytes, (h.found, h.longer))
 longer_file None name limit h = longer_bytes limit
 
-pub gives : (told : Option Files) (name : List ℕ) (limit : ℕ) (into : List ℕ) (r : Result Load LoadFault) → AreBytes into → Loads told name limit into r → Gives told name limit into r
+pub gives : (told : Option Files) (name : List ℕ) (limit : ℕ) (into : List ℕ) (r : Result Load LoadFault) →
+    AreBytes into → Loads told name limit into r → Gives told name limit into r
 gives told name limit into (Ok Whole) is h = (h.0, told_file told name into h.1 is)
 gives told name limit into (Ok TooLong) is h = longer_file told name limit h.1
 gives told name limit into (Err e) is h = tt

@@ -17,12 +17,14 @@ use Rattle.ft_tool.specs.Sources.{IsSourceRefused, OverText, MeansProgram, meant
 use Rattle.ft_tool.specs.Answers.{Concludes, BreaksOff}
 
 -- the tree of a source is refused
-pub tree_refused : (turns : ℕ) (text : List ℕ) (t : SyntaxTree) (e : SourceError) → IsSource text t → (e ≢ NoMemory → resolved t ≡ Err e)
+pub tree_refused : (turns : ℕ) (text : List ℕ) (t : SyntaxTree) (e : SourceError) → IsSource text t →
+    (e ≢ NoMemory → resolved t ≡ Err e)
     → (a : Answer) → IsSourceRefused e a → OverText (MeansProgram turns) text a
 tree_refused turns text t e source err a is = inr (e, (inr (t, source, err is.named), is))
 
 -- the lines of a meaning that ended were put
-pub meaning_ended : (turns : ℕ) (text : List ℕ) (p : Program) → IsProgramOf text p → (r : Outcome) → r ≡ meaning p turns → EndsAs ends.Ended r
+pub meaning_ended : (turns : ℕ) (text : List ℕ) (p : Program) → IsProgramOf text p → (r : Outcome) → r
+    ≡ meaning p turns → EndsAs ends.Ended r
     → (old new : SinkLog) → new ≡ with_lines (output_lines p.names (outputs r)) old
     → Concludes (OverText (MeansProgram turns) text) 0 old new
 meaning_ended turns text p is (Ended s) e ended old new put =
@@ -30,7 +32,8 @@ meaning_ended turns text p is (Ended s) e ended old new put =
 meaning_ended turns text p is (Cut s) e ended old new put = absurd ended
 
 -- the lines of a meaning that was cut were put
-pub meaning_cut : (turns : ℕ) (text : List ℕ) (p : Program) → IsProgramOf text p → (r : Outcome) → r ≡ meaning p turns → EndsAs ends.Cut r
+pub meaning_cut : (turns : ℕ) (text : List ℕ) (p : Program) → IsProgramOf text p → (r : Outcome) → r ≡ meaning p turns →
+    EndsAs ends.Cut r
     → (old new : SinkLog) → new ≡ with_lines (output_lines p.names (outputs r)) old
     → Concludes (OverText (MeansProgram turns) text) 9 old new
 meaning_cut turns text p is (Ended s) e ended old new put = absurd ended
@@ -38,7 +41,8 @@ meaning_cut turns text p is (Cut s) e ended old new put =
     record { answer = meant p (Cut s); is = inl (p, (is, ap (meant p) e)); put = put; status_is = refl }
 
 -- a put of a meaning's lines failed
-pub meaning_broken : (turns : ℕ) (text : List ℕ) (p : Program) → IsProgramOf text p → (r : Outcome) → r ≡ meaning p turns
+pub meaning_broken : (turns : ℕ) (text : List ℕ) (p : Program) → IsProgramOf text p → (r : Outcome) → r
+    ≡ meaning p turns
     → (old new : SinkLog) → LinesBreakOff (output_lines p.names (outputs r)) old new
     → BreaksOff (OverText (MeansProgram turns) text) old new
 meaning_broken turns text p is (Ended s) e old new broken =

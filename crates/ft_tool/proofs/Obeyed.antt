@@ -10,7 +10,8 @@ use Rattle.ft_tool.specs.declared.ending.Ending.{Ending}
 use Rattle.ft_tool.specs.declared.ending.Ending.TheVariants as endings
 use Rattle.ft_tool.specs.Replies.{Answer, AreFiles}
 use Rattle.ft_tool.specs.Scripts.{DebugsObject}
-use Rattle.ft_tool.specs.Answers.{Answers, IsAnswer, OverFile, Concludes, SpellsFile, FailsIn, FailedToLoad, FailsAtScript, FailedToTake}
+use Rattle.ft_tool.specs.Answers.{Answers, IsAnswer, OverFile, Concludes, SpellsFile, FailsIn, FailedToLoad}
+use Rattle.ft_tool.specs.Answers.{FailsAtScript, FailedToTake}
 use Rattle.ft_tool.specs.Calls.{HasMade, object_load, LoadsFor, Loads, TakesFrom}
 use Rattle.ft_tool.specs.Told.{OfFiles, OfScript}
 use Rattle.ft_tool.specs.Endings.{Unwritten, part_end, Ends, ends_early}
@@ -22,7 +23,8 @@ use Rattle.ft_tool.proofs.Statuses.{usage_alone}
 -- WHAT IS DONE FOR A REQUEST
 
 -- where the answer needs no script
-any_script : (r : Request) (told : Option Files) (left : Option (List ℕ)) (a : Answer) → OfFiles told (λ files. (script : List ℕ) → Answers r told files script a) → AnswersTo r told left a
+any_script : (r : Request) (told : Option Files) (left : Option (List ℕ)) (a : Answer) →
+    OfFiles told (λ files. (script : List ℕ) → Answers r told files script a) → AnswersTo r told left a
 any_script r told left a h = let s = some_script left in (h.0, (h.1.0, (s.0, (s.1.0, h.1.1 s.0))))
 
 -- the answer to a request that needs no script, and the loads

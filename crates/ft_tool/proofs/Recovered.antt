@@ -30,7 +30,10 @@ nothing_breaks old new h = no_break h.done h.line h.rest h.whole
 module _ (r : Run) (o : Object) (w : List Wild) (old mid new : SinkLog) (spelled : IsSpellable o)
     (unrefused : refusal o ≡ None) (is : w ≡ r.wild) where
   recovers : RecoversObject r o (recovered r o)
-  recovers = subst (λ y. RecoversUnless y r o (recovered r o)) (sym unrefused) (refl, undetected o r.wild spelled unrefused)
+  recovers = subst (λ y. RecoversUnless y r o (recovered r o)) (sym unrefused) (
+    refl,
+    undetected o r.wild spelled unrefused,
+  )
 
   -- a put of its lines failed
   recovery_breaks : LinesBreakOff (whole_output o w r.steps) old mid → BreaksOff (RecoversObject r o) old mid

@@ -12,15 +12,18 @@ use Rattle.ft_tool.specs.Answers.{SchedulesAccepted, SchedulesUnless}
 use Rattle.ft_tool.specs.Files.{IsNotAccepted}
 
 -- where the object is accepted
-pub schedule_accepted : (x : Option Refusal) (o : Object) → x ≡ None → (a : Answer) → SchedulesAccepted o a → SchedulesUnless x o a
+pub schedule_accepted : (x : Option Refusal) (o : Object) → x ≡ None → (a : Answer) → SchedulesAccepted o a →
+    SchedulesUnless x o a
 schedule_accepted None o e a h = h
 schedule_accepted (Some r) o e a h = cc
 
 -- where it is refused
-refused_so : (x : Option Refusal) (o : Object) (r : Refusal) → x ≡ Some r → (a : Answer) → a ≡ judged (Some r) → SchedulesUnless x o a
+refused_so : (x : Option Refusal) (o : Object) (r : Refusal) → x ≡ Some r → (a : Answer) → a ≡ judged (Some r) →
+    SchedulesUnless x o a
 refused_so x o r e a h = subst (λ y. SchedulesUnless y o a) (sym e) h
 
-pub schedule_refused : (x : Option Refusal) (o : Object) (e : CheckError) → IsRefusalOf x e → (a : Answer) → IsNotAccepted e a → SchedulesUnless x o a
+pub schedule_refused : (x : Option Refusal) (o : Object) (e : CheckError) → IsRefusalOf x e → (a : Answer) →
+    IsNotAccepted e a → SchedulesUnless x o a
 schedule_refused x o checks.EntryType e a h = refused_so x o refusals.EntryType e a h
 schedule_refused x o (checks.CellType k) e a h = refused_so x o (refusals.CellType k) e a h
 schedule_refused x o (checks.Refused b i why) e a h = refused_so x o (refusals.Refused b i why) e a h

@@ -1,5 +1,6 @@
 -- What was taken of a script, and what a session over it concludes.
-use Rattle.std.proofs.Common.{◌≡◌, ℕ, ◌<◌, ◌≤◌, List, [], ◌++◌, length, take, append-nil, Option, Some, None, Ok, Err, inl, inr, refl, sym, ap, ◌∙◌, subst, arith, length-append}
+use Rattle.std.proofs.Common.{◌≡◌, ℕ, ◌<◌, ◌≤◌, List, [], ◌++◌, length, take, append-nil, Option, Some, None, Ok, Err}
+use Rattle.std.proofs.Common.{inl, inr, refl, sym, ap, ◌∙◌, subst, arith, length-append}
 use Rattle.std.specs.Prelude.{◌⊎◌, IfSome}
 use Rattle.std.specs.Io.KnownBytes.{Consumes, IsAtEnd}
 use Rattle.ft_edge.specs.Causes.{Rose}
@@ -26,7 +27,9 @@ use Rattle.ft_tool.proofs.Mapped.{longer_bytes, some_files, files_with, some_scr
 use Rattle.ft_tool.proofs.Tried.{spells_file}
 
 -- the script was taken to its end
-pub whole_script : (old between new : Option (List ℕ)) (text : List ℕ) (n : ℕ) (buf : List ℕ) → Consumes old between text → n ≡ 0 → Consumes between new (take n buf) → IsAtEnd new → IfSome old (λ told. text ≡ told)
+pub whole_script : (old between new : Option (List ℕ)) (text : List ℕ) (n : ℕ) (buf : List ℕ) →
+    Consumes old between text → n ≡ 0 → Consumes between new (take n buf) → IsAtEnd new →
+    IfSome old (λ told. text ≡ told)
 whole_script None between new text n buf taken none more end = tt
 whole_script (Some old) None new text n buf taken none more end = absurd taken
 whole_script (Some old) (Some between) None text n buf taken none more end = absurd more
@@ -35,15 +38,18 @@ whole_script (Some old) (Some between) (Some new) text n buf taken none more end
     sym (taken ∙ ap (λ l. text ++ l) rest ∙ append-nil text)
 
 -- a text of bytes that is what is told is the script
-is_script : (left : Option (List ℕ)) (text : List ℕ) → AreBytes text → IfSome left (λ told. text ≡ told) → IsScript left text
+is_script : (left : Option (List ℕ)) (text : List ℕ) → AreBytes text → IfSome left (λ told. text ≡ told) →
+    IsScript left text
 is_script None text bytes h = bytes
 is_script (Some told) text bytes h = h
 
 -- a script of which more was taken than the limit is longer
-pub longer_script : (old new : Option (List ℕ)) (taken : List ℕ) → Consumes old new taken → 1048576 < length taken → (text : List ℕ) × (IsScript old text × (1048576 < length text))
+pub longer_script : (old new : Option (List ℕ)) (taken : List ℕ) → Consumes old new taken → 1048576 < length taken →
+    (text : List ℕ) × (IsScript old text × (1048576 < length text))
 longer_script None new taken h long = longer_bytes 1048576
 longer_script (Some text) None taken h long = absurd h
-longer_script (Some text) (Some rest) taken h long = let e : length text ≡ length (taken ++ rest) = ap length h in (text, (refl, omega (arith, e, length-append {A = ℕ}, long)))
+longer_script (Some text) (Some rest) taken h long = let e : length text ≡ length (taken ++ rest) = ap length h in
+    (text, (refl, omega (arith, e, length-append {A = ℕ}, long)))
 
 -- a session whose lines were put
 pub session_concludes : (d : Debugging) (o : Object) (w : List Wild) (text : List ℕ) (old new : SinkLog)
@@ -68,25 +74,31 @@ session_breaks_off d o w text old new short is h = record {
 
 -- the answer over the text of a script is one over the script
 pub over_script : {V : Type 0} (bytes_of : V → List ℕ) (d : Debugging) (left : Option (List ℕ)) (o : Object) (v : V)
-    → TakesScript bytes_of left (Ok v) → AreBytes (bytes_of v) → (a : Answer) → DebugsObject d (bytes_of v) o a → OfScript left (λ text. DebugsObject d text o a)
+    → TakesScript bytes_of left (Ok v) → AreBytes (bytes_of v) → (a : Answer) → DebugsObject d (bytes_of v) o a →
+    OfScript left (λ text. DebugsObject d text o a)
 over_script bytes_of d left o v h bytes a is = (bytes_of v, (is_script left (bytes_of v) bytes h.1, is))
 
 -- the answer to a script that is too long is one over the script
-pub over_long_script : {V : Type 0} (bytes_of : V → List ℕ) (d : Debugging) (left : Option (List ℕ)) (o : Object) (e : ScriptFault)
-    → TakesScript bytes_of left (Err e) → (a : Answer) → IsScriptRefusedBy e a → OfScript left (λ text. DebugsObject d text o a)
+pub over_long_script : {V : Type 0} (bytes_of : V → List ℕ) (d : Debugging) (left : Option (List ℕ)) (o : Object)
+    (e : ScriptFault)
+    → TakesScript bytes_of left (Err e) → (a : Answer) → IsScriptRefusedBy e a →
+    OfScript left (λ text. DebugsObject d text o a)
 over_long_script bytes_of d left o faults.TooLong h a is = (h.0, (h.1.0, too_long h.1.1 is))
 over_long_script bytes_of d left o faults.Failed h a is = absurd is
 over_long_script bytes_of d left o faults.NoMemory h a is = absurd is
 
 -- the answer of a session over the object that a file's bytes spell is one over the file
-pub over_debugged : (d : Debugging) (told : Option Files) (left : Option (List ℕ)) (bytes : List ℕ) → LoadsObject told d.object (Ok bytes) → (a : Answer) → OfScript left (λ text. DebugsObject d text (object_of bytes) a)
+pub over_debugged : (d : Debugging) (told : Option Files) (left : Option (List ℕ)) (bytes : List ℕ) →
+    LoadsObject told d.object (Ok bytes) → (a : Answer) →
+    OfScript left (λ text. DebugsObject d text (object_of bytes) a)
     → OfFiles told (λ files. OfScript left (λ text. OverFile (DebugsObject d text) d.object files a))
 over_debugged d told left bytes h a is =
     let m = files_with told d.object bytes h.0 in
     (m.0, (m.1.0, (is.0, (is.1.0, (bytes, (m.1.1, inl (object_of bytes, ((version_at bytes, h.1), is.1.1))))))))
 
 -- so is the answer to an object's bytes that are refused
-pub over_undebugged : (d : Debugging) (told : Option Files) (left : Option (List ℕ)) (e : ObjectFault) → LoadsObject told d.object (Err e) → (a : Answer) → IsRefusedBy e a
+pub over_undebugged : (d : Debugging) (told : Option Files) (left : Option (List ℕ)) (e : ObjectFault) →
+    LoadsObject told d.object (Err e) → (a : Answer) → IsRefusedBy e a
     → OfFiles told (λ files. OfScript left (λ text. OverFile (DebugsObject d text) d.object files a))
 over_undebugged d told left (Refused e) h a is =
     let m = files_with told d.object h.0 h.1.0 in
@@ -112,5 +124,6 @@ session_failed d shelf shelf' script script' h =
     (m.0, (m.1.0, inl (record { file = d.object; comes = refl; fails = h })))
 
 -- a take that failed
-pub take_failed : (V : Type 0) (before now : ℕ) (e : ScriptFault) → TakeCause {V = V} before now (Err e) → e ≡ faults.Failed → Rose before now
+pub take_failed : (V : Type 0) (before now : ℕ) (e : ScriptFault) → TakeCause {V = V} before now (Err e) → e
+    ≡ faults.Failed → Rose before now
 take_failed V before now e h is = subst (λ f. TakeCause {V = V} before now (Err f)) is h

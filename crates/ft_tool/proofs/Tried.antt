@@ -1,5 +1,6 @@
 -- What the parts of a campaign conclude.
-use Rattle.std.proofs.Common.{◌≡◌, ◌≢◌, ℕ, suc, ◌*◌, ◌<◌, ◌≤◌, List, [], ◌∷◌, length, Option, Some, None, Ok, Err, inl, inr, refl, sym, ap, ◌∙◌, subst, arith, if◌then◌else◌, eq-eqb, ne_eqb}
+use Rattle.std.proofs.Common.{◌≡◌, ◌≢◌, ℕ, suc, ◌*◌, ◌<◌, ◌≤◌, List, [], ◌∷◌, length, Option, Some, None, Ok, Err, inl}
+use Rattle.std.proofs.Common.{inr, refl, sym, ap, ◌∙◌, subst, arith, if◌then◌else◌, eq-eqb, ne_eqb}
 use Rattle.std.specs.Prelude.{◌⊎◌, count_by}
 use Rattle.std.proofs.Math.Nat.{lt_of_not-le}
 use Rattle.std.proofs.lemmas.Option.{same_Some}
@@ -29,7 +30,8 @@ use Rattle.ft_tool.specs.declared.load.ListFault.TheVariants as list_faults
 use Rattle.ft_tool.specs.declared.load.ObjectFault.{ObjectFault}
 use Rattle.ft_tool.specs.declared.load.ObjectFault.TheVariants.{Refused, Failed, NoMemory as no_memory}
 use Rattle.ft_tool.specs.Replies.{Answer, IsFile, IsToldFile}
-use Rattle.ft_tool.specs.Answers.{Concludes, BreaksOff, OverFile, OverListFile, SurveysObject, CampaignsAccepted, CampaignsUnless, CampaignsObject, SpellsFile, SpellsAccepted, FailsIn}
+use Rattle.ft_tool.specs.Answers.{Concludes, BreaksOff, OverFile, OverListFile, SurveysObject, CampaignsAccepted}
+use Rattle.ft_tool.specs.Answers.{CampaignsUnless, CampaignsObject, SpellsFile, SpellsAccepted, FailsIn}
 use Rattle.ft_tool.specs.Calls.{LoadList, asked_after, HasMade, object_load, list_load, LoadsCampaign, LoadsFor}
 use Rattle.ft_tool.specs.Lists.{status_of, AnyVerdicts, NoneCorrupt, OverFaults, tried, refused_list, listed}
 use Rattle.ft_tool.specs.Told.{OfFiles, IsListOf, OverListOf, CampaignsListOf, LoadsOther}
@@ -68,95 +70,131 @@ tried_breaks_off Promised c o faults old new h few keeps = record {
 
 -- the run of the object of a demonstration is never detected without a fault
 pub sample_undetected : (turns : ℕ) → 1 ≤ turns → turns ≤ 10921 → IsNeverDetected (sample_object turns) []
-sample_undetected turns some few = never_detected (sample_object turns) [] (sample_is_spellable (sample_object turns) turns refl some few) (sample_is_accepted (sample_object turns) turns refl)
+sample_undetected turns some few = never_detected (sample_object turns) []
+    (sample_is_spellable (sample_object turns) turns refl some few)
+    (sample_is_accepted (sample_object turns) turns refl)
 
 -- the status of a survey by its totals
 pub none_corrupt : (totals : Totals) (vs : List Verdict) → totals.corrupt ≡ 0 → totals ≡ totals_of vs → 0 ≡ status_of vs
-none_corrupt totals vs none is = sym (ap (λ b. if b then 0 else 10) (eq-eqb (count_by is_corrupt vs) 0 (sym (ap (λ (t : Totals). t.corrupt) is) ∙ none)))
+none_corrupt totals vs none is = sym (ap (λ b. if b then 0
+    else 10) (eq-eqb (count_by is_corrupt vs) 0 (sym (ap (λ (t : Totals). t.corrupt) is) ∙ none)))
 
-pub some_corrupt : (totals : Totals) (vs : List Verdict) → (totals.corrupt ≡ 0 → ⊥) → totals ≡ totals_of vs → 10 ≡ status_of vs
-some_corrupt totals vs some is = sym (ap (λ b. if b then 0 else 10) (ne_eqb (count_by is_corrupt vs) 0 (λ e. some (ap (λ (t : Totals). t.corrupt) is ∙ e))))
+pub some_corrupt : (totals : Totals) (vs : List Verdict) → (totals.corrupt ≡ 0 → ⊥) → totals ≡ totals_of vs → 10
+    ≡ status_of vs
+some_corrupt totals vs some is = sym (ap (λ b. if b then 0
+    else 10) (ne_eqb (count_by is_corrupt vs) 0 (λ e. some (ap (λ (t : Totals). t.corrupt) is ∙ e))))
 
 -- the answer over the faults of a list is one over the list
-pub over_listed : {V : Type 0} (faults_of : V → List Strike) (Promised : List Verdict → Type 0) (c : Campaign) (told : Option Files) (bytes : List ℕ) (o : Object) (v : V)
-    → GetsList faults_of (IsListOf c told bytes) (Ok v) → (a : Answer) → OverFaults Promised c o (faults_of v) a → OverListOf Promised c told bytes o a
+pub over_listed : {V : Type 0} (faults_of : V → List Strike) (Promised : List Verdict →
+    Type 0) (c : Campaign) (told : Option Files) (bytes : List ℕ) (o : Object) (v : V)
+    → GetsList faults_of (IsListOf c told bytes) (Ok v) → (a : Answer) → OverFaults Promised c o (faults_of v) a →
+    OverListOf Promised c told bytes o a
 over_listed faults_of Promised c told bytes o v h a is = (h.0, (h.1.0, listed (faults_of v) h.1.1 is))
 
 -- the answer to a list that is refused is one over the list
-pub over_refused_list : {V : Type 0} (faults_of : V → List Strike) (Promised : List Verdict → Type 0) (c : Campaign) (told : Option Files) (bytes : List ℕ) (o : Object) (e : ListFault)
-    → GetsList faults_of (IsListOf c told bytes) (Err e) → (a : Answer) → IsListRefusedBy e a → OverListOf Promised c told bytes o a
-over_refused_list faults_of Promised c told bytes o (list_faults.Line number) h a is = (h.0, (h.1.0, refused_list (record { error = lists.Line number; refused = h.1.1; answer = is })))
-over_refused_list faults_of Promised c told bytes o list_faults.TooMany h a is = (h.0, (h.1.0, refused_list (record { error = lists.TooMany; refused = h.1.1; answer = is })))
+pub over_refused_list : {V : Type 0} (faults_of : V → List Strike) (Promised : List Verdict →
+    Type 0) (c : Campaign) (told : Option Files) (bytes : List ℕ) (o : Object) (e : ListFault)
+    → GetsList faults_of (IsListOf c told bytes) (Err e) → (a : Answer) → IsListRefusedBy e a →
+    OverListOf Promised c told bytes o a
+over_refused_list faults_of Promised c told bytes o (list_faults.Line number) h a is =
+    (h.0, (h.1.0, refused_list (record { error = lists.Line number; refused = h.1.1; answer = is })))
+over_refused_list faults_of Promised c told bytes o list_faults.TooMany h a is =
+    (h.0, (h.1.0, refused_list (record { error = lists.TooMany; refused = h.1.1; answer = is })))
 over_refused_list faults_of Promised c told bytes o list_faults.Failed h a is = absurd is
 over_refused_list faults_of Promised c told bytes o list_faults.NoMemory h a is = absurd is
 
 -- the answer over the list is one over its file, where the object's file has these bytes
-with_list : (Promised : List Verdict → Type 0) (c : Campaign) (told : Option Files) (bytes : List ℕ) (o : Object) (a : Answer) → IsToldFile told c.object bytes → OverListOf Promised c told bytes o a
+with_list : (Promised : List Verdict → Type 0) (c : Campaign) (told : Option Files) (bytes : List ℕ) (o : Object)
+    (a : Answer) → IsToldFile told c.object bytes → OverListOf Promised c told bytes o a
     → OfFiles told (λ files. IsFile files c.object bytes × OverListFile Promised c files o a)
 with_list Promised c told bytes o a file is =
     let m = files_with_both told c.object bytes c.faults is.0 file is.1.0.file is.1.0.own in
     (m.0, (m.1.0, (m.1.1.0, (is.0, (m.1.1.1, is.1.1)))))
 
 -- so is that of a campaign, unless its object is refused
-with_strikes : (x : Option Refusal) (c : Campaign) (told : Option Files) (bytes : List ℕ) (o : Object) (a : Answer) → IsToldFile told c.object bytes → CampaignsUnless x (CampaignsListOf c told bytes o) a
+with_strikes : (x : Option Refusal) (c : Campaign) (told : Option Files) (bytes : List ℕ) (o : Object) (a : Answer) →
+    IsToldFile told c.object bytes → CampaignsUnless x (CampaignsListOf c told bytes o) a
     → OfFiles told (λ files. IsFile files c.object bytes × CampaignsUnless x (CampaignsAccepted c files o) a)
-with_strikes None c told bytes o a file is = let m = with_list NoneCorrupt c told bytes o a file is.0 in (m.0, (m.1.0, (m.1.1.0, (m.1.1.1, is.1))))
-with_strikes (Some r) c told bytes o a file is = let m = files_with told c.object bytes file in (m.0, (m.1.0, (m.1.1, is)))
+with_strikes None c told bytes o a file is = let m = with_list NoneCorrupt c told bytes o a file is.0 in
+    (m.0, (m.1.0, (m.1.1.0, (m.1.1.1, is.1))))
+with_strikes (Some r) c told bytes o a file is = let m = files_with told c.object bytes file in
+    (m.0, (m.1.0, (m.1.1, is)))
 
 -- the answer of a survey over the object that a file's bytes spell, and of a campaign, is one over the file
-pub over_surveyed : (c : Campaign) (told : Option Files) (bytes : List ℕ) → LoadsObject told c.object (Ok bytes) → (a : Answer) → OverListOf AnyVerdicts c told bytes (object_of bytes) a
+pub over_surveyed : (c : Campaign) (told : Option Files) (bytes : List ℕ) → LoadsObject told c.object (Ok bytes) →
+    (a : Answer) → OverListOf AnyVerdicts c told bytes (object_of bytes) a
     → OfFiles told (λ files. OverFile (SurveysObject c files) c.object files a)
 over_surveyed c told bytes h a is =
     let m = with_list AnyVerdicts c told bytes (object_of bytes) a h.0 is in
     (m.0, (m.1.0, (bytes, (m.1.1.0, inl (object_of bytes, ((version_at bytes, h.1), m.1.1.1))))))
 
-pub over_struck : (c : Campaign) (told : Option Files) (bytes : List ℕ) → LoadsObject told c.object (Ok bytes) → (a : Answer) → CampaignsUnless (refusal (object_of bytes)) (CampaignsListOf c told bytes (object_of bytes)) a
+pub over_struck : (c : Campaign) (told : Option Files) (bytes : List ℕ) → LoadsObject told c.object (Ok bytes) →
+    (a : Answer) → CampaignsUnless (refusal (object_of bytes)) (CampaignsListOf c told bytes (object_of bytes)) a
     → OfFiles told (λ files. OverFile (CampaignsObject c files) c.object files a)
 over_struck c told bytes h a is =
     let m = with_strikes (refusal (object_of bytes)) c told bytes (object_of bytes) a h.0 is in
     (m.0, (m.1.0, (bytes, (m.1.1.0, inl (object_of bytes, ((version_at bytes, h.1), m.1.1.1))))))
 
 -- the same where the files are told, and the bytes lent, after the load
-pub own_bytes : (told between : Option Files) (name : Word) (bytes lent : List ℕ) → between ≡ told → lent ≡ bytes → LoadsObject told name (Ok bytes) → IsToldFile between name lent
-own_bytes told between name bytes lent e f h = subst (λ t. IsToldFile t name lent) (sym e) (subst (IsToldFile told name) (sym f) h.0)
+pub own_bytes : (told between : Option Files) (name : Word) (bytes lent : List ℕ) → between ≡ told → lent ≡ bytes →
+    LoadsObject told name (Ok bytes) → IsToldFile between name lent
+own_bytes told between name bytes lent e f h = subst (λ t. IsToldFile t name lent) (sym e)
+    (subst (IsToldFile told name) (sym f) h.0)
 
-pub over_surveyed_between : (c : Campaign) (told between : Option Files) (bytes lent : List ℕ) → between ≡ told → lent ≡ bytes → LoadsObject told c.object (Ok bytes)
-    → (a : Answer) → OverListOf AnyVerdicts c between lent (object_of bytes) a → OfFiles told (λ files. OverFile (SurveysObject c files) c.object files a)
+pub over_surveyed_between : (c : Campaign) (told between : Option Files) (bytes lent : List ℕ) → between ≡ told → lent
+    ≡ bytes → LoadsObject told c.object (Ok bytes)
+    → (a : Answer) → OverListOf AnyVerdicts c between lent (object_of bytes) a →
+    OfFiles told (λ files. OverFile (SurveysObject c files) c.object files a)
 over_surveyed_between c told between bytes lent e f h a is =
-    over_surveyed c told bytes h a (subst (λ t. OverListOf AnyVerdicts c t bytes (object_of bytes) a) e (subst (λ b. OverListOf AnyVerdicts c between b (object_of bytes) a) f is))
+    over_surveyed c told bytes h a (subst (λ t. OverListOf AnyVerdicts c t bytes (object_of bytes) a) e
+    (subst (λ b. OverListOf AnyVerdicts c between b (object_of bytes) a) f is))
 
-pub over_struck_between : (c : Campaign) (told between : Option Files) (bytes lent : List ℕ) → between ≡ told → lent ≡ bytes → LoadsObject told c.object (Ok bytes)
-    → (a : Answer) → CampaignsUnless (refusal (object_of bytes)) (CampaignsListOf c between lent (object_of bytes)) a → OfFiles told (λ files. OverFile (CampaignsObject c files) c.object files a)
+pub over_struck_between : (c : Campaign) (told between : Option Files) (bytes lent : List ℕ) → between ≡ told → lent
+    ≡ bytes → LoadsObject told c.object (Ok bytes)
+    → (a : Answer) → CampaignsUnless (refusal (object_of bytes)) (CampaignsListOf c between lent (object_of bytes)) a →
+    OfFiles told (λ files. OverFile (CampaignsObject c files) c.object files a)
 over_struck_between c told between bytes lent e f h a is =
     over_struck c told bytes h a
     (subst (λ t. CampaignsUnless (refusal (object_of bytes)) (CampaignsListOf c t bytes (object_of bytes)) a) e
     (subst (λ b. CampaignsUnless (refusal (object_of bytes)) (CampaignsListOf c between b (object_of bytes)) a) f is))
 
 -- the answer to an object's bytes that are refused is one of a campaign over the file
-pub over_unstruck : (Over : Files → Object → Answer → Type 0) (told : Option Files) (name : Word) (e : ObjectFault) → LoadsObject told name (Err e) → (a : Answer) → IsRefusedBy e a
+pub over_unstruck : (Over : Files → Object → Answer → Type 0) (told : Option Files) (name : Word) (e : ObjectFault) →
+    LoadsObject told name (Err e) → (a : Answer) → IsRefusedBy e a
     → OfFiles told (λ files. OverFile (Over files) name files a)
-over_unstruck Over told name (Refused e) h a is = let m = files_with told name h.0 h.1.0 in (m.0, (m.1.0, (h.0, (m.1.1, inr (e, (h.1.1, is))))))
+over_unstruck Over told name (Refused e) h a is = let m = files_with told name h.0 h.1.0 in
+    (m.0, (m.1.0, (h.0, (m.1.1, inr (e, (h.1.1, is))))))
 over_unstruck Over told name Failed h a is = absurd is
 over_unstruck Over told name no_memory h a is = absurd is
 
 -- the file of an object that was loaded spells it, and one that is accepted
-pub spells_file : (told : Option Files) (name : Word) (bytes : List ℕ) → LoadsObject told name (Ok bytes) → OfFiles told (λ files. SpellsFile files name)
-spells_file told name bytes h = let m = files_with told name bytes h.0 in (m.0, (m.1.0, (bytes, (m.1.1, (object_of bytes, (version_at bytes, h.1))))))
+pub spells_file : (told : Option Files) (name : Word) (bytes : List ℕ) → LoadsObject told name (Ok bytes) →
+    OfFiles told (λ files. SpellsFile files name)
+spells_file told name bytes h = let m = files_with told name bytes h.0 in
+    (m.0, (m.1.0, (bytes, (m.1.1, (object_of bytes, (version_at bytes, h.1))))))
 
-pub spells_accepted : (told : Option Files) (name : Word) (bytes : List ℕ) → LoadsObject told name (Ok bytes) → refusal (object_of bytes) ≡ None → OfFiles told (λ files. SpellsAccepted files name)
-spells_accepted told name bytes h unrefused = let m = files_with told name bytes h.0 in (m.0, (m.1.0, (bytes, (m.1.1, (object_of bytes, ((version_at bytes, h.1), unrefused))))))
+pub spells_accepted : (told : Option Files) (name : Word) (bytes : List ℕ) → LoadsObject told name (Ok bytes) →
+    refusal (object_of bytes) ≡ None → OfFiles told (λ files. SpellsAccepted files name)
+spells_accepted told name bytes h unrefused = let m = files_with told name bytes h.0 in
+    (m.0, (m.1.0, (bytes, (m.1.1, (object_of bytes, ((version_at bytes, h.1), unrefused))))))
 
 -- the file of an object that is refused spells none that is accepted
-unrefused : (files : Files) (name : Word) (bytes : List ℕ) → IsFile files name bytes → refusal (object_of bytes) ≢ None → SpellsAccepted files name → ⊥
+unrefused : (files : Files) (name : Word) (bytes : List ℕ) → IsFile files name bytes →
+    refusal (object_of bytes) ≢ None → SpellsAccepted files name → ⊥
 unrefused files name bytes file refused s =
-    refused (ap (λ bs. refusal (object_of bs)) (same_Some bytes s.0 (sym file ∙ s.1.0)) ∙ ap refusal (spells_read s.0 s.1.1.1.0.0 s.1.1.0 s.1.1.1.0.1) ∙ s.1.1.1.1)
+    refused (ap (λ bs. refusal (object_of bs)) (same_Some bytes s.0 (sym file ∙ s.1.0))
+    ∙ ap refusal (spells_read s.0 s.1.1.1.0.0 s.1.1.0 s.1.1.1.0.1) ∙ s.1.1.1.1)
 
-refused_by : (files : Files) (name : Word) (bytes : List ℕ) (Early : Type 0) → IsFile files name bytes → (refusal (object_of bytes) ≢ None) ⊎ Early → (SpellsAccepted files name → ⊥) ⊎ Early
+refused_by : (files : Files) (name : Word) (bytes : List ℕ) (Early : Type 0) → IsFile files name bytes →
+    (refusal (object_of bytes) ≢ None) ⊎ Early → (SpellsAccepted files name → ⊥) ⊎ Early
 refused_by files name bytes Early file (inl refused) = inl (unrefused files name bytes file refused)
 refused_by files name bytes Early file (inr early) = inr early
 
-refused_file : (told : Option Files) (name : Word) (bytes : List ℕ) (Early : Type 0) → LoadsObject told name (Ok bytes) → (refusal (object_of bytes) ≢ None) ⊎ Early → OfFiles told (λ files. (SpellsAccepted files name → ⊥) ⊎ Early)
-refused_file told name bytes Early h refused = let m = files_with told name bytes h.0 in (m.0, (m.1.0, refused_by m.0 name bytes Early m.1.1 refused))
+refused_file : (told : Option Files) (name : Word) (bytes : List ℕ) (Early : Type 0) →
+    LoadsObject told name (Ok bytes) → (refusal (object_of bytes) ≢ None) ⊎ Early →
+    OfFiles told (λ files. (SpellsAccepted files name → ⊥) ⊎ Early)
+refused_file told name bytes Early h refused = let m = files_with told name bytes h.0 in
+    (m.0, (m.1.0, refused_by m.0 name bytes Early m.1.1 refused))
 
 -- what comes to less, or to something of its own
 unaccepted_file : (Spells Accepted Early : Type 0) → (Accepted → Spells) → (Spells → ⊥) ⊎ Early → (Accepted → ⊥) ⊎ Early
@@ -209,36 +247,73 @@ campaign_failed c bytes shelf between shelf' h same f =
     )
 
 -- the loads of a campaign that does not come to its list, or ends early
-pub object_alone : (c : Campaign) (told : Option Files) (Comes : Files → Type 0) (Early : Type 0) (asked asked' : Option LoadList) → OfFiles told (λ files. (Comes files → ⊥) ⊎ Early)
-    → HasMade (object_load c.object ∷ []) asked asked' → OfFiles told (λ files. LoadsCampaign c (Comes files) Early asked asked')
-object_alone c told Comes Early asked asked' m h = (m.0, (m.1.0, inl (record { none = alone (Comes m.0) (c.faults ≡ c.object) Early m.1.1; made = h })))
+pub object_alone : (c : Campaign) (told : Option Files) (Comes : Files →
+    Type 0) (Early : Type 0) (asked asked' : Option LoadList) → OfFiles told (λ files. (Comes files → ⊥) ⊎ Early)
+    → HasMade (object_load c.object ∷ []) asked asked' →
+    OfFiles told (λ files. LoadsCampaign c (Comes files) Early asked asked')
+object_alone c told Comes Early asked asked' m h =
+    (m.0, (m.1.0, inl (record { none = alone (Comes m.0) (c.faults ≡ c.object) Early m.1.1; made = h })))
 
 -- the loads of a campaign that comes to its list
-list_loaded : (c : Campaign) (told : Option Files) (Comes : Files → Type 0) (Early : Type 0) (asked between asked' : Option LoadList) → OfFiles told Comes → HasMade (object_load c.object ∷ []) asked between → LoadsOther c between asked'
+list_loaded : (c : Campaign) (told : Option Files) (Comes : Files →
+    Type 0) (Early : Type 0) (asked between asked' : Option LoadList) → OfFiles told Comes →
+    HasMade (object_load c.object ∷ []) asked between → LoadsOther c between asked'
     → OfFiles told (λ files. LoadsCampaign c (Comes files) Early asked asked')
-list_loaded c told Comes Early asked between asked' m h (inl own) = (m.0, (m.1.0, inl (record { none = inl (λ comes. own.0); made = own.1 ∙ h })))
-list_loaded c told Comes Early asked between asked' m h (inr more) = (m.0, (m.1.0, inr (record { comes = m.1.1; other = more.0; made = more.1 ∙ ap (asked_after (list_load c.faults ∷ [])) h })))
+list_loaded c told Comes Early asked between asked' m h (inl own) =
+    (m.0, (m.1.0, inl (record { none = inl (λ comes. own.0); made = own.1 ∙ h })))
+list_loaded c told Comes Early asked between asked' m h (inr more) = (
+  m.0,
+  (
+    m.1.0,
+    inr (record {
+      comes = m.1.1;
+      other = more.0;
+      made = more.1 ∙ ap (asked_after (list_load c.faults ∷ [])) h;
+    }),
+  ),
+)
 
 -- the loads of a survey
-pub surveys_loaded : (c : Campaign) (told : Option Files) (bytes : List ℕ) (Early : Type 0) (asked between asked' : Option LoadList) → LoadsObject told c.object (Ok bytes) → HasMade (object_load c.object ∷ []) asked between
+pub surveys_loaded : (c : Campaign) (told : Option Files) (bytes : List ℕ) (Early : Type 0)
+    (asked between asked' : Option LoadList) → LoadsObject told c.object (Ok bytes) →
+    HasMade (object_load c.object ∷ []) asked between
     → LoadsOther c between asked' → OfFiles told (λ files. LoadsFor (Surveys c) told files Early asked asked')
-surveys_loaded c told bytes Early asked between asked' h first more = list_loaded c told (λ files. SpellsFile files c.object) Early asked between asked' (spells_file told c.object bytes h) first more
+surveys_loaded c told bytes Early asked between asked' h first more =
+    list_loaded c told (λ files. SpellsFile files c.object) Early asked between asked'
+    (spells_file told c.object bytes h) first more
 
 -- the loads of a campaign
-pub campaigns_loaded : (c : Campaign) (told : Option Files) (bytes : List ℕ) (Early : Type 0) (asked between asked' : Option LoadList) → LoadsObject told c.object (Ok bytes) → HasMade (object_load c.object ∷ []) asked between
-    → (((refusal (object_of bytes) ≢ None) ⊎ Early) × HasMade [] between asked') ⊎ ((refusal (object_of bytes) ≡ None) × LoadsOther c between asked') → OfFiles told (λ files. LoadsFor (Campaigns c) told files Early asked asked')
-campaigns_loaded c told bytes Early asked between asked' h first (inl none) = object_alone c told (λ files. SpellsAccepted files c.object) Early asked asked' (refused_file told c.object bytes Early h none.0) (none.1 ∙ first)
-campaigns_loaded c told bytes Early asked between asked' h first (inr more) = list_loaded c told (λ files. SpellsAccepted files c.object) Early asked between asked' (spells_accepted told c.object bytes h more.0) first more.1
+pub campaigns_loaded : (c : Campaign) (told : Option Files) (bytes : List ℕ) (Early : Type 0)
+    (asked between asked' : Option LoadList) → LoadsObject told c.object (Ok bytes) →
+    HasMade (object_load c.object ∷ []) asked between
+    → (((refusal (object_of bytes) ≢ None) ⊎ Early) × HasMade [] between asked') ⊎ ((refusal (object_of bytes) ≡ None)
+    × LoadsOther c between asked') → OfFiles told (λ files. LoadsFor (Campaigns c) told files Early asked asked')
+campaigns_loaded c told bytes Early asked between asked' h first (inl none) =
+    object_alone c told (λ files. SpellsAccepted files c.object) Early asked asked'
+    (refused_file told c.object bytes Early h none.0) (none.1 ∙ first)
+campaigns_loaded c told bytes Early asked between asked' h first (inr more) =
+    list_loaded c told (λ files. SpellsAccepted files c.object) Early asked between asked'
+    (spells_accepted told c.object bytes h more.0) first more.1
 
 -- the loads of a campaign or a survey whose object was not loaded, or is none
-pub survey_unloaded : (c : Campaign) (told : Option Files) (Early : Type 0) (asked asked' : Option LoadList) → OfFiles told (λ files. (SpellsFile files c.object → ⊥) ⊎ Early) → HasMade (object_load c.object ∷ []) asked asked'
+pub survey_unloaded : (c : Campaign) (told : Option Files) (Early : Type 0) (asked asked' : Option LoadList) →
+    OfFiles told (λ files. (SpellsFile files c.object → ⊥) ⊎ Early) → HasMade (object_load c.object ∷ []) asked asked'
     → OfFiles told (λ files. LoadsFor (Surveys c) told files Early asked asked')
-survey_unloaded c told Early asked asked' m h = object_alone c told (λ files. SpellsFile files c.object) Early asked asked' m h
+survey_unloaded c told Early asked asked' m h = object_alone c told (λ files. SpellsFile files c.object) Early asked
+    asked' m h
 
-pub campaign_unloaded : (c : Campaign) (told : Option Files) (Early : Type 0) (asked asked' : Option LoadList) → OfFiles told (λ files. (SpellsFile files c.object → ⊥) ⊎ Early) → HasMade (object_load c.object ∷ []) asked asked'
+pub campaign_unloaded : (c : Campaign) (told : Option Files) (Early : Type 0) (asked asked' : Option LoadList) →
+    OfFiles told (λ files. (SpellsFile files c.object → ⊥) ⊎ Early) → HasMade (object_load c.object ∷ []) asked asked'
     → OfFiles told (λ files. LoadsFor (Campaigns c) told files Early asked asked')
 campaign_unloaded c told Early asked asked' m h =
-    object_alone c told (λ files. SpellsAccepted files c.object) Early asked asked' (m.0, (m.1.0, unaccepted_file (SpellsFile m.0 c.object) (SpellsAccepted m.0 c.object) Early (λ s. (s.0, (s.1.0, (s.1.1.0, s.1.1.1.0)))) m.1.1)) h
+    object_alone c told (λ files. SpellsAccepted files c.object) Early asked asked' (
+      m.0,
+      (
+        m.1.0,
+        unaccepted_file (SpellsFile m.0 c.object) (SpellsAccepted m.0 c.object) Early (λ s.
+            (s.0, (s.1.0, (s.1.1.0, s.1.1.1.0)))) m.1.1,
+      ),
+    ) h
 
 -- a load of a list that failed
 pub list_failed : (V : Type 0) (name : Word) (e : ListFault) (old new : ShelfLog)

@@ -11,7 +11,8 @@ use Rattle.ft_tool.specs.Objects.{UpgradesObject, OverBytes}
 use Rattle.ft_tool.specs.Files.{IsRefusedBy, fault_of}
 
 -- the answer to bytes that are refused is one over them
-pub decode_refused : (e : DecodeError) (f : ObjectFault) (bytes : List ℕ) → f ≡ fault_of e → IsError e (broken bytes) → (a : Answer) → IsRefusedBy f a → OverBytes UpgradesObject bytes a
+pub decode_refused : (e : DecodeError) (f : ObjectFault) (bytes : List ℕ) → f ≡ fault_of e → IsError e (broken bytes) →
+    (a : Answer) → IsRefusedBy f a → OverBytes UpgradesObject bytes a
 decode_refused (decodes.Object e) f bytes p h a is = inr (e, (h, subst (λ g. IsRefusedBy g a) p is))
 decode_refused decodes.NoMemory f bytes p h a is = absurd (subst (λ g. IsRefusedBy g a) p is)
 

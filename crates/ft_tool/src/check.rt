@@ -10,7 +10,7 @@ use crate::ending::{Ending, refuse_check};
 use crate::over_object::ObjectCommand;
 use ft_checker::{CheckError, Checked};
 use ft_edge::{Sink, put_line};
-use ft_steps::Steps;
+use ft_isa::Steps;
 use ft_types::Program;
 use std::alloc::Global;
 use std::marker::Brand;

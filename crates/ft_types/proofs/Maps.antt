@@ -6,5 +6,6 @@ use Rattle.std.specs.FinMap as finite
 use Rattle.std.specs.FinMap.{FinMap}
 
 -- what a map has after a value is put
-pub get-insert : {X : Type 0} (m : FinMap nat_cmp X) (k : ℕ) (v : X) (q : ℕ) → finite.get (finite.insert m k v) q ≡ cond (q == k) (Some v) (finite.get m q)
+pub get-insert : {X : Type 0} (m : FinMap nat_cmp X) (k : ℕ) (v : X) (q : ℕ) → finite.get (finite.insert m k v) q
+    ≡ cond (q == k) (Some v) (finite.get m q)
 get-insert m k v q = rw (finite.get-insert nat_cmp_total m k v q, unsigned_tied q k) refl

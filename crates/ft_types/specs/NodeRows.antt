@@ -1,23 +1,9 @@
 -- The numbers that stand for a node, and the two words that they make.
 use Rattle.std.specs.Prelude.{ℕ, ◌+◌, ◌*◌, ◌/◌, ◌%◌, ◌^◌, List, [], ◌∷◌}
-use Rattle.ft_isa.specs.declared.op.Op.{Op}
-use Rattle.ft_isa.specs.declared.op.Op.TheVariants.{Add, Sub, Mul, Ltu, Eq, And, Or, Xor, Shl, Shr}
+use Rattle.ft_isa.specs.Operations.{op_code}
 use Rattle.ft_static.specs.declared.node.Node.{Node}
 use Rattle.ft_static.specs.declared.node.Shape.{Shape}
 use Rattle.ft_static.specs.declared.node.Shape.TheVariants.{Word, Var, Op as OpNode, Sel, Memory, Upd, Rem}
-
--- the code of an operation
-abbrev pub op_code : Op → ℕ
-op_code Add = 0
-op_code Sub = 1
-op_code Mul = 2
-op_code Ltu = 3
-op_code Eq = 4
-op_code And = 5
-op_code Or = 6
-op_code Xor = 7
-op_code Shl = 8
-op_code Shr = 9
 
 -- the upper four bytes of a word
 abbrev pub high_half : ℕ → ℕ

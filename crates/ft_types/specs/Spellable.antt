@@ -8,7 +8,7 @@ use Rattle.ft_isa.specs.declared.basic.Base.TheVariants.{Int, Code}
 use Rattle.ft_isa.specs.declared.basic.Basic.{Basic}
 use Rattle.ft_isa.specs.declared.instr.Subst.{Subst}
 use Rattle.ft_isa.specs.declared.instr.Instr.{Instr}
-use Rattle.ft_isa.specs.declared.instr.Instr.TheVariants.{OpReg, OpWord, Mov, Ld, St, JmpG, JmpB, BzG, BzB, Halt, Idx}
+use Rattle.ft_isa.specs.declared.instr.Instr.TheVariants.{OpWord, Mov, JmpB, BzB, Idx}
 use Rattle.ft_static.specs.declared.node.Node.{Node}
 use Rattle.ft_static.specs.NodeRules.{MayName, AreNodes, IsLength}
 use Rattle.ft_types.specs.declared.object.Object.{Object}
@@ -107,31 +107,16 @@ pub record IsRun (cells first m : ℕ) : Type 0 where
 
 -- what is asked of an instruction alone: its number is a word, its basic type is one, and its cells are there
 abbrev pub IsInstr : ℕ → ℕ → Instr → Type 0
-IsInstr types cells (OpReg op rd rs rt) = Unit {0}
 IsInstr types cells (OpWord op rd rs value) = IsWord value.word
 IsInstr types cells (Mov rd value basic) = IsWord value.word × IsBasic types basic
-IsInstr types cells (Ld colour rd rs) = Unit {0}
-IsInstr types cells (St colour rd rs) = Unit {0}
-IsInstr types cells (JmpG rd) = Unit {0}
-IsInstr types cells (JmpB rd subst) = Unit {0}
-IsInstr types cells (BzG rz rd) = Unit {0}
-IsInstr types cells (BzB rz rd subst) = Unit {0}
-IsInstr types cells Halt = Unit {0}
 IsInstr types cells (Idx rd rs first m) = IsRun cells first m
+IsInstr types cells i = Unit {0}
 
 -- the substitution that an instruction carries
 abbrev pub subst_of : Instr → Option Subst
-subst_of (OpReg op rd rs rt) = None
-subst_of (OpWord op rd rs value) = None
-subst_of (Mov rd value basic) = None
-subst_of (Ld colour rd rs) = None
-subst_of (St colour rd rs) = None
-subst_of (JmpG rd) = None
 subst_of (JmpB rd subst) = Some subst
-subst_of (BzG rz rd) = None
 subst_of (BzB rz rd subst) = Some subst
-subst_of Halt = None
-subst_of (Idx rd rs first m) = None
+subst_of i = None
 
 -- a substitution takes the rows that follow the first ones, at most 128 of so many, and names a memory
 pub record IsSubst (nodes : List Node) (rows first : ℕ) (s : Subst) : Type 0 where

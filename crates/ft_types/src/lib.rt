@@ -2,15 +2,19 @@
 //!
 //! The crate promises that an object tells its parts as they are in its tables. It defines the parts
 //! of an object (`specs/Objects.antt`), the numbers that stand for a node (`specs/NodeRows.antt`), the
-//! objects that have bytes (`specs/Spellable.antt`) and the line of an output (`specs/Texts.antt`).
+//! objects that have bytes (`specs/Spellable.antt`) and the line of an output (`specs/Texts.antt`). A copy
+//! of a program is the object that the program stands for, or that object with other instructions.
 #![tactic(auto)]
 
+mod copying;
 mod object;
 mod program;
+mod rows;
 mod table;
 mod words;
 
+pub use copying::{copy_cells, copy_object, copy_with_instrs};
 pub use object::{Block, Cell, CellHead, CodeType, Counts, Object, RegType, TypeHead};
 pub use program::{INSTR_BYTES, Program};
 pub use table::Table;
-pub use words::{joined, op_code, row_words};
+pub use words::{joined, row_words};

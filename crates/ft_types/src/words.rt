@@ -1,8 +1,7 @@
 //! Nodes as two words each: the two halves of a node's record in the object format.
 ghost use Rattle.std.specs.Prelude.{◌≡◌, ◌∷◌, []};
-ghost use Rattle.ft_types.specs.NodeRows.{op_code, joined, node_words, row_words};
+ghost use Rattle.ft_types.specs.NodeRows.{joined, node_words, row_words};
 
-use ft_isa::Op;
 use ft_static::{Node, Shape};
 
 /// A word by its two halves.
@@ -22,24 +21,6 @@ pub fn row_words(kind: u8, op: u8, scope: u8, pad: u8, a: u32, b: u32, c: u32) -
     (joined(front, a), joined(b, c))
 }
 
-/// The code of an operation.
-pub fn op_code(op: Op) -> u8
-    ensures { result ≡ op_code op }
-{
-    match op {
-        Op::Add => 0,
-        Op::Sub => 1,
-        Op::Mul => 2,
-        Op::Ltu => 3,
-        Op::Eq => 4,
-        Op::And => 5,
-        Op::Or => 6,
-        Op::Xor => 7,
-        Op::Shl => 8,
-        Op::Shr => 9,
-    }
-}
-
 /// A node as two words that hold the whole of it.
 pub(crate) fn node_words(node: Node) -> (u64, u64)
     ensures { result ≡ node_words node }
@@ -48,7 +29,7 @@ pub(crate) fn node_words(node: Node) -> (u64, u64)
     match node.shape {
         Shape::Word(word) => (row_words(0, 0, scope, 0, 0, 0, 0).0, word),
         Shape::Var(i) => row_words(1, 0, scope, 0, u32::from(i), 0, 0),
-        Shape::Op { op, a, b } => row_words(2, op_code(op), scope, 0, a, b, 0),
+        Shape::Op { op, a, b } => row_words(2, op.code(), scope, 0, a, b, 0),
         Shape::Sel { memory, at } => row_words(3, 0, scope, 0, memory, at, 0),
         Shape::Memory => row_words(4, 0, scope, 0, 0, 0, 0),
         Shape::Upd { memory, at, value } => row_words(5, 0, scope, 0, memory, at, value),

@@ -1,5 +1,6 @@
 -- An object is accepted exactly when nothing of it is refused.
-use Rattle.std.proofs.Common.{◌≡◌, ℕ, zero, suc, ◌+◌, Bool, true, false, List, [], ◌∷◌, Option, Some, None, refl, sym, ap, ◌∙◌, subst, arith, eqb-true, eq-eqb, slice_get}
+use Rattle.std.proofs.Common.{◌≡◌, ℕ, zero, suc, ◌+◌, Bool, true, false, List, [], ◌∷◌, Option, Some, None, refl, sym}
+use Rattle.std.proofs.Common.{ap, ◌∙◌, subst, arith, eqb-true, eq-eqb, slice_get}
 use Rattle.std.specs.Prelude.{Decides, ◌↔◌, if◌then◌else◌}
 use Rattle.std.specs.Option.{option_or, option_map}
 use Rattle.std.proofs.lemmas.Bool.{and_parts, and_from}
@@ -15,7 +16,9 @@ use Rattle.ft_typing.specs.TypedWord.{has_type}
 use Rattle.ft_typing.specs.Context.{Context, start_context}
 use Rattle.ft_typing.specs.Premise.{Premise}
 use Rattle.ft_typing.specs.TypingRow.{Outcome, Goes, Ends, Fails, row}
-use Rattle.ft_typing.specs.Accepted.{Applies, last_row, next_row, IsEntryType, IsAccepted, Refusal, EntryType, CellType, Refused, is_variable, is_memory_variable, has_none, is_entry_type, after_row, walk, first_refusal, cell_refusal, block_refusal, refusal}
+use Rattle.ft_typing.specs.Accepted.{Applies, last_row, next_row, IsEntryType, IsAccepted, Refusal, EntryType, CellType}
+use Rattle.ft_typing.specs.Accepted.{Refused, is_variable, is_memory_variable, has_none, is_entry_type, after_row, walk}
+use Rattle.ft_typing.specs.Accepted.{first_refusal, cell_refusal, block_refusal, refusal}
 use Rattle.ft_typing.proofs.TypedWords.{has_type_decides}
 
 -- THE ENTRY'S CODE TYPE
@@ -33,11 +36,13 @@ is_variable_is shape.Memory = (λ e. refl, λ e. refl)
 is_variable_is (shape.Upd m a v) = (λ e. cc, λ e. cc)
 is_variable_is (shape.Rem a m) = (λ e. cc, λ e. cc)
 
-is_memory_variable_is : (o : Object) (n : ℕ) (x : Option Node) → slice_get o.nodes n ≡ x → Decides (is_memory_variable x) (HasShape o.nodes n shape.Memory)
+is_memory_variable_is : (o : Object) (n : ℕ) (x : Option Node) → slice_get o.nodes n ≡ x →
+    Decides (is_memory_variable x) (HasShape o.nodes n shape.Memory)
 is_memory_variable_is o n None f = (λ e. cc, λ h. let g = h.found in cc)
 is_memory_variable_is o n (Some x) f = (
   λ e. record { node = x; found = f; shape = (is_variable_is x.shape).0 e },
-  λ h. let g = h.found in let same : h.node ≡ x = cc in (is_variable_is x.shape).1 (ap (λ (y : Node). y.shape) (sym same) ∙ h.shape),
+  λ h. let g = h.found in let same : h.node ≡ x = cc in
+      (is_variable_is x.shape).1 (ap (λ (y : Node). y.shape) (sym same) ∙ h.shape),
 )
 
 -- the test of a code type with which a run may begin decides it
@@ -54,13 +59,16 @@ is_entry_type_decides o t = (
         queue = (has_none_is (queue_rows o t)).0 q.1;
         memory = (is_memory_variable_is o (memory_of o t) _ refl).0 p.1;
       },
-  λ h. and_from _ _ (and_from _ _ (and_from _ _ (eq-eqb (ints_of o t) 0 h.ints) ((has_none_is (reg_rows o t)).1 h.regs)) ((has_none_is (queue_rows o t)).1 h.queue)) ((is_memory_variable_is o (memory_of o t) _ refl).1 h.memory),
+  λ h. and_from _ _ (and_from _ _ (and_from _ _ (eq-eqb (ints_of o t) 0 h.ints) ((has_none_is (reg_rows o t)).1 h.regs))
+      ((has_none_is (queue_rows o t)).1 h.queue)) ((is_memory_variable_is o (memory_of o t) _ refl).1 h.memory),
 )
 
 -- THE WALK OF A BLOCK
 
 -- the row and those after it
-walked : (o : Object) (c : Context) (k : ℕ) (i : Instr) (is : List Instr) (x : Outcome) → row o c i ≡ x → ((d : Context) → walk o d (suc k) is ≡ None → Applies o d is) → after_row x k is (λ d. walk o d (suc k) is) ≡ None → Applies o c (i ∷ is)
+walked : (o : Object) (c : Context) (k : ℕ) (i : Instr) (is : List Instr) (x : Outcome) → row o c i ≡ x →
+    ((d : Context) → walk o d (suc k) is ≡ None → Applies o d is) → after_row x k is (λ d. walk o d (suc k) is) ≡ None →
+    Applies o c (i ∷ is)
 unfolding after_row
 walked o c k i is (Fails p) e h w = cc
 walked o c k i [] (Goes d) e h w = cc
@@ -75,7 +83,8 @@ applies_walked o c k [] w = cc
 applies_walked o c k (i ∷ is) w = walked o c k i is (row o c i) refl (λ d. applies_walked o d (suc k) is) w
 
 -- what the walk gives after a row that goes on
-after_goes : (o : Object) (d : Context) (k : ℕ) (is : List Instr) (x : Outcome) → x ≡ Goes d → Applies o d is → walk o d (suc k) is ≡ None → after_row x k is (λ d. walk o d (suc k) is) ≡ None
+after_goes : (o : Object) (d : Context) (k : ℕ) (is : List Instr) (x : Outcome) → x ≡ Goes d → Applies o d is →
+    walk o d (suc k) is ≡ None → after_row x k is (λ d. walk o d (suc k) is) ≡ None
 unfolding after_row
 after_goes o d k [] x e a w = elim a [ ]
 after_goes o d k (i ∷ is) x e a w = rw e w
@@ -95,7 +104,8 @@ or_parts None y e = (refl, e)
 or_parts (Some a) y e = cc
 
 -- where nothing is refused, each is not
-first_none : {X : Type 0} (refuse : ℕ → X → Option Refusal) (k : ℕ) (xs : List X) → first_refusal refuse k xs ≡ None → (n : ℕ) (x : X) → slice_get xs n ≡ Some x → refuse (k + n) x ≡ None
+first_none : {X : Type 0} (refuse : ℕ → X → Option Refusal) (k : ℕ) (xs : List X) → first_refusal refuse k xs ≡ None →
+    (n : ℕ) (x : X) → slice_get xs n ≡ Some x → refuse (k + n) x ≡ None
 unfolding first_refusal
 first_none refuse k [] e n x f = cc
 first_none refuse k (y ∷ ys) e zero x f =
@@ -109,13 +119,15 @@ first_none refuse k (y ∷ ys) e (suc n) x f =
     rw here (first_none refuse (suc k) ys p.1 n x f)
 
 -- where each is not refused, nothing is
-none_first : {X : Type 0} (refuse : ℕ → X → Option Refusal) (k : ℕ) (xs : List X) → ((n : ℕ) (x : X) → slice_get xs n ≡ Some x → refuse (k + n) x ≡ None) → first_refusal refuse k xs ≡ None
+none_first : {X : Type 0} (refuse : ℕ → X → Option Refusal) (k : ℕ) (xs : List X) →
+    ((n : ℕ) (x : X) → slice_get xs n ≡ Some x → refuse (k + n) x ≡ None) → first_refusal refuse k xs ≡ None
 unfolding first_refusal
 none_first refuse k [] h = refl
 none_first refuse k (y ∷ ys) h =
     let here : k + 0 ≡ k = omega arith in
     let first : refuse k y ≡ None = subst (λ z. refuse z y ≡ None) here (h 0 y refl) in
-    rw first (none_first refuse (suc k) ys (λ n x f. let there : k + suc n ≡ suc k + n = omega arith in subst (λ z. refuse z x ≡ None) there (h (suc n) x f)))
+    rw first (none_first refuse (suc k) ys (λ n x f. let there : k + suc n ≡ suc k + n = omega arith in
+    subst (λ z. refuse z x ≡ None) there (h (suc n) x f)))
 
 -- THE WHOLE
 
@@ -128,12 +140,14 @@ cell_typed o k x = (λ e. rw e refl, λ e. by_test (has_type o x.init x.basic) e
     by_test false e = cc
 
 -- a block that is not refused has no refusal in its walk
-walk_of_block : (o : Object) (b : ℕ) (w : Option (ℕ × Premise)) → option_map (λ r. Refused b r.0 r.1) w ≡ None ↔ w ≡ None
+walk_of_block : (o : Object) (b : ℕ) (w : Option (ℕ × Premise)) → option_map (λ r. Refused b r.0 r.1) w ≡ None ↔ w
+    ≡ None
 walk_of_block o b None = (λ e. refl, λ e. refl)
 walk_of_block o b (Some r) = (λ e. cc, λ e. cc)
 
 -- what is left to refuse once the entry's code type is looked at
-after_entry : (o : Object) (b : Bool) (r : Option Refusal) → (if b then r else Some EntryType) ≡ None → (b ≡ true) × (r ≡ None)
+after_entry : (o : Object) (b : Bool) (r : Option Refusal) → (if b then r else Some EntryType) ≡ None → (b ≡ true)
+    × (r ≡ None)
 after_entry o true r e = (refl, e)
 after_entry o false r e = cc
 
@@ -141,16 +155,24 @@ after_entry o false r e = cc
 pub accepted_is_unrefused : (o : Object) → IsAccepted o ↔ refusal o ≡ None
 accepted_is_unrefused o = (
   λ h.
-      let cells : first_refusal (cell_refusal o) 0 o.cells ≡ None = none_first (cell_refusal o) 0 o.cells (λ n x f. (cell_typed o (0 + n) x).0 ((has_type_decides o x.init x.basic).1 (h.cells n x f))) in
+      let cells : first_refusal (cell_refusal o) 0 o.cells
+      ≡ None = none_first (cell_refusal o) 0 o.cells (λ n x f.
+      (cell_typed o (0 + n) x).0 ((has_type_decides o x.init x.basic).1 (h.cells n x f))) in
       let blocks : first_refusal (block_refusal o) 0 o.blocks ≡ None =
-      none_first (block_refusal o) 0 o.blocks (λ n x f. let here : 0 + n ≡ n = omega arith in rw here ((walk_of_block o n _).1 (walk_applied o (start_context o x.code_type) 0 (block_instrs o n) (h.blocks n x f)))) in
+      none_first (block_refusal o) 0 o.blocks (λ n x f. let here : 0 + n ≡ n = omega arith in
+      rw here ((walk_of_block o n _).1 (walk_applied o (start_context o x.code_type) 0 (block_instrs o n)
+      (h.blocks n x f)))) in
       rw ((is_entry_type_decides o (block_type o o.entry)).1 h.entry, cells, blocks) refl,
   λ e.
       let p = after_entry o _ _ e in
       let q = or_parts _ _ p.1 in
       record {
         entry = (is_entry_type_decides o (block_type o o.entry)).0 p.0;
-        cells = λ k x f. (has_type_decides o x.init x.basic).0 ((cell_typed o (0 + k) x).1 (first_none (cell_refusal o) 0 o.cells q.0 k x f));
-        blocks = λ b x f. let here : 0 + b ≡ b = omega arith in applies_walked o (start_context o x.code_type) 0 (block_instrs o b) ((walk_of_block o b _).0 (subst (λ z. block_refusal o z x ≡ None) here (first_none (block_refusal o) 0 o.blocks q.1 b x f)));
+        cells = λ k x f. (has_type_decides o x.init x.basic).0
+            ((cell_typed o (0 + k) x).1 (first_none (cell_refusal o) 0 o.cells q.0 k x f));
+        blocks = λ b x f. let here : 0 + b ≡ b = omega arith in
+            applies_walked o (start_context o x.code_type) 0 (block_instrs o b)
+            ((walk_of_block o b _).0 (subst (λ z. block_refusal o z x
+            ≡ None) here (first_none (block_refusal o) 0 o.blocks q.1 b x f)));
       },
 )

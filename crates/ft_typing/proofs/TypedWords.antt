@@ -9,7 +9,8 @@ use Rattle.ft_types.specs.declared.object.Object.{Object}
 use Rattle.ft_isa.specs.BasicTypes.{int}
 use Rattle.ft_isa.specs.declared.colour.Colour.{Colour}
 use Rattle.ft_isa.specs.declared.colour.Colour.TheVariants.{Green, Blue}
-use Rattle.ft_typing.specs.TypedWord.{cell_type, code_type_at, HasTypeOver, HasType, IsSeenAs, same_base, same_basic, is_seen_as, is_code_type, is_cell_type, has_type_over, has_type}
+use Rattle.ft_typing.specs.TypedWord.{cell_type, code_type_at, HasTypeOver, HasType, IsSeenAs, same_base, same_basic}
+use Rattle.ft_typing.specs.TypedWord.{is_seen_as, is_code_type, is_cell_type, has_type_over, has_type}
 use Rattle.ft_typing.specs.TypingRow.{same_colour}
 
 -- two bases are equal where the test says so
@@ -42,8 +43,10 @@ is_same_basic a b e = rw e (and_from _ _ (eq-eqb b.refs b.refs refl) (same_base_
 pub is_seen_as_decides : (a b : Basic) → Decides (is_seen_as a b) (IsSeenAs a b)
 unfolding is_seen_as
 is_seen_as_decides a b = (
-  λ e. ⊎_elim (λ s. inl (same_basic_is a b s)) (λ s. inr (same_basic_is b int s)) (or_cases (same_basic a b) (same_basic b int) e),
-  λ h. ⊎_elim (λ s. or_left (same_basic a b) (same_basic b int) (is_same_basic a b s)) (λ s. or_right (same_basic a b) (same_basic b int) (is_same_basic b int s)) h,
+  λ e. ⊎_elim (λ s. inl (same_basic_is a b s)) (λ s.
+      inr (same_basic_is b int s)) (or_cases (same_basic a b) (same_basic b int) e),
+  λ h. ⊎_elim (λ s. or_left (same_basic a b) (same_basic b int) (is_same_basic a b s)) (λ s.
+      or_right (same_basic a b) (same_basic b int) (is_same_basic b int s)) h,
 )
 
 -- the tests of what was found

@@ -7,7 +7,6 @@ mod Named
 mod NodePlain
 mod Opened
 mod CountedParts
-mod Plain
 mod RegPlain
 mod RowsAfter
 mod Whole

@@ -9,20 +9,25 @@ use Rattle.ft_format.specs.Rules.{must, ◌next◌}
 use Rattle.ft_format.specs.Broken.{name_rest_broken}
 
 -- a byte that may stand there
-pub byte_goes : (v : Version) (bytes : List ℕ) (i at : ℕ) (broken : Option ObjectError) → i < length bytes → must (may_follow v (get_or bytes i 0)) (errors.Name at) ≡ None
+pub byte_goes : (v : Version) (bytes : List ℕ) (i at : ℕ) (broken : Option ObjectError) → i < length bytes →
+    must (may_follow v (get_or bytes i 0)) (errors.Name at) ≡ None
     → name_rest_broken v at (drop i bytes) ≡ broken → name_rest_broken v (at + 1) (drop (i + 1) bytes) ≡ broken
 unfolding name_rest_broken
 byte_goes v bytes i at broken lt none h =
-    sym (at_drop_more (name_rest_broken v at) bytes i 0 lt ∙ ap (λ r. r next name_rest_broken v (at + 1) (drop (i + 1) bytes)) none) ∙ h
+    sym (at_drop_more (name_rest_broken v at) bytes i 0 lt
+    ∙ ap (λ r. r next name_rest_broken v (at + 1) (drop (i + 1) bytes)) none) ∙ h
 
 -- a byte that may not
-pub byte_halts : (v : Version) (bytes : List ℕ) (i at : ℕ) (broken : Option ObjectError) (why : ObjectError) → i < length bytes → must (may_follow v (get_or bytes i 0)) (errors.Name at) ≡ Some why
+pub byte_halts : (v : Version) (bytes : List ℕ) (i at : ℕ) (broken : Option ObjectError) (why : ObjectError) →
+    i < length bytes → must (may_follow v (get_or bytes i 0)) (errors.Name at) ≡ Some why
     → name_rest_broken v at (drop i bytes) ≡ broken → broken ≡ Some why
 unfolding name_rest_broken
 byte_halts v bytes i at broken why lt some h =
-    sym h ∙ at_drop_more (name_rest_broken v at) bytes i 0 lt ∙ ap (λ r. r next name_rest_broken v (at + 1) (drop (i + 1) bytes)) some
+    sym h ∙ at_drop_more (name_rest_broken v at) bytes i 0 lt
+    ∙ ap (λ r. r next name_rest_broken v (at + 1) (drop (i + 1) bytes)) some
 
 -- no byte is left
-pub bytes_end : (v : Version) (bytes : List ℕ) (i at : ℕ) (broken : Option ObjectError) → length bytes ≤ i → name_rest_broken v at (drop i bytes) ≡ broken → broken ≡ None
+pub bytes_end : (v : Version) (bytes : List ℕ) (i at : ℕ) (broken : Option ObjectError) → length bytes ≤ i →
+    name_rest_broken v at (drop i bytes) ≡ broken → broken ≡ None
 unfolding name_rest_broken
 bytes_end v bytes i at broken le h = sym h ∙ at_drop_all (name_rest_broken v at) bytes i le

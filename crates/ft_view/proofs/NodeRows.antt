@@ -1,5 +1,6 @@
 -- Nodes as their records.
-use Rattle.std.proofs.Common.{◌≡◌, ℕ, zero, suc, ◌*◌, ◌<◌, ◌≤◌, true, false, List, [], ◌∷◌, length, map, take, drop, Some, refl, sym, ap, ◌∙◌, arith}
+use Rattle.std.proofs.Common.{◌≡◌, ℕ, zero, suc, ◌*◌, ◌<◌, ◌≤◌, true, false, List, [], ◌∷◌, length, map, take, drop}
+use Rattle.std.proofs.Common.{Some, refl, sym, ap, ◌∙◌, arith}
 use Rattle.std.specs.Prelude.{◌==◌, ◌||◌, nat_le, not, slice_get}
 use Rattle.std.specs.Option.{option_map}
 use Rattle.std.proofs.lemmas.List.{length-map}
@@ -14,15 +15,21 @@ use Rattle.ft_format.proofs.Codes.{eq_false}
 use Rattle.ft_view.proofs.Records.{record_at}
 
 -- how many there are
-pub count_is : (count : ℕ) (bytes : List ℕ) (nodes : List Node) → map node_of (rows code_layout count bytes) ≡ nodes → length nodes ≡ count
-count_is count bytes nodes e = sym (ap length e) ∙ length-map (rows code_layout count bytes) node_of ∙ length_rows code_layout count bytes
+pub count_is : (count : ℕ) (bytes : List ℕ) (nodes : List Node) → map node_of (rows code_layout count bytes) ≡ nodes →
+    length nodes ≡ count
+count_is count bytes nodes e = sym (ap length e) ∙ length-map (rows code_layout count bytes) node_of
+    ∙ length_rows code_layout count bytes
 
 -- one of them
-pub row_is : (count n : ℕ) (bytes part row : List ℕ) (nodes : List Node) → map node_of (rows code_layout count bytes) ≡ nodes → n < length nodes → part ≡ take 16 (drop (16 * n) bytes) → row ≡ numbers code_layout part
+pub row_is : (count n : ℕ) (bytes part row : List ℕ) (nodes : List Node) → map node_of (rows code_layout count bytes)
+    ≡ nodes → n < length nodes → part ≡ take 16 (drop (16 * n) bytes) → row ≡ numbers code_layout part
     → slice_get nodes n ≡ Some (node_of row)
 row_is count n bytes part row nodes e lt is numbers_are =
-    let there : slice_get (rows code_layout count bytes) n ≡ Some row = record_at code_layout count n 0 (16 * n) bytes part row (omega (arith, count_is count bytes nodes e)) (omega arith) is numbers_are in
-    sym (ap (λ l. slice_get l n) e) ∙ slice_get-map node_of (rows code_layout count bytes) n ∙ ap (option_map node_of) there
+    let there : slice_get (rows code_layout count bytes) n
+    ≡ Some row = record_at code_layout count n 0 (16 * n) bytes part row (omega (arith, count_is count bytes nodes e))
+    (omega arith) is numbers_are in
+    sym (ap (λ l. slice_get l n) e) ∙ slice_get-map node_of (rows code_layout count bytes) n
+    ∙ ap (option_map node_of) there
 
 -- the sort of a kind
 rem_sort : (kind op a b c : ℕ) → 6 ≤ kind → is_memory (shape_of kind op a b c) ≡ ((kind == 4) || (kind == 5))
@@ -42,13 +49,20 @@ sort_is (suc (suc zero)) op a b c = refl
 sort_is (suc (suc (suc zero))) op a b c = refl
 sort_is (suc (suc (suc (suc zero)))) op a b c = refl
 sort_is (suc (suc (suc (suc (suc zero))))) op a b c = refl
-sort_is (suc (suc (suc (suc (suc (suc k)))))) op a b c = rem_sort (suc (suc (suc (suc (suc (suc k)))))) op a b c (omega arith)
+sort_is (suc (suc (suc (suc (suc (suc k)))))) op a b c =
+    rem_sort (suc (suc (suc (suc (suc (suc k)))))) op a b c (omega arith)
 
-pub memory_sort : (nodes : List Node) (n kind op scope pad a b c : ℕ) → slice_get nodes n ≡ Some (node_of (kind ∷ op ∷ scope ∷ pad ∷ a ∷ b ∷ c ∷ [])) → ((kind == 4) || (kind == 5)) ≡ is_of_sort true (slice_get nodes n)
+pub memory_sort : (nodes : List Node) (n kind op scope pad a b c : ℕ) → slice_get nodes n
+    ≡ Some (node_of (kind ∷ op ∷ scope ∷ pad ∷ a ∷ b ∷ c ∷ [])) → ((kind == 4) || (kind == 5))
+    ≡ is_of_sort true (slice_get nodes n)
 memory_sort nodes n kind op scope pad a b c e = rw e (sym (sort_is kind op a b c))
 
-pub integer_sort : (nodes : List Node) (n kind op scope pad a b c : ℕ) → slice_get nodes n ≡ Some (node_of (kind ∷ op ∷ scope ∷ pad ∷ a ∷ b ∷ c ∷ [])) → not ((kind == 4) || (kind == 5)) ≡ is_of_sort false (slice_get nodes n)
+pub integer_sort : (nodes : List Node) (n kind op scope pad a b c : ℕ) → slice_get nodes n
+    ≡ Some (node_of (kind ∷ op ∷ scope ∷ pad ∷ a ∷ b ∷ c ∷ [])) → not ((kind == 4) || (kind == 5))
+    ≡ is_of_sort false (slice_get nodes n)
 integer_sort nodes n kind op scope pad a b c e = rw e (ap not (sym (sort_is kind op a b c)))
 
-pub scope_is : (nodes : List Node) (n limit kind op scope pad a b c : ℕ) → slice_get nodes n ≡ Some (node_of (kind ∷ op ∷ scope ∷ pad ∷ a ∷ b ∷ c ∷ [])) → nat_le scope limit ≡ is_within limit (slice_get nodes n)
+pub scope_is : (nodes : List Node) (n limit kind op scope pad a b c : ℕ) → slice_get nodes n
+    ≡ Some (node_of (kind ∷ op ∷ scope ∷ pad ∷ a ∷ b ∷ c ∷ [])) → nat_le scope limit
+    ≡ is_within limit (slice_get nodes n)
 scope_is nodes n limit kind op scope pad a b c e = rw e refl

@@ -7,13 +7,17 @@ use Rattle.ft_format.specs.Values.{node_of}
 use Rattle.ft_format.proofs.Layouts.{rows_plus}
 
 -- the first records, one more
-pub rows_snoc : (ws : List Width) (i : ℕ) (bs rest row : List ℕ) → rest ≡ drop (size ws * i) bs → row ≡ numbers ws (take (size ws) rest) → rows ws (i + 1) bs ≡ rows ws i bs ++ row ∷ []
+pub rows_snoc : (ws : List Width) (i : ℕ) (bs rest row : List ℕ) → rest ≡ drop (size ws * i) bs → row
+    ≡ numbers ws (take (size ws) rest) → rows ws (i + 1) bs ≡ rows ws i bs ++ row ∷ []
 unfolding rows
-rows_snoc ws i bs rest row at is = rows_plus ws i 1 bs ∙ ap (λ r. rows ws i bs ++ numbers ws (take (size ws) r) ∷ []) (sym at) ∙ ap (λ r. rows ws i bs ++ r ∷ []) (sym is)
+rows_snoc ws i bs rest row at is = rows_plus ws i 1 bs
+    ∙ ap (λ r. rows ws i bs ++ numbers ws (take (size ws) r) ∷ []) (sym at) ∙ ap (λ r. rows ws i bs ++ r ∷ []) (sym is)
 
 -- the first nodes, one more
-pub nodes_snoc : (i : ℕ) (bs rest row : List ℕ) → rest ≡ drop (16 * i) bs → row ≡ numbers code_layout (take 16 rest) → map node_of (rows code_layout i bs) ++ node_of row ∷ [] ≡ map node_of (rows code_layout (i + 1) bs)
-nodes_snoc i bs rest row at is = sym (ap (map node_of) (rows_snoc code_layout i bs rest row at is) ∙ map-append node_of (rows code_layout i bs) (row ∷ []))
+pub nodes_snoc : (i : ℕ) (bs rest row : List ℕ) → rest ≡ drop (16 * i) bs → row ≡ numbers code_layout (take 16 rest) →
+    map node_of (rows code_layout i bs) ++ node_of row ∷ [] ≡ map node_of (rows code_layout (i + 1) bs)
+nodes_snoc i bs rest row at is = sym (ap (map node_of) (rows_snoc code_layout i bs rest row at is)
+    ∙ map-append node_of (rows code_layout i bs) (row ∷ []))
 
 -- none
 pub no_nodes : (bs : List ℕ) → map node_of (rows code_layout 0 bs) ≡ []

@@ -5,7 +5,12 @@ use Rattle.ft_format.specs.declared.object_error.ObjectError.TheVariants as erro
 use Rattle.ft_format.specs.Layout.{rows, cell_layout, code_layout, pair_layout}
 use Rattle.ft_format.specs.Versions.{version_of}
 use Rattle.ft_format.specs.Rules.{must, ◌next◌, header_broken}
-use Rattle.ft_format.specs.Broken.{cells_broken, nodes_broken, types_broken, regs_broken, queues_broken, code_types_broken, blocks_broken, instrs_broken, rows_taken, substs_broken, names_broken, nodes_at, types_at, regs_at, queue_at, blocks_at, instrs_at, substs_at, names_at, total, cells_part, nodes_part, regs_part, queue_part, blocks_part, substs_part, type_rows_of, instr_rows_of, cells_read, nodes_read, tables_broken, header_at, front_broken, broken}
+use Rattle.ft_format.specs.Broken.{cells_broken, nodes_broken, types_broken, regs_broken, queues_broken}
+use Rattle.ft_format.specs.Broken.{code_types_broken, blocks_broken, instrs_broken, rows_taken, substs_broken}
+use Rattle.ft_format.specs.Broken.{names_broken, nodes_at, types_at, regs_at, queue_at, blocks_at, instrs_at, substs_at}
+use Rattle.ft_format.specs.Broken.{names_at, total, cells_part, nodes_part, regs_part, queue_part, blocks_part}
+use Rattle.ft_format.specs.Broken.{substs_part, type_rows_of, instr_rows_of, cells_read, nodes_read, tables_broken}
+use Rattle.ft_format.specs.Broken.{header_at, front_broken, broken}
 use Rattle.ft_format.proofs.Unbroken.{both}
 use Rattle.ft_format.proofs.Codes.{eq_held}
 use Rattle.ft_format.proofs.Read.{header_again}
@@ -31,7 +36,8 @@ unbroken bytes n =
     let whole = must (length bytes == total h) (errors.Length (min (length bytes) (total h))) in
     let enough = must (nat_le 48 (length bytes)) (errors.Length (length bytes)) in
     let r0 = both (front_broken bytes) (tables_broken h bytes) n in
-    let f1 = both (must (nat_le (length bytes) 67108864) (errors.Length 67108864)) (enough next header_broken h next whole) r0.0 in
+    let f1 = both (must (nat_le (length bytes) 67108864) (errors.Length 67108864))
+    (enough next header_broken h next whole) r0.0 in
     let f2 = both enough (header_broken h next whole) f1.1 in
     let f3 = both (header_broken h) whole f2.1 in
     let nodes = nodes_read h bytes in
@@ -52,7 +58,10 @@ unbroken bytes n =
     let r4 = both p4 (p5 next (p6 next p7)) r3.1 in
     let r5 = both p5 (p6 next p7) r4.1 in
     record {
-      whole = record { small = (header_again h f3.0).small; whole = eq_held (length bytes) (total h) (errors.Length (min (length bytes) (total h))) f3.1 };
+      whole = record {
+        small = (header_again h f3.0).small;
+        whole = eq_held (length bytes) (total h) (errors.Length (min (length bytes) (total h))) f3.1;
+      };
       cells = r1.0;
       nodes = r2.0;
       types = u1.0;

@@ -2,11 +2,11 @@
 ghost use Rattle.std.specs.Prelude.{◌≡◌, ◌<◌, ◌≤◌, ◌+◌, length, drop};
 ghost use Rattle.std.specs.Int.{w8, w32};
 ghost use Rattle.ft_format.specs.Layout.{number_of};
-ghost use Rattle.ft_format.specs.Values.{op_of, register_of, coloured};
+ghost use Rattle.ft_isa.specs.Operations.{last_op_code, op_of};
+ghost use Rattle.ft_format.specs.Values.{register_of, coloured};
 ghost use Rattle.ft_view.specs.InPlace.{kind_in, a_in, b_in, c_in, x_in, high_in, low_in, instr_in};
 
-use crate::instr_parts::basic_of_number;
-use crate::parts::{colour, register};
+use crate::parts::{basic_of_number, colour, register};
 use ft_isa::{Coloured, Instr, Op, Reg, Subst};
 use ft_types::joined;
 
@@ -94,21 +94,10 @@ fn field_x(bytes: &[u8]) -> u32
 /// The operation of a code that there is, which its last byte tells.
 #[inline(always)]
 fn known_op(code: u32) -> Op
-    requires { code ≤ 9 }
+    requires { code ≤ last_op_code }
     ensures { result ≡ op_of code }
 {
-    match code as u8 {
-        0 => Op::Add,
-        1 => Op::Sub,
-        2 => Op::Mul,
-        3 => Op::Ltu,
-        4 => Op::Eq,
-        5 => Op::And,
-        6 => Op::Or,
-        7 => Op::Xor,
-        8 => Op::Shl,
-        _ => Op::Shr,
-    }
+    Op::of_code(u32::from(code as u8))
 }
 
 /// The word of a record, with its colour.
@@ -142,7 +131,7 @@ fn subst_in(bytes: &[u8]) -> Subst
 pub fn instr_in(bytes: &[u8]) -> Instr
     requires there { 16 ≤ length bytes.now }
     requires kind { kind_in bytes.now ≤ 8 }
-    requires op { kind_in bytes.now ≤ 1 → x_in bytes.now ≤ 9 }
+    requires op { kind_in bytes.now ≤ 1 → x_in bytes.now ≤ last_op_code }
     requires a { a_in bytes.now < 64 }
     requires b { b_in bytes.now < 64 }
     requires c { c_in bytes.now < 64 }

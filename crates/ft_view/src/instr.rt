@@ -5,8 +5,8 @@ ghost use Rattle.ft_format.specs.Fields.{code_numbers};
 ghost use Rattle.ft_format.specs.Rules.{no_word_broken, basic_number_broken, substitution_broken, transfer_broken, op_reg_broken, op_word_broken, mov_broken, access_broken, jump_broken, branch_broken, halt_broken, run_broken, index_broken, instr_broken};
 ghost use Rattle.ft_format.specs.Values.{rows_past};
 
-use crate::instr_parts::basic_numbers;
 use crate::node_records::NodeRecords;
+use crate::parts::basic_numbers;
 use crate::rules::{
     check, check_basic, check_colour, check_node_number, check_op, check_register, check_some,
     check_zero,

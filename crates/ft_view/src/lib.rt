@@ -13,7 +13,6 @@ mod code_type;
 mod header;
 mod in_place;
 mod instr;
-mod instr_parts;
 mod name;
 mod node;
 mod node_records;

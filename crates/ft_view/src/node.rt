@@ -9,9 +9,9 @@ ghost use Rattle.ft_format.specs.Rules.{◌next◌, zero_broken, count_broken, v
 ghost use Rattle.ft_format.specs.Values.{shape_of, node_of};
 
 use crate::node_records::NodeRecords;
-use crate::parts::op;
 use crate::rules::{check, check_count, check_named, check_op, check_some, check_zero};
 use ft_format::{NodeRow, ObjectError, Version};
+use ft_isa::Op;
 use ft_static::{Node, Shape};
 use ft_types::joined;
 
@@ -144,7 +144,7 @@ fn shape(row: NodeRow) -> Shape
         0 => Shape::Word(joined(row.b, row.c)),
         1 => Shape::Var(row.a as u8),
         2 => Shape::Op {
-            op: op(u32::from(row.op)),
+            op: Op::of_code(u32::from(row.op)),
             a: row.a,
             b: row.b,
         },

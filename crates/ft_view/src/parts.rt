@@ -1,8 +1,8 @@
 //! Parts that the numbers of several records stand for.
-ghost use Rattle.std.specs.Prelude.{◌≡◌, ◌<◌};
-ghost use Rattle.ft_format.specs.Values.{register_of, colour_of, op_of, base_of, basic_type_of};
+ghost use Rattle.std.specs.Prelude.{◌≡◌, ◌<◌, ◌/◌, ◌%◌, ◌^◌};
+ghost use Rattle.ft_format.specs.Values.{register_of, colour_of, base_of, basic_type_of};
 
-use ft_isa::{Base, Basic, Colour, Op, Reg};
+use ft_isa::{Base, Basic, Colour, Reg};
 
 /// The register of a number.
 pub(crate) fn register(number: u8) -> Reg
@@ -19,24 +19,6 @@ pub(crate) fn colour(code: u8) -> Colour
     match code {
         0 => Colour::Green,
         _ => Colour::Blue,
-    }
-}
-
-/// The operation of a code, where any above 8 is `shr`.
-pub(crate) fn op(code: u32) -> Op
-    ensures { result ≡ op_of code }
-{
-    match code {
-        0 => Op::Add,
-        1 => Op::Sub,
-        2 => Op::Mul,
-        3 => Op::Ltu,
-        4 => Op::Eq,
-        5 => Op::And,
-        6 => Op::Or,
-        7 => Op::Xor,
-        8 => Op::Shl,
-        _ => Op::Shr,
     }
 }
 
@@ -57,4 +39,24 @@ pub(crate) fn basic(refs: u8, code: u8, code_type: u16) -> Basic
 {
     let base = base(code, code_type);
     Basic { refs, base }
+}
+
+/// The numbers of the basic type that x spells: refs, base and code type.
+pub(crate) fn basic_numbers(x: u32) -> (u8, u8, u16)
+    ensures refs { result.0 ≡ x / 2 ^ 24 }
+    ensures base { result.1 ≡ x / 2 ^ 16 % 2 ^ 8 }
+    ensures code_type { result.2 ≡ x % 2 ^ 16 }
+{
+    let refs = (x >> 24) as u8;
+    let base = ((x >> 16) & 0xff) as u8;
+    let code_type = (x & 0xffff) as u16;
+    (refs, base, code_type)
+}
+
+/// The basic type that x spells.
+pub(crate) fn basic_of_number(x: u32) -> Basic
+    ensures { result ≡ basic_type_of (x / 2 ^ 24) (x / 2 ^ 16 % 2 ^ 8) (x % 2 ^ 16) }
+{
+    let (refs, base, code_type) = basic_numbers(x);
+    basic(refs, base, code_type)
 }

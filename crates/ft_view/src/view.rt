@@ -5,13 +5,12 @@ use crate::block::read_block;
 use crate::byte_part::stretch;
 use crate::cell::read_cell;
 use crate::in_place::instr_in;
-use crate::instr_parts::read_instr;
 use crate::node::read_node;
 use crate::reg::read_reg;
 use crate::section::Section;
 use crate::tables::judge;
 use ft_format::{
-    CellRow, CodeRow, Header, NodeRow, ObjectError, PairRow, Places, RegRow, SubstRow, TypeRow,
+    CellRow, Header, NodeRow, ObjectError, PairRow, Places, RegRow, SubstRow, TypeRow,
 };
 use ft_isa::Instr;
 use ft_static::{Node, Nodes};
@@ -43,7 +42,7 @@ impl<'a> View<'a> {
     ghost use Rattle.ft_types.specs.Objects.{name_of};
     ghost use Rattle.ft_types.specs.NodeRows.{node_row};
     ghost use Rattle.ft_format.specs.Values.{node_of, past_of, regs_end_of, queue_end_of};
-    ghost use Rattle.ft_format.specs.Fields.{cell_numbers, code_numbers, node_numbers, type_numbers, reg_numbers, pair_numbers, subst_numbers};
+    ghost use Rattle.ft_format.specs.Fields.{cell_numbers, node_numbers, type_numbers, reg_numbers, pair_numbers, subst_numbers};
     ghost use Rattle.ft_format.specs.Broken.{header_at, version_at, instr_rows_of, object_of, broken};
     ghost use Rattle.ft_format.specs.declared.version.Version.{Version};
     ghost use Rattle.ft_format.specs.Format.{Spells};
@@ -131,15 +130,6 @@ impl<'a> View<'a> {
         ensures { slice_get (subst_records self.now) i ≡ Some (subst_numbers result) }
     {
         SubstRow::read(stretch(self.bytes, self.at.substs + 4 * i as usize, 4))
-    }
-
-    /// The numbers of the record of instruction `i`.
-    fn instr_record(&self, i: u32) -> CodeRow
-        requires { i < (header_at self.now).instrs }
-        ensures there { slice_get (instr_rows_of (header_at self.now) self.now) i ≡ Some (code_numbers result) }
-        ensures below { (result.a < 64) × (result.b < 64) × (result.c < 64) }
-    {
-        CodeRow::read(stretch(self.bytes, self.at.instrs + 16 * i as usize, 16))
     }
 
     /// The bytes of the record of an instruction, which begins at this place in the section of the instructions.
@@ -278,7 +268,7 @@ impl<'a> Program for View<'a> {
     }
 
     fn instr(&self, i: u32) -> Instr {
-        read_instr(self.instr_record(i))
+        self.fetch(self.code(), i as usize * INSTR_BYTES)
     }
 
     fn code(&self) -> &'a [u8] {

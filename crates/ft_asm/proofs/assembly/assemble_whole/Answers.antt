@@ -8,7 +8,8 @@ use Rattle.ft_asm.proofs.Judged.{passed_on}
 use Rattle.ft_asm.proofs.assembly.assemble_whole.Goals as goal
 
 pub spell-requires : goal.spell-requires
-spell-requires c = (reading_fits c.args.text.now c.in_ok-object.object c.in_ok-object.ensures.few c.in_ok-object.ensures.reads).counts
+spell-requires c = (reading_fits c.args.text.now c.in_ok-object.object c.in_ok-object.ensures.few
+    c.in_ok-object.ensures.reads).counts
 
 pub returns-in-Ok-over-clause-reads : goal.returns-in-Ok-over-clause-reads
 returns-in-Ok-over-clause-reads c = (
@@ -21,7 +22,8 @@ pub returns-in-Ok-over-clause-lawful : goal.returns-in-Ok-over-clause-lawful
 returns-in-Ok-over-clause-lawful c =
     let object = c.in_ok-object.object in
     let bytes = c.as_slice.ensures.value ∙ c.in-Ok.ensures in
-    let is = ap object_of bytes ∙ fitting_read Second object (reading_fits c.args.text.now object c.in_ok-object.ensures.few c.in_ok-object.ensures.reads) in
+    let is = ap object_of bytes ∙ fitting_read Second object
+    (reading_fits c.args.text.now object c.in_ok-object.ensures.few c.in_ok-object.ensures.reads) in
     subst IsSpellable (ap object_of c.in-Ok-over.ensures.seen ∙ is) c.in-Ok-over.ensures.spelled.spellable
 
 pub returns-in-Err-clause-refused : goal.returns-in-Err-clause-refused
@@ -33,4 +35,5 @@ returns-in-Err-clause-refused c = (
 )
 
 pub returns-in_err-object-clause-refused : goal.returns-in_err-object-clause-refused
-returns-in_err-object-clause-refused c = passed_on c.args.text.now c.from_residual.result _ c.from_residual.ensures.1 c.in_err-object.ensures.refused
+returns-in_err-object-clause-refused c = passed_on c.args.text.now c.from_residual.result _ c.from_residual.ensures.1
+    c.in_err-object.ensures.refused

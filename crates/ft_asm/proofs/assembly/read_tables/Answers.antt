@@ -19,16 +19,22 @@ returns-in-Bad-clause-refused c =
     let r = c.loop-line.invariant.read in
     let d = r.3.0 in
     let t = subst (λ k. Turns k c.take_line.new.draft d c.in-Some.line.now) c.in-Bad.is (c.in-Ok.ensures d r.3.1) in
-    let split = r.1 ∙ ap (λ ls. r.0 ++ ls) c.in-Some.ensures.0 in
-    (c.loop-line.invariant.few, bad_line c.args.text.now c.loop-line.number r.0 (lines_of c.in-Some.after.now) c.in-Some.line.now split r.2 d r.3.2 t.0 t.1)
+    let split = r.1 ∙ ap (λ ls. r.0 ++ ls) c.in-Some.ensures.0 in (
+      c.loop-line.invariant.few,
+      bad_line c.args.text.now c.loop-line.number r.0 (lines_of c.in-Some.after.now)
+          c.in-Some.line.now split r.2 d r.3.2 t.0 t.1,
+    )
 
 pub returns-in-Stuck-clause-refused : goal.returns-in-Stuck-clause-refused
 returns-in-Stuck-clause-refused c =
     let r = c.loop-line.invariant.read in
     let d = r.3.0 in
     let t = subst (λ k. Turns k c.take_line.new.draft d c.in-Some.line.now) c.in-Stuck.is (c.in-Ok.ensures d r.3.1) in
-    let split = r.1 ∙ ap (λ ls. r.0 ++ ls) c.in-Some.ensures.0 in
-    (c.loop-line.invariant.few, inl (stuck_line c.args.text.now c.loop-line.number r.0 (lines_of c.in-Some.after.now) c.in-Some.line.now split r.2 d r.3.2 t.1 t.0 t.2 t.3))
+    let split = r.1 ∙ ap (λ ls. r.0 ++ ls) c.in-Some.ensures.0 in (
+      c.loop-line.invariant.few,
+      inl (stuck_line c.args.text.now c.loop-line.number r.0 (lines_of c.in-Some.after.now)
+          c.in-Some.line.now split r.2 d r.3.2 t.1 t.0 t.2 t.3),
+    )
 
 pub loop-line-preserved : goal.loop-line-preserved
 loop-line-preserved c =
@@ -57,11 +63,16 @@ returns-in-Some-finish-clause-reads c =
     let r = c.loop-line.invariant.read in
     let d = r.3.0 in
     let all = all_read c.args.text.now c.loop-line.rest.now r.0 r.1 c.in_default.ensures in
-    ends_reads c.args.text.now c.in-Some-finish.object d (subst (λ ls. Lead ls d) (sym all) r.3.2) (c.in-Some-finish.ensures d r.3.1)
+    ends_reads c.args.text.now c.in-Some-finish.object d (subst (λ ls. Lead ls d) (sym all) r.3.2)
+    (c.in-Some-finish.ensures d r.3.1)
 
 pub returns-in-None-clause-refused : goal.returns-in-None-clause-refused
 returns-in-None-clause-refused c =
     let r = c.loop-line.invariant.read in
     let d = r.3.0 in
-    let all = all_read c.args.text.now c.loop-line.rest.now r.0 r.1 c.in_default.ensures in
-    (c.loop-line.invariant.few, inr (ends_lacks c.args.text.now c.loop-line.number d (r.2 ∙ ap (λ ls. suc (length ls)) (sym all)) (subst (λ ls. Lead ls d) (sym all) r.3.2) (c.in-None.ensures d r.3.1)))
+    let all = all_read c.args.text.now c.loop-line.rest.now r.0 r.1 c.in_default.ensures in (
+      c.loop-line.invariant.few,
+      inr (ends_lacks c.args.text.now c.loop-line.number d (r.2
+          ∙ ap (λ ls. suc (length ls)) (sym all)) (subst (λ ls. Lead ls d) (sym all) r.3.2)
+          (c.in-None.ensures d r.3.1)),
+    )

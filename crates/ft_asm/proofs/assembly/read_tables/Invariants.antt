@@ -7,7 +7,8 @@ use Rattle.ft_asm.proofs.assembly.read_tables.Given as goal
 
 abbrev pub invariant-loop-line : goal.invariant-loop-line
 invariant-loop-line l = record {
-  read : (before : List (List ℕ)) × (lines_of l.fn.text ≡ before ++ lines_of l.rest) × (l.number ≡ suc (length before)) × ((d : drafts.Draft) × Holds l.draft d × Lead before d);
+  read : (before : List (List ℕ)) × (lines_of l.fn.text ≡ before ++ lines_of l.rest) × (l.number ≡ suc (length before))
+      × ((d : drafts.Draft) × Holds l.draft d × Lead before d);
   room : l.number + length l.rest ≤ 134217729;
   few : length l.fn.text ≤ 134217728;
 }

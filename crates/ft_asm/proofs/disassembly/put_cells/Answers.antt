@@ -11,7 +11,8 @@ pub loop-k-preserved : goal.loop-k-preserved
 loop-k-preserved g c =
     let all = (g.P.Program.object c.args.program.now).cells in
     let is = cell_at all c.loop-k.k c.cell-head.result c.name.result.now c.cell-head.ensures c.name.ensures in
-    line_goes cell_text all c.loop-k.k _ c.loop-k.out.items c.put_cell.new.out.items _ is c.in_ok-put_cell.ensures c.loop-k.invariant
+    line_goes cell_text all c.loop-k.k _ c.loop-k.out.items c.put_cell.new.out.items _ is c.in_ok-put_cell.ensures
+    c.loop-k.invariant
 
 pub returns : goal.returns
 returns g c =

@@ -9,8 +9,10 @@ loop-n-init g c = refl
 pub loop-n-preserved : goal.loop-n-preserved
 loop-n-preserved g c =
     let all = (g.P.Program.object c.args.program.now).nodes in
-    let is : slice_get all c.loop-n.n ≡ Some c.node.result = subst (λ ns. slice_get ns c.loop-n.n ≡ Some c.node.result) (g.met.P.Program.nodes_are c.args.program.now) c.node.ensures in
-    line_goes node_text all c.loop-n.n c.node.result c.loop-n.out.items c.put_node.new.out.items _ is c.in_ok-put_node.ensures c.loop-n.invariant
+    let is : slice_get all c.loop-n.n ≡ Some c.node.result = subst (λ ns. slice_get ns c.loop-n.n
+    ≡ Some c.node.result) (g.met.P.Program.nodes_are c.args.program.now) c.node.ensures in
+    line_goes node_text all c.loop-n.n c.node.result c.loop-n.out.items c.put_node.new.out.items _ is
+    c.in_ok-put_node.ensures c.loop-n.invariant
 
 pub returns : goal.returns
 returns g c =

@@ -13,7 +13,8 @@ loop-b-preserved g c =
     let before = c.loop-b-test.true in
     let lt : c.loop-b.b < length o.blocks = omega arith in
     let x = there_below o.blocks c.loop-b.b lt in
-    part_goes o c.loop-b.b x.0 c.loop-b.out.items c.put_part.new.out.items _ x.1 (c.in_ok-put_part.ensures x.0 x.1) c.loop-b.invariant
+    part_goes o c.loop-b.b x.0 c.loop-b.out.items c.put_part.new.out.items _ x.1 (c.in_ok-put_part.ensures x.0 x.1)
+    c.loop-b.invariant
 
 pub returns : goal.returns
 returns g c =

@@ -6,5 +6,7 @@ use Rattle.ft_asm.proofs.disassembly.put_parts.Given as goal
 
 abbrev pub invariant-loop-b : goal.invariant-loop-b
 invariant-loop-b g l =
-    l.out.items ++ flat_map part_text (parts_of (g.P.Program.object l.fn.program).instrs (g.P.Program.object l.fn.program).substs (drop l.b (g.P.Program.object l.fn.program).blocks))
-    ≡ l.fn.out.items ++ flat_map part_text (parts_of (g.P.Program.object l.fn.program).instrs (g.P.Program.object l.fn.program).substs (g.P.Program.object l.fn.program).blocks)
+    l.out.items ++ flat_map part_text (parts_of (g.P.Program.object l.fn.program).instrs
+    (g.P.Program.object l.fn.program).substs (drop l.b (g.P.Program.object l.fn.program).blocks))
+    ≡ l.fn.out.items ++ flat_map part_text (parts_of (g.P.Program.object l.fn.program).instrs
+    (g.P.Program.object l.fn.program).substs (g.P.Program.object l.fn.program).blocks)

@@ -9,7 +9,9 @@ loop-j-init g c = refl
 
 pub loop-j-preserved : goal.loop-j-preserved
 loop-j-preserved g c =
-    line_goes pend_text (queue_rows (g.P.Program.object c.args.program.now) c.args.t) c.loop-j.j c.queue_row-address.result c.loop-j.out.items c.put_pend.new.out.items _ c.queue_row-address.ensures c.in_ok-put_pend.ensures c.loop-j.invariant
+    line_goes pend_text (queue_rows (g.P.Program.object c.args.program.now) c.args.t) c.loop-j.j
+    c.queue_row-address.result c.loop-j.out.items c.put_pend.new.out.items _ c.queue_row-address.ensures
+    c.in_ok-put_pend.ensures c.loop-j.invariant
 
 pub returns : goal.returns
 returns g c =

@@ -9,7 +9,8 @@ loop-j-init g c = refl
 
 pub loop-j-preserved : goal.loop-j-preserved
 loop-j-preserved g c =
-    line_goes reg_text (reg_rows (g.P.Program.object c.args.program.now) c.args.t) c.loop-j.j c.reg_row.result c.loop-j.out.items c.put_reg_row.new.out.items _ c.reg_row.ensures c.in_ok-put_reg_row.ensures c.loop-j.invariant
+    line_goes reg_text (reg_rows (g.P.Program.object c.args.program.now) c.args.t) c.loop-j.j c.reg_row.result
+    c.loop-j.out.items c.put_reg_row.new.out.items _ c.reg_row.ensures c.in_ok-put_reg_row.ensures c.loop-j.invariant
 
 pub returns : goal.returns
 returns g c =

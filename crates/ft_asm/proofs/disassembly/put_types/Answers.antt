@@ -14,7 +14,8 @@ loop-t-preserved g c =
     let before = c.loop-t-test.true in
     let lt : c.loop-t.t < length all = omega arith in
     let u = there_below all c.loop-t.t lt in
-    line_goes type_text all c.loop-t.t u.0 c.loop-t.out.items c.put_code_type.new.out.items _ u.1 (c.in_ok-put_code_type.ensures u.0 u.1) c.loop-t.invariant
+    line_goes type_text all c.loop-t.t u.0 c.loop-t.out.items c.put_code_type.new.out.items _ u.1
+    (c.in_ok-put_code_type.ensures u.0 u.1) c.loop-t.invariant
 
 pub returns : goal.returns
 returns g c =

@@ -15,7 +15,8 @@ returns-in-Some-first_blank-clause-words c =
     let rest = take_rest text start in
     let w = begins_word text start at in
     from_word text start at ∙ ap words_of (sym rest)
-    ∙ word_ends (take (length text - start) (drop start text)) w.0 w.1 c.in-Some-first_blank.end (rest ∙ w.2) w.3 (sym c.first_blank.ensures ∙ c.in-Some-first_blank.is)
+    ∙ word_ends (take (length text - start) (drop start text)) w.0 w.1 c.in-Some-first_blank.end (rest
+    ∙ w.2) w.3 (sym c.first_blank.ensures ∙ c.in-Some-first_blank.is)
 
 pub returns-in-None-clause-words : goal.returns-in-None-clause-words
 returns-in-None-clause-words c =
@@ -25,4 +26,5 @@ returns-in-None-clause-words c =
     let rest = take_rest text start in
     let w = begins_word text start at in
     from_word text start at ∙ ap words_of (sym rest)
-    ∙ word_only (take (length text - start) (drop start text)) w.0 w.1 (rest ∙ w.2) (sym c.first_blank.ensures ∙ c.in-None.is)
+    ∙ word_only (take (length text - start) (drop start text)) w.0 w.1 (rest ∙ w.2) (sym c.first_blank.ensures
+    ∙ c.in-None.is)

@@ -3,4 +3,5 @@ use Rattle.ft_asm.specs.Lines.{refs_word, basic_word}
 use Rattle.ft_asm.proofs.writing.put_basic.Given as goal
 
 abbrev pub invariant-loop : goal.invariant-loop
-invariant-loop l = l.out.items ++ refs_word (l.basic.refs - l.counter) l.basic.base ≡ l.fn.out.items ++ basic_word l.basic
+invariant-loop l = l.out.items ++ refs_word (l.basic.refs - l.counter) l.basic.base ≡ l.fn.out.items
+    ++ basic_word l.basic

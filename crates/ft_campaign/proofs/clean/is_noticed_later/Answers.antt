@@ -13,6 +13,8 @@ returns c =
     let xs = c.args.outputs.now in
     let a = all_after c.args.at xs in
     let b = all_after c.args.from xs in
-    let h = prefix_decides (take (length xs - c.args.at) (drop c.args.at xs)) (take (length xs - c.args.from) (drop c.args.from xs)) c.starts_with.result c.starts_with.ensures.value in
+    let h = prefix_decides (take (length xs - c.args.at) (drop c.args.at xs))
+    (take (length xs - c.args.from) (drop c.args.from xs)) c.starts_with.result c.starts_with.ensures.value in
     subst (λ (front : List Output). Decides c.starts_with.result (IsPrefix front (drop c.args.at xs))) b
-    (subst (λ (all : List Output). Decides c.starts_with.result (IsPrefix (take (length xs - c.args.from) (drop c.args.from xs)) all)) a h)
+    (subst (λ (all : List Output). Decides c.starts_with.result
+    (IsPrefix (take (length xs - c.args.from) (drop c.args.from xs)) all)) a h)

@@ -8,7 +8,8 @@ use Rattle.ft_campaign.proofs.Keeping.{snapshots_more}
 use Rattle.ft_campaign.proofs.clean_run.keep_snapshot.Goals as goal
 
 pub snapshot_of-requires-clause-cells : goal.snapshot_of-requires-clause-cells
-snapshot_of-requires-clause-cells g c = (λ a. ap (λ (q : State). is_cell q.cells a) c.requires.machine ∙ run_has_cells (g.P.Program.object c.args.program.now) None c.args.wild.now c.args.k a)
+snapshot_of-requires-clause-cells g c = (λ a. ap (λ (q : State). is_cell q.cells a) c.requires.machine
+    ∙ run_has_cells (g.P.Program.object c.args.program.now) None c.args.wild.now c.args.k a)
 
 pub returns : goal.returns
 returns g c =
@@ -16,5 +17,11 @@ returns g c =
     let ok : is_ok c.push.result ≡ true = sym c.map_err.ensures.variant ∙ ap is_ok c.in_ok-map_err.was in
     let pushed = c.push.ensures.items ∙ cond-true _ _ _ ok in
     subst (λ (xs : List Snapshot). AreSnapshots o c.args.wild.now (c.args.k + 1) xs) (sym pushed)
-    (snapshots_more o c.args.wild.now c.args.k c.args.snapshots.now.items c.in_ok-snapshot.snapshot c.requires.snapshots (omega (arith, c.len-kept.ensures, c.if-k-kept.false))
-    (record { state = c.in_ok-snapshot.ensures.machine ∙ c.requires.machine; wild = c.in_ok-snapshot.ensures.wild ∙ c.requires.left; count = c.in_ok-snapshot.ensures.count ∙ c.requires.count }))
+    (snapshots_more o c.args.wild.now c.args.k c.args.snapshots.now.items c.in_ok-snapshot.snapshot c.requires.snapshots
+    (omega (arith, c.len-kept.ensures, c.if-k-kept.false))
+    (record {
+      state = c.in_ok-snapshot.ensures.machine ∙ c.requires.machine;
+      wild = c.in_ok-snapshot.ensures.wild
+          ∙ c.requires.left;
+      count = c.in_ok-snapshot.ensures.count ∙ c.requires.count;
+    }))

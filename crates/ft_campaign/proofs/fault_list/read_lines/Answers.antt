@@ -17,8 +17,10 @@ returns-then-len-eq-LINE_LIMIT-clause-err c =
       record {
         before = done.0;
         line = c.in-Some.line.now;
-        goes_on = goes_on _ done.0 _ c.loop-line.faults.items c.in-Some.line.now (lines_of c.in-Some.after.now) done.1 c.in-Some.ensures.0 done.2;
-        counted = (let long = AllZip-long IsStrikeText done.0 c.loop-line.faults.items done.2 in omega (arith, long, c.loop-line.faults.ok.0));
+        goes_on = goes_on _ done.0 _ c.loop-line.faults.items c.in-Some.line.now (lines_of c.in-Some.after.now) done.1
+            c.in-Some.ensures.0 done.2;
+        counted = (let long = AllZip-long IsStrikeText done.0 c.loop-line.faults.items done.2 in
+            omega (arith, long, c.loop-line.faults.ok.0));
       },
     )
 
@@ -30,7 +32,8 @@ returns-in_default-read_strike-clause-err c =
       record {
         before = done.0;
         line = c.in-Some.line.now;
-        goes_on = goes_on _ done.0 _ c.loop-line.faults.items c.in-Some.line.now (lines_of c.in-Some.after.now) done.1 c.in-Some.ensures.0 done.2;
+        goes_on = goes_on _ done.0 _ c.loop-line.faults.items c.in-Some.line.now (lines_of c.in-Some.after.now) done.1
+            c.in-Some.ensures.0 done.2;
         bad = c.in_default-read_strike.ensures.err.none;
         counted = omega (arith, long, c.loop-line.faults.ok.0);
         early = omega (arith, long, c.loop-line.faults.ok.0, c.loop-line.invariant.few);
@@ -41,9 +44,12 @@ pub loop-line-preserved : goal.loop-line-preserved
 loop-line-preserved c =
     let done = c.loop-line.invariant.lines in
     let ok : is_ok c.push.result ≡ true = sym c.map_err.ensures.variant ∙ ap is_ok c.in_ok-map_err.was in
-    let pushed : c.push.new.self.items ≡ c.loop-line.faults.items ++ c.in-Ok.strike ∷ [] = c.push.ensures.items ∙ cond-true _ _ _ ok in
-    let more = read_more (lines_of c.args.bytes.now) done.0 _ c.loop-line.faults.items c.in-Some.line.now (lines_of c.in-Some.after.now) c.in-Ok.strike done.1 c.in-Some.ensures.0 done.2 c.in-Ok.ensures.ok in
+    let pushed : c.push.new.self.items ≡ c.loop-line.faults.items ++ c.in-Ok.strike ∷ [] = c.push.ensures.items
+    ∙ cond-true _ _ _ ok in
+    let more = read_more (lines_of c.args.bytes.now) done.0 _ c.loop-line.faults.items c.in-Some.line.now
+    (lines_of c.in-Some.after.now) c.in-Ok.strike done.1 c.in-Some.ensures.0 done.2 c.in-Ok.ensures.ok in
     record {
       lines = (more.0, more.1, subst (λ (xs : List Strike). AreStrikeTexts more.0 xs) (sym pushed) more.2);
-      few = (let long = ap length pushed ∙ length-append c.loop-line.faults.items (c.in-Ok.strike ∷ []) in omega (arith, long, c.loop-line.faults.ok.0, c.loop-line.invariant.few));
+      few = (let long = ap length pushed ∙ length-append c.loop-line.faults.items (c.in-Ok.strike ∷ []) in
+          omega (arith, long, c.loop-line.faults.ok.0, c.loop-line.invariant.few));
     }

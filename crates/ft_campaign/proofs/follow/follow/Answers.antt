@@ -10,6 +10,8 @@ returns-clause-follows g c =
     let gone = c.go-gone in
     let whole = c.args.expected.now.whole.now in
     let at = c.args.expected.now.at in
-    subst (λ (how : How). Follows o c.args.machine.now c.args.wild.now gone.new.self gone.new.wild whole at gone.new.outlet.at c.args.number (record { done = gone.result.taken; how = how })) (sym c.how_of.ensures)
-    (follows_so _ o c.args.machine.now gone.new.self c.args.wild.now gone.new.wild _ _ gone.result.taken c.args.number whole at gone.new.outlet.at gone.ensures.few
+    subst (λ (how : How). Follows o c.args.machine.now c.args.wild.now gone.new.self gone.new.wild whole at
+    gone.new.outlet.at c.args.number (record { done = gone.result.taken; how = how })) (sym c.how_of.ensures)
+    (follows_so _ o c.args.machine.now gone.new.self c.args.wild.now gone.new.wild _ _ gone.result.taken c.args.number
+    whole at gone.new.outlet.at gone.ensures.few
     gone.result.pause gone.ensures.goes (gone.ensures.heard.1 c.requires.within) gone.ensures.all gone.ensures.early)

@@ -7,7 +7,8 @@ use Rattle.ft_campaign.proofs.report.report.Goals as goal
 pub returns-in_err-put_verdicts : goal.returns-in_err-put_verdicts
 returns-in_err-put_verdicts g c =
     puts_failed c.from_residual.result _ _ _ c.from_residual.ensures.0
-    (breaks_before (verdict_lines c.args.faults.now c.args.verdicts.now) (end_line (length c.args.faults.now) (totals_of c.args.verdicts.now) ∷ []) _ _ c.in_err-put_verdicts.ensures)
+    (breaks_before (verdict_lines c.args.faults.now c.args.verdicts.now)
+    (end_line (length c.args.faults.now) (totals_of c.args.verdicts.now) ∷ []) _ _ c.in_err-put_verdicts.ensures)
 
 pub returns : goal.returns
 returns g c =
@@ -15,5 +16,7 @@ returns g c =
     let mid = g.K.Sink.log c.put_verdicts.new.out in
     let new = g.K.Sink.log c.put_line.new.out in
     let line = c.as_bytes.ensures ∙ c.end_line.ensures ∙ ap (end_line (length c.args.faults.now)) c.requires.totals in
-    puts_then (end_of_puts r) (verdict_lines c.args.faults.now c.args.verdicts.now) (end_line (length c.args.faults.now) (totals_of c.args.verdicts.now) ∷ []) _ mid new
-    (made_by r) c.in_ok-put_verdicts.ensures (subst (λ (l : List ℕ). Puts (end_of_puts r) (l ∷ []) mid new) line c.put_line.ensures)
+    puts_then (end_of_puts r) (verdict_lines c.args.faults.now c.args.verdicts.now)
+    (end_line (length c.args.faults.now) (totals_of c.args.verdicts.now) ∷ []) _ mid new
+    (made_by r) c.in_ok-put_verdicts.ensures (subst (λ (l : List ℕ). Puts (end_of_puts r) (l ∷ []) mid new) line
+    c.put_line.ensures)

@@ -1,4 +1,5 @@
-use Rattle.std.proofs.Common.{◌≡◌, ◌≤◌, ◌-◌, ◌+◌, ℕ, suc, length, slice_range, Option, sym, subst, ap, ◌∙◌, arith, Some, take}
+use Rattle.std.proofs.Common.{◌≡◌, ◌≤◌, ◌-◌, ◌+◌, ℕ, suc, length, slice_range, Option, sym, subst, ap, ◌∙◌, arith, Some}
+use Rattle.std.proofs.Common.{take}
 use Rattle.std.specs.Option.{option_map}
 use Rattle.ft_typing.specs.Accepted.{walk, Refusal, Refused as refused_at}
 use Rattle.ft_typing.specs.Premise.{Premise}
@@ -18,7 +19,8 @@ use Rattle.ft_checker.proofs.blocks.check_block.Goals as goal
 
 pub instr-instr-requires : goal.instr-instr-requires
 instr-instr-requires g c =
-    let e = block_ends (g.P.Program.object c.args.program.now) c.args.b c.block-block.result c.requires.spellable c.block-block.ensures in
+    let e = block_ends (g.P.Program.object c.args.program.now) c.args.b c.block-block.result c.requires.spellable
+    c.block-block.ensures in
     let p = c.end_of-past.ensures in
     let l = e.1 in
     omega arith
@@ -31,7 +33,9 @@ loop-i-init g c =
     let o = g.P.Program.object c.args.program.now in
     let fs = c.args.forms.now in
     let same : c.copy_from.new.self ≡ c.args.start.now.context = c.in_ok-copy_from.ensures in
-    let k : context_in fs c.copy_from.new.self ≡ start_context o c.block-block.result.code_type = ap (context_in fs) same ∙ (c.requires.start.context ∙ ap (start_context o) (c.requires.code_type c.block-block.result c.block-block.ensures)) in
+    let k : context_in fs c.copy_from.new.self ≡ start_context o c.block-block.result.code_type =
+    ap (context_in fs) same ∙ (c.requires.start.context
+    ∙ ap (start_context o) (c.requires.code_type c.block-block.result c.block-block.ensures)) in
     let m = ap (λ (x : Context). updates (context_in fs x).memory) same in
     let q = ap (λ (x : Context). length (context_in fs x).queue) same in
     let n = length-map c.args.start.now.context.queue (pair_in fs) in
@@ -44,7 +48,8 @@ loop-i-init g c =
       queue = omega (arith, n, q, c.requires.start.pending);
       memory = omega (arith, m, c.requires.start.count);
       steps = omega arith;
-      left = walk_begins o c.args.b c.block-block.result c.end_of-past.result _ _ c.block-block.ensures c.end_of-past.ensures k (omega arith);
+      left = walk_begins o c.args.b c.block-block.result c.end_of-past.result _ _ c.block-block.ensures
+          c.end_of-past.ensures k (omega arith);
     }
 
 pub loop-i-preserved : goal.loop-i-preserved
@@ -56,7 +61,8 @@ loop-i-preserved g c =
     let past = c.end_of-past.ensures in
     let within : c.end_of-past.result ≤ length o.instrs = (let l = ends.1 in omega arith) in
     let left = none_left o.instrs (c.loop-i.i + 1) c.end_of-past.result (omega arith) within in
-    let there = walk_there o (context_in c.loop-i.forms c.loop-i.context) k o.instrs c.loop-i.i c.end_of-past.result c.instr-instr.result c.loop-i-test.true c.instr-instr.ensures in
+    let there = walk_there o (context_in c.loop-i.forms c.loop-i.context) k o.instrs c.loop-i.i c.end_of-past.result
+    c.instr-instr.result c.loop-i-test.true c.instr-instr.ensures in
     let whole = sym there ∙ c.loop-i.invariant.left in
     let goes = rw c.if-ended.false at (c.in-Ok.ensures.turns k others (λ d. walk o d (suc k) others) left) in
     let n : c.loop-i.i + 1 - c.block-block.result.start ≡ suc k = omega arith in
@@ -64,7 +70,8 @@ loop-i-preserved g c =
     let sends = block_ends so c.args.b c.block-block.result c.requires.spellable c.block-block.ensures in
     let spast = c.end_of-past.ensures in
     let slast = sends.1 in
-    let sw = rule_within so (context_in c.loop-i.forms c.loop-i.context) c.instr-instr.result (omega (arith, c.loop-i.invariant.memory, c.loop-i-test.true, spast, slast)) c.loop-i.invariant.queue in
+    let sw = rule_within so (context_in c.loop-i.forms c.loop-i.context) c.instr-instr.result
+    (omega (arith, c.loop-i.invariant.memory, c.loop-i-test.true, spast, slast)) c.loop-i.invariant.queue in
     let sm = cost_more so so.instrs c.loop-i.i c.instr-instr.result c.instr-instr.ensures in
     record {
       from = omega (arith, c.loop-i.invariant.from);
@@ -90,11 +97,13 @@ returns-in-Err-clause-judged g c = λ x f.
     let past = c.end_of-past.ensures in
     let within : c.end_of-past.result ≤ length o.instrs = (let l = ends.1 in omega arith) in
     let left = none_left o.instrs (c.loop-i.i + 1) c.end_of-past.result (omega arith) within in
-    let there = walk_there o (context_in c.loop-i.forms c.loop-i.context) k o.instrs c.loop-i.i c.end_of-past.result c.instr-instr.result c.loop-i-test.true c.instr-instr.ensures in
+    let there = walk_there o (context_in c.loop-i.forms c.loop-i.context) k o.instrs c.loop-i.i c.end_of-past.result
+    c.instr-instr.result c.loop-i-test.true c.instr-instr.ensures in
     let whole = sym there ∙ c.loop-i.invariant.left in
     let stops = c.in-Err.ensures.turns k others (λ d. walk o d (suc k) others) left in
     let at = subst (λ (w : Option (ℕ × Premise)). StopsAt w k c.in-Err.error) whole stops in
-    subst (λ (w : Option Refusal). IsRefusalOf w c.refused.result) (sym (block_walk o c.args.b x c.block-block.result f c.block-block.ensures)) (c.refused.ensures _ at)
+    subst (λ (w : Option Refusal). IsRefusalOf w c.refused.result)
+    (sym (block_walk o c.args.b x c.block-block.result f c.block-block.ensures)) (c.refused.ensures _ at)
 
 pub returns-then-ended-clause-judged : goal.returns-then-ended-clause-judged
 returns-then-ended-clause-judged g c = λ x f.
@@ -105,10 +114,12 @@ returns-then-ended-clause-judged g c = λ x f.
     let past = c.end_of-past.ensures in
     let within : c.end_of-past.result ≤ length o.instrs = (let l = ends.1 in omega arith) in
     let left = none_left o.instrs (c.loop-i.i + 1) c.end_of-past.result (omega arith) within in
-    let there = walk_there o (context_in c.loop-i.forms c.loop-i.context) k o.instrs c.loop-i.i c.end_of-past.result c.instr-instr.result c.loop-i-test.true c.instr-instr.ensures in
+    let there = walk_there o (context_in c.loop-i.forms c.loop-i.context) k o.instrs c.loop-i.i c.end_of-past.result
+    c.instr-instr.result c.loop-i-test.true c.instr-instr.ensures in
     let whole = sym there ∙ c.loop-i.invariant.left in
     let ended = rw c.if-ended.true at (c.in-Ok.ensures.turns k others (λ d. walk o d (suc k) others) left) in
-    block_walk o c.args.b x c.block-block.result f c.block-block.ensures ∙ ap (option_map (λ r. refused_at c.args.b r.0 r.1)) (sym whole ∙ ended)
+    block_walk o c.args.b x c.block-block.result f c.block-block.ensures
+    ∙ ap (option_map (λ r. refused_at c.args.b r.0 r.1)) (sym whole ∙ ended)
 
 pub returns-clause-judged : goal.returns-clause-judged
 returns-clause-judged g c = λ x f.
@@ -117,12 +128,16 @@ returns-clause-judged g c = λ x f.
     let past = c.end_of-past.ensures in
     let first = ends.0 in
     let n : c.loop-i.i - c.block-block.result.start ≡ c.end_of-past.result - c.block-block.result.start = omega arith in
-    let at = sym c.loop-i.invariant.left ∙ rw n (walk_past o (context_in c.loop-i.forms c.loop-i.context) (c.end_of-past.result - c.block-block.result.start) o.instrs c.loop-i.i c.end_of-past.result c.loop-i-test.false) in
-    subst (λ (w : Option Refusal). IsRefusalOf w c.refused-2.result) (sym (block_walk o c.args.b x c.block-block.result f c.block-block.ensures)) (c.refused-2.ensures _ at)
+    let at = sym c.loop-i.invariant.left ∙ rw n (walk_past o (context_in c.loop-i.forms c.loop-i.context)
+    (c.end_of-past.result - c.block-block.result.start) o.instrs c.loop-i.i c.end_of-past.result c.loop-i-test.false)
+    in
+    subst (λ (w : Option Refusal). IsRefusalOf w c.refused-2.result)
+    (sym (block_walk o c.args.b x c.block-block.result f c.block-block.ensures)) (c.refused-2.ensures _ at)
 
 pub overflow_sub-past : goal.overflow_sub-past
 overflow_sub-past g c =
-    let ends = block_ends (g.P.Program.object c.args.program.now) c.args.b c.block-block.result c.requires.spellable c.block-block.ensures in
+    let ends = block_ends (g.P.Program.object c.args.program.now) c.args.b c.block-block.result c.requires.spellable
+    c.block-block.ensures in
     let past = c.end_of-past.ensures in
     let first = ends.0 in
     omega arith
@@ -133,9 +148,11 @@ returns-in-Err-clause-steps g c = λ x f.
     let ends = block_ends so c.args.b c.block-block.result c.requires.spellable c.block-block.ensures in
     let past = c.end_of-past.ensures in
     let last = ends.1 in
-    let sw = rule_within so (context_in c.loop-i.forms c.loop-i.context) c.instr-instr.result (omega (arith, c.loop-i.invariant.memory, c.loop-i-test.true, past, last)) c.loop-i.invariant.queue in
+    let sw = rule_within so (context_in c.loop-i.forms c.loop-i.context) c.instr-instr.result
+    (omega (arith, c.loop-i.invariant.memory, c.loop-i-test.true, past, last)) c.loop-i.invariant.queue in
     let sm = cost_more so so.instrs c.loop-i.i c.instr-instr.result c.instr-instr.ensures in
-    let sb : x ≡ c.block-block.result = (let q : Some x ≡ Some c.block-block.result = sym f ∙ c.block-block.ensures in cc) in
+    let sb : x ≡ c.block-block.result = (let q : Some x ≡ Some c.block-block.result = sym f ∙ c.block-block.ensures in
+    cc) in
     let ss = ap (λ (y : Block). instrs_cost so (take y.start so.instrs)) sb in
     let sp = ap (λ (n : ℕ). instrs_cost so (take n so.instrs)) past in
     let sr = cost_rises so so.instrs (c.loop-i.i + 1) c.end_of-past.result (omega (arith, c.loop-i-test.true)) in
@@ -147,9 +164,11 @@ returns-then-ended-clause-steps g c = λ x f.
     let ends = block_ends so c.args.b c.block-block.result c.requires.spellable c.block-block.ensures in
     let past = c.end_of-past.ensures in
     let last = ends.1 in
-    let sw = rule_within so (context_in c.loop-i.forms c.loop-i.context) c.instr-instr.result (omega (arith, c.loop-i.invariant.memory, c.loop-i-test.true, past, last)) c.loop-i.invariant.queue in
+    let sw = rule_within so (context_in c.loop-i.forms c.loop-i.context) c.instr-instr.result
+    (omega (arith, c.loop-i.invariant.memory, c.loop-i-test.true, past, last)) c.loop-i.invariant.queue in
     let sm = cost_more so so.instrs c.loop-i.i c.instr-instr.result c.instr-instr.ensures in
-    let sb : x ≡ c.block-block.result = (let q : Some x ≡ Some c.block-block.result = sym f ∙ c.block-block.ensures in cc) in
+    let sb : x ≡ c.block-block.result = (let q : Some x ≡ Some c.block-block.result = sym f ∙ c.block-block.ensures in
+    cc) in
     let ss = ap (λ (y : Block). instrs_cost so (take y.start so.instrs)) sb in
     let sp = ap (λ (n : ℕ). instrs_cost so (take n so.instrs)) past in
     let sr = cost_rises so so.instrs (c.loop-i.i + 1) c.end_of-past.result (omega (arith, c.loop-i-test.true)) in
@@ -160,7 +179,8 @@ returns-clause-steps g c = λ x f.
     let so = g.P.Program.object c.args.program.now in
     let ends = block_ends so c.args.b c.block-block.result c.requires.spellable c.block-block.ensures in
     let past = c.end_of-past.ensures in
-    let sb : x ≡ c.block-block.result = (let q : Some x ≡ Some c.block-block.result = sym f ∙ c.block-block.ensures in cc) in
+    let sb : x ≡ c.block-block.result = (let q : Some x ≡ Some c.block-block.result = sym f ∙ c.block-block.ensures in
+    cc) in
     let ss = ap (λ (y : Block). instrs_cost so (take y.start so.instrs)) sb in
     let sp = ap (λ (n : ℕ). instrs_cost so (take n so.instrs)) past in
     let sr = cost_rises so so.instrs c.loop-i.i c.end_of-past.result (omega (arith, c.loop-i.auto.i-end, ends.0)) in
@@ -171,7 +191,8 @@ returns-in_err-copy_from-clause-steps g c = λ x f.
     let so = g.P.Program.object c.args.program.now in
     let ends = block_ends so c.args.b c.block-block.result c.requires.spellable c.block-block.ensures in
     let past = c.end_of-past.ensures in
-    let sb : x ≡ c.block-block.result = (let q : Some x ≡ Some c.block-block.result = sym f ∙ c.block-block.ensures in cc) in
+    let sb : x ≡ c.block-block.result = (let q : Some x ≡ Some c.block-block.result = sym f ∙ c.block-block.ensures in
+    cc) in
     let ss = ap (λ (y : Block). instrs_cost so (take y.start so.instrs)) sb in
     let sp = ap (λ (n : ℕ). instrs_cost so (take n so.instrs)) past in
     let sr = cost_rises so so.instrs c.block-block.result.start c.end_of-past.result (omega (arith, past, ends.0)) in

@@ -18,5 +18,6 @@ invariant-loop-i g l = let o = g.P.Program.object l.program in record {
   queue : length (context_in l.forms l.context).queue ≤ 8;
   memory : updates (context_in l.forms l.context).memory ≤ length o.nodes + l.i;
   steps : l.steps + instrs_cost o (take l.block.start o.instrs) ≤ l.fn.steps + instrs_cost o (take l.i o.instrs);
-  left : walk o (context_in l.forms l.context) (l.i - l.block.start) (slice_range o.instrs l.i l.past) ≡ walk o (start_context o l.block.code_type) 0 (block_instrs o l.b);
+  left : walk o (context_in l.forms l.context) (l.i - l.block.start) (slice_range o.instrs l.i l.past)
+      ≡ walk o (start_context o l.block.code_type) 0 (block_instrs o l.b);
 }

@@ -3,4 +3,5 @@ use Rattle.ft_compile.proofs.Turns.{green_more}
 use Rattle.ft_compile.proofs.code_types.put_green.Goals as goal
 
 pub loop-i-preserved : goal.loop-i-preserved
-loop-i-preserved c = green_more _ _ _ _ _ _ c.in_ok-push.ensures.items c.loop-i.invariant c.green_register.ensures (omega (arith, c.from.ensures))
+loop-i-preserved c = green_more _ _ _ _ _ _ c.in_ok-push.ensures.items c.loop-i.invariant c.green_register.ensures
+    (omega (arith, c.from.ensures))

@@ -11,23 +11,29 @@ few_of : (n : ℕ) → n < 32 → n ≤ 32
 few_of n lt = omega arith
 
 pub duplicate-requires : goal.duplicate-requires
-duplicate-requires c = shape_of_well c.in_ok-flow.flow.vars c.in_ok-flow.flow.cells (blocks_of c.in_ok-flow.flow) c.in_ok-flow.ensures.well
+duplicate-requires c = shape_of_well c.in_ok-flow.flow.vars c.in_ok-flow.flow.cells (blocks_of c.in_ok-flow.flow)
+    c.in_ok-flow.ensures.well
 
 pub returns-clause-stands : goal.returns-clause-stands
 returns-clause-stands c =
     let f = c.in_ok-flow.flow in
     let h = c.in_ok-flow.ensures in
-    stands (program_of c.args.prog.now) c.in_ok-object.object f.vars f.cells (blocks_of f) c.requires (few_of c.in_ok-flow.flow.vars h.few) h.well h.cells h.light h.runs (c.in_ok-code.ensures.runs h.well) c.in_ok-object.ensures
+    stands (program_of c.args.prog.now) c.in_ok-object.object f.vars f.cells (blocks_of f) c.requires
+    (few_of c.in_ok-flow.flow.vars h.few) h.well h.cells h.light h.runs (c.in_ok-code.ensures.runs h.well)
+    c.in_ok-object.ensures
 
 pub returns-clause-emitted : goal.returns-clause-emitted
 returns-clause-emitted c =
     let f = c.in_ok-flow.flow in
     let h = c.in_ok-flow.ensures in
-    emits (program_of c.args.prog.now) c.in_ok-object.object f.vars f.cells (blocks_of f) (few_of c.in_ok-flow.flow.vars h.few) h.well h.vars h.cells h.runs h.light h.pairs c.in_ok-object.ensures
+    emits (program_of c.args.prog.now) c.in_ok-object.object f.vars f.cells (blocks_of f)
+    (few_of c.in_ok-flow.flow.vars h.few) h.well h.vars h.cells h.runs h.light h.pairs c.in_ok-object.ensures
 
 pub returns-clause-joins : goal.returns-clause-joins
 returns-clause-joins c =
     let p = program_of c.args.prog.now in
     let f = c.in_ok-flow.flow in
     let h = c.in_ok-flow.ensures in
-    module_of_flow p c.in_ok-object.object c.requires (emits p c.in_ok-object.object f.vars f.cells (blocks_of f) (few_of c.in_ok-flow.flow.vars h.few) h.well h.vars h.cells h.runs h.light h.pairs c.in_ok-object.ensures)
+    module_of_flow p c.in_ok-object.object c.requires
+    (emits p c.in_ok-object.object f.vars f.cells (blocks_of f) (few_of c.in_ok-flow.flow.vars h.few) h.well h.vars
+    h.cells h.runs h.light h.pairs c.in_ok-object.ensures)

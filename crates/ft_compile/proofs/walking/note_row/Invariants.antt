@@ -6,6 +6,7 @@ use Rattle.ft_compile.proofs.walking.note_row.Given as goal
 
 abbrev pub invariant-loop-step : goal.invariant-loop-step
 invariant-loop-step l = record {
-  left : row_noted l.vars l.scope (noted_of l.notes) (drop l.step-index l.steps) ≡ row_noted l.vars l.scope (noted_of l.initial.notes) l.steps;
+  left : row_noted l.vars l.scope (noted_of l.notes) (drop l.step-index l.steps)
+      ≡ row_noted l.vars l.scope (noted_of l.initial.notes) l.steps;
   room : HasRoom (noted_of l.notes) (row_size (drop l.step-index l.steps));
 }

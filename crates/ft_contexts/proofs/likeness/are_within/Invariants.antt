@@ -6,4 +6,5 @@ use Rattle.ft_contexts.proofs.likeness.are_within.Given as goal
 
 abbrev pub invariant-loop-n : goal.invariant-loop-n
 invariant-loop-n g l = let o = g.P.Program.object l.program in
-    list_all (λ n. nat_le (scope_of o n) l.ints) (slice_range o.substs l.n l.fn.subst.past) ≡ list_all (λ n. nat_le (scope_of o n) l.ints) (rows_of o l.fn.subst)
+    list_all (λ n. nat_le (scope_of o n) l.ints) (slice_range o.substs l.n l.fn.subst.past)
+    ≡ list_all (λ n. nat_le (scope_of o n) l.ints) (rows_of o l.fn.subst)

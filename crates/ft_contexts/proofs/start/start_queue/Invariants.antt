@@ -12,5 +12,6 @@ invariant-loop-j g l = let o = g.P.Program.object l.program in record {
   steps : l.steps ≤ l.fn.steps + l.j * (2 * tree_cost o 0);
   own : HoldsOwn o l.forms l.own;
   held : HoldsQueue l.forms l.queue;
-  left : map (pair_in l.forms) l.queue ++ map (queue_pair o) (drop l.j (queue_rows o l.t)) ≡ map (queue_pair o) (queue_rows o l.t);
+  left : map (pair_in l.forms) l.queue ++ map (queue_pair o) (drop l.j (queue_rows o l.t))
+      ≡ map (queue_pair o) (queue_rows o l.t);
 }

@@ -15,5 +15,6 @@ invariant-loop-j g l = let o = g.P.Program.object l.program in record {
   sized : length l.registers ≡ 64;
   held : HoldsRegisters l.forms l.registers;
   types : RegistersNameTypes (length o.types) l.registers;
-  left : registers_after o (registers_in l.forms 0 l.registers) (drop l.j (reg_rows o l.t)) ≡ registers_after o finite.empty (reg_rows o l.t);
+  left : registers_after o (registers_in l.forms 0 l.registers) (drop l.j (reg_rows o l.t))
+      ≡ registers_after o finite.empty (reg_rows o l.t);
 }

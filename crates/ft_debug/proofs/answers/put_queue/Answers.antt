@@ -10,7 +10,11 @@ pub loop-i-init : goal.loop-i-init
 loop-i-init g c = lines_none (g.K.Sink.log c.args.out.now)
 
 pub unreachable-requires : goal.unreachable-requires
-unreachable-requires g c = c.in_default.not-Some _ (c.get.ensures ∙ slice_get-get_or c.args.queue.now c.loop-i.i (0, 0) (omega (arith, c.len-i-end.ensures.pairs, c.loop-i-test.true)))
+unreachable-requires g c = c.in_default.not-Some _ (c.get.ensures
+    ∙ slice_get-get_or c.args.queue.now c.loop-i.i (
+      0,
+      0,
+    ) (omega (arith, c.len-i-end.ensures.pairs, c.loop-i-test.true)))
 
 pub returns-in_err-put_line : goal.returns-in_err-put_line
 returns-in_err-put_line g c =

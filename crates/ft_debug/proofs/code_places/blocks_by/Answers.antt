@@ -9,6 +9,8 @@ pub loop-b-preserved : goal.loop-b-preserved
 loop-b-preserved g c =
     let o = g.P.Program.object c.args.program.now in
     elim c.if-block-i.branch [
-      | then-block-i w ↦ w.count-is ∙ counted_yes (begins_by c.args.i) o.blocks c.loop-b.b c.loop-b.count c.block.result c.block.ensures (le-leb _ _ w.if-block-i.true) c.loop-b.invariant
-      | else-block-i w ↦ w.count-is ∙ counted_no (begins_by c.args.i) o.blocks c.loop-b.b c.loop-b.count c.block.result c.block.ensures (grind (arith, w.if-block-i.false)) c.loop-b.invariant
+      | then-block-i w ↦ w.count-is ∙ counted_yes (begins_by c.args.i) o.blocks c.loop-b.b c.loop-b.count c.block.result
+          c.block.ensures (le-leb _ _ w.if-block-i.true) c.loop-b.invariant
+      | else-block-i w ↦ w.count-is ∙ counted_no (begins_by c.args.i) o.blocks c.loop-b.b c.loop-b.count c.block.result
+          c.block.ensures (grind (arith, w.if-block-i.false)) c.loop-b.invariant
     ]

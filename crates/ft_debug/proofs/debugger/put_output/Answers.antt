@@ -8,8 +8,10 @@ use Rattle.ft_debug.specs.Inside.{committed_lines}
 use Rattle.ft_debug.proofs.debugger.put_output.Goals as goal
 
 -- a step that committed nothing has no line
-no_line : (o : Object) (stepped : Stepped) → (stepped ≡ Quiet) ⊎ ((stepped ≡ Done) ⊎ (stepped ≡ Detected)) → committed_lines o stepped ≡ []
-no_line o (Commit x) h = absurd (⊎_elim (λ (e : Commit x ≡ Quiet). cc) (⊎_elim (λ (e : Commit x ≡ Done). cc) (λ (e : Commit x ≡ Detected). cc)) h)
+no_line : (o : Object) (stepped : Stepped) → (stepped ≡ Quiet) ⊎ ((stepped ≡ Done) ⊎ (stepped ≡ Detected)) →
+    committed_lines o stepped ≡ []
+no_line o (Commit x) h = absurd (⊎_elim (λ (e : Commit x ≡ Quiet).
+    cc) (⊎_elim (λ (e : Commit x ≡ Done). cc) (λ (e : Commit x ≡ Detected). cc)) h)
 no_line o Quiet h = refl
 no_line o Done h = refl
 no_line o Detected h = refl

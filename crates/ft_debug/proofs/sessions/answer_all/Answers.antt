@@ -17,7 +17,8 @@ loop-command-init g c = record {
 pub answer-requires-clause-room : goal.answer-requires-clause-room
 answer-requires-clause-room g c =
     let h = c.loop-command.invariant.replied in
-    let at : c.loop-command.debugger.present.position ≡ h.session.position = ap (λ (m : Moment). m.position) h.holds.present in
+    let at : c.loop-command.debugger.present.position
+    ≡ h.session.position = ap (λ (m : Moment). m.position) h.holds.present in
     let within = h.within in
     let few = c.requires.few in
     let there = c.loop-command-test.true in
@@ -25,7 +26,9 @@ answer-requires-clause-room g c =
 
 pub answer-requires-clause-small : goal.answer-requires-clause-small
 answer-requires-clause-small g c =
-    subst (λ (x : Command). IsSmall (command_of x)) (sym c.command-item.is) (small_at c.args.commands.now c.loop-command.command-index c.command-item.result c.loop-command-test.true c.requires.small)
+    subst (λ (x : Command). IsSmall (command_of x)) (sym c.command-item.is)
+    (small_at c.args.commands.now c.loop-command.command-index c.command-item.result c.loop-command-test.true
+    c.requires.small)
 
 pub returns-in_err-answer : goal.returns-in_err-answer
 returns-in_err-answer g c =
@@ -38,7 +41,9 @@ returns-in_err-answer g c =
 pub loop-command-preserved : goal.loop-command-preserved
 loop-command-preserved g c =
     let o = g.P.Program.object c.args.program.now in
-    let small = subst (λ (x : Command). IsSmall (command_of x)) (sym c.command-item.is) (small_at c.args.commands.now c.loop-command.command-index c.command-item.result c.loop-command-test.true c.requires.small) in
+    let small = subst (λ (x : Command). IsSmall (command_of x)) (sym c.command-item.is)
+    (small_at c.args.commands.now c.loop-command.command-index c.command-item.result c.loop-command-test.true
+    c.requires.small) in
     record {
       ready = c.answer.ensures.ready;
       replied =

@@ -9,4 +9,5 @@ use Rattle.ft_debug.proofs.sessions.session.Goals as goal
 
 pub answer_all-requires-clause-small : goal.answer_all-requires-clause-small
 answer_all-requires-clause-small g c =
-    subst (λ (xs : List Command). AllByRecursion IsSmall (map command_of xs)) (sym c.deref.ensures.value) (small_commands (lines_of c.args.script.now) (map command_of c.in-Ok.commands.items) c.in-Ok.ensures.commands)
+    subst (λ (xs : List Command). AllByRecursion IsSmall (map command_of xs)) (sym c.deref.ensures.value)
+    (small_commands (lines_of c.args.script.now) (map command_of c.in-Ok.commands.items) c.in-Ok.ensures.commands)

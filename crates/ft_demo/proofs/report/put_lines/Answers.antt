@@ -12,7 +12,8 @@ returns-in_err-put_line g c =
     let new = g.K.Sink.log c.put_line.new.out in
     puts_failed c.from_residual.result _ _ _ c.from_residual.ensures.0
     (breaks_before (first ∷ []) (end_line 64 c.args.totals ∷ []) old new
-    (subst (λ (l : List ℕ). BreaksOff (l ∷ []) old new) (c.as_bytes.ensures ∙ c.outputs_line.ensures) c.in_err-put_line.ensures))
+    (subst (λ (l : List ℕ). BreaksOff (l ∷ []) old new) (c.as_bytes.ensures
+    ∙ c.outputs_line.ensures) c.in_err-put_line.ensures))
 
 pub returns : goal.returns
 returns g c =
@@ -24,4 +25,5 @@ returns g c =
     let new = g.K.Sink.log c.put_line-2.new.out in
     puts_then (end_of_puts r) (first ∷ []) (last ∷ []) old mid new (made_by r)
     (c.in_ok-put_line.ensures ∙ ap (λ l. with_lines (l ∷ []) old) (c.as_bytes.ensures ∙ c.outputs_line.ensures))
-    (subst (λ (l : List ℕ). Puts (end_of_puts r) (l ∷ []) mid new) (c.as_bytes-2.ensures ∙ c.end_line.ensures) c.put_line-2.ensures)
+    (subst (λ (l : List ℕ). Puts (end_of_puts r) (l ∷ []) mid new) (c.as_bytes-2.ensures
+    ∙ c.end_line.ensures) c.put_line-2.ensures)

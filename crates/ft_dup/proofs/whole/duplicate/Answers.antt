@@ -11,13 +11,18 @@ use Rattle.ft_dup.proofs.whole.duplicate.Goals as goal
 
 pub put_blocks-requires-clause-targets : goal.put_blocks-requires-clause-targets
 put_blocks-requires-clause-targets c =
-    let e : c.deref-2.result.now ≡ starts (blocks_of c.args.flow.now) = c.deref-2.ensures.value ∙ c.in_ok-starts.ensures.starts ∙ ap (λ l. starts (map (λ b. b.items) l)) c.deref.ensures.value in
-    subst (λ l. All (All (HasTarget (length c.deref-2.result.now))) (map (λ b. b.items) l)) (sym c.deref-3.ensures.value) (targets_there c.deref-2.result.now (blocks_of c.args.flow.now) e c.requires.targets)
+    let e : c.deref-2.result.now ≡ starts (blocks_of c.args.flow.now) = c.deref-2.ensures.value
+    ∙ c.in_ok-starts.ensures.starts ∙ ap (λ l. starts (map (λ b. b.items) l)) c.deref.ensures.value in
+    subst (λ l. All (All (HasTarget (length c.deref-2.result.now))) (map (λ b. b.items) l))
+    (sym c.deref-3.ensures.value) (targets_there c.deref-2.result.now (blocks_of c.args.flow.now) e
+    c.requires.targets)
 
 pub returns-clause-instrs : goal.returns-clause-instrs
 returns-clause-instrs c =
-    let e : c.deref-2.result.now ≡ starts (blocks_of c.args.flow.now) = c.deref-2.ensures.value ∙ c.in_ok-starts.ensures.starts ∙ ap (λ l. starts (map (λ b. b.items) l)) c.deref.ensures.value in
-    c.in_ok-instrs.ensures ∙ ap (λ l. blocks_images (slice_index c.deref-2.result.now) (map (λ b. b.items) l)) c.deref-3.ensures.value ∙ images_there c.deref-2.result.now (blocks_of c.args.flow.now) e c.requires.targets
+    let e : c.deref-2.result.now ≡ starts (blocks_of c.args.flow.now) = c.deref-2.ensures.value
+    ∙ c.in_ok-starts.ensures.starts ∙ ap (λ l. starts (map (λ b. b.items) l)) c.deref.ensures.value in
+    c.in_ok-instrs.ensures ∙ ap (λ l. blocks_images (slice_index c.deref-2.result.now) (map (λ b. b.items) l))
+    c.deref-3.ensures.value ∙ images_there c.deref-2.result.now (blocks_of c.args.flow.now) e c.requires.targets
 
 pub returns-clause-runs : goal.returns-clause-runs
 returns-clause-runs c = runs_as c.args.flow.now.vars c.args.flow.now.cells (blocks_of c.args.flow.now)

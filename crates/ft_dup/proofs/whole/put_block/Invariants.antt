@@ -3,4 +3,5 @@ use Rattle.ft_dup.specs.Images.{row_images}
 use Rattle.ft_dup.proofs.whole.put_block.Given as goal
 
 abbrev pub invariant-loop-step : goal.invariant-loop-step
-invariant-loop-step l = l.code.items ++ row_images (slice_index l.starts) (drop l.step-index l.steps) ≡ l.initial.code.items ++ row_images (slice_index l.starts) l.steps
+invariant-loop-step l = l.code.items ++ row_images (slice_index l.starts) (drop l.step-index l.steps)
+    ≡ l.initial.code.items ++ row_images (slice_index l.starts) l.steps

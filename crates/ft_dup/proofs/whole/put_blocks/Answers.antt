@@ -9,9 +9,11 @@ use Rattle.ft_dup.proofs.whole.put_blocks.Goals as goal
 pub put_block-requires-clause-pairs : goal.put_block-requires-clause-pairs
 put_block-requires-clause-pairs c =
     subst (All (λ i. All (λ p. p < 32) (pairs_of i))) (sym c.deref.ensures.value)
-    (all_mapped (λ b. b.items) (All (λ i. All (λ p. p < 32) (pairs_of i))) c.args.blocks.now c.loop-block.block-index c.block-item.result c.loop-block-test.true c.block-item.is c.requires.pairs)
+    (all_mapped (λ b. b.items) (All (λ i. All (λ p. p < 32) (pairs_of i))) c.args.blocks.now c.loop-block.block-index
+    c.block-item.result c.loop-block-test.true c.block-item.is c.requires.pairs)
 
 pub put_block-requires-clause-targets : goal.put_block-requires-clause-targets
 put_block-requires-clause-targets c =
     subst (All (HasTarget (length c.args.starts.now))) (sym c.deref.ensures.value)
-    (all_mapped (λ b. b.items) (All (HasTarget (length c.args.starts.now))) c.args.blocks.now c.loop-block.block-index c.block-item.result c.loop-block-test.true c.block-item.is c.requires.targets)
+    (all_mapped (λ b. b.items) (All (HasTarget (length c.args.starts.now))) c.args.blocks.now c.loop-block.block-index
+    c.block-item.result c.loop-block-test.true c.block-item.is c.requires.targets)

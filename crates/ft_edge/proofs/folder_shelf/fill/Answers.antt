@@ -8,7 +8,8 @@ pub loop-filled-preserved : goal.loop-filled-preserved
 loop-filled-preserved g c =
     let read = c.in_ok-count.ensures in
     let more = take c.in_ok-count.count (drop c.loop-filled.filled c.read_more.new.into.items) in
-    let front = take-add c.loop-filled.filled c.in_ok-count.count c.read_more.new.into.items ∙ ap (λ l. l ++ more) read.front in
+    let front = take-add c.loop-filled.filled c.in_ok-count.count c.read_more.new.into.items
+    ∙ ap (λ l. l ++ more) read.front in
     record {
       read = subst (Consumes _ _) (sym front) (Consumes-trans _ _ _ _ _ c.loop-filled.invariant.read read.bytes);
       filled = read.fits;

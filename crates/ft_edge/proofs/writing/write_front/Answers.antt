@@ -1,4 +1,5 @@
-use Rattle.std.proofs.Common.{◌≡◌, ℕ, ◌+◌, ◌-◌, ◌≤◌, ◌++◌, length, take, drop, arith, length-drop, length-take, ap, sym, subst, ◌∙◌}
+use Rattle.std.proofs.Common.{◌≡◌, ℕ, ◌+◌, ◌-◌, ◌≤◌, ◌++◌, length, take, drop, arith, length-drop, length-take, ap, sym}
+use Rattle.std.proofs.Common.{subst, ◌∙◌}
 use Rattle.std.proofs.lemmas.List.{take-take}
 use Rattle.std.proofs.Math.Seq.{take-add}
 use Rattle.std.specs.Io.KnownBytes.{Appends}
@@ -10,10 +11,18 @@ loop-done-preserved g c =
     let bytes = c.args.bytes.now in
     let done = c.loop-done.done in
     let count = c.in-Ok.count in
-    let fits : count ≤ length bytes - done = omega (arith, c.in-Ok.ensures.bound, length-take {A = ℕ}, length-drop {A = ℕ}) in
-    let front : take (done + count) bytes ≡ take done bytes ++ take count (take (length bytes - done) (drop done bytes)) =
-    take-add done count bytes ∙ ap (λ ys. take done bytes ++ ys) (sym (take-take count (length bytes - done) (drop done bytes) fits)) in
+    let fits : count ≤ length bytes - done = omega (
+      arith,
+      c.in-Ok.ensures.bound,
+      length-take {A = ℕ},
+      length-drop {A = ℕ},
+    ) in
+    let front : take (done + count) bytes ≡ take done bytes
+    ++ take count (take (length bytes - done) (drop done bytes)) =
+    take-add done count bytes ∙ ap (λ ys. take done bytes
+    ++ ys) (sym (take-take count (length bytes - done) (drop done bytes) fits)) in
     record {
-      written = subst (Appends _ _) (sym front) (Appends-trans _ _ _ _ _ c.loop-done.invariant.written c.in-Ok.ensures.bytes);
+      written = subst (Appends _ _) (sym front) (Appends-trans _ _ _ _ _ c.loop-done.invariant.written
+          c.in-Ok.ensures.bytes);
       within = omega arith;
     }

@@ -5,12 +5,16 @@ use Rattle.ft_format.specs.Layout.{bytes_of}
 use Rattle.ft_embed.proofs.cells.put_word.Goals as goal
 
 -- eight bytes take the place of eight
-put : (at w : ℕ) (xs new : List ℕ) → new ≡ to_be_bytes w64 w → take at xs ++ (new ++ drop (at + 8 - at) (drop at xs)) ≡ take at xs ++ (bytes_of w64 w ++ drop (at + 8) xs)
+put : (at w : ℕ) (xs new : List ℕ) → new ≡ to_be_bytes w64 w → take at xs ++ (new ++ drop (at + 8 - at) (drop at xs))
+    ≡ take at xs ++ (bytes_of w64 w ++ drop (at + 8) xs)
 unfolding bytes_of
 put at w xs new e =
     let eight : at + (at + 8 - at) ≡ at + 8 = omega arith in
-    let rest : drop (at + 8 - at) (drop at xs) ≡ drop (at + 8) xs = drop-drop (at + 8 - at) at xs ∙ ap (λ n. drop n xs) eight in
-    ap (λ l. take at xs ++ (l ++ drop (at + 8 - at) (drop at xs))) e ∙ ap (λ l. take at xs ++ (to_be_bytes w64 w ++ l)) rest
+    let rest : drop (at + 8 - at) (drop at xs) ≡ drop (at + 8) xs = drop-drop (at + 8 - at) at xs
+    ∙ ap (λ n. drop n xs) eight in
+    ap (λ l. take at xs ++ (l ++ drop (at + 8 - at) (drop at xs))) e
+    ∙ ap (λ l. take at xs ++ (to_be_bytes w64 w ++ l)) rest
 
 pub returns : goal.returns
-returns c = put c.args.at c.args.word c.args.bytes.now c.copy_from_slice.new.self (c.copy_from_slice.ensures.after ∙ c.to_be_bytes.ensures)
+returns c = put c.args.at c.args.word c.args.bytes.now c.copy_from_slice.new.self (c.copy_from_slice.ensures.after
+    ∙ c.to_be_bytes.ensures)

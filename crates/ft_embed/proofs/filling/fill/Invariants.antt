@@ -9,7 +9,8 @@ invariant-loop-left g l = record {
   same : length l.out ≡ length l.fn.out;
   further : l.from ≤ l.count;
   no_room : length l.fn.out ≤ l.from → l.left ≡ l.most;
-  fills : Fills (g.P.Program.object l.program) l.fn.machine l.fn.wild (l.most - l.left) l.machine l.wild l.from l.count l.fn.out l.out;
+  fills : Fills (g.P.Program.object l.program) l.fn.machine l.fn.wild (l.most - l.left) l.machine l.wild l.from l.count
+      l.fn.out l.out;
 }
 
 abbrev pub decreases-loop-left : goal.decreases-loop-left

@@ -5,4 +5,5 @@ pub returns-in-Ok-clause-ok : goal.returns-in-Ok-clause-ok
 returns-in-Ok-clause-ok c = these c.args.text.now c.in-Ok.answers.items c.in-Ok.ensures.ok
 
 pub returns-in-Err-clause-none : goal.returns-in-Err-clause-none
-returns-in-Err-clause-none c = λ named answers. none_said c.args.text.now c.in-Err.error answers c.if-text-eq0.false named c.in-Err.ensures.err
+returns-in-Err-clause-none c = λ named answers. none_said c.args.text.now c.in-Err.error answers c.if-text-eq0.false
+    named c.in-Err.ensures.err

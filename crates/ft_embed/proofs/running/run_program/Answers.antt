@@ -10,8 +10,11 @@ returns-clause-runs g c = λ a b.
     let strike = c.args.plan.strike in
     let w = c.args.plan.wild.now in
     let status = c.end_of-status.result in
-    subst (λ (r : RunAnswer). RunsInto o strike w c.args.steps r.status r.ran.steps r.ran.count c.run_machine-filled.new.out) (sym c.has_run.ensures)
-    (runs_into o strike w c.args.steps status c.run_machine-filled.result.taken c.run_machine-filled.result.count c.run_machine-filled.new.machine.status c.run_machine-filled.new.out c.requires
+    subst (λ (r : RunAnswer). RunsInto o strike w c.args.steps r.status r.ran.steps r.ran.count
+    c.run_machine-filled.new.out) (sym c.has_run.ensures)
+    (runs_into o strike w c.args.steps status c.run_machine-filled.result.taken c.run_machine-filled.result.count
+    c.run_machine-filled.new.machine.status c.run_machine-filled.new.out c.requires
     (unrefused_accepted o c.in-Ok.ensures.judged) c.run_machine-filled.ensures.takes
-    (λ count room le all. subst (λ s. Ends status c.args.steps c.run_machine-filled.result.taken count room s) c.status.ensures
-    (c.end_of-status.ensures.ends count room le (λ running. all (sym c.status.ensures ∙ running)))))
+    (λ count room le few all. subst (λ s. Ends status c.args.steps c.run_machine-filled.result.taken count room s)
+    c.status.ensures
+    (c.end_of-status.ensures.ends count room le few (λ running. all (sym c.status.ensures ∙ running)))))

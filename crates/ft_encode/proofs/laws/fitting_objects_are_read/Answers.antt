@@ -10,5 +10,6 @@ pub returns : goal.returns
 returns c = record {
   read = fitting_read;
   version = fitting_version;
-  lawful = λ o f bytes none. subst IsSpellable (fitting_read Second o f) (read_spells (spelling Second o) bytes none).spellable;
+  lawful = λ o f bytes none. subst IsSpellable (fitting_read Second o f)
+      (read_spells (spelling Second o) bytes none).spellable;
 }

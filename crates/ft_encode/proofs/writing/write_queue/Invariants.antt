@@ -5,4 +5,5 @@ use Rattle.ft_encode.specs.Written.{pair_bytes}
 use Rattle.ft_encode.proofs.writing.write_queue.Given as goal
 
 abbrev pub invariant-loop-code_type : goal.invariant-loop-code_type
-invariant-loop-code_type l = l.out.items ++ flat_map (λ t. flat_map pair_bytes (queue_of t)) (drop l.code_type-index l.types) ≡ l.fn.out.items ++ flat_map (λ t. flat_map pair_bytes (queue_of t)) l.types
+invariant-loop-code_type l = l.out.items ++ flat_map (λ t. flat_map pair_bytes (queue_of t))
+    (drop l.code_type-index l.types) ≡ l.fn.out.items ++ flat_map (λ t. flat_map pair_bytes (queue_of t)) l.types

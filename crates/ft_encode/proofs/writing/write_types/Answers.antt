@@ -15,10 +15,23 @@ loop-code_type-preserved c =
     let regs = c.loop-code_type.regs in
     let queue = c.loop-code_type.queue in
     let row = written type_layout (type_row (regs + length x.regs) (queue + length x.queue) x) in
-    let put : Puts c.loop-code_type.out.items c.write.new.out.items row = rw (c.len.ensures, c.len-in-loop-code_type.ensures) at c.in_ok-write.ensures in
+    let put : Puts c.loop-code_type.out.items c.write.new.out.items row =
+    rw (c.len.ensures, c.len-in-loop-code_type.ensures) at c.in_ok-write.ensures in
     rw (c.len.ensures, c.len-in-loop-code_type.ensures) (record {
-      regs = omega (arith, c.loop-code_type.invariant.regs, sum_by_more (λ t. length (regs_of t)) ts i x c.loop-code_type-test.true, ap (λ t. length (regs_of t)) c.code_type-item.is);
-      queue = omega (arith, c.loop-code_type.invariant.queue, sum_by_more (λ t. length (queue_of t)) ts i x c.loop-code_type-test.true, ap (λ t. length (queue_of t)) c.code_type-item.is);
-      put = put_goes (λ rest. spelled type_layout (type_rows regs queue rest)) (λ rest. spelled type_layout (type_rows (regs + length x.regs) (queue + length x.queue) rest)) ts i x row c.loop-code_type.out.items c.write.new.out.items _
+      regs = omega (
+        arith,
+        c.loop-code_type.invariant.regs,
+        sum_by_more (λ t. length (regs_of t)) ts i x c.loop-code_type-test.true,
+        ap (λ t. length (regs_of t)) c.code_type-item.is,
+      );
+      queue = omega (
+        arith,
+        c.loop-code_type.invariant.queue,
+        sum_by_more (λ t. length (queue_of t)) ts i x c.loop-code_type-test.true,
+        ap (λ t. length (queue_of t)) c.code_type-item.is,
+      );
+      put = put_goes (λ rest. spelled type_layout (type_rows regs queue rest)) (λ rest.
+          spelled type_layout (type_rows (regs + length x.regs) (queue + length x.queue) rest)) ts i x row
+          c.loop-code_type.out.items c.write.new.out.items _
           c.loop-code_type-test.true c.code_type-item.is (λ rest. refl) put c.loop-code_type.invariant.put;
     })

@@ -9,5 +9,6 @@ abbrev pub invariant-loop-code_type : goal.invariant-loop-code_type
 invariant-loop-code_type l = record {
   regs : l.regs ≡ sum_by (λ t. length (regs_of t)) (take l.code_type-index l.types);
   queue : l.queue ≡ sum_by (λ t. length (queue_of t)) (take l.code_type-index l.types);
-  put : l.out.items ++ spelled type_layout (type_rows l.regs l.queue (drop l.code_type-index l.types)) ≡ l.fn.out.items ++ spelled type_layout (type_rows 0 0 l.types);
+  put : l.out.items ++ spelled type_layout (type_rows l.regs l.queue (drop l.code_type-index l.types)) ≡ l.fn.out.items
+      ++ spelled type_layout (type_rows 0 0 l.types);
 }

@@ -20,10 +20,16 @@ returns-clause-spelled c = λ o. (λ s. (spelling Second o, by_spelling o s), λ
 
 pub returns-clause-exact : goal.returns-clause-exact
 returns-clause-exact c = λ o. (
-  λ s. let own = by_spelling o s in let bytes = spelling Second o in
-      (bytes, spelling_bytes Second o s, spells_unbroken bytes Second o own, spells_version bytes Second o own, spells_read bytes Second o own),
+  λ s. let own = by_spelling o s in let bytes = spelling Second o in (
+    bytes,
+    spelling_bytes Second o s,
+    spells_unbroken bytes Second o own,
+    spells_version bytes Second o own,
+    spells_read bytes Second o own,
+  ),
   λ read. subst IsSpellable read.4 (read_spells read.0 read.1 read.2).spellable,
 )
 
 pub returns-clause-one : goal.returns-clause-one
-returns-clause-one c = λ a b p q m n v e. (read_spells a p m).spelled ∙ ap (spelling (version_at a)) e ∙ ap (λ w. spelling w (object_of b)) v ∙ sym (read_spells b q n).spelled
+returns-clause-one c = λ a b p q m n v e. (read_spells a p m).spelled ∙ ap (spelling (version_at a)) e
+    ∙ ap (λ w. spelling w (object_of b)) v ∙ sym (read_spells b q n).spelled

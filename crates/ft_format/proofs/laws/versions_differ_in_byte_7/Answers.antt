@@ -12,4 +12,8 @@ unfolding spelling written bytes_of
 with_byte_7 o = refl
 
 pub returns : goal.returns
-returns c = λ bytes o p. record { spellable = p.spellable; has = has_all o p.spellable; spelled = ap (λ l. set l 7 2) p.spelled ∙ with_byte_7 o }
+returns c = λ bytes o p. record {
+  spellable = p.spellable;
+  has = has_all o p.spellable;
+  spelled = ap (λ l. set l 7 2) p.spelled ∙ with_byte_7 o;
+}

@@ -8,4 +8,5 @@ pub returns : goal.returns
 returns c =
     let r = c.ranges in
     ap (λ (w : ℕ × ℕ). bytes_of w64 w.0 ++ bytes_of w64 w.1) c.row_words.ensures
-    ∙ words_written c.args.a c.args.b c.args.c c.args.d c.args.x c.args.y c.args.z r.a.fits r.b.fits r.c.fits r.d.fits r.x.fits r.z.fits
+    ∙ words_written c.args.a c.args.b c.args.c c.args.d c.args.x c.args.y c.args.z r.a.fits r.b.fits r.c.fits r.d.fits
+    r.x.fits r.z.fits

@@ -8,4 +8,5 @@ use Rattle.ft_format.proofs.numbers.put_pair.Goals as goal
 
 pub returns : goal.returns
 returns c =
-    subst (λ p. OnOk c.put_u64.result (Puts c.args.out.now.items c.put_u64.new.out.items p)) (ap (bytes_of w64) c.joined.ensures ∙ halves c.args.first c.args.second c.ranges.second.fits) c.put_u64.ensures
+    subst (λ p. OnOk c.put_u64.result (Puts c.args.out.now.items c.put_u64.new.out.items p))
+    (ap (bytes_of w64) c.joined.ensures ∙ halves c.args.first c.args.second c.ranges.second.fits) c.put_u64.ensures

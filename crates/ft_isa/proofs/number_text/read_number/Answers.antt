@@ -13,24 +13,30 @@ loop-byte-init c = refl
 
 pub loop-byte-preserved : goal.loop-byte-preserved
 loop-byte-preserved c =
-    state_after-more next_number None c.loop-byte.number (Some c.in-Some.next) c.args.text.now c.loop-byte.byte-index c.loop-byte-test.true c.loop-byte.invariant
+    state_after-more next_number None c.loop-byte.number (Some c.in-Some.next) c.args.text.now c.loop-byte.byte-index
+    c.loop-byte-test.true c.loop-byte.invariant
     (ap (option_map Some) (sym c.with_digit.ensures ∙ c.in-Some.is))
 
 pub returns-in_default-clause-exact : goal.returns-in_default-clause-exact
 returns-in_default-clause-exact c =
-    let refused = refused_at next_number whole_number None number_told IsNumberRead IsNumberText number_reader c.loop-byte.number c.args.text.now c.loop-byte.byte-index c.loop-byte-test.true c.loop-byte.invariant (ap (option_map Some) (sym c.with_digit.ensures ∙ c.in_default.is)) in
+    let refused = refused_at next_number whole_number None number_told IsNumberRead IsNumberText number_reader
+    c.loop-byte.number c.args.text.now c.loop-byte.byte-index c.loop-byte-test.true c.loop-byte.invariant
+    (ap (option_map Some) (sym c.with_digit.ensures ∙ c.in_default.is)) in
     λ n h. absurd (refused.none n h)
 
 number_is : (text : List ℕ) (o : Option ℕ) → state_after next_number None text ≡ Some o → IfSome o (IsNumberText text)
 number_is text None read = tt
-number_is text (Some n) read = reads_ok next_number whole_number None number_told IsNumberRead IsNumberText number_reader (Some n) n text read refl
+number_is text (Some n) read = reads_ok next_number whole_number None number_told IsNumberRead IsNumberText
+    number_reader (Some n) n text read refl
 
 pub returns : goal.returns
 returns c =
     let text = c.args.text.now in
     let whole : take c.loop-byte.byte-index text ≡ text = take_all c.loop-byte.byte-index text (omega arith) in
-    let read : state_after next_number None text ≡ Some c.loop-byte.number = ap (state_after next_number None) (sym whole) ∙ c.loop-byte.invariant in
+    let read : state_after next_number None text ≡ Some c.loop-byte.number =
+    ap (state_after next_number None) (sym whole) ∙ c.loop-byte.invariant in
     record {
       some = number_is text c.loop-byte.number read;
-      exact = λ n h. reads_only next_number whole_number None number_told IsNumberRead IsNumberText number_reader c.loop-byte.number n text read h;
+      exact = λ n h. reads_only next_number whole_number None number_told IsNumberRead IsNumberText number_reader
+          c.loop-byte.number n text read h;
     }

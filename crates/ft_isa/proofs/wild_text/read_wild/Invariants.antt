@@ -5,4 +5,5 @@ use Rattle.ft_isa.proofs.WildRead.{wild_at}
 use Rattle.ft_isa.proofs.wild_text.read_wild.Given as goal
 
 abbrev pub invariant-loop-at : goal.invariant-loop-at
-invariant-loop-at l = state_after next_wild (wild_at [] Empty) (take l.at l.text) ≡ Some (wild_at l.answers.items l.read)
+invariant-loop-at l = state_after next_wild (wild_at [] Empty) (take l.at l.text)
+    ≡ Some (wild_at l.answers.items l.read)

@@ -7,7 +7,8 @@ invariant-loop-n l = record {
   low : 0 < l.n;
   high : l.n ≤ length l.text;
   small : l.n < 33;
-  run : (start at : ℕ) → scan_from (name start (take 1 l.text)) (at + 1) (drop 1 l.text) ≡ scan_from (name start (take l.n l.text)) (at + l.n) (drop l.n l.text);
+  run : (start at : ℕ) → scan_from (name start (take 1 l.text)) (at + 1) (drop 1 l.text)
+      ≡ scan_from (name start (take l.n l.text)) (at + l.n) (drop l.n l.text);
 }
 
 abbrev pub decreases-loop-n : goal.decreases-loop-n

@@ -6,7 +6,8 @@ abbrev pub invariant-loop-n : goal.invariant-loop-n
 invariant-loop-n l = record {
   low : 0 < l.n;
   high : l.n ≤ length l.text;
-  run : (start at : ℕ) → scan_from (number start (take 1 l.text)) (at + 1) (drop 1 l.text) ≡ scan_from (number start (take l.n l.text)) (at + l.n) (drop l.n l.text);
+  run : (start at : ℕ) → scan_from (number start (take 1 l.text)) (at + 1) (drop 1 l.text)
+      ≡ scan_from (number start (take l.n l.text)) (at + l.n) (drop l.n l.text);
 }
 
 abbrev pub decreases-loop-n : goal.decreases-loop-n

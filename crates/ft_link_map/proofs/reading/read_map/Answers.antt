@@ -16,7 +16,9 @@ if_sound (Ok m) said h = sound said m h
 if_sound (Err e) said h = tt
 
 pub returns-clause-said : goal.returns-clause-said
-returns-clause-said c = let some = some_list (lines_of c.args.text.now) in (some.0, some.1, c.read_lines.ensures some.0 some.1)
+returns-clause-said c = let some = some_list (lines_of c.args.text.now) in
+    (some.0, some.1, c.read_lines.ensures some.0 some.1)
 
 pub returns-clause-sound : goal.returns-clause-sound
-returns-clause-sound c = let some = some_list (lines_of c.args.text.now) in if_sound c.read_lines.result some.0 (c.read_lines.ensures some.0 some.1)
+returns-clause-sound c = let some = some_list (lines_of c.args.text.now) in
+    if_sound c.read_lines.result some.0 (c.read_lines.ensures some.0 some.1)

@@ -5,12 +5,16 @@ use Rattle.ft_linker.proofs.blocks.first_fault.Goals as goal
 pub loop-b-preserved : goal.loop-b-preserved
 loop-b-preserved c =
     let below : c.loop-b.b < length c.args.object.now.blocks = omega (arith, c.len-b-end.ensures, c.loop-b-test.true) in
-    c.loop-b.invariant ∙ block_next_fault c.args.object.now c.loop-b.b c.block_range-first.result.0 c.block_range-first.result.1 below c.block_range-first.ensures.first c.block_range-first.ensures.past (sym c.in_default.ensures)
+    c.loop-b.invariant ∙ block_next_fault c.args.object.now c.loop-b.b c.block_range-first.result.0
+    c.block_range-first.result.1 below c.block_range-first.ensures.first c.block_range-first.ensures.past
+    (sym c.in_default.ensures)
 
 pub returns-in-Some : goal.returns-in-Some
 returns-in-Some c =
     let below : c.loop-b.b < length c.args.object.now.blocks = omega (arith, c.len-b-end.ensures, c.loop-b-test.true) in
-    sym (c.loop-b.invariant ∙ block_fault c.args.object.now c.loop-b.b c.block_range-first.result.0 c.block_range-first.result.1 c.in-Some.index below c.block_range-first.ensures.first c.block_range-first.ensures.past (sym c.in-Some.ensures))
+    sym (c.loop-b.invariant ∙ block_fault c.args.object.now c.loop-b.b c.block_range-first.result.0
+    c.block_range-first.result.1 c.in-Some.index below c.block_range-first.ensures.first
+    c.block_range-first.ensures.past (sym c.in-Some.ensures))
 
 pub returns : goal.returns
 returns c =

@@ -9,5 +9,6 @@ abbrev pub invariant-loop-i : goal.invariant-loop-i
 invariant-loop-i l = record {
   entered : Entered;
   stands : Stands l.traced entered;
-  same : code_walk l.object finite.empty 0 (slice_range l.object.instrs l.first l.past) ≡ code_walk l.object entered (l.i - l.first) (slice_range l.object.instrs l.i l.past);
+  same : code_walk l.object finite.empty 0 (slice_range l.object.instrs l.first l.past)
+      ≡ code_walk l.object entered (l.i - l.first) (slice_range l.object.instrs l.i l.past);
 }

@@ -3,13 +3,17 @@ use Rattle.ft_linker.proofs.Comparing.{cells_go, cells_stop, cells_end, cells_lo
 use Rattle.ft_linker.proofs.cells.same_cells.Goals as goal
 
 pub loop-k-preserved : goal.loop-k-preserved
-loop-k-preserved c = c.loop-k.invariant ∙ cells_go c.args.a.now c.args.b.now c.loop-k.k c.at-x.result.now c.at-y.result.now c.at-x.ensures c.at-y.ensures (sym c.if-not-same_cell.ensures)
+loop-k-preserved c = c.loop-k.invariant ∙ cells_go c.args.a.now c.args.b.now c.loop-k.k c.at-x.result.now
+    c.at-y.result.now c.at-x.ensures c.at-y.ensures (sym c.if-not-same_cell.ensures)
 
 pub returns-then-not-same_cell : goal.returns-then-not-same_cell
-returns-then-not-same_cell c = sym (c.loop-k.invariant ∙ cells_stop c.args.a.now c.args.b.now c.loop-k.k c.at-x.result.now c.at-y.result.now c.at-x.ensures c.at-y.ensures (sym c.if-not-same_cell.ensures))
+returns-then-not-same_cell c = sym (c.loop-k.invariant
+    ∙ cells_stop c.args.a.now c.args.b.now c.loop-k.k c.at-x.result.now c.at-y.result.now c.at-x.ensures c.at-y.ensures
+    (sym c.if-not-same_cell.ensures))
 
 pub returns-then-len : goal.returns-then-len
-returns-then-len c = sym (cells_long c.args.a.now c.args.b.now (λ e. c.if-len.true (c.len.ensures ∙ e ∙ sym c.len-2.ensures)))
+returns-then-len c = sym (cells_long c.args.a.now c.args.b.now (λ e.
+    c.if-len.true (c.len.ensures ∙ e ∙ sym c.len-2.ensures)))
 
 pub returns : goal.returns
 returns c =

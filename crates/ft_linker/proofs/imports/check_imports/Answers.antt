@@ -10,16 +10,21 @@ pub check_import-requires : goal.check_import-requires
 check_import-requires c = record {
   ready = c.requires.ready;
   exports = c.requires.exports;
-  import = all_there (λ (i : Ask). HasBlock c.args.objects.now i.module i.block) c.args.imports.now c.loop-n.n c.at.result.now c.requires.imports c.at.ensures;
+  import = all_there (λ (i : Ask). HasBlock c.args.objects.now i.module i.block) c.args.imports.now c.loop-n.n
+      c.at.result.now c.requires.imports c.at.ensures;
 }
 
 pub loop-n-preserved : goal.loop-n-preserved
-loop-n-preserved c = c.loop-n.invariant ∙ imports_later c.args.objects.now c.args.exports.now c.args.imports.now c.loop-n.n c.at.result.now c.at.ensures c.in-Ok.ensures.unrefused
+loop-n-preserved c = c.loop-n.invariant ∙ imports_later c.args.objects.now c.args.exports.now c.args.imports.now
+    c.loop-n.n c.at.result.now c.at.ensures c.in-Ok.ensures.unrefused
 
 pub returns-in-Err-clause-refused : goal.returns-in-Err-clause-refused
 returns-in-Err-clause-refused c =
-    refusal_by _ _ c.in-Err.error (c.loop-n.invariant ∙ imports_next c.args.objects.now c.args.exports.now c.args.imports.now c.loop-n.n c.at.result.now c.at.ensures)
-    (refusal_first (import_refusal c.args.objects.now c.args.exports.now c.at.result.now) (imports_refusal c.args.objects.now c.args.exports.now (drop (c.loop-n.n + 1) c.args.imports.now)) c.in-Err.error c.in-Err.ensures.refused)
+    refusal_by _ _ c.in-Err.error (c.loop-n.invariant
+    ∙ imports_next c.args.objects.now c.args.exports.now c.args.imports.now c.loop-n.n c.at.result.now c.at.ensures)
+    (refusal_first (import_refusal c.args.objects.now c.args.exports.now c.at.result.now)
+    (imports_refusal c.args.objects.now c.args.exports.now (drop (c.loop-n.n + 1) c.args.imports.now)) c.in-Err.error
+    c.in-Err.ensures.refused)
 
 pub returns-clause-unrefused : goal.returns-clause-unrefused
 returns-clause-unrefused c =

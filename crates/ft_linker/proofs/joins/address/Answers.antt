@@ -3,12 +3,16 @@ use Rattle.ft_linker.proofs.Joining.{start_within, address_fits, address_is}
 use Rattle.ft_linker.proofs.joins.address.Goals as goal
 
 pub start_of-start-requires : goal.start_of-start-requires
-start_of-start-requires c = start_within c.args.objects.now c.args.starts.now c.requires.can c.requires.starts c.args.m c.args.b c.requires.there
+start_of-start-requires c = start_within c.args.objects.now c.args.starts.now c.requires.can c.requires.starts c.args.m
+    c.args.b c.requires.there
 
 pub overflow_add-at : goal.overflow_add-at
 overflow_add-at c =
-    let low = address_fits c.args.objects.now c.args.starts.now c.requires.can c.requires.starts c.args.m c.args.b c.requires.there c.start_of-start.result c.block_of-block.result c.start_of-start.ensures c.block_of-block.ensures in
+    let low = address_fits c.args.objects.now c.args.starts.now c.requires.can c.requires.starts c.args.m c.args.b
+    c.requires.there c.start_of-start.result c.block_of-block.result c.start_of-start.ensures c.block_of-block.ensures
+    in
     omega (arith, low)
 
 pub returns : goal.returns
-returns c = address_is c.args.objects.now c.args.starts.now c.requires.can c.requires.starts c.args.m c.args.b c.requires.there c.start_of-start.result c.block_of-block.result c.start_of-start.ensures c.block_of-block.ensures
+returns c = address_is c.args.objects.now c.args.starts.now c.requires.can c.requires.starts c.args.m c.args.b
+    c.requires.there c.start_of-start.result c.block_of-block.result c.start_of-start.ensures c.block_of-block.ensures

@@ -12,14 +12,16 @@ no_join : Join
 no_join = record { module_of = 0; block = 0; to_module = 0; to_block = 0 }
 
 pub loop-i-init : goal.loop-i-init
-loop-i-init c = change_none c.args.objects.now c.args.joins.now (length c.args.joins.now) c.new-changes.result (omega arith) c.new-changes.ensures
+loop-i-init c = change_none c.args.objects.now c.args.joins.now (length c.args.joins.now) c.new-changes.result
+    (omega arith) c.new-changes.ensures
 
 pub address-from-requires : goal.address-from-requires
 unfolding no_join
 address-from-requires c =
     let k = c.loop-i.i - 1 in
     let lt : k < length c.args.joins.now = omega (arith, c.loop-i.auto.i, c.loop-i-test.true) in
-    let both = all_there (HasBoth c.args.objects.now) c.args.joins.now k (get_or c.args.joins.now k no_join) c.requires.there (slice_get-get_or c.args.joins.now k no_join lt) in
+    let both = all_there (HasBoth c.args.objects.now) c.args.joins.now k (get_or c.args.joins.now k no_join)
+    c.requires.there (slice_get-get_or c.args.joins.now k no_join lt) in
     record { can = c.requires.can; starts = c.requires.starts; there = both.from }
 
 pub address-to-requires : goal.address-to-requires
@@ -27,7 +29,8 @@ unfolding no_join
 address-to-requires c =
     let k = c.loop-i.i - 1 in
     let lt : k < length c.args.joins.now = omega (arith, c.loop-i.auto.i, c.loop-i-test.true) in
-    let both = all_there (HasBoth c.args.objects.now) c.args.joins.now k (get_or c.args.joins.now k no_join) c.requires.there (slice_get-get_or c.args.joins.now k no_join lt) in
+    let both = all_there (HasBoth c.args.objects.now) c.args.joins.now k (get_or c.args.joins.now k no_join)
+    c.requires.there (slice_get-get_or c.args.joins.now k no_join lt) in
     record { can = c.requires.can; starts = c.requires.starts; there = both.to }
 
 pub code_type-kind-requires : goal.code_type-kind-requires
@@ -35,7 +38,8 @@ unfolding no_join
 code_type-kind-requires c =
     let k = c.loop-i.i - 1 in
     let lt : k < length c.args.joins.now = omega (arith, c.loop-i.auto.i, c.loop-i-test.true) in
-    let both = all_there (HasBoth c.args.objects.now) c.args.joins.now k (get_or c.args.joins.now k no_join) c.requires.there (slice_get-get_or c.args.joins.now k no_join lt) in
+    let both = all_there (HasBoth c.args.objects.now) c.args.joins.now k (get_or c.args.joins.now k no_join)
+    c.requires.there (slice_get-get_or c.args.joins.now k no_join lt) in
     record { can = c.requires.can; starts = c.requires.starts; there = both.to }
 
 pub loop-i-preserved : goal.loop-i-preserved
@@ -47,6 +51,11 @@ loop-i-preserved c =
     let j = get_or js k no_join in
     let lt : k < length js = omega (arith, c.loop-i.auto.i, c.loop-i-test.true) in
     let next : c.loop-i.i ≡ k + 1 = omega (arith, c.loop-i-test.true) in
-    let sent = c.in_ok-send.ensures (change_of ms (link_as j)) (map (change_of ms) (map link_as (drop c.loop-i.i js))) (sym c.address-from.ensures) (λ i. record { address = sym c.address-to.ensures i; code_type = sym c.code_type-kind.ensures i }) c.loop-i.invariant in
+    let sent = c.in_ok-send.ensures (change_of ms (link_as j)) (map (change_of ms) (map link_as (drop c.loop-i.i js)))
+    (sym c.address-from.ensures) (λ i. record {
+      address = sym c.address-to.ensures i;
+      code_type = sym c.code_type-kind.ensures i;
+    }) c.loop-i.invariant in
     change_next ms js k j c.send.new.self (slice_get-get_or js k no_join lt)
-    (subst (λ (n : ℕ). Holds c.send.new.self (change_of ms (link_as j) ∷ map (change_of ms) (map link_as (drop n js)))) next sent)
+    (subst (λ (n : ℕ). Holds c.send.new.self (change_of ms (link_as j) ∷ map (change_of ms) (map link_as (drop n js))))
+    next sent)

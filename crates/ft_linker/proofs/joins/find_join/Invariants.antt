@@ -4,4 +4,5 @@ use Rattle.ft_linker.specs.Joins.{is_from, link_as}
 use Rattle.ft_linker.proofs.joins.find_join.Given as goal
 
 abbrev pub invariant-loop-i : goal.invariant-loop-i
-invariant-loop-i l = find (is_from l.entry) (map link_as l.joins) ≡ find (is_from l.entry) (map link_as (drop l.i l.joins))
+invariant-loop-i l = find (is_from l.entry) (map link_as l.joins)
+    ≡ find (is_from l.entry) (map link_as (drop l.i l.joins))

@@ -6,8 +6,10 @@ use Rattle.ft_linker.proofs.joins.push_join.Goals as goal
 
 pub returns-in_ok-push-in-Some : goal.returns-in_ok-push-in-Some
 returns-in_ok-push-in-Some c =
-    joined_some c.args.joins.now.items c.push.new.self.items c.args.import.now c.in-Some.export.now (export_of c.args.linkage.now.exports c.args.import.now.name)
-    (ap (λ (z : List Ask). export_of z c.args.import.now.name) (sym c.as_slice.ensures) ∙ c.in-Some.ensures.found) c.in_ok-push-in-Some.ensures.items
+    joined_some c.args.joins.now.items c.push.new.self.items c.args.import.now c.in-Some.export.now
+    (export_of c.args.linkage.now.exports c.args.import.now.name)
+    (ap (λ (z : List Ask). export_of z c.args.import.now.name) (sym c.as_slice.ensures)
+    ∙ c.in-Some.ensures.found) c.in_ok-push-in-Some.ensures.items
 
 pub returns-in-None : goal.returns-in-None
 returns-in-None c =

@@ -19,14 +19,16 @@ add-requires c =
     record {
       spelled = all_there IsSpellable c.args.objects.now c.loop-m.m o c.requires.spelled there;
       typed = all_there HasTypedMoves c.args.objects.now c.loop-m.m o c.requires.typed there;
-      fits = subst (λ (k : Before). Fits k o) (sym c.loop-m.invariant.start) (module_fits c.args.objects.now c.loop-m.m o c.requires.few there);
+      fits = subst (λ (k : Before). Fits k o) (sym c.loop-m.invariant.start)
+          (module_fits c.args.objects.now c.loop-m.m o c.requires.few there);
     }
 
 pub after-start-requires : goal.after-start-requires
 after-start-requires c =
     let o = c.index-objects-m.result in
     let there = at_index c.args.objects.now c.loop-m.m o c.loop-m-test.true c.index-objects-m.is in
-    subst (λ (k : Before). Fits k o) (sym c.loop-m.invariant.start) (module_fits c.args.objects.now c.loop-m.m o c.requires.few there)
+    subst (λ (k : Before). Fits k o) (sym c.loop-m.invariant.start)
+    (module_fits c.args.objects.now c.loop-m.m o c.requires.few there)
 
 pub loop-m-preserved : goal.loop-m-preserved
 loop-m-preserved c =
@@ -34,8 +36,11 @@ loop-m-preserved c =
     let there = at_index c.args.objects.now c.loop-m.m o c.loop-m-test.true c.index-objects-m.is in
     let next : suc c.loop-m.m ≡ c.loop-m.m + 1 = omega arith in
     record {
-      start = c.after-start.ensures ∙ ap (λ (k : Before). after_module k o) c.loop-m.invariant.start ∙ sym (before_next nothing_before c.args.objects.now c.loop-m.m o there) ∙ ap (before_module nothing_before c.args.objects.now) next;
-      tables = all_next c.args.objects.now c.loop-m.m o c.loop-m.start c.loop-m.laid c.add.new.self there c.loop-m.invariant.start c.loop-m.invariant.tables c.in_ok-add.ensures;
+      start = c.after-start.ensures ∙ ap (λ (k : Before). after_module k o) c.loop-m.invariant.start
+          ∙ sym (before_next nothing_before c.args.objects.now c.loop-m.m o there)
+          ∙ ap (before_module nothing_before c.args.objects.now) next;
+      tables = all_next c.args.objects.now c.loop-m.m o c.loop-m.start c.loop-m.laid c.add.new.self there
+          c.loop-m.invariant.start c.loop-m.invariant.tables c.in_ok-add.ensures;
     }
 
 pub returns : goal.returns

@@ -19,23 +19,30 @@ word_node = record { scope = 0; shape = shape.Word 0 }
 
 pub loop-n-init : goal.loop-n-init
 unfolding look
-loop-n-init c = known_none c.args.nodes.now c.in_ok-numbers.numbers.items (look c.new-known.result) c.in_ok-numbers.ensures.items (λ q. ap (lookup (is_at ((key_order.ghosts).cmp q))) c.new-known.ensures.empty)
+loop-n-init c = known_none c.args.nodes.now c.in_ok-numbers.numbers.items (look c.new-known.result)
+    c.in_ok-numbers.ensures.items (λ q. ap (lookup (is_at ((key_order.ghosts).cmp q))) c.new-known.ensures.empty)
 
 pub key_of-key-requires : goal.key_of-key-requires
 unfolding word_node
 key_of-key-requires c =
     let y = get_or c.args.nodes.now c.loop-n.n word_node in
     let there = slice_get-get_or c.args.nodes.now c.loop-n.n word_node c.loop-n-test.true in
-    let long : c.loop-n.n ≡ length c.as_slice.result.now = sym (ap length c.as_slice.ensures.value ∙ c.loop-n.invariant.count) in
-    subst (λ (n : ℕ). HasPartsBelow n y.shape) long (parts_below c.args.nodes.now c.loop-n.n y.scope y.shape (c.requires.each c.loop-n.n y there).shape)
+    let long : c.loop-n.n ≡ length c.as_slice.result.now = sym (ap length c.as_slice.ensures.value
+    ∙ c.loop-n.invariant.count) in
+    subst (λ (n : ℕ). HasPartsBelow n y.shape) long
+    (parts_below c.args.nodes.now c.loop-n.n y.scope y.shape (c.requires.each c.loop-n.n y there).shape)
 
 pub loop-n-preserved : goal.loop-n-preserved
 unfolding word_node
 loop-n-preserved c =
     let y = get_or c.args.nodes.now c.loop-n.n word_node in
     let there = slice_get-get_or c.args.nodes.now c.loop-n.n word_node c.loop-n-test.true in
-    known_next c.args.nodes.now c.loop-n.numbers.items c.push.new.self.items c.loop-n.n c.in_ok-number.number y (look c.loop-n.known) (look c.number_key.new.known) (is_at ((key_order.ghosts).cmp c.key_of-key.result)) c.key_of-key.result
-    c.requires c.loop-n.invariant there (c.key_of-key.ensures ∙ ap (λ z. key_as (key_of z y.shape)) c.as_slice.ensures.value) c.in_ok-number.ensures.number c.in_ok-number.ensures.known
+    known_next c.args.nodes.now c.loop-n.numbers.items c.push.new.self.items c.loop-n.n c.in_ok-number.number y
+    (look c.loop-n.known) (look c.number_key.new.known) (is_at ((key_order.ghosts).cmp c.key_of-key.result))
+    c.key_of-key.result
+    c.requires c.loop-n.invariant there (c.key_of-key.ensures
+    ∙ ap (λ z. key_as (key_of z y.shape)) c.as_slice.ensures.value) c.in_ok-number.ensures.number
+    c.in_ok-number.ensures.known
     (only_key c.key_of-key.result) (own_key c.key_of-key.result) c.in_ok-push.ensures.items
 
 pub returns : goal.returns

@@ -7,13 +7,19 @@ use Rattle.ft_linker.proofs.Zips.{zip_at, zip_more}
 use Rattle.ft_linker.proofs.types.same_pairs.Goals as goal
 
 pub same_pair-requires-clause-row : goal.same_pair-requires-clause-row
-same_pair-requires-clause-row c = all_there (HasPair c.args.a.object.now) c.args.rs.now c.loop-j.j c.at-r.result.now c.requires.rows c.at-r.ensures
+same_pair-requires-clause-row c = all_there (HasPair c.args.a.object.now) c.args.rs.now c.loop-j.j c.at-r.result.now
+    c.requires.rows c.at-r.ensures
 
 pub same_pair-requires-clause-other_row : goal.same_pair-requires-clause-other_row
-same_pair-requires-clause-other_row c = all_there (HasPair c.args.b.object.now) c.args.qs.now c.loop-j.j c.at-q.result.now c.requires.other_rows c.at-q.ensures
+same_pair-requires-clause-other_row c = all_there (HasPair c.args.b.object.now) c.args.qs.now c.loop-j.j
+    c.at-q.result.now c.requires.other_rows c.at-q.ensures
 
 pub loop-j-preserved : goal.loop-j-preserved
-loop-j-preserved c = zip_more (SamePair c.args.a.object.now c.args.b.object.now) c.args.rs.now c.args.qs.now c.loop-j.j c.at-r.result.now c.at-q.result.now c.loop-j.invariant c.at-r.ensures c.at-q.ensures (c.if-not-same_pair.ensures.0 refl)
+loop-j-preserved c = zip_more (SamePair c.args.a.object.now c.args.b.object.now) c.args.rs.now c.args.qs.now c.loop-j.j
+    c.at-r.result.now c.at-q.result.now c.loop-j.invariant c.at-r.ensures c.at-q.ensures
+    (c.if-not-same_pair.ensures.0 refl)
 
 pub returns-then-not-same_pair : goal.returns-then-not-same_pair
-returns-then-not-same_pair c = without c.if-not-same_pair.ensures (λ h. zip_at (SamePair c.args.a.object.now c.args.b.object.now) c.args.rs.now c.args.qs.now c.loop-j.j c.at-r.result.now c.at-q.result.now h c.at-r.ensures c.at-q.ensures)
+returns-then-not-same_pair c = without c.if-not-same_pair.ensures (λ h.
+    zip_at (SamePair c.args.a.object.now c.args.b.object.now) c.args.rs.now c.args.qs.now c.loop-j.j c.at-r.result.now
+    c.at-q.result.now h c.at-r.ensures c.at-q.ensures)

@@ -8,4 +8,11 @@ use Rattle.ft_lower.proofs.emission.emit_program.Goals as goal
 pub count_blocks-requires : goal.count_blocks-requires
 count_blocks-requires c =
     let e = ap (λ l. block_count (plain_list same_slot l)) c.deref.ensures.value in
-    record { few = omega (arith, e, count_weighs (plain_list same_slot c.args.prog.now.body.items), c.args.prog.now.light) }
+    record {
+      few = omega (
+        arith,
+        e,
+        count_weighs (plain_list same_slot c.args.prog.now.body.items),
+        c.args.prog.now.light,
+      );
+    }

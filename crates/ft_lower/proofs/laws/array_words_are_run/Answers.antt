@@ -9,7 +9,16 @@ use Rattle.ft_lower.proofs.laws.array_words_are_run.Goals as goal
 
 -- each name is there
 names : StatementsFit 3 1 array_program.body
-names = ((omega arith, omega arith), ((omega arith, omega arith, omega arith), omega arith, (omega arith, omega arith), (omega arith, (omega arith, omega arith), tt)), tt)
+names = (
+  (omega arith, omega arith),
+  (
+    (omega arith, omega arith, omega arith),
+    omega arith,
+    (omega arith, omega arith),
+    (omega arith, (omega arith, omega arith), tt),
+  ),
+  tt,
+)
 
 resolved : IsResolved array_program
 resolved = record { names = names; need = omega arith; weight = omega arith }

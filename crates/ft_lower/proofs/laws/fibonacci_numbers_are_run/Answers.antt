@@ -9,7 +9,23 @@ use Rattle.ft_lower.proofs.laws.fibonacci_numbers_are_run.Goals as goal
 
 -- each name is there
 names : StatementsFit 1 4 fibonacci.body
-names = (omega arith, omega arith, ((omega arith, omega arith), (omega arith, omega arith, (omega arith, (omega arith, omega arith), (omega arith, omega arith, (omega arith, omega arith, (omega arith, (omega arith, omega arith), tt))))), tt))
+names = (
+  omega arith,
+  omega arith,
+  (
+    (omega arith, omega arith),
+    (
+      omega arith,
+      omega arith,
+      (
+        omega arith,
+        (omega arith, omega arith),
+        (omega arith, omega arith, (omega arith, omega arith, (omega arith, (omega arith, omega arith), tt))),
+      ),
+    ),
+    tt,
+  ),
+)
 
 resolved : IsResolved fibonacci
 resolved = record { names = names; need = omega arith; weight = omega arith }

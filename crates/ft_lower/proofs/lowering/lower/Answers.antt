@@ -25,7 +25,8 @@ returns-clause-well c =
     let p = program_of c.args.prog.now in
     let is = c.in_ok-blocks.ensures ∙ ap (blocks_onto []) (c.deref.ensures.value ∙ c.in_ok-steps.ensures) in
     let many : c.len.result ≡ length p.inits = c.len.ensures ∙ c.args.prog.now.inits.ok.0 in
-    subst (λ (bs : Blocks). IsWell p.vars c.len.result bs) (sym is) (subst (λ m. IsWell p.vars m (lowered p)) (sym many) (lowered_is_well p (resolved c.args.prog.now)))
+    subst (λ (bs : Blocks). IsWell p.vars c.len.result bs) (sym is)
+    (subst (λ m. IsWell p.vars m (lowered p)) (sym many) (lowered_is_well p (resolved c.args.prog.now)))
 
 pub returns-clause-light : goal.returns-clause-light
 returns-clause-light c =
@@ -37,7 +38,8 @@ pub returns-clause-pairs : goal.returns-clause-pairs
 returns-clause-pairs c =
     let p = program_of c.args.prog.now in
     let is = c.in_ok-blocks.ensures ∙ ap (blocks_onto []) (c.deref.ensures.value ∙ c.in_ok-steps.ensures) in
-    subst (λ (bs : Blocks). PairsBelow (program_need p) bs) (sym is) (lowered_below p (resolved c.args.prog.now).names (program_need p) (omega arith))
+    subst (λ (bs : Blocks). PairsBelow (program_need p) bs) (sym is)
+    (lowered_below p (resolved c.args.prog.now).names (program_need p) (omega arith))
 
 pub returns-clause-runs : goal.returns-clause-runs
 returns-clause-runs c =

@@ -8,7 +8,8 @@ use Rattle.ft_machine.specs.Effects.{doing}
 use Rattle.ft_machine.specs.Goes.{Goes}
 use Rattle.ft_machine.proofs.Lengths.{has_length}
 use Rattle.ft_machine.proofs.Spanned.{there_is}
-use Rattle.ft_machine.proofs.Going.{goes_none, goes_then, goes_lost, goes_may, passes_quiet, passes_done, passes_detected, passes_on, passes_last, commit_cell, next_is, same_place}
+use Rattle.ft_machine.proofs.Going.{goes_none, goes_then, goes_lost, goes_may, passes_quiet, passes_done}
+use Rattle.ft_machine.proofs.Going.{passes_detected, passes_on, passes_last, commit_cell, next_is, same_place}
 use Rattle.ft_machine.proofs.stretch.do_instructions.Goals as goal
 
 pub returns-in_default-clause-goes : goal.returns-in_default-clause-goes
@@ -16,7 +17,9 @@ returns-in_default-clause-goes g c =
     let o = g.P.Program.object c.args.program.now in
     let lost = c.in_default.ensures.none in
     let first = c.args.first in
-    subst (λ (f : Option Instr). Goes g.T.Outlet o (doing c.args.bank.now first first None) c.args.wild.now c.args.outlet.now (record (doing c.args.bank.now first first f) { status = status.Detected }) c.args.wild.now c.args.outlet.now 1 Detected) (sym lost)
+    subst (λ (f : Option Instr). Goes g.T.Outlet o (doing c.args.bank.now first first None) c.args.wild.now
+    c.args.outlet.now (record (doing c.args.bank.now first first f) { status = status.Detected }) c.args.wild.now
+    c.args.outlet.now 1 Detected) (sym lost)
     (goes_lost g.T.Outlet o c.args.bank.now first c.args.wild.now c.args.outlet.now lost)
 
 pub loop-at-init : goal.loop-at-init
@@ -30,8 +33,17 @@ loop-at-init g c =
     let room = c.place_of.result in
     let pc : c.args.first ≡ 1 + at / 16 = omega (arith, c.in-Some.ensures.some.0, c.place_of-at.ensures) in
     let none : 0 ≡ 2 * (all - (at + room - at) / 16) = omega (arith, c.place_of.ensures) in
-    let in_limit : at < at + room = omega (arith, c.instructions_in-all.ensures.some c.requires.some, c.place_of.ensures) in
-    let in_code : at < c.place_of-end.result = omega (arith, c.in-Some.ensures.some.1, c.place_of-at.ensures, c.place_of-end.ensures) in
+    let in_limit : at < at + room = omega (
+      arith,
+      c.instructions_in-all.ensures.some c.requires.some,
+      c.place_of.ensures,
+    ) in
+    let in_code : at < c.place_of-end.result = omega (
+      arith,
+      c.in-Some.ensures.some.1,
+      c.place_of-at.ensures,
+      c.place_of-end.ensures,
+    ) in
     record {
       whole = omega (arith, c.place_of-at.ensures);
       limit_whole = omega (arith, c.place_of-at.ensures, c.place_of.ensures);
@@ -40,22 +52,32 @@ loop-at-init g c =
       there = omega (arith, c.stretch_end-past.ensures.end, c.place_of-end.ensures);
       left = omega (arith, c.place_of.ensures);
       some = omega (arith, c.stretch_end-past.ensures.some at in_limit in_code);
-      goes = subst (λ q. Goes g.T.Outlet o s w t (doing c.args.bank.now q q None) w t (2 * (all - (at + room - at) / 16)) Running) pc
+      goes = subst (λ q. Goes g.T.Outlet o s w t (doing c.args.bank.now q q None) w t
+          (2 * (all - (at + room - at) / 16)) Running) pc
           (subst (λ n. Goes g.T.Outlet o s w t s w t n Running) none (goes_none g.T.Outlet o s w t refl));
     }
 
 pub fetch-requires-clause-there : goal.fetch-requires-clause-there
-fetch-requires-clause-there g c = omega (arith, c.loop-at-test.true, c.loop-at.invariant.there, c.loop-at.invariant.whole, c.counts-count.ensures.instrs)
+fetch-requires-clause-there g c = omega (
+  arith,
+  c.loop-at-test.true,
+  c.loop-at.invariant.there,
+  c.loop-at.invariant.whole,
+  c.counts-count.ensures.instrs,
+)
 
 pub execute-requires : goal.execute-requires
-execute-requires g c = has_length (g.P.Program.object c.args.program.now) (c.loop-at.at / 16) c.fetch.result c.requires.spellable c.fetch.ensures
+execute-requires g c = has_length (g.P.Program.object c.args.program.now) (c.loop-at.at / 16) c.fetch.result
+    c.requires.spellable c.fetch.ensures
 
 -- the instruction at a place before the end is within the limit
-has_room : (at past limit : ℕ) → at < past → past ≤ limit → at ≡ 16 * (at / 16) → limit ≡ 16 * (limit / 16) → at + 16 ≤ limit
+has_room : (at past limit : ℕ) → at < past → past ≤ limit → at ≡ 16 * (at / 16) → limit ≡ 16 * (limit / 16) →
+    at + 16 ≤ limit
 has_room at past limit lt le whole limit_whole = omega (arith, lt, le, whole, limit_whole)
 
 -- the steps of one instruction more
-on_done : (all limit at : ℕ) → at + 16 ≤ limit → limit - at ≤ 16 * all → 2 * (all - (limit - at) / 16) + 2 ≡ 2 * (all - (limit - (at + 16)) / 16)
+on_done : (all limit at : ℕ) → at + 16 ≤ limit → limit - at ≤ 16 * all → 2 * (all - (limit - at) / 16) + 2
+    ≡ 2 * (all - (limit - (at + 16)) / 16)
 on_done all limit at room left = omega (arith, room, left)
 
 -- what is left stays, wherever the next instruction stands
@@ -83,7 +105,13 @@ loop-at-preserved-in-On g c =
     let at = there_is o i c.fetch.result c.fetch.ensures in
     let room = has_room c.loop-at.at c.loop-at.past limit c.loop-at-test.true v.past v.whole v.limit_whole in
     let done = on_done all limit c.loop-at.at room v.left in
-    let small : i < 2 ^ 32 = omega (arith, c.loop-at-test.true, v.there, c.counts-count.ensures.instrs, c.requires.spellable.few_instrs) in
+    let small : i < 2 ^ 32 = omega (
+      arith,
+      c.loop-at-test.true,
+      v.there,
+      c.counts-count.ensures.instrs,
+      c.requires.spellable.few_instrs,
+    ) in
     record {
       whole = omega (arith, v.whole);
       limit_whole = v.limit_whole;
@@ -92,9 +120,14 @@ loop-at-preserved-in-On g c =
       there = v.there;
       left = omega (arith, v.left);
       some = omega (arith, room, v.left);
-      goes = subst (λ n. Goes g.T.Outlet o s w t (doing new (1 + n) (1 + n) None) left c.loop-at.outlet (2 * (all - (limit - (c.loop-at.at + 16)) / 16)) Running) (next_number c.loop-at.at)
-          (subst (λ q. Goes g.T.Outlet o s w t (doing new q q None) left c.loop-at.outlet (2 * (all - (limit - (c.loop-at.at + 16)) / 16)) Running) (next_place i small)
-          (goes_then g.T.Outlet o s c.loop-at.bank new i c.fetch.result effects.On w c.loop-at.wild left t c.loop-at.outlet c.loop-at.outlet (2 * (all - (limit - c.loop-at.at) / 16)) (2 * (all - (limit - (c.loop-at.at + 16)) / 16)) Running v.goes at c.in-On.ensures (passes_quiet g.T.Outlet c.loop-at.outlet) done));
+      goes = subst (λ n. Goes g.T.Outlet o s w t (doing new (1 + n) (1 + n) None) left c.loop-at.outlet
+          (2 * (all - (limit - (c.loop-at.at + 16)) / 16)) Running) (next_number c.loop-at.at)
+          (subst (λ q. Goes g.T.Outlet o s w t (doing new q q None) left c.loop-at.outlet
+          (2 * (all - (limit - (c.loop-at.at + 16)) / 16)) Running) (next_place i small)
+          (goes_then g.T.Outlet o s c.loop-at.bank new i c.fetch.result effects.On w c.loop-at.wild left t
+          c.loop-at.outlet c.loop-at.outlet (2 * (all - (limit - c.loop-at.at) / 16))
+          (2 * (all - (limit - (c.loop-at.at + 16)) / 16)) Running v.goes at c.in-On.ensures
+          (passes_quiet g.T.Outlet c.loop-at.outlet) done));
     }
 
 pub returns-in_default-index_at-clause-goes : goal.returns-in_default-index_at-clause-goes
@@ -112,7 +145,9 @@ returns-in_default-index_at-clause-goes g c =
     let at = there_is o i c.fetch.result c.fetch.ensures in
     let room = has_room c.loop-at.at c.loop-at.past limit c.loop-at-test.true v.past v.whole v.limit_whole in
     let done = on_done all limit c.loop-at.at room v.left in
-    goes_then g.T.Outlet o s c.loop-at.bank new i c.fetch.result (effects.To c.in-To.target) w c.loop-at.wild left t c.loop-at.outlet c.loop-at.outlet (2 * (all - (limit - c.loop-at.at) / 16)) c.steps_but.result Running v.goes at c.in-To.ensures (passes_quiet g.T.Outlet c.loop-at.outlet) (done ∙ sym c.steps_but.ensures)
+    goes_then g.T.Outlet o s c.loop-at.bank new i c.fetch.result (effects.To c.in-To.target) w c.loop-at.wild left t
+    c.loop-at.outlet c.loop-at.outlet (2 * (all - (limit - c.loop-at.at) / 16)) c.steps_but.result Running v.goes at
+    c.in-To.ensures (passes_quiet g.T.Outlet c.loop-at.outlet) (done ∙ sym c.steps_but.ensures)
 
 pub loop-at-preserved-in-To : goal.loop-at-preserved-in-To
 loop-at-preserved-in-To g c =
@@ -131,7 +166,11 @@ loop-at-preserved-in-To g c =
     let done = on_done all limit c.loop-at.at room v.left in
     let to = c.place_of-at-in-To.result in
     let rest = limit - (c.loop-at.at + 16) in
-    let pc : c.in-To.target ≡ 1 + to / 16 = omega (arith, c.in-Some-index_at.ensures.some.0, c.place_of-at-in-To.ensures) in
+    let pc : c.in-To.target ≡ 1 + to / 16 = omega (
+      arith,
+      c.in-Some-index_at.ensures.some.0,
+      c.place_of-at-in-To.ensures,
+    ) in
     record {
       whole = omega (arith, c.place_of-at-in-To.ensures);
       limit_whole = omega (arith, c.place_of-at-in-To.ensures, room, v.whole, v.limit_whole);
@@ -140,17 +179,24 @@ loop-at-preserved-in-To g c =
       there = omega (arith, c.stretch_end-past-in-To.ensures.end, c.place_of-end.ensures);
       left = omega (arith, v.left);
       some = omega (arith, v.left, room);
-      goes = subst (λ q. Goes g.T.Outlet o s w t (doing new q q None) left c.loop-at.outlet (2 * (all - (to + rest - to) / 16)) Running) pc
-          (goes_then g.T.Outlet o s c.loop-at.bank new i c.fetch.result (effects.To c.in-To.target) w c.loop-at.wild left t c.loop-at.outlet c.loop-at.outlet (2 * (all - (limit - c.loop-at.at) / 16)) (2 * (all - (to + rest - to) / 16)) Running v.goes at c.in-To.ensures (passes_quiet g.T.Outlet c.loop-at.outlet) (done ∙ same_rest all to rest));
+      goes = subst (λ q. Goes g.T.Outlet o s w t (doing new q q None) left c.loop-at.outlet
+          (2 * (all - (to + rest - to) / 16)) Running) pc
+          (goes_then g.T.Outlet o s c.loop-at.bank new i c.fetch.result (effects.To c.in-To.target) w c.loop-at.wild
+          left t c.loop-at.outlet c.loop-at.outlet (2 * (all - (limit - c.loop-at.at) / 16))
+          (2 * (all - (to + rest - to) / 16)) Running v.goes at c.in-To.ensures
+          (passes_quiet g.T.Outlet c.loop-at.outlet) (done ∙ same_rest all to rest));
     }
 
 pub take-requires : goal.take-requires
 take-requires g c =
     let o = g.P.Program.object c.args.program.now in
     let pc = 1 + c.loop-at.at / 16 in
-    goes_may g.T.Outlet o (doing c.args.bank.now c.args.first c.args.first None) (doing c.loop-at.bank pc pc None) c.args.wild.now c.loop-at.wild c.args.outlet.now c.loop-at.outlet
-    (2 * (c.instructions_in-all.result - (c.loop-at.limit - c.loop-at.at) / 16)) Running c.loop-at.invariant.goes c.requires.may c.in-Commit.output
-    (commit_cell c.loop-at.bank c.execute.new.self pc c.fetch.result c.in-Commit.output c.loop-at.wild c.execute.new.wild c.in-Commit.ensures)
+    goes_may g.T.Outlet o (doing c.args.bank.now c.args.first c.args.first None) (doing c.loop-at.bank pc pc None)
+    c.args.wild.now c.loop-at.wild c.args.outlet.now c.loop-at.outlet
+    (2 * (c.instructions_in-all.result - (c.loop-at.limit - c.loop-at.at) / 16)) Running c.loop-at.invariant.goes
+    c.requires.may c.in-Commit.output
+    (commit_cell c.loop-at.bank c.execute.new.self pc c.fetch.result c.in-Commit.output c.loop-at.wild
+    c.execute.new.wild c.in-Commit.ensures)
 
 pub returns-then-not-take-clause-goes : goal.returns-then-not-take-clause-goes
 returns-then-not-take-clause-goes g c =
@@ -167,10 +213,22 @@ returns-then-not-take-clause-goes g c =
     let at = there_is o i c.fetch.result c.fetch.ensures in
     let room = has_room c.loop-at.at c.loop-at.past limit c.loop-at-test.true v.past v.whole v.limit_whole in
     let done = on_done all limit c.loop-at.at room v.left in
-    let small : i < 2 ^ 32 = omega (arith, c.loop-at-test.true, v.there, c.counts-count.ensures.instrs, c.requires.spellable.few_instrs) in
-    rw c.number_at.ensures (subst (λ n. Goes g.T.Outlet o s w t (doing new (1 + n) (1 + n) None) left c.take.new.self c.steps_but-then-not-take.result Refused) (next_number c.loop-at.at)
-    (subst (λ q. Goes g.T.Outlet o s w t (doing new q q None) left c.take.new.self c.steps_but-then-not-take.result Refused) (next_place i small)
-    (goes_then g.T.Outlet o s c.loop-at.bank new i c.fetch.result (effects.Commit c.in-Commit.output) w c.loop-at.wild left t c.loop-at.outlet c.take.new.self (2 * (all - (limit - c.loop-at.at) / 16)) c.steps_but-then-not-take.result Refused v.goes at c.in-Commit.ensures (passes_last g.T.Outlet c.in-Commit.output c.take.result c.loop-at.outlet c.take.new.self c.if-not-take.true c.take.ensures.heard c.take.ensures.still) (done ∙ sym c.steps_but-then-not-take.ensures))))
+    let small : i < 2 ^ 32 = omega (
+      arith,
+      c.loop-at-test.true,
+      v.there,
+      c.counts-count.ensures.instrs,
+      c.requires.spellable.few_instrs,
+    ) in
+    rw c.number_at.ensures (subst (λ n. Goes g.T.Outlet o s w t (doing new (1 + n) (1 + n) None) left c.take.new.self
+    c.steps_but-then-not-take.result Refused) (next_number c.loop-at.at)
+    (subst (λ q. Goes g.T.Outlet o s w t (doing new q q None) left c.take.new.self c.steps_but-then-not-take.result
+    Refused) (next_place i small)
+    (goes_then g.T.Outlet o s c.loop-at.bank new i c.fetch.result (effects.Commit c.in-Commit.output) w c.loop-at.wild
+    left t c.loop-at.outlet c.take.new.self (2 * (all - (limit - c.loop-at.at) / 16)) c.steps_but-then-not-take.result
+    Refused v.goes at c.in-Commit.ensures (passes_last g.T.Outlet c.in-Commit.output c.take.result c.loop-at.outlet
+    c.take.new.self c.if-not-take.true c.take.ensures.heard c.take.ensures.still) (done
+    ∙ sym c.steps_but-then-not-take.ensures))))
 
 pub loop-at-preserved : goal.loop-at-preserved
 loop-at-preserved g c =
@@ -187,7 +245,13 @@ loop-at-preserved g c =
     let at = there_is o i c.fetch.result c.fetch.ensures in
     let room = has_room c.loop-at.at c.loop-at.past limit c.loop-at-test.true v.past v.whole v.limit_whole in
     let done = on_done all limit c.loop-at.at room v.left in
-    let small : i < 2 ^ 32 = omega (arith, c.loop-at-test.true, v.there, c.counts-count.ensures.instrs, c.requires.spellable.few_instrs) in
+    let small : i < 2 ^ 32 = omega (
+      arith,
+      c.loop-at-test.true,
+      v.there,
+      c.counts-count.ensures.instrs,
+      c.requires.spellable.few_instrs,
+    ) in
     record {
       whole = omega (arith, v.whole);
       limit_whole = v.limit_whole;
@@ -196,9 +260,15 @@ loop-at-preserved g c =
       there = v.there;
       left = omega (arith, v.left);
       some = omega (arith, room, v.left);
-      goes = subst (λ n. Goes g.T.Outlet o s w t (doing new (1 + n) (1 + n) None) left c.take.new.self (2 * (all - (limit - (c.loop-at.at + 16)) / 16)) Running) (next_number c.loop-at.at)
-          (subst (λ q. Goes g.T.Outlet o s w t (doing new q q None) left c.take.new.self (2 * (all - (limit - (c.loop-at.at + 16)) / 16)) Running) (next_place i small)
-          (goes_then g.T.Outlet o s c.loop-at.bank new i c.fetch.result (effects.Commit c.in-Commit.output) w c.loop-at.wild left t c.loop-at.outlet c.take.new.self (2 * (all - (limit - c.loop-at.at) / 16)) (2 * (all - (limit - (c.loop-at.at + 16)) / 16)) Running v.goes at c.in-Commit.ensures (passes_on g.T.Outlet c.in-Commit.output c.take.result c.loop-at.outlet c.take.new.self c.if-not-take.false c.take.ensures.heard c.take.ensures.still) done));
+      goes = subst (λ n. Goes g.T.Outlet o s w t (doing new (1 + n) (1 + n) None) left c.take.new.self
+          (2 * (all - (limit - (c.loop-at.at + 16)) / 16)) Running) (next_number c.loop-at.at)
+          (subst (λ q. Goes g.T.Outlet o s w t (doing new q q None) left c.take.new.self
+          (2 * (all - (limit - (c.loop-at.at + 16)) / 16)) Running) (next_place i small)
+          (goes_then g.T.Outlet o s c.loop-at.bank new i c.fetch.result (effects.Commit c.in-Commit.output) w
+          c.loop-at.wild left t c.loop-at.outlet c.take.new.self (2 * (all - (limit - c.loop-at.at) / 16))
+          (2 * (all - (limit - (c.loop-at.at + 16)) / 16)) Running v.goes at c.in-Commit.ensures
+          (passes_on g.T.Outlet c.in-Commit.output c.take.result c.loop-at.outlet c.take.new.self c.if-not-take.false
+          c.take.ensures.heard c.take.ensures.still) done));
     }
 
 pub returns-in-Done-clause-goes : goal.returns-in-Done-clause-goes
@@ -217,8 +287,12 @@ returns-in-Done-clause-goes g c =
     let room = has_room c.loop-at.at c.loop-at.past limit c.loop-at-test.true v.past v.whole v.limit_whole in
     let done = on_done all limit c.loop-at.at room v.left in
     let pc = 1 + i in
-    rw c.number_at-in-Done.ensures (subst (λ (f : Option Instr). Goes g.T.Outlet o s w t (record (doing new pc pc f) { status = status.Done }) left c.loop-at.outlet c.steps_but-in-Done.result Done) (sym at)
-    (goes_then g.T.Outlet o s c.loop-at.bank new i c.fetch.result effects.Done w c.loop-at.wild left t c.loop-at.outlet c.loop-at.outlet (2 * (all - (limit - c.loop-at.at) / 16)) c.steps_but-in-Done.result Done v.goes at c.in-Done.ensures (passes_done g.T.Outlet c.loop-at.outlet) (done ∙ sym c.steps_but-in-Done.ensures)))
+    rw c.number_at-in-Done.ensures (subst (λ (f : Option Instr).
+    Goes g.T.Outlet o s w t (record (doing new pc pc f) { status = status.Done }) left c.loop-at.outlet
+    c.steps_but-in-Done.result Done) (sym at)
+    (goes_then g.T.Outlet o s c.loop-at.bank new i c.fetch.result effects.Done w c.loop-at.wild left t c.loop-at.outlet
+    c.loop-at.outlet (2 * (all - (limit - c.loop-at.at) / 16)) c.steps_but-in-Done.result Done v.goes at
+    c.in-Done.ensures (passes_done g.T.Outlet c.loop-at.outlet) (done ∙ sym c.steps_but-in-Done.ensures)))
 
 pub returns-in-Detected-clause-goes : goal.returns-in-Detected-clause-goes
 returns-in-Detected-clause-goes g c =
@@ -236,5 +310,10 @@ returns-in-Detected-clause-goes g c =
     let room = has_room c.loop-at.at c.loop-at.past limit c.loop-at-test.true v.past v.whole v.limit_whole in
     let done = on_done all limit c.loop-at.at room v.left in
     let pc = 1 + i in
-    rw c.number_at-in-Detected.ensures (subst (λ (f : Option Instr). Goes g.T.Outlet o s w t (record (doing new pc pc f) { status = status.Detected }) left c.loop-at.outlet c.steps_but-in-Detected.result Detected) (sym at)
-    (goes_then g.T.Outlet o s c.loop-at.bank new i c.fetch.result effects.Detected w c.loop-at.wild left t c.loop-at.outlet c.loop-at.outlet (2 * (all - (limit - c.loop-at.at) / 16)) c.steps_but-in-Detected.result Detected v.goes at c.in-Detected.ensures (passes_detected g.T.Outlet c.loop-at.outlet) (done ∙ sym c.steps_but-in-Detected.ensures)))
+    rw c.number_at-in-Detected.ensures (subst (λ (f : Option Instr).
+    Goes g.T.Outlet o s w t (record (doing new pc pc f) { status = status.Detected }) left c.loop-at.outlet
+    c.steps_but-in-Detected.result Detected) (sym at)
+    (goes_then g.T.Outlet o s c.loop-at.bank new i c.fetch.result effects.Detected w c.loop-at.wild left t
+    c.loop-at.outlet c.loop-at.outlet (2 * (all - (limit - c.loop-at.at) / 16)) c.steps_but-in-Detected.result
+    Detected v.goes at c.in-Detected.ensures (passes_detected g.T.Outlet c.loop-at.outlet) (done
+    ∙ sym c.steps_but-in-Detected.ensures)))

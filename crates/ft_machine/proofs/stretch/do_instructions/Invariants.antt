@@ -13,7 +13,8 @@ invariant-loop-at g l = record {
   there : l.past ≤ 16 * l.count;
   left : l.limit - l.at ≤ 16 * l.all;
   some : 0 < (16 * l.all - (l.limit - l.at)) + (l.past - l.at);
-  goes : Goes g.T.Outlet (g.P.Program.object l.program) (doing l.fn.bank l.first l.first None) l.fn.wild l.fn.outlet (doing l.bank (1 + l.at / 16) (1 + l.at / 16) None) l.wild l.outlet
+  goes : Goes g.T.Outlet (g.P.Program.object l.program) (doing l.fn.bank l.first l.first None) l.fn.wild l.fn.outlet
+      (doing l.bank (1 + l.at / 16) (1 + l.at / 16) None) l.wild l.outlet
       (2 * (l.all - (l.limit - l.at) / 16)) Running;
 }
 

@@ -7,4 +7,5 @@ loop-name-preserved c =
     let l = c.loop-name in
     let name = c.name-item.result in
     room_step c.args.names.now l.name-index l.most c.max-most.result name (omega arith) l.invariant
-    (c.max-most.ensures ∙ ap (λ n. max n l.most) (c.len.ensures ∙ name.ok.0 ∙ ap (λ (n : Vec ℕ Global). length n.items) c.name-item.is))
+    (c.max-most.ensures ∙ ap (λ n. max n l.most) (c.len.ensures ∙ name.ok.0
+    ∙ ap (λ (n : Vec ℕ Global). length n.items) c.name-item.is))

@@ -12,4 +12,5 @@ abbrev pub decreases-indexed_word : goal.decreases-indexed_word
 decreases-indexed_word l = 2 * expression_nodes (plain_expression same_slot l.index.now) + 1
 
 abbrev pub decreases-operation_word : goal.decreases-operation_word
-decreases-operation_word l = 2 * expression_nodes (plain_expression same_slot l.a.now) + 2 * expression_nodes (plain_expression same_slot l.b.now) + 1
+decreases-operation_word l = 2 * expression_nodes (plain_expression same_slot l.a.now) + 2 * expression_nodes
+    (plain_expression same_slot l.b.now) + 1

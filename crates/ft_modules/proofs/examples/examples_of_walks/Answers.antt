@@ -6,4 +6,10 @@ use Rattle.ft_modules.proofs.examples.examples_of_walks.Goals as goal
 
 pub returns : goal.returns
 unfolding code_walk
-returns c = record { jumped_to = simp (get-insert, get-remove); handed_over = simp (get-insert, get-remove); stored = simp (get-insert, get-remove); index = simp get-insert; unknown = simp get-empty }
+returns c = record {
+  jumped_to = simp (get-insert, get-remove);
+  handed_over = simp (get-insert, get-remove);
+  stored = simp (get-insert, get-remove);
+  index = simp get-insert;
+  unknown = simp get-empty;
+}

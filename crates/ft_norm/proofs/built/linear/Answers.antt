@@ -9,4 +9,6 @@ loop-term-preserved c =
     let none : Term = record { atoms = []; coefficient = 0 } in
     let t = get_or c.args.terms.now c.loop-term.term-index none in
     ap (map full) c.in_ok-push.ensures.ok
-    ∙ linear_more c.args.terms.now none (record { atom = get_or t.atoms 3 0; coefficient = t.coefficient }) c.loop-term.list.items c.loop-term.term-index c.requires.terms c.requires.degree c.loop-term.invariant c.loop-term-test.true refl refl
+    ∙ linear_more c.args.terms.now none (record { atom = get_or t.atoms 3 0; coefficient = t.coefficient })
+    c.loop-term.list.items c.loop-term.term-index c.requires.terms c.requires.degree c.loop-term.invariant
+    c.loop-term-test.true refl refl

@@ -11,8 +11,10 @@ returns-clause-value c = λ fs.
     let n = monomial_form fs c.args.n in
     c.with_atom.ensures.value fs
     ∙ (ap (with_atom fs (get_or m 0 0)) (c.with_atom-product-3.ensures.value fs
-    ∙ ap (with_atom fs (get_or m 1 0)) (c.with_atom-product-2.ensures.value fs ∙ ap (with_atom fs (get_or m 2 0)) (c.with_atom-product.ensures.value fs)))
-    ∙ (sym (join_atoms fs (get_or m 0 0) (get_or m 1 0) (get_or m 2 0) (get_or m 3 0) n) ∙ ap (λ (xs : List ℕ). join (monomial_form fs xs) n) (sym (numbers m c.requires.first.0))))
+    ∙ ap (with_atom fs (get_or m 1 0)) (c.with_atom-product-2.ensures.value fs
+    ∙ ap (with_atom fs (get_or m 2 0)) (c.with_atom-product.ensures.value fs)))
+    ∙ (sym (join_atoms fs (get_or m 0 0) (get_or m 1 0) (get_or m 2 0) (get_or m 3 0) n)
+    ∙ ap (λ (xs : List ℕ). join (monomial_form fs xs) n) (sym (numbers m c.requires.first.0))))
 
 pub returns-clause-reach : goal.returns-clause-reach
 returns-clause-reach c = λ fs k h j.

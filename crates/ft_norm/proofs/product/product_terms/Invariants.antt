@@ -8,8 +8,11 @@ use Rattle.ft_norm.proofs.product.product_terms.Given as goal
 
 abbrev pub invariant-loop-i : goal.invariant-loop-i
 invariant-loop-i l = record {
-  value : (fs : List Normal) → add_products (polynomial_form fs (terms_of l.p)) (polynomial_form fs (terms_of l.q)) nought ≡ add_products (polynomial_form fs (drop l.i (terms_of l.p))) (polynomial_form fs (terms_of l.q)) (polynomial_form fs l.sum.items);
+  value : (fs : List Normal) → add_products (polynomial_form fs (terms_of l.p)) (polynomial_form fs (terms_of l.q))
+      nought ≡ add_products (polynomial_form fs (drop l.i (terms_of l.p))) (polynomial_form fs (terms_of l.q))
+      (polynomial_form fs l.sum.items);
   terms : AreTerms l.sum.items;
-  reach : (fs : List Normal) (n : ℕ) → reach_of_terms fs (terms_of l.p) ≤ n → reach_of_terms fs (terms_of l.q) ≤ n → reach_of_terms fs l.sum.items ≤ n;
+  reach : (fs : List Normal) (n : ℕ) → reach_of_terms fs (terms_of l.p) ≤ n → reach_of_terms fs (terms_of l.q) ≤ n →
+      reach_of_terms fs l.sum.items ≤ n;
   count : length l.sum.items ≤ l.i * length (terms_of l.q);
 }

@@ -12,7 +12,8 @@ loop-low-init c = record {
 }
 
 pub bounds-sum-middle : goal.bounds-sum-middle
-bounds-sum-middle c = let h = halves c.loop-low.low c.loop-low.high c.loop-low-test.true in let w = c.loop-low.invariant.within in omega (arith, h, w)
+bounds-sum-middle c = let h = halves c.loop-low.low c.loop-low.high c.loop-low-test.true in
+    let w = c.loop-low.invariant.within in omega (arith, h, w)
 
 pub returns-in-Equal-clause-there : goal.returns-in-Equal-clause-there
 returns-in-Equal-clause-there c =
@@ -27,7 +28,8 @@ loop-low-preserved-in-Less c =
     record {
       within = w;
       order = omega (arith, h);
-      after = search_after c.args.sum.now c.args.atoms _ _ c.compare.result (omega (arith, h, w)) c.compare.ensures c.in-Less.is;
+      after = search_after c.args.sum.now c.args.atoms _ _ c.compare.result (omega (arith, h, w)) c.compare.ensures
+          c.in-Less.is;
       before = c.loop-low.invariant.before;
     }
 
@@ -39,13 +41,19 @@ loop-low-preserved c =
       within = omega (arith, h, w);
       order = omega (arith, h);
       after = c.loop-low.invariant.after;
-      before = search_before c.args.sum.now c.args.atoms _ _ c.compare.result (omega (arith, h, w)) c.compare.ensures c.in-Greater.is;
+      before = search_before c.args.sum.now c.args.atoms _ _ c.compare.result (omega (arith, h, w)) c.compare.ensures
+          c.in-Greater.is;
     }
 
 pub returns-clause-place : goal.returns-clause-place
 returns-clause-place c =
-    let e : c.loop-low.low ≡ c.loop-low.high = let o = c.loop-low.invariant.order in let t = c.loop-low-test.false in omega (arith, o, t) in
-    record { within = let w = c.loop-low.invariant.within in omega (arith, e, w); after = c.loop-low.invariant.after; before = rw e c.loop-low.invariant.before }
+    let e : c.loop-low.low ≡ c.loop-low.high = let o = c.loop-low.invariant.order in let t = c.loop-low-test.false in
+    omega (arith, o, t) in
+    record {
+      within = let w = c.loop-low.invariant.within in omega (arith, e, w);
+      after = c.loop-low.invariant.after;
+      before = rw e c.loop-low.invariant.before;
+    }
 
 pub compare-requires-clause-first : goal.compare-requires-clause-first
 compare-requires-clause-first c =

@@ -5,7 +5,8 @@ use Rattle.ft_norm.proofs.walk.are_apart.Goals as goal
 
 pub returns-then-constant_among : goal.returns-then-constant_among
 returns-then-constant_among c = λ fs a b.
-    not_apart fs (terms_of c.args.p) (terms_of c.args.q) a b (λ n s. n (sym c.constant_among.ensures ∙ (c.if-constant_among.true ∙ c.constant_among-2.ensures)))
+    not_apart fs (terms_of c.args.p) (terms_of c.args.q) a b (λ n s.
+    n (sym c.constant_among.ensures ∙ (c.if-constant_among.true ∙ c.constant_among-2.ensures)))
 
 pub returns : goal.returns
 returns c = λ fs a b.

@@ -3,7 +3,8 @@ use Rattle.ft_static.specs.NormalForm.{constant_of, is_not_zero, norm_sub}
 use Rattle.ft_norm.specs.Held.{polynomial_at, updates_at}
 use Rattle.ft_norm.specs.Entries.{forms_of}
 use Rattle.ft_norm.proofs.Forms.{length-forms_of, link, link_address, link_reach, link_value, no_link}
-use Rattle.ft_norm.proofs.Walking.{address_differs, integer_bound, memory_bound, memory_reached_at, older_count, older_reach, one_is_same, walk_end, walk_value, walk_stop, walk_on}
+use Rattle.ft_norm.proofs.Walking.{address_differs, integer_bound, memory_bound, memory_reached_at, older_count}
+use Rattle.ft_norm.proofs.Walking.{older_reach, one_is_same, walk_end, walk_value, walk_stop, walk_on}
 use Rattle.ft_norm.proofs.walk.walk_from.Goals as goal
 
 pub loop-m-init : goal.loop-m-init
@@ -18,17 +19,27 @@ pub returns-in_default : goal.returns-in_default
 returns-in_default g c =
     let es = c.args.entries.now in
     let l = c.loop-m.invariant.bound in
-    let a = no_link es c.loop-m.m c.index-entries-m.result c.requires.entries.earlier l c.index-entries-m.is c.in_default.not-Update in
-    record { ends = c.loop-m.invariant.sort; form = walk_end (updates_at (forms_of es) c.loop-m.m) (polynomial_at (forms_of es) c.args.p) a ∙ c.loop-m.invariant.form; steps = omega (arith, c.loop-m.invariant.steps) }
+    let a = no_link es c.loop-m.m c.index-entries-m.result c.requires.entries.earlier l c.index-entries-m.is
+    c.in_default.not-Update in
+    record {
+      ends = c.loop-m.invariant.sort;
+      form =
+          walk_end (updates_at (forms_of es) c.loop-m.m) (polynomial_at (forms_of es) c.args.p) a
+          ∙ c.loop-m.invariant.form;
+      steps = omega (arith, c.loop-m.invariant.steps);
+    }
 
 pub returns-then-at-p : goal.returns-then-at-p
 returns-then-at-p g c =
     let es = c.args.entries.now in
     let l = c.loop-m.invariant.bound in
-    let a = link es c.loop-m.m c.index-entries-m.result c.in-Update.at c.in-Update.value c.in-Update.older c.requires.entries.earlier l c.index-entries-m.is c.in-Update.is in
+    let a = link es c.loop-m.m c.index-entries-m.result c.in-Update.at c.in-Update.value c.in-Update.older
+    c.requires.entries.earlier l c.index-entries-m.is c.in-Update.is in
     record {
-      ends = link_value es c.loop-m.m c.index-entries-m.result c.in-Update.at c.in-Update.value c.in-Update.older c.requires.entries.earlier l c.index-entries-m.is c.in-Update.is;
-      form = walk_value _ _ _ _ _ _ a refl (one_is_same (forms_of es) c.in-Update.at c.args.p c.if-at-p.true) ∙ c.loop-m.invariant.form;
+      ends = link_value es c.loop-m.m c.index-entries-m.result c.in-Update.at c.in-Update.value c.in-Update.older
+          c.requires.entries.earlier l c.index-entries-m.is c.in-Update.is;
+      form = walk_value _ _ _ _ _ _ a refl (one_is_same (forms_of es) c.in-Update.at c.args.p c.if-at-p.true)
+          ∙ c.loop-m.invariant.form;
       steps = omega (arith, c.loop-m.invariant.steps);
     }
 
@@ -39,20 +50,29 @@ pub differs-requires-clause-terms : goal.differs-requires-clause-terms
 differs-requires-clause-terms g c =
     let b = integer_bound c.args.entries.now c.args.p c.requires.at in
     let l = length-forms_of c.args.entries.now in
-    record { terms = c.terms_at-terms.ensures.terms; distinct = c.requires.entries.distinct; reach = omega (arith, b, l, c.terms_at-terms.ensures.reach) }
+    record {
+      terms = c.terms_at-terms.ensures.terms;
+      distinct = c.requires.entries.distinct;
+      reach = omega (arith, b, l, c.terms_at-terms.ensures.reach);
+    }
 
 pub differs-requires-clause-address : goal.differs-requires-clause-address
 differs-requires-clause-address g c =
     let es = c.args.entries.now in
-    integer_bound es c.in-Update.at (link_address es c.loop-m.m c.index-entries-m.result c.in-Update.at c.in-Update.value c.in-Update.older c.requires.entries.earlier c.loop-m.invariant.bound c.index-entries-m.is c.in-Update.is)
+    integer_bound es c.in-Update.at (link_address es c.loop-m.m c.index-entries-m.result c.in-Update.at
+    c.in-Update.value c.in-Update.older c.requires.entries.earlier c.loop-m.invariant.bound c.index-entries-m.is
+    c.in-Update.is)
 
 pub returns-then-not-differs : goal.returns-then-not-differs
 returns-then-not-differs g c =
     let es = c.args.entries.now in
     let l = c.loop-m.invariant.bound in
-    let a = link es c.loop-m.m c.index-entries-m.result c.in-Update.at c.in-Update.value c.in-Update.older c.requires.entries.earlier l c.index-entries-m.is c.in-Update.is in
-    let d = c.differs.ensures ∙ ap (λ q. is_not_zero (constant_of (norm_sub q (polynomial_at (forms_of es) c.in-Update.at)))) c.terms_at-terms.ensures.form in
-    let f = address_differs es c.loop-m.m c.index-entries-m.result c.in-Update.at c.in-Update.value c.in-Update.older c.args.p c.requires.entries l c.index-entries-m.is c.in-Update.is c.requires.at c.if-at-p.false in
+    let a = link es c.loop-m.m c.index-entries-m.result c.in-Update.at c.in-Update.value c.in-Update.older
+    c.requires.entries.earlier l c.index-entries-m.is c.in-Update.is in
+    let d = c.differs.ensures ∙ ap (λ q. is_not_zero
+    (constant_of (norm_sub q (polynomial_at (forms_of es) c.in-Update.at)))) c.terms_at-terms.ensures.form in
+    let f = address_differs es c.loop-m.m c.index-entries-m.result c.in-Update.at c.in-Update.value c.in-Update.older
+    c.args.p c.requires.entries l c.index-entries-m.is c.in-Update.is c.requires.at c.if-at-p.false in
     record {
       ends = c.loop-m.invariant.sort;
       form = walk_stop _ _ _ _ _ _ c.differs.result a refl f d c.if-not-differs.true ∙ c.loop-m.invariant.form;
@@ -63,19 +83,26 @@ pub loop-m-preserved : goal.loop-m-preserved
 loop-m-preserved g c =
     let es = c.args.entries.now in
     let l = c.loop-m.invariant.bound in
-    let a = link es c.loop-m.m c.index-entries-m.result c.in-Update.at c.in-Update.value c.in-Update.older c.requires.entries.earlier l c.index-entries-m.is c.in-Update.is in
-    let r = link_reach es c.loop-m.m c.index-entries-m.result c.in-Update.at c.in-Update.value c.in-Update.older c.requires.entries.earlier l c.index-entries-m.is c.in-Update.is in
-    let d = c.differs.ensures ∙ ap (λ q. is_not_zero (constant_of (norm_sub q (polynomial_at (forms_of es) c.in-Update.at)))) c.terms_at-terms.ensures.form in
-    let f = address_differs es c.loop-m.m c.index-entries-m.result c.in-Update.at c.in-Update.value c.in-Update.older c.args.p c.requires.entries l c.index-entries-m.is c.in-Update.is c.requires.at c.if-at-p.false in
-    let n = older_count es c.loop-m.m c.index-entries-m.result c.in-Update.at c.in-Update.value c.in-Update.older c.requires.entries l c.index-entries-m.is c.in-Update.is in
+    let a = link es c.loop-m.m c.index-entries-m.result c.in-Update.at c.in-Update.value c.in-Update.older
+    c.requires.entries.earlier l c.index-entries-m.is c.in-Update.is in
+    let r = link_reach es c.loop-m.m c.index-entries-m.result c.in-Update.at c.in-Update.value c.in-Update.older
+    c.requires.entries.earlier l c.index-entries-m.is c.in-Update.is in
+    let d = c.differs.ensures ∙ ap (λ q. is_not_zero
+    (constant_of (norm_sub q (polynomial_at (forms_of es) c.in-Update.at)))) c.terms_at-terms.ensures.form in
+    let f = address_differs es c.loop-m.m c.index-entries-m.result c.in-Update.at c.in-Update.value c.in-Update.older
+    c.args.p c.requires.entries l c.index-entries-m.is c.in-Update.is c.requires.at c.if-at-p.false in
+    let n = older_count es c.loop-m.m c.index-entries-m.result c.in-Update.at c.in-Update.value c.in-Update.older
+    c.requires.entries l c.index-entries-m.is c.in-Update.is in
     record {
       bound = omega (arith, l, r);
-      sort = older_reach es c.loop-m.m c.index-entries-m.result c.in-Update.at c.in-Update.value c.in-Update.older c.requires.entries l c.index-entries-m.is c.in-Update.is;
+      sort = older_reach es c.loop-m.m c.index-entries-m.result c.in-Update.at c.in-Update.value c.in-Update.older
+          c.requires.entries l c.index-entries-m.is c.in-Update.is;
       form = walk_on _ _ _ _ _ _ c.differs.result a refl f d c.if-not-differs.false ∙ c.loop-m.invariant.form;
       steps = omega (arith, c.loop-m.invariant.steps, n, c.tick.ensures);
     }
 
 pub loop-m-smaller : goal.loop-m-smaller
 loop-m-smaller g c =
-    let r = link_reach c.args.entries.now c.loop-m.m c.index-entries-m.result c.in-Update.at c.in-Update.value c.in-Update.older c.requires.entries.earlier c.loop-m.invariant.bound c.index-entries-m.is c.in-Update.is in
+    let r = link_reach c.args.entries.now c.loop-m.m c.index-entries-m.result c.in-Update.at c.in-Update.value
+    c.in-Update.older c.requires.entries.earlier c.loop-m.invariant.bound c.index-entries-m.is c.in-Update.is in
     omega (arith, r)

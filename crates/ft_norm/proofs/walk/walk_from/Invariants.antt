@@ -9,8 +9,10 @@ abbrev pub invariant-loop-m : goal.invariant-loop-m
 invariant-loop-m g l = record {
   bound : l.m < length l.entries;
   sort : memory_reach (forms_of l.entries) l.m ≤ length (forms_of l.entries);
-  form : norm_sel (updates_at (forms_of l.entries) l.m) (polynomial_at (forms_of l.entries) l.p) ≡ norm_sel (updates_at (forms_of l.entries) l.memory) (polynomial_at (forms_of l.entries) l.p);
-  steps : l.steps + updates (updates_at (forms_of l.entries) l.m) ≤ l.initial.steps + updates (updates_at (forms_of l.entries) l.memory);
+  form : norm_sel (updates_at (forms_of l.entries) l.m) (polynomial_at (forms_of l.entries) l.p)
+      ≡ norm_sel (updates_at (forms_of l.entries) l.memory) (polynomial_at (forms_of l.entries) l.p);
+  steps : l.steps + updates (updates_at (forms_of l.entries) l.m) ≤ l.initial.steps + updates
+      (updates_at (forms_of l.entries) l.memory);
 }
 
 abbrev pub decreases-loop-m : goal.decreases-loop-m

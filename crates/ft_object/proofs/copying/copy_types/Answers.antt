@@ -4,7 +4,12 @@ use Rattle.ft_object.proofs.Copied.{copied_more, copied_all}
 use Rattle.ft_object.proofs.copying.copy_types.Goals as goal
 
 pub loop-i-preserved : goal.loop-i-preserved
-loop-i-preserved c = rw c.in_ok-push.ensures.ok (record { items = copied_more (object_of c.args.view.now).types _ c.loop-i.i _ c.in_ok-code_type.ensures.copied c.loop-i.invariant.items })
+loop-i-preserved c = rw c.in_ok-push.ensures.ok (record {
+  items =
+      copied_more (object_of c.args.view.now).types _ c.loop-i.i _ c.in_ok-code_type.ensures.copied
+      c.loop-i.invariant.items;
+})
 
 pub returns-clause-copied : goal.returns-clause-copied
-returns-clause-copied c = copied_all (object_of c.args.view.now).types _ c.loop-i.i (omega arith) c.loop-i.invariant.items
+returns-clause-copied c = copied_all (object_of c.args.view.now).types _ c.loop-i.i (omega arith)
+    c.loop-i.invariant.items

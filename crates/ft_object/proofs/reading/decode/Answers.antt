@@ -13,11 +13,16 @@ returns-clause-spelled c =
 
 pub returns-clause-exact : goal.returns-clause-exact
 returns-clause-exact c =
-    let bytes : AreBytes c.args.bytes.now = λ i. omega (arith, c.type_inv.bytes i) in
-    (λ none. (version_at c.args.bytes.now, object_of c.args.bytes.now, read_spells c.args.bytes.now bytes none), λ s. spells_unbroken c.args.bytes.now s.0 s.1 s.2)
+    let bytes : AreBytes c.args.bytes.now = λ i. omega (arith, c.type_inv.bytes i) in (
+      λ none. (version_at c.args.bytes.now, object_of c.args.bytes.now, read_spells c.args.bytes.now bytes none),
+      λ s.
+          spells_unbroken c.args.bytes.now s.0 s.1 s.2,
+    )
 
 pub returns-clause-one : goal.returns-clause-one
-returns-clause-one c = λ v w o other p q. sym (spells_read c.args.bytes.now v o p) ∙ spells_read c.args.bytes.now w other q
+returns-clause-one c = λ v w o other p q. sym (spells_read c.args.bytes.now v o p)
+    ∙ spells_read c.args.bytes.now w other q
 
 pub returns-clause-given : goal.returns-clause-given
-returns-clause-given c = λ v o h. given c.args.bytes.now c.read_object.result v o c.read_object.ensures.judged c.read_object.ensures.read h
+returns-clause-given c = λ v o h. given c.args.bytes.now c.read_object.result v o c.read_object.ensures.judged
+    c.read_object.ensures.read h

@@ -24,4 +24,5 @@ returns-in-Ok-clause-lines g c =
     let status = status_after o None c.args.plan.wild.now c.args.steps in
     let restart = restart_output o c.args.plan.strike c.args.plan.wild.now c.args.steps in
     let lines = whole_output o c.args.plan.wild.now c.args.steps in
-    finishes_puts status restart c.in-Ok.end lines (g.K.Sink.log c.args.out.now) (g.K.Sink.log c.run_both.new.out) c.in-Ok.ensures.ends c.in-Ok.ensures.puts
+    finishes_puts status restart c.in-Ok.end lines (g.K.Sink.log c.args.out.now) (g.K.Sink.log c.run_both.new.out)
+    c.in-Ok.ensures.ends c.in-Ok.ensures.puts

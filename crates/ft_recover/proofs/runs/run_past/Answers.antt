@@ -14,8 +14,11 @@ use Rattle.ft_recover.proofs.runs.run_past.Goals as goal
 pub run_under-gone-requires-clause-may : goal.run_under-gone-requires-clause-may
 run_under-gone-requires-clause-may g c = λ output there.
     let o = g.P.Program.object c.args.program.now in
-    let a = output.addr in
-    (c.requires.spellable, cell_bounds (length o.cells) a (sym (ap (λ (s : State). is_cell s.cells a) c.requires.start ∙ cells_there (init_of o) (length o.cells) a) ∙ there))
+    let a = output.addr in (
+      c.requires.spellable,
+      cell_bounds (length o.cells) a (sym (ap (λ (s : State). is_cell s.cells a) c.requires.start
+          ∙ cells_there (init_of o) (length o.cells) a) ∙ there),
+    )
 
 pub returns-then-broke_off-clause-puts : goal.returns-then-broke_off-clause-puts
 returns-then-broke_off-clause-puts g c =
@@ -24,8 +27,10 @@ returns-then-broke_off-clause-puts g c =
     let old = g.K.Sink.log c.args.out.now in
     let new = g.K.Sink.log gone.new.outlet.out.now in
     let refused : gone.result.pause ≡ Refused = search rules in
-    let h : BreaksOff (output_lines o (drop c.args.passed (outputs_after o c.args.plan.strike c.args.plan.wild.now c.args.steps))) old new
-    = breaks_past o c.args.plan.strike c.args.plan.wild.now gone.new.machine c.args.steps gone.result.taken c.args.passed gone.new.outlet.passed gone.new.outlet.count old new c.ranges.steps.fits
+    let h : BreaksOff (output_lines o (drop c.args.passed
+    (outputs_after o c.args.plan.strike c.args.plan.wild.now c.args.steps))) old new
+    = breaks_past o c.args.plan.strike c.args.plan.wild.now gone.new.machine c.args.steps gone.result.taken
+    c.args.passed gone.new.outlet.passed gone.new.outlet.count old new c.ranges.steps.fits
     gone.result.pause refused gone.ensures.ran.few gone.ensures.heard.2 in
     search rules
 
@@ -34,8 +39,10 @@ returns-clause-runs g c =
     let o = g.P.Program.object c.args.program.now in
     let gone = c.run_under-gone in
     let went : ¬ (gone.result.pause ≡ Refused) = search rules in
-    ran_past o c.args.plan.strike c.args.plan.wild.now gone.new.machine c.args.steps gone.result.taken c.args.passed gone.new.outlet.passed gone.new.outlet.count
-    (g.K.Sink.log c.args.out.now) (g.K.Sink.log gone.new.outlet.out.now) c.ranges.steps.fits gone.result.pause went gone.ensures.ran gone.ensures.heard.2
+    ran_past o c.args.plan.strike c.args.plan.wild.now gone.new.machine c.args.steps gone.result.taken c.args.passed
+    gone.new.outlet.passed gone.new.outlet.count
+    (g.K.Sink.log c.args.out.now) (g.K.Sink.log gone.new.outlet.out.now) c.ranges.steps.fits gone.result.pause went
+    gone.ensures.ran gone.ensures.heard.2
 
 pub returns-clause-puts : goal.returns-clause-puts
 returns-clause-puts g c =
@@ -44,7 +51,9 @@ returns-clause-puts g c =
     let old = g.K.Sink.log c.args.out.now in
     let new = g.K.Sink.log gone.new.outlet.out.now in
     let went : ¬ (gone.result.pause ≡ Refused) = search rules in
-    let h : new ≡ with_lines (output_lines o (drop c.args.passed (outputs_after o c.args.plan.strike c.args.plan.wild.now c.args.steps))) old
-    = puts_past o c.args.plan.strike c.args.plan.wild.now gone.new.machine c.args.steps gone.result.taken c.args.passed gone.new.outlet.passed gone.new.outlet.count old new c.ranges.steps.fits
+    let h : new ≡ with_lines (output_lines o (drop c.args.passed
+    (outputs_after o c.args.plan.strike c.args.plan.wild.now c.args.steps))) old
+    = puts_past o c.args.plan.strike c.args.plan.wild.now gone.new.machine c.args.steps gone.result.taken c.args.passed
+    gone.new.outlet.passed gone.new.outlet.count old new c.ranges.steps.fits
     gone.result.pause went gone.ensures.ran gone.ensures.heard.2 in
     search rules

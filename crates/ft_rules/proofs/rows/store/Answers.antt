@@ -7,7 +7,13 @@ use Rattle.ft_contexts.specs.Contexts.{context_in}
 use Rattle.ft_rules.proofs.rows.store.Goals as goal
 
 pub returns-in-Green : goal.returns-in-Green
-returns-in-Green c = λ o t. subst (λ (k : Colour). Does (row o (context_in c.args.forms.now c.args.context.now) (St k c.args.rd c.args.rs)) o c.args.forms.now c.args.forms.now c.args.context.now c.store_green.new.context c.store_green.result) (sym c.in-Green.is) (c.store_green.ensures o t)
+returns-in-Green c = λ o t. subst (λ (k : Colour).
+    Does (row o (context_in c.args.forms.now c.args.context.now) (St k c.args.rd c.args.rs)) o c.args.forms.now
+    c.args.forms.now c.args.context.now c.store_green.new.context c.store_green.result) (sym c.in-Green.is)
+    (c.store_green.ensures o t)
 
 pub returns-in-Blue : goal.returns-in-Blue
-returns-in-Blue c = λ o t. subst (λ (k : Colour). Does (row o (context_in c.args.forms.now c.args.context.now) (St k c.args.rd c.args.rs)) o c.args.forms.now c.store_blue.new.forms c.args.context.now c.store_blue.new.context c.store_blue.result) (sym c.in-Blue.is) (c.store_blue.ensures o t)
+returns-in-Blue c = λ o t. subst (λ (k : Colour). Does
+    (row o (context_in c.args.forms.now c.args.context.now) (St k c.args.rd c.args.rs)) o c.args.forms.now
+    c.store_blue.new.forms c.args.context.now c.store_blue.new.context c.store_blue.result) (sym c.in-Blue.is)
+    (c.store_blue.ensures o t)

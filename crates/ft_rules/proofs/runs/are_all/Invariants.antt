@@ -6,4 +6,5 @@ use Rattle.ft_rules.proofs.runs.are_all.Given as goal
 
 abbrev pub invariant-loop-k : goal.invariant-loop-k
 invariant-loop-k g l = let o = g.P.Program.object l.program in
-    list_all (same_basic l.basic) (map basic_of (slice_range o.cells l.k l.past)) ≡ list_all (same_basic l.basic) (map basic_of (slice_range o.cells l.fn.from l.past))
+    list_all (same_basic l.basic) (map basic_of (slice_range o.cells l.k l.past))
+    ≡ list_all (same_basic l.basic) (map basic_of (slice_range o.cells l.fn.from l.past))

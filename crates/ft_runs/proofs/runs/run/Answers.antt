@@ -43,10 +43,13 @@ pub returns-clause-undetected : goal.returns-clause-undetected
 returns-clause-undetected g c = λ none.
     let o = g.P.Program.object c.start.inside.program.now in
     undetected_end c.drive.result (status_after o None c.args.plan.wild.now c.args.steps)
-    (subst (λ (x : Option Strike). EndsAs c.drive.result (status_after o x c.args.plan.wild.now c.args.steps)) none c.drive.ensures.ends)
+    (subst (λ (x : Option Strike). EndsAs c.drive.result (status_after o x c.args.plan.wild.now c.args.steps)) none
+    c.drive.ensures.ends)
     (never_detected o c.args.plan.wild.now c.start.invariant.spellable c.start.invariant.accepted c.args.steps)
 
 pub returns-clause-lines : goal.returns-clause-lines
 returns-clause-lines g c =
-    subst (λ (x : CleanRun). Puts (put_end c.drive.result) (output_lines x.object (outputs_after x.object c.args.plan.strike c.args.plan.wild.now c.args.steps)) (g.K.Sink.log c.args.out.now) (g.K.Sink.log c.drive.new.out))
+    subst (λ (x : CleanRun). Puts (put_end c.drive.result)
+    (output_lines x.object (outputs_after x.object c.args.plan.strike c.args.plan.wild.now c.args.steps))
+    (g.K.Sink.log c.args.out.now) (g.K.Sink.log c.drive.new.out))
     c.start.view_is c.drive.ensures.lines

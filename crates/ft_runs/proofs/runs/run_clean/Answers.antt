@@ -21,19 +21,24 @@ run_under-requires-clause-may g c = λ output there.
     let o = g.P.Program.object c.start.inside.program.now in
     let a = output.addr in
     let none = ap (λ (x : CleanRun). x.taken) c.start.view_is ∙ c.requires.taken in
-    let begun = c.start.invariant.state [] ∙ ap (λ n. state_after o None [] n) none ∙ ap (λ (x : Ran). x.state) (run-zero o None []) in
+    let begun = c.start.invariant.state [] ∙ ap (λ n. state_after o None [] n) none
+    ∙ ap (λ (x : Ran). x.state) (run-zero o None []) in
     c.requires.may output
     (subst (λ (x : CleanRun). IsOfCell x.object output) c.start.view_is
-    (cell_bounds (length o.cells) a (sym (ap (λ (s : State). is_cell s.cells a) begun ∙ cells_there (init_of o) (length o.cells) a) ∙ there)))
+    (cell_bounds (length o.cells) a (sym (ap (λ (s : State). is_cell s.cells a) begun
+    ∙ cells_there (init_of o) (length o.cells) a) ∙ there)))
 
 pub returns-clause-heard : goal.returns-clause-heard
 returns-clause-heard g c =
     let gone = c.run_under in
-    subst (λ (x : CleanRun). g.T.Outlet.heard c.args.outlet.now (outputs_after x.object None [] gone.result.taken) (goes_on gone.result.pause) gone.new.outlet) c.start.view_is gone.ensures.heard
+    subst (λ (x : CleanRun). g.T.Outlet.heard c.args.outlet.now (outputs_after x.object None [] gone.result.taken)
+    (goes_on gone.result.pause) gone.new.outlet) c.start.view_is gone.ensures.heard
 
 pub returns-clause-whole : goal.returns-clause-whole
 returns-clause-whole g c = λ goes.
     let o = g.P.Program.object c.start.inside.program.now in
     let gone = c.run_under in
-    subst (λ (x : CleanRun). outputs_after x.object None [] c.args.steps ≡ outputs_after x.object None [] gone.result.taken) c.start.view_is
-    (ap (λ (x : Ran). x.outputs) (run_whole o None [] gone.new.machine c.args.steps gone.result.taken gone.result.pause goes gone.ensures.ran))
+    subst (λ (x : CleanRun). outputs_after x.object None [] c.args.steps
+    ≡ outputs_after x.object None [] gone.result.taken) c.start.view_is
+    (ap (λ (x : Ran). x.outputs) (run_whole o None [] gone.new.machine c.args.steps gone.result.taken gone.result.pause
+    goes gone.ensures.ran))

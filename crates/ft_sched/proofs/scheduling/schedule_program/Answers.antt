@@ -12,11 +12,19 @@ loop-b-init g c =
     }
 
 pub loop-b-preserved : goal.loop-b-preserved
-loop-b-preserved g c = record { none_waits = c.in_ok-schedule_block.ensures.none_waits; up_to = c.in_ok-schedule_block.ensures.after }
+loop-b-preserved g c = record {
+  none_waits = c.in_ok-schedule_block.ensures.none_waits;
+  up_to = c.in_ok-schedule_block.ensures.after;
+}
 
 pub returns : goal.returns
 returns g c =
     let o = g.P.Program.object c.args.program.now in
-    scheduled_copy o c.from_vec.result c.loop-b.order.laid.items c.copy_with_instrs.result (c.from_vec.ensures ∙ c.into_laid.ensures)
-    (up_to_ends o c.loop-b.b c.loop-b.order.laid.items (omega (arith, c.counts-b-end.ensures.blocks, c.loop-b-test.false)) c.loop-b.invariant.up_to)
+    scheduled_copy o c.from_vec.result c.loop-b.order.laid.items c.copy_with_instrs.result (c.from_vec.ensures
+    ∙ c.into_laid.ensures)
+    (up_to_ends o c.loop-b.b c.loop-b.order.laid.items (omega (
+      arith,
+      c.counts-b-end.ensures.blocks,
+      c.loop-b-test.false,
+    )) c.loop-b.invariant.up_to)
     c.copy_with_instrs.ensures

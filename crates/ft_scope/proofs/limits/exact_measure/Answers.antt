@@ -5,13 +5,33 @@ use Rattle.ft_scope.proofs.Measures.{most_need_within, statements_within}
 use Rattle.ft_scope.proofs.limits.exact_measure.Goals as goal
 
 pub returns-clause-need : goal.returns-clause-need
-returns-clause-need c = omega (arith, c.measure_statements.ensures.need, most_need_within (plain_list same_slot c.args.all.now), c.requires)
+returns-clause-need c = omega (
+  arith,
+  c.measure_statements.ensures.need,
+  most_need_within (plain_list same_slot c.args.all.now),
+  c.requires,
+)
 
 pub returns-clause-weight : goal.returns-clause-weight
-returns-clause-weight c = omega (arith, c.measure_statements.ensures.weight, statements_within (plain_list same_slot c.args.all.now), c.requires)
+returns-clause-weight c = omega (
+  arith,
+  c.measure_statements.ensures.weight,
+  statements_within (plain_list same_slot c.args.all.now),
+  c.requires,
+)
 
 pub returns-clause-few : goal.returns-clause-few
-returns-clause-few c = omega (arith, c.measure_statements.ensures.need, most_need_within (plain_list same_slot c.args.all.now), c.requires)
+returns-clause-few c = omega (
+  arith,
+  c.measure_statements.ensures.need,
+  most_need_within (plain_list same_slot c.args.all.now),
+  c.requires,
+)
 
 pub returns-clause-light : goal.returns-clause-light
-returns-clause-light c = omega (arith, c.measure_statements.ensures.weight, statements_within (plain_list same_slot c.args.all.now), c.requires)
+returns-clause-light c = omega (
+  arith,
+  c.measure_statements.ensures.weight,
+  statements_within (plain_list same_slot c.args.all.now),
+  c.requires,
+)

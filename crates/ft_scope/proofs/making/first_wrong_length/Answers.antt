@@ -26,4 +26,5 @@ loop-d-preserved c =
 pub returns : goal.returns
 returns c =
     let all = c.args.decls.now in
-    sym (c.loop-d.invariant ∙ ap (λ v. wrong_length (declared_list v)) (drop_of_length-le all (omega arith)) ∙ ap wrong_length declared_empty)
+    sym (c.loop-d.invariant ∙ ap (λ v. wrong_length (declared_list v)) (drop_of_length-le all (omega arith))
+    ∙ ap wrong_length declared_empty)

@@ -21,13 +21,16 @@ pub declare-requires : goal.declare-requires
 declare-requires c =
     let all = c.args.decls.now in
     let i = c.loop-d.d-index in
-    (wrong_parts (declared (get_or all i outside)) (declared_list (drop (i + 1) all)) (sym (ap wrong_length (declared_drop all i outside (omega arith))) ∙ c.loop-d.invariant.fine)).0
+    (wrong_parts (declared (get_or all i outside)) (declared_list (drop (i + 1) all))
+    (sym (ap wrong_length (declared_drop all i outside (omega arith))) ∙ c.loop-d.invariant.fine)).0
 
 pub loop-d-preserved : goal.loop-d-preserved
 loop-d-preserved c =
     let all = c.args.decls.now in
     let i = c.loop-d.d-index in
     record {
-      made = subst (Made c.declare.new.self) (sym (declared_take all i outside (omega arith))) (c.in_default.ensures.ok (declared_list (take i all)) c.loop-d.invariant.made);
-      fine = (wrong_parts (declared (get_or all i outside)) (declared_list (drop (i + 1) all)) (sym (ap wrong_length (declared_drop all i outside (omega arith))) ∙ c.loop-d.invariant.fine)).1;
+      made = subst (Made c.declare.new.self) (sym (declared_take all i outside (omega arith)))
+          (c.in_default.ensures.ok (declared_list (take i all)) c.loop-d.invariant.made);
+      fine = (wrong_parts (declared (get_or all i outside)) (declared_list (drop (i + 1) all))
+          (sym (ap wrong_length (declared_drop all i outside (omega arith))) ∙ c.loop-d.invariant.fine)).1;
     }

@@ -12,10 +12,17 @@ measure_statements-loop-s-preserved t c =
     let s = c.s-item.result in
     let before = plain_list same_slot (take i all) in
     let is : plain_list same_slot (take (i + 1) all) ≡ follow before (plain_statement same_slot s none) =
-    list_take same_slot all i s (omega arith) ∙ ap (λ v. follow before (plain_statement same_slot v none)) (sym c.s-item.is) in
+    list_take same_slot all i s (omega arith) ∙ ap (λ v. follow before (plain_statement same_slot v none))
+    (sym c.s-item.is) in
     let needs = ap most_need is ∙ need_follow before (plain_statement same_slot s none) in
     let weighs = ap statements_weight is ∙ weight_follow before (plain_statement same_slot s none) in
     record {
       need = omega (arith, needs, c.loop-s.invariant.need, c.measure_statement.ensures.need, c.and-whole.ensures.need);
-      weight = omega (arith, weighs, c.loop-s.invariant.weight, c.measure_statement.ensures.weight, c.and-whole.ensures.weight);
+      weight = omega (
+        arith,
+        weighs,
+        c.loop-s.invariant.weight,
+        c.measure_statement.ensures.weight,
+        c.and-whole.ensures.weight,
+      );
     }

@@ -17,7 +17,14 @@ loop-d-init c = record {
 pub declare-requires : goal.declare-requires
 declare-requires c =
     let front = take c.loop-d.d-index c.args.decls.now in
-    omega (arith, c.loop-d.invariant.held.vars, counts_within (declared_list front), declared_length front, length-take c.loop-d.d-index c.args.decls.now, c.requires)
+    omega (
+      arith,
+      c.loop-d.invariant.held.vars,
+      counts_within (declared_list front),
+      declared_length front,
+      length-take c.loop-d.d-index c.args.decls.now,
+      c.requires,
+    )
 
 pub returns-in-Err-clause-err : goal.returns-in-Err-clause-err
 returns-in-Err-clause-err c =
@@ -27,7 +34,8 @@ returns-in-Err-clause-err c =
     let n = (declared_name (declared d)).text in
     let before = declared_list (take l.d-index all) in
     let after = declared_list (drop (l.d-index + 1) all) in
-    subst (TwiceFails c.in-Err.e) (sym (l.invariant.fresh ∙ ap (repeated before) (declared_drop all l.d-index outside (omega arith))))
+    subst (TwiceFails c.in-Err.e) (sym (l.invariant.fresh
+    ∙ ap (repeated before) (declared_drop all l.d-index outside (omega arith))))
     (twice_fails c.in-Err.e before (declared d) after (look l.names n) (l.invariant.held.slots n) c.in-Err.ensures.err)
 
 pub loop-d-preserved : goal.loop-d-preserved
@@ -43,11 +51,13 @@ loop-d-preserved c =
     record {
       held = subst (λ v. Holds c.declare.new.self v) (sym grown) (said.ok before l.invariant.held);
       fresh = l.invariant.fresh ∙ ap (repeated before) (declared_drop all l.d-index outside (omega arith))
-          ∙ repeated_step before (declared d) after (none_mapped (find before n) (sym (l.invariant.held.slots n) ∙ said.fresh)) ∙ ap (λ v. repeated v after) (sym grown);
+          ∙ repeated_step before (declared d) after (none_mapped (find before n) (sym (l.invariant.held.slots n)
+          ∙ said.fresh)) ∙ ap (λ v. repeated v after) (sym grown);
     }
 
 pub returns-clause-fresh : goal.returns-clause-fresh
 returns-clause-fresh c =
     let l = c.loop-d in
     let all = c.args.decls.now in
-    l.invariant.fresh ∙ ap (λ v. repeated (declared_list (take l.d-index all)) (declared_list v)) (drop_of_length-le all (omega arith)) ∙ ap (repeated (declared_list (take l.d-index all))) declared_empty
+    l.invariant.fresh ∙ ap (λ v. repeated (declared_list (take l.d-index all)) (declared_list v))
+    (drop_of_length-le all (omega arith)) ∙ ap (repeated (declared_list (take l.d-index all))) declared_empty

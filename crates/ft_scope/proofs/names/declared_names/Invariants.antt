@@ -7,5 +7,6 @@ use Rattle.ft_scope.proofs.names.declared_names.Given as goal
 abbrev pub invariant-loop-d : goal.invariant-loop-d
 invariant-loop-d l = record {
   held : Holds l.names (declared_list (take l.d-index l.decls));
-  fresh : repeated [] (declared_list l.decls) ≡ repeated (declared_list (take l.d-index l.decls)) (declared_list (drop l.d-index l.decls));
+  fresh : repeated [] (declared_list l.decls) ≡ repeated (declared_list (take l.d-index l.decls))
+      (declared_list (drop l.d-index l.decls));
 }

@@ -18,9 +18,12 @@ returns-in-Ok-new-2-clause-fits t c = λ k v h g.
     let from_a : c.in-Op.a.value ≡ c.into_inner-in-Op.result = search rules in
     let from_b : c.in-Op.b.value ≡ c.into_inner-in-Op-2.result = search rules in
     let parts : first_of (misuse c.in-Op.a.value) (misuse c.in-Op.b.value) ≡ None = sym (ap misuse c.in-Op.is) ∙ g in
-    both_fit k v (misuse c.in-Op.a.value) (misuse c.in-Op.b.value) (plain_expression same_slot c.in-Ok-new.a.value) (plain_expression same_slot c.in-Ok-new-2.b.value) parts
-    (λ p. subst (λ e. ExpressionFits k v (plain_expression same_slot e)) a (c.in_ok-a-in-Op.ensures.fits k v h (subst (λ e. misuse e ≡ None) from_a p)))
-    (λ q. subst (λ e. ExpressionFits k v (plain_expression same_slot e)) b (c.in_ok-b-in-Op.ensures.fits k v h (subst (λ e. misuse e ≡ None) from_b q)))
+    both_fit k v (misuse c.in-Op.a.value) (misuse c.in-Op.b.value) (plain_expression same_slot c.in-Ok-new.a.value)
+    (plain_expression same_slot c.in-Ok-new-2.b.value) parts
+    (λ p. subst (λ e. ExpressionFits k v (plain_expression same_slot e)) a
+    (c.in_ok-a-in-Op.ensures.fits k v h (subst (λ e. misuse e ≡ None) from_a p)))
+    (λ q. subst (λ e. ExpressionFits k v (plain_expression same_slot e)) b
+    (c.in_ok-b-in-Op.ensures.fits k v h (subst (λ e. misuse e ≡ None) from_b q)))
 
 pub returns-in-Ok-new-2-clause-misuse : goal.returns-in-Ok-new-2-clause-misuse
 returns-in-Ok-new-2-clause-misuse t c =
@@ -44,7 +47,8 @@ returns-in-Ok-clause-misuse t c =
     let old = c.args.misuse.now in
     let one = c.indexed_slot.new.misuse in
     let two = c.rename_expression.new.misuse in
-    two_notes old one two (index_misuse c.in-At.name.at (table c.in-At.name.text.now)) (misuse c.in-At.index.value) c.in_ok-name-in-At.ensures.misuse
+    two_notes old one two (index_misuse c.in-At.name.at (table c.in-At.name.text.now)) (misuse c.in-At.index.value)
+    c.in_ok-name-in-At.ensures.misuse
     (subst (λ e. two ≡ first_of one (misuse e)) (sym from) c.in_ok-index-in-At.ensures.misuse)
     ∙ ap (first_of old) (sym (ap misuse c.in-At.is))
 
@@ -58,6 +62,8 @@ returns-in-Ok-clause-fits t c = λ k v h g.
     let from : c.in-At.index.value ≡ c.into_inner.result = search rules in
     let to : c.in_ok-index-in-At.index ≡ c.in-Ok.index.value = search rules in
     let parts : first_of one other ≡ None = sym (ap misuse c.in-At.is) ∙ g in (
-      index_fits k v n.at (table n.text.now) c.in_ok-name-in-At.name c.in_ok-name-in-At.ensures.ok (c.in_ok-name-in-At.ensures.fits k v h) (first_left one other parts),
-      subst (λ e. ExpressionFits k v (plain_expression same_slot e)) to (c.in_ok-index-in-At.ensures.fits k v h (subst (λ e. misuse e ≡ None) from (first_right one other parts))),
+      index_fits k v n.at (table n.text.now) c.in_ok-name-in-At.name c.in_ok-name-in-At.ensures.ok
+          (c.in_ok-name-in-At.ensures.fits k v h) (first_left one other parts),
+      subst (λ e. ExpressionFits k v (plain_expression same_slot e)) to
+          (c.in_ok-index-in-At.ensures.fits k v h (subst (λ e. misuse e ≡ None) from (first_right one other parts))),
     )

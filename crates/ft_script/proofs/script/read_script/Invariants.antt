@@ -7,7 +7,8 @@ use Rattle.ft_script.proofs.script.read_script.Given as goal
 
 abbrev pub invariant-loop-line : goal.invariant-loop-line
 invariant-loop-line l = record {
-  lines : (done : List (List ℕ)) × (lines_of l.fn.script ≡ done ++ lines_of l.rest) × AllZip Gives done (map command_of l.commands.items);
+  lines : (done : List (List ℕ)) × (lines_of l.fn.script ≡ done ++ lines_of l.rest)
+      × AllZip Gives done (map command_of l.commands.items);
   few : length l.commands.items + length l.rest ≤ length l.fn.script;
 }
 

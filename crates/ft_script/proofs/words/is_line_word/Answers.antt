@@ -8,7 +8,11 @@ no_word : (text : List ℕ) (at : ℕ) → position is_space text ≡ Some at �
 no_word text at e h = let none : None ≡ Some at = sym (no_space_found text h.no_space) ∙ e in absurd (cc)
 
 pub returns-in-Some : goal.returns-in-Some
-returns-in-Some c = (λ e. absurd (cc), λ h. absurd (no_word c.args.text.now c.in-Some.field-0 (sym c.first_space.ensures ∙ c.in-Some.is) h))
+returns-in-Some c = (
+  λ e. absurd (cc),
+  λ h. absurd (no_word c.args.text.now c.in-Some.field-0 (sym c.first_space.ensures
+      ∙ c.in-Some.is) h),
+)
 
 pub returns-in-None : goal.returns-in-None
 returns-in-None c =

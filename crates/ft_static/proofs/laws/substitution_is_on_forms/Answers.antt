@@ -1,4 +1,6 @@
-use Rattle.ft_static.proofs.Under.{norm-substitute, norm_memory-substitute, value-substitute, memory_value-substitute, value_under, value_memory_under, valuation_under-lawful, norm_under_itself, norm_memory_under_itself}
+use Rattle.ft_static.proofs.Under.{norm-substitute, norm_memory-substitute, value-substitute, memory_value-substitute}
+use Rattle.ft_static.proofs.Under.{value_under, value_memory_under, valuation_under-lawful, norm_under_itself}
+use Rattle.ft_static.proofs.Under.{norm_memory_under_itself}
 use Rattle.ft_static.proofs.laws.substitution_is_on_forms.Goals as goal
 
 pub returns : goal.returns

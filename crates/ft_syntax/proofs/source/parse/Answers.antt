@@ -12,7 +12,8 @@ invariant_of-result c =
     let body = c.in_ok-decls.body.items in
     let derived : Derives (lexemes c.in_ok-all.all.items) (tree_from decls body) =
     subst (λ v. Derives (lexemes v) (tree_from decls body)) c.deref.ensures.value c.in_ok-decls.ensures.ok.0 in
-    let small : node_count decls body ≤ length c.args.text.now = byte_each c.args.text.now (lexemes c.in_ok-all.all.items) decls body c.in_ok-all.ensures.ok derived in
+    let small : node_count decls body ≤ length c.args.text.now =
+    byte_each c.args.text.now (lexemes c.in_ok-all.all.items) decls body c.in_ok-all.ensures.ok derived in
     record { is_small = omega (arith, small) }
 
 pub returns-clause-nodes : goal.returns-clause-nodes

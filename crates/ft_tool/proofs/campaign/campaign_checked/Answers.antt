@@ -12,5 +12,6 @@ returns-clause-ends g c =
     let o = g.P.Program.object c.args.checked.now in
     let fails = LoadFails c.args.asked.now.faults.now (g.F.Shelf.log c.args.shelf.now)
     (g.F.Shelf.log c.over_list.new.shelf) in
-    Ends-map c.over_list.result (OverListOf NoneCorrupt asked told c.args.bytes.now o) (CampaignsListOf asked told c.args.bytes.now o) _ _ fails fails
+    Ends-map c.over_list.result (OverListOf NoneCorrupt asked told c.args.bytes.now o)
+    (CampaignsListOf asked told c.args.bytes.now o) _ _ fails fails
     (λ a is. (is, undetected o asked.wild c.requires.spellable c.requires.accepted)) (λ x. x) c.over_list.ensures.ends

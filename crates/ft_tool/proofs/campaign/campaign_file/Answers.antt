@@ -8,7 +8,8 @@ use Rattle.ft_typing.specs.Accepted.{refusal}
 use Rattle.ft_tool.specs.Answers.{CampaignsUnless, CampaignsObject, OverFile, FailsIn}
 use Rattle.ft_tool.specs.Endings.{ends_early}
 use Rattle.ft_tool.specs.Told.{OfFiles, CampaignsListOf}
-use Rattle.ft_tool.proofs.Tried.{own_bytes, over_struck_between, over_unstruck, campaign_failed, campaign_unloaded, campaigns_loaded}
+use Rattle.ft_tool.proofs.Tried.{own_bytes, over_struck_between, over_unstruck, campaign_failed, campaign_unloaded}
+use Rattle.ft_tool.proofs.Tried.{campaigns_loaded}
 use Rattle.ft_tool.specs.declared.load.ObjectFault.TheVariants.{Failed}
 use Rattle.ft_tool.specs.Files.{IsRefusedBy}
 use Rattle.ft_tool.proofs.Answered.{Ends-map, unspelled, object_failed, failed_in}
@@ -16,7 +17,9 @@ use Rattle.ft_tool.proofs.campaign.campaign_file.Goals as goal
 
 pub campaign_object-requires-clause-own : goal.campaign_object-requires-clause-own
 campaign_object-requires-clause-own g c =
-    own_bytes (g.F.Shelf.log c.args.shelf.now).files (g.F.Shelf.log c.load_object.new.shelf).files c.args.asked.now.object.now c.in-Ok.view c.bytes.result.now c.load_object.ensures.files c.bytes.ensures c.in-Ok.ensures.loads
+    own_bytes (g.F.Shelf.log c.args.shelf.now).files (g.F.Shelf.log c.load_object.new.shelf).files
+    c.args.asked.now.object.now c.in-Ok.view c.bytes.result.now c.load_object.ensures.files c.bytes.ensures
+    c.in-Ok.ensures.loads
 
 pub returns-in-Ok-clause-ends : goal.returns-in-Ok-clause-ends
 returns-in-Ok-clause-ends g c =
@@ -50,11 +53,15 @@ returns-clause-ends g c =
 
 pub returns-in-Ok-clause-made : goal.returns-in-Ok-clause-made
 returns-in-Ok-clause-made g c =
-    campaigns_loaded (campaign_view c.args.asked.now) (g.F.Shelf.log c.args.shelf.now).files c.in-Ok.view (IsTrue (ends_early c.campaign_object.result)) (g.F.Shelf.log c.args.shelf.now).asked (g.F.Shelf.log c.load_object.new.shelf).asked (g.F.Shelf.log c.campaign_object.new.shelf).asked
+    campaigns_loaded (campaign_view c.args.asked.now) (g.F.Shelf.log c.args.shelf.now).files c.in-Ok.view
+    (IsTrue (ends_early c.campaign_object.result)) (g.F.Shelf.log c.args.shelf.now).asked
+    (g.F.Shelf.log c.load_object.new.shelf).asked (g.F.Shelf.log c.campaign_object.new.shelf).asked
     c.in-Ok.ensures.loads c.load_object.ensures.made c.campaign_object.ensures.made
 
 pub returns-clause-made : goal.returns-clause-made
 returns-clause-made g c =
     let told = (g.F.Shelf.log c.args.shelf.now).files in
-    campaign_unloaded (campaign_view c.args.asked.now) told (IsTrue (ends_early c.refuse_object.result)) (g.F.Shelf.log c.args.shelf.now).asked (g.F.Shelf.log c.load_object.new.shelf).asked
-    (unspelled told c.args.asked.now.object.now c.in-Err.fault c.refuse_object.result _ _ (c.in-Err.fault ≡ Failed) c.in-Err.ensures.loads c.refuse_object.ensures.ends) c.load_object.ensures.made
+    campaign_unloaded (campaign_view c.args.asked.now) told (IsTrue (ends_early c.refuse_object.result))
+    (g.F.Shelf.log c.args.shelf.now).asked (g.F.Shelf.log c.load_object.new.shelf).asked
+    (unspelled told c.args.asked.now.object.now c.in-Err.fault c.refuse_object.result _ _ (c.in-Err.fault
+    ≡ Failed) c.in-Err.ensures.loads c.refuse_object.ensures.ends) c.load_object.ensures.made

@@ -45,4 +45,8 @@ returns-clause-ends g c =
 
 pub returns-in-Ok-clause-script : goal.returns-in-Ok-clause-script
 returns-in-Ok-clause-script g c =
-    inl (spells_file (g.F.Shelf.log c.args.shelf.now).files c.args.asked.now.object.now c.in-Ok.view c.in-Ok.ensures.loads, c.debug_object.ensures.taken)
+    inl (
+      spells_file (g.F.Shelf.log c.args.shelf.now).files c.args.asked.now.object.now c.in-Ok.view
+          c.in-Ok.ensures.loads,
+      c.debug_object.ensures.taken,
+    )

@@ -9,7 +9,13 @@ returns-in-Finished g c =
     let h = c.in-Finished.ensures.ends in
     record {
       answer = record { pieces = demo_lines (sample_object c.args.turns) h.found; status = 0 };
-      is = record { found = h.found; verdicts = h.verdicts; none_corrupt = h.uncorrupted; undetected = sample_undetected c.args.turns c.requires.some c.requires.few; answer = refl };
+      is = record {
+        found = h.found;
+        verdicts = h.verdicts;
+        none_corrupt = h.uncorrupted;
+        undetected = sample_undetected c.args.turns c.requires.some c.requires.few;
+        answer = refl;
+      };
       put = h.lines;
       status_is = refl;
     }

@@ -23,7 +23,8 @@ returns-in-Ok g c =
       | in-Refused w ↦
           piece_concludes (IsNotAccepted c.args.error)
           (check_line (Refused w.in-Refused.block w.in-Refused.index w.in-Refused.why)) c.as_bytes.result.now 8 _ _
-          (subst (λ e. IsNotAccepted e (judged (Some (Refused w.in-Refused.block w.in-Refused.index w.in-Refused.why)))) (sym w.in-Refused.is) refl)
+          (subst (λ e. IsNotAccepted e (judged (Some (Refused w.in-Refused.block w.in-Refused.index w.in-Refused.why))))
+          (sym w.in-Refused.is) refl)
           (c.as_bytes.ensures ∙ w.line-is ∙ w.place_line-line.ensures) c.in-Ok.ensures
     ]
 

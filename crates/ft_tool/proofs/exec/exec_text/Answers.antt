@@ -5,7 +5,8 @@ use Rattle.ft_tool.proofs.exec.exec_text.Goals as goal
 
 pub returns-in-Err : goal.returns-in-Err
 returns-in-Err g c =
-    Ends-map c.refuse_source.result (IsSourceRefused c.in-Err.error) (OverText (ExecutesProgram c.args.steps) c.args.text.now) _ _ ⊥ ⊥
+    Ends-map c.refuse_source.result (IsSourceRefused c.in-Err.error)
+    (OverText (ExecutesProgram c.args.steps) c.args.text.now) _ _ ⊥ ⊥
     (source_refused (ExecutesProgram c.args.steps) c.args.text.now c.in-Err.error c.in-Err.ensures.err) (λ x. x)
     c.refuse_source.ensures
 

@@ -16,6 +16,7 @@ returns g c =
     let new = g.K.Sink.log c.run.new.out in
     let same : c.in-Ok.clean.object ≡ o = search rules in
     let ends = subst (λ o. EndsAs c.run.result (status_after o None [] c.args.steps)) same c.run.ensures.ends in
-    let lines = subst (λ o. Puts (put_end c.run.result) (output_lines o (outputs_after o None [] c.args.steps)) old new) same c.run.ensures.lines in
+    let lines = subst (λ o. Puts (put_end c.run.result) (output_lines o (outputs_after o None [] c.args.steps)) old new)
+    same c.run.ensures.lines in
     subst (λ e. Ends e (λ a. a ≡ ran o (run o None [] c.args.steps)) old new ⊥) (sym c.ending_of_run.ensures)
     (trial_ends c.run.result asked o [] old new refl ends lines)

@@ -13,20 +13,24 @@ use Rattle.ft_tool.proofs.link.add_file.Goals as goal
 pub returns-in-Ok-clause-ok : goal.returns-in-Ok-clause-ok
 returns-in-Ok-clause-ok g c =
     on_ok_weaker c.add_object.result
-    (λ h. adds_file (g.F.Shelf.log c.args.shelf.now).files c.args.linker.now c.add_object.new.linker c.args.name.now c.in-Ok.view c.in-Ok.ensures.loads h) c.add_object.ensures.ok
+    (λ h. adds_file (g.F.Shelf.log c.args.shelf.now).files c.args.linker.now c.add_object.new.linker c.args.name.now
+    c.in-Ok.view c.in-Ok.ensures.loads h) c.add_object.ensures.ok
 
 pub returns-in-Ok-clause-ends : goal.returns-in-Ok-clause-ends
 returns-in-Ok-clause-ends g c =
     let told = (g.F.Shelf.log c.args.shelf.now).files in
-    err_ends c.add_object.result (EndsAtObject c.args.linker.now (object_of c.in-Ok.view)) (EndsWithFile told c.args.linker.now c.args.name.now)
+    err_ends c.add_object.result (EndsAtObject c.args.linker.now (object_of c.in-Ok.view))
+    (EndsWithFile told c.args.linker.now c.args.name.now)
     (g.K.Sink.log c.args.out.now) (g.K.Sink.log c.add_object.new.out) ⊥
     (LoadFails c.args.name.now (g.F.Shelf.log c.args.shelf.now) (g.F.Shelf.log c.load_object.new.shelf))
-    (λ a is. ends_with_object told c.args.linker.now c.args.name.now c.in-Ok.view c.in-Ok.ensures.loads a is) (λ x. absurd x) c.add_object.ensures.ends
+    (λ a is. ends_with_object told c.args.linker.now c.args.name.now c.in-Ok.view c.in-Ok.ensures.loads a is) (λ x.
+    absurd x) c.add_object.ensures.ends
 
 pub returns-clause-ends : goal.returns-clause-ends
 returns-clause-ends g c =
     let told = (g.F.Shelf.log c.args.shelf.now).files in
-    Ends-map c.refuse_object.result (IsRefusedBy c.in-Err.fault) (EndsWithFile told c.args.linker.now c.args.name.now) _ _ (c.in-Err.fault ≡ Failed)
+    Ends-map c.refuse_object.result (IsRefusedBy c.in-Err.fault) (EndsWithFile told c.args.linker.now c.args.name.now) _
+    _ (c.in-Err.fault ≡ Failed)
     (LoadFails c.args.name.now (g.F.Shelf.log c.args.shelf.now) (g.F.Shelf.log c.load_object.new.shelf))
     (λ a is. ends_with_fault told c.args.linker.now c.args.name.now c.in-Err.fault c.in-Err.ensures.loads a is)
     (λ e. object_failed c.args.name.now c.in-Err.fault (g.F.Shelf.log c.args.shelf.now)

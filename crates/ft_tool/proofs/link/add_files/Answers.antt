@@ -55,7 +55,11 @@ loop-file-preserved g c =
       name = kept.1 ∙ inv.name;
       out = c.in-Ok.ensures.untouched ∙ inv.out;
       added =
-          added_next (g.F.Shelf.log c.args.shelf.now).files (g.F.Shelf.log c.loop-file.shelf).files c.args.linkage.now c.loop-file.linker c.add_file.new.linker c.as_slice-files.result.now c.loop-file.file-index c.file-item.result c.name_of.result.now
-          (g.F.Shelf.log c.args.shelf.now).asked (g.F.Shelf.log c.loop-file.shelf).asked (g.F.Shelf.log c.add_file.new.shelf).asked
-          inv.told c.name_of.ensures c.loop-file-test.true c.file-item.is inv.added c.in-Ok.ensures.ok c.add_file.ensures.made;
+          added_next (g.F.Shelf.log c.args.shelf.now).files (g.F.Shelf.log c.loop-file.shelf).files c.args.linkage.now
+          c.loop-file.linker c.add_file.new.linker c.as_slice-files.result.now c.loop-file.file-index
+          c.file-item.result c.name_of.result.now
+          (g.F.Shelf.log c.args.shelf.now).asked (g.F.Shelf.log c.loop-file.shelf).asked
+          (g.F.Shelf.log c.add_file.new.shelf).asked
+          inv.told c.name_of.ensures c.loop-file-test.true c.file-item.is inv.added c.in-Ok.ensures.ok
+          c.add_file.ensures.made;
     }

@@ -9,5 +9,6 @@ invariant-loop-file g l = record {
   failures : (g.F.Shelf.log l.shelf).failures ≡ (g.F.Shelf.log l.fn.shelf).failures;
   name : (g.F.Shelf.log l.shelf).failed_name ≡ (g.F.Shelf.log l.fn.shelf).failed_name;
   out : l.out ≡ l.fn.out;
-  added : HasAdded (g.F.Shelf.log l.fn.shelf).files l.fn.linkage l.linker (drop l.file-index l.files) (g.F.Shelf.log l.fn.shelf).asked (g.F.Shelf.log l.shelf).asked;
+  added : HasAdded (g.F.Shelf.log l.fn.shelf).files l.fn.linkage l.linker (drop l.file-index l.files)
+      (g.F.Shelf.log l.fn.shelf).asked (g.F.Shelf.log l.shelf).asked;
 }

@@ -11,7 +11,8 @@ pub returns-in-Ok-add-clause-ok : goal.returns-in-Ok-add-clause-ok
 returns-in-Ok-add-clause-ok g c =
     let modules = c.args.linker.now in
     adds_object modules c.add.new.self (g.P.Program.object c.args.program.now) c.in-Ok.ensures.judged
-    (subst (λ p. added_refusal modules (g.P.Program.object p) ≡ None) c.in-Ok.ensures.program c.in-Ok-add.ensures.unrefused)
+    (subst (λ p. added_refusal modules (g.P.Program.object p) ≡ None) c.in-Ok.ensures.program
+    c.in-Ok-add.ensures.unrefused)
     (subst (λ p. c.add.new.self ≡ modules ++ g.P.Program.object p ∷ []) c.in-Ok.ensures.program c.in-Ok-add.ensures.ok)
 
 pub returns-in-Err-add-clause-ends : goal.returns-in-Err-add-clause-ends
@@ -19,7 +20,9 @@ returns-in-Err-add-clause-ends g c =
     let modules = c.args.linker.now in
     let o = g.P.Program.object c.args.program.now in
     Ends-map c.refuse_modules.result (IsUnlinkedBy c.in-Err-add.error) (EndsAtObject modules o) _ _ ⊥ ⊥
-    (λ a is. ends_unadded modules o c.in-Err-add.error c.in-Ok.ensures.judged (subst (λ p. IsRefusalOf (added_refusal modules (g.P.Program.object p)) c.in-Err-add.error) c.in-Ok.ensures.program c.in-Err-add.ensures.refused) a is)
+    (λ a is. ends_unadded modules o c.in-Err-add.error c.in-Ok.ensures.judged
+    (subst (λ p. IsRefusalOf (added_refusal modules (g.P.Program.object p)) c.in-Err-add.error)
+    c.in-Ok.ensures.program c.in-Err-add.ensures.refused) a is)
     (λ x. x) c.refuse_modules.ensures
 
 pub returns-in-Err-clause-ends : goal.returns-in-Err-clause-ends

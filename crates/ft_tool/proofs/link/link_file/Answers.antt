@@ -15,7 +15,8 @@ use Rattle.ft_tool.proofs.link.link_file.Goals as goal
 
 pub link_text-requires : goal.link_text-requires
 link_text-requires g c =
-    let h = subst (λ l. Gives (g.F.Shelf.log c.args.shelf.now).files c.args.name.now 65536 c.load_bytes.new.bytes.items (Ok l)) c.in-Ok-Whole.field-0-is c.in-Ok-Whole.ensures.gives in
+    let h = subst (λ l. Gives (g.F.Shelf.log c.args.shelf.now).files c.args.name.now 65536 c.load_bytes.new.bytes.items
+    (Ok l)) c.in-Ok-Whole.field-0-is c.in-Ok-Whole.ensures.gives in
     subst (λ text. length text ≤ 65536) (sym c.as_slice.ensures.value) h.0
 
 pub returns-in-Ok-Whole-clause-ends : goal.returns-in-Ok-Whole-clause-ends

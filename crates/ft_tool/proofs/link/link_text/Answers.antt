@@ -13,7 +13,8 @@ use Rattle.ft_tool.proofs.link.link_text.Goals as goal
 
 pub link_files-requires-clause-names : goal.link_files-requires-clause-names
 link_files-requires-clause-names g c =
-    ascii_names c.args.text.now c.in-Ok.linkage (is_map c.args.text.now c.in-Ok.linkage c.requires c.in-Ok.ensures.said.0 c.in-Ok.ensures.said.1 c.in-Ok.ensures.said.2)
+    ascii_names c.args.text.now c.in-Ok.linkage (is_map c.args.text.now c.in-Ok.linkage c.requires
+    c.in-Ok.ensures.said.0 c.in-Ok.ensures.said.1 c.in-Ok.ensures.said.2)
 
 pub returns-in-Err-clause-ends : goal.returns-in-Err-clause-ends
 returns-in-Err-clause-ends g c =
@@ -30,8 +31,11 @@ pub returns-in-Err-clause-made : goal.returns-in-Err-clause-made
 returns-in-Err-clause-made g c =
     let text = c.args.text.now in
     let said = c.in-Err.ensures.said in
-    makes_no_module (g.F.Shelf.log c.args.shelf.now).files text (ends_early c.refuse_map.result) (g.F.Shelf.log c.args.shelf.now).asked
-    (known_less ((a : Answer) × IsMapRefused c.in-Err.error a) ((a : Answer) × EndsAtMap text a) (IsTrue (ends_early c.refuse_map.result)) (λ x. (x.0, map_refused text c.requires said.0 said.1 c.in-Err.error said.2 x.0 x.1))
+    makes_no_module (g.F.Shelf.log c.args.shelf.now).files text (ends_early c.refuse_map.result)
+    (g.F.Shelf.log c.args.shelf.now).asked
+    (known_less ((a : Answer) × IsMapRefused c.in-Err.error a) ((a : Answer)
+    × EndsAtMap text a) (IsTrue (ends_early c.refuse_map.result)) (λ x.
+    (x.0, map_refused text c.requires said.0 said.1 c.in-Err.error said.2 x.0 x.1))
     (answered_or_early c.refuse_map.result (IsMapRefused c.in-Err.error)
     (g.K.Sink.log c.args.out.now) (g.K.Sink.log c.refuse_map.new.out) ⊥
     c.refuse_map.ensures))

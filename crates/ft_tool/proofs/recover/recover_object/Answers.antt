@@ -6,5 +6,6 @@ use Rattle.ft_tool.proofs.recover.recover_object.Goals as goal
 
 pub returns : goal.returns
 returns g c =
-    subst (λ q. Ends c.recover_checked.result (RecoversObject (run_view c.args.run.now) (g.P.Program.object q)) (g.K.Sink.log c.args.out.now) (g.K.Sink.log c.recover_checked.new.out) ⊥)
+    subst (λ q. Ends c.recover_checked.result (RecoversObject (run_view c.args.run.now) (g.P.Program.object q))
+    (g.K.Sink.log c.args.out.now) (g.K.Sink.log c.recover_checked.new.out) ⊥)
     c.in-Ok.ensures.program c.recover_checked.ensures

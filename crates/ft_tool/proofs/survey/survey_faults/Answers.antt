@@ -6,7 +6,8 @@ use Rattle.ft_tool.proofs.survey.survey_faults.Goals as goal
 
 pub returns-then-totals-eq0 : goal.returns-then-totals-eq0
 returns-then-totals-eq0 g c =
-    let few = at_most 1000000000 (length c.args.faults.now * c.args.asked.now.steps) (λ above. let e = c.in-Finished.ensures.too_much above in cc) in
+    let few = at_most 1000000000 (length c.args.faults.now * c.args.asked.now.steps) (λ above.
+    let e = c.in-Finished.ensures.too_much above in cc) in
     tried_concludes AnyVerdicts (campaign_view c.args.asked.now) (g.P.Program.object c.args.program.now)
     c.args.faults.now c.in-Finished.totals 0 (g.K.Sink.log c.args.out.now)
     (g.K.Sink.log c.survey_counted.new.out)
@@ -15,7 +16,8 @@ returns-then-totals-eq0 g c =
 
 pub returns-else-totals-eq0 : goal.returns-else-totals-eq0
 returns-else-totals-eq0 g c =
-    let few = at_most 1000000000 (length c.args.faults.now * c.args.asked.now.steps) (λ above. let e = c.in-Finished.ensures.too_much above in cc) in
+    let few = at_most 1000000000 (length c.args.faults.now * c.args.asked.now.steps) (λ above.
+    let e = c.in-Finished.ensures.too_much above in cc) in
     tried_concludes AnyVerdicts (campaign_view c.args.asked.now) (g.P.Program.object c.args.program.now)
     c.args.faults.now c.in-Finished.totals 10 (g.K.Sink.log c.args.out.now)
     (g.K.Sink.log c.survey_counted.new.out)
@@ -24,7 +26,8 @@ returns-else-totals-eq0 g c =
 
 pub returns-in-WriteFault : goal.returns-in-WriteFault
 returns-in-WriteFault g c =
-    let few = at_most 1000000000 (length c.args.faults.now * c.args.asked.now.steps) (λ above. let e = c.in-WriteFault.ensures.too_much above in cc) in
+    let few = at_most 1000000000 (length c.args.faults.now * c.args.asked.now.steps) (λ above.
+    let e = c.in-WriteFault.ensures.too_much above in cc) in
     tried_breaks_off AnyVerdicts (campaign_view c.args.asked.now) (g.P.Program.object c.args.program.now)
     c.args.faults.now (g.K.Sink.log c.args.out.now) (g.K.Sink.log c.survey_counted.new.out)
     c.in-WriteFault.ensures.ends few (λ vs h. tt)

@@ -8,7 +8,8 @@ use Rattle.ft_tool.specs.Lists.{AnyVerdicts}
 use Rattle.ft_tool.specs.Answers.{SurveysObject, OverFile, FailsIn}
 use Rattle.ft_tool.specs.Endings.{ends_early}
 use Rattle.ft_tool.specs.Told.{OfFiles, OverListOf}
-use Rattle.ft_tool.proofs.Tried.{own_bytes, over_surveyed_between, over_unstruck, survey_failed, survey_unloaded, surveys_loaded}
+use Rattle.ft_tool.proofs.Tried.{own_bytes, over_surveyed_between, over_unstruck, survey_failed, survey_unloaded}
+use Rattle.ft_tool.proofs.Tried.{surveys_loaded}
 use Rattle.ft_tool.specs.declared.load.ObjectFault.TheVariants.{Failed}
 use Rattle.ft_tool.specs.Files.{IsRefusedBy}
 use Rattle.ft_tool.proofs.Answered.{Ends-map, unspelled, object_failed, failed_in}
@@ -16,7 +17,9 @@ use Rattle.ft_tool.proofs.survey.survey_file.Goals as goal
 
 pub over_list-requires-clause-own : goal.over_list-requires-clause-own
 over_list-requires-clause-own g c =
-    own_bytes (g.F.Shelf.log c.args.shelf.now).files (g.F.Shelf.log c.load_object.new.shelf).files c.args.asked.now.object.now c.in-Ok.view c.bytes.result.now c.load_object.ensures.files c.bytes.ensures c.in-Ok.ensures.loads
+    own_bytes (g.F.Shelf.log c.args.shelf.now).files (g.F.Shelf.log c.load_object.new.shelf).files
+    c.args.asked.now.object.now c.in-Ok.view c.bytes.result.now c.load_object.ensures.files c.bytes.ensures
+    c.in-Ok.ensures.loads
 
 pub returns-in-Ok-clause-ends : goal.returns-in-Ok-clause-ends
 returns-in-Ok-clause-ends g c =
@@ -47,11 +50,15 @@ returns-clause-ends g c =
 
 pub returns-in-Ok-clause-made : goal.returns-in-Ok-clause-made
 returns-in-Ok-clause-made g c =
-    surveys_loaded (campaign_view c.args.asked.now) (g.F.Shelf.log c.args.shelf.now).files c.in-Ok.view (IsTrue (ends_early c.over_list.result)) (g.F.Shelf.log c.args.shelf.now).asked (g.F.Shelf.log c.load_object.new.shelf).asked (g.F.Shelf.log c.over_list.new.shelf).asked
+    surveys_loaded (campaign_view c.args.asked.now) (g.F.Shelf.log c.args.shelf.now).files c.in-Ok.view
+    (IsTrue (ends_early c.over_list.result)) (g.F.Shelf.log c.args.shelf.now).asked
+    (g.F.Shelf.log c.load_object.new.shelf).asked (g.F.Shelf.log c.over_list.new.shelf).asked
     c.in-Ok.ensures.loads c.load_object.ensures.made c.over_list.ensures.made
 
 pub returns-clause-made : goal.returns-clause-made
 returns-clause-made g c =
     let told = (g.F.Shelf.log c.args.shelf.now).files in
-    survey_unloaded (campaign_view c.args.asked.now) told (IsTrue (ends_early c.refuse_object.result)) (g.F.Shelf.log c.args.shelf.now).asked (g.F.Shelf.log c.load_object.new.shelf).asked
-    (unspelled told c.args.asked.now.object.now c.in-Err.fault c.refuse_object.result _ _ (c.in-Err.fault ≡ Failed) c.in-Err.ensures.loads c.refuse_object.ensures.ends) c.load_object.ensures.made
+    survey_unloaded (campaign_view c.args.asked.now) told (IsTrue (ends_early c.refuse_object.result))
+    (g.F.Shelf.log c.args.shelf.now).asked (g.F.Shelf.log c.load_object.new.shelf).asked
+    (unspelled told c.args.asked.now.object.now c.in-Err.fault c.refuse_object.result _ _ (c.in-Err.fault
+    ≡ Failed) c.in-Err.ensures.loads c.refuse_object.ensures.ends) c.load_object.ensures.made

@@ -9,7 +9,8 @@ pub returns-in-Ok-clause-usage : goal.returns-in-Ok-clause-usage
 returns-in-Ok-clause-usage g c = asked_usage (map string_bytes c.args.words.now) c.in-Ok.ensures.ok c.obey.ensures.does
 
 pub returns-in-Ok-clause-failures : goal.returns-in-Ok-clause-failures
-returns-in-Ok-clause-failures g c = asked_failures (map string_bytes c.args.words.now) c.in-Ok.ensures.ok c.obey.ensures.does
+returns-in-Ok-clause-failures g c = asked_failures (map string_bytes c.args.words.now) c.in-Ok.ensures.ok
+    c.obey.ensures.does
 
 pub returns-in-Ok-clause-loads : goal.returns-in-Ok-clause-loads
 returns-in-Ok-clause-loads g c =

@@ -23,7 +23,8 @@ pub returns-in-Recover-clause-does : goal.returns-in-Recover-clause-does
 returns-in-Recover-clause-does g c = does_untaken (ap asked c.in-Recover.is) (c.over_object-in-Recover.ensures _)
 
 pub returns-in-Disassemble-clause-does : goal.returns-in-Disassemble-clause-does
-returns-in-Disassemble-clause-does g c = does_untaken (ap asked c.in-Disassemble.is) (c.over_object-in-Disassemble.ensures _)
+returns-in-Disassemble-clause-does g c = does_untaken (ap asked c.in-Disassemble.is)
+    (c.over_object-in-Disassemble.ensures _)
 
 pub returns-in-Schedule-clause-does : goal.returns-in-Schedule-clause-does
 returns-in-Schedule-clause-does g c = does_untaken (ap asked c.in-Schedule.is) (c.over_object-in-Schedule.ensures _)

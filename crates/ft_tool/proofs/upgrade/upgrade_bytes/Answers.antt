@@ -15,6 +15,7 @@ returns-in-Ok g c =
 
 pub returns-in-Err : goal.returns-in-Err
 returns-in-Err g c =
-    Ends-map c.refuse_object.result (IsRefusedBy c.fault_of.result) (OverBytes UpgradesObject c.args.bytes.now) _ _ (c.fault_of.result ≡ Failed) ⊥
+    Ends-map c.refuse_object.result (IsRefusedBy c.fault_of.result) (OverBytes UpgradesObject c.args.bytes.now) _ _
+    (c.fault_of.result ≡ Failed) ⊥
     (decode_refused c.in-Err.error c.fault_of.result c.args.bytes.now c.fault_of.ensures c.in-Err.ensures.judged)
     (decode_has_loaded c.in-Err.error c.fault_of.result c.fault_of.ensures) c.refuse_object.ensures.ends

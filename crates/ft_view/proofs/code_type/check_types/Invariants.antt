@@ -8,5 +8,6 @@ invariant-loop l = record {
   there : 16 * (l.header.types - l.counter) ≤ length l.rest;
   places : l.place + 16 * (l.header.types - l.counter) ≤ 2 ^ 27;
   queue : l.queue ≤ l.header.queue;
-  broken : types_broken l.header l.nodes l.regs l.queue l.place (rows type_layout (l.header.types - l.counter) l.rest) ≡ types_broken l.header l.nodes 0 0 l.at (rows type_layout l.header.types l.bytes);
+  broken : types_broken l.header l.nodes l.regs l.queue l.place (rows type_layout (l.header.types - l.counter) l.rest)
+      ≡ types_broken l.header l.nodes 0 0 l.at (rows type_layout l.header.types l.bytes);
 }

@@ -12,8 +12,14 @@ pub returns-clause-ends : goal.returns-clause-ends
 returns-clause-ends c =
     let h = c.args.header in
     let bs = drop 48 c.args.bytes.now in
-    found_fine c.check_cells.result (cells_broken h 0 48 (rows cell_layout h.cells bs)) (AreEnds past_of h.names 0 (rows cell_layout h.cells bs))
-    (subst (λ l. Finds c.check_cells.result (cells_broken h 0 48 (rows cell_layout h.cells l))) c.part.ensures c.check_cells.ensures) (λ none. ends_of_cells h h.cells bs 0 48 none)
+    found_fine c.check_cells.result (cells_broken h 0 48 (rows cell_layout h.cells bs))
+    (AreEnds past_of h.names 0 (rows cell_layout h.cells bs))
+    (subst (λ l. Finds c.check_cells.result (cells_broken h 0 48 (rows cell_layout h.cells l))) c.part.ensures
+    c.check_cells.ensures) (λ none. ends_of_cells h h.cells bs 0 48 none)
 
 pub check_cells-requires-clause-there : goal.check_cells-requires-clause-there
-check_cells-requires-clause-there c = rw c.part.ensures (omega (arith, length-drop 48 c.args.bytes.now, c.requires.whole))
+check_cells-requires-clause-there c = rw c.part.ensures (omega (
+  arith,
+  length-drop 48 c.args.bytes.now,
+  c.requires.whole,
+))

@@ -6,7 +6,8 @@ use Rattle.ft_asm.proofs.draft.Draft.add_cell.Goals as goal
 
 pub returns : goal.returns
 returns c =
-    let none : c.args.self.now.nodes.items ≡ [] = nil_from_length c.args.self.now.nodes.items (grind (arith, c.as_slice.ensures, c.is_empty.ensures, c.if-not-is_empty.false)) in
+    let none : c.args.self.now.nodes.items ≡ [] = nil_from_length c.args.self.now.nodes.items
+    (grind (arith, c.as_slice.ensures, c.is_empty.ensures, c.if-not-is_empty.false)) in
     let ok : is_ok c.push.result ≡ true = sym c.map_err.ensures.variant ∙ ap is_ok c.in_ok-map_err.was in
     let pushed = c.push.ensures.items ∙ cond-true _ _ _ ok in
     cell_held c.args.self.now (record c.args.self.now { cells = c.push.new.self }) c.args.cell c.in-Start.is none pushed

@@ -7,4 +7,5 @@ pub returns : goal.returns
 returns c =
     let ok : is_ok c.push.result ≡ true = sym c.map_err.ensures.variant ∙ ap is_ok c.in_ok-map_err.was in
     let pushed = c.push.ensures.items ∙ cond-true _ _ _ ok in
-    code_held c.args.self.now c.placed.new.self (record c.placed.new.self { instrs = c.push.new.self }) c.args.code c.in_ok-instr.instr c.in-InBlock.is c.in_ok-instr.ensures pushed
+    code_held c.args.self.now c.placed.new.self (record c.placed.new.self { instrs = c.push.new.self }) c.args.code
+    c.in_ok-instr.instr c.in-InBlock.is c.in_ok-instr.ensures pushed

@@ -7,4 +7,5 @@ pub returns : goal.returns
 returns c =
     let ok : is_ok c.push.result ≡ true = sym c.map_err.ensures.variant ∙ ap is_ok c.in_ok-map_err.was in
     let pushed = c.push.ensures.items ∙ cond-true _ _ _ ok in
-    pend_held c.args.self.now (record c.args.self.now { queue = c.push.new.self }) c.args.address c.args.value c.in-InType.ints c.in-InType.memory c.in-InType.is pushed
+    pend_held c.args.self.now (record c.args.self.now { queue = c.push.new.self }) c.args.address c.args.value
+    c.in-InType.ints c.in-InType.memory c.in-InType.is pushed

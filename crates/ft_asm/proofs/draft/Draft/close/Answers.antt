@@ -15,9 +15,29 @@ pub returns-in_ok-map_err-in-InType : goal.returns-in_ok-map_err-in-InType
 returns-in_ok-map_err-in-InType c =
     let ok : is_ok c.push.result ≡ true = sym c.map_err.ensures.variant ∙ ap is_ok c.in_ok-map_err-in-InType.was in
     let pushed = c.push.ensures.items ∙ cond-true _ _ _ ok in
-    let made : CodeType = record { ints = c.in-InType.ints; regs = c.from_vec-regs.result; queue = c.from_vec-queue.result; memory = c.in-InType.memory } in
-    let r : c.from_vec-regs.result ≡ c.args.self.now.regs.items = grind (arith, common_steps, c.from_vec-regs.ensures, c.replace.ensures) in
-    let q : c.from_vec-queue.result ≡ c.args.self.now.queue.items = grind (arith, common_steps, c.from_vec-queue.ensures, c.replace-in-InType.ensures) in
+    let made : CodeType = record {
+      ints = c.in-InType.ints;
+      regs = c.from_vec-regs.result;
+      queue = c.from_vec-queue.result;
+      memory = c.in-InType.memory;
+    } in
+    let r : c.from_vec-regs.result ≡ c.args.self.now.regs.items = grind (
+      arith,
+      common_steps,
+      c.from_vec-regs.ensures,
+      c.replace.ensures,
+    ) in
+    let q : c.from_vec-queue.result ≡ c.args.self.now.queue.items =
+    grind (arith, common_steps, c.from_vec-queue.ensures, c.replace-in-InType.ensures) in
     let f : c.replace.new.dest.items ≡ [] = grind (arith, common_steps, c.replace.ensures, c.new.ensures) in
-    let g : c.replace-in-InType.new.dest.items ≡ [] = grind (arith, common_steps, c.replace-in-InType.ensures, c.new-in-InType.ensures) in
-    closes_type c.args.self.now (record c.args.self.now { types = c.push.new.self; regs = c.replace.new.dest; queue = c.replace-in-InType.new.dest }) made c.in-InType.is r q pushed f g
+    let g : c.replace-in-InType.new.dest.items ≡ [] = grind (
+      arith,
+      common_steps,
+      c.replace-in-InType.ensures,
+      c.new-in-InType.ensures,
+    ) in
+    closes_type c.args.self.now (record c.args.self.now {
+      types = c.push.new.self;
+      regs = c.replace.new.dest;
+      queue = c.replace-in-InType.new.dest;
+    }) made c.in-InType.is r q pushed f g

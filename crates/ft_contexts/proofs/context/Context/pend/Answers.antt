@@ -9,8 +9,15 @@ use Rattle.ft_contexts.specs.Contexts.{HoldsForms}
 use Rattle.ft_contexts.proofs.Pairs.{more_held}
 use Rattle.ft_contexts.proofs.context.Context.pend.Goals as goal
 
-held_after : (r : Result (Unit {0}) NoMemory) (c : Context) (q : List (Form × Form)) (p : Form × Form) → OnOk r (q ≡ c.queue ++ p ∷ []) → OnOk r ((fs : List Normal) → HoldsForms fs c → IsInteger fs p.0 × IsInteger fs p.1 → HoldsForms fs (record c { queue = q }))
-held_after (Ok u) c q p e = λ fs h k. record { registers = h.registers; d = h.d; queue = rw e (more_held fs c.queue p h.queue k); memory = h.memory }
+held_after : (r : Result (Unit {0}) NoMemory) (c : Context) (q : List (Form × Form)) (p : Form × Form) →
+    OnOk r (q ≡ c.queue ++ p ∷ []) → OnOk r ((fs : List Normal) → HoldsForms fs c → IsInteger fs p.0
+    × IsInteger fs p.1 → HoldsForms fs (record c { queue = q }))
+held_after (Ok u) c q p e = λ fs h k. record {
+  registers = h.registers;
+  d = h.d;
+  queue = rw e (more_held fs c.queue p h.queue k);
+  memory = h.memory;
+}
 held_after (Err n) c q p e = tt
 
 pub returns-clause-held : goal.returns-clause-held

@@ -8,10 +8,12 @@ use Rattle.ft_contexts.proofs.Turns.{pending_turn, pending_end}
 use Rattle.ft_contexts.proofs.context.Context.pending.Goals as goal
 
 pub upd-requires-clause-address : goal.upd-requires-clause-address
-upd-requires-clause-address g c = integer_kept c.args.forms.now c.loop-j.forms c.at.result.0 c.loop-j.invariant.kept (c.requires.queue c.loop-j.j c.at.result c.at.ensures).0
+upd-requires-clause-address g c = integer_kept c.args.forms.now c.loop-j.forms c.at.result.0 c.loop-j.invariant.kept
+    (c.requires.queue c.loop-j.j c.at.result c.at.ensures).0
 
 pub upd-requires-clause-value : goal.upd-requires-clause-value
-upd-requires-clause-value g c = integer_kept c.args.forms.now c.loop-j.forms c.at.result.1 c.loop-j.invariant.kept (c.requires.queue c.loop-j.j c.at.result c.at.ensures).1
+upd-requires-clause-value g c = integer_kept c.args.forms.now c.loop-j.forms c.at.result.1 c.loop-j.invariant.kept
+    (c.requires.queue c.loop-j.j c.at.result c.at.ensures).1
 
 pub loop-j-preserved : goal.loop-j-preserved
 loop-j-preserved g c =
@@ -23,14 +25,17 @@ loop-j-preserved g c =
       kept = keeps_both _ _ _ c.loop-j.invariant.kept c.upd.ensures.kept;
       count =
           let w = ap updates (updates_found c.upd.new.self c.in_ok-memory.memory _ c.in_ok-memory.ensures.form) in
-          let x = updates-norm_upd (updates_held c.loop-j.forms c.loop-j.memory) (polynomial c.loop-j.forms c.at.result.0) (polynomial c.loop-j.forms c.at.result.1) in
+          let x = updates-norm_upd (updates_held c.loop-j.forms c.loop-j.memory)
+          (polynomial c.loop-j.forms c.at.result.0) (polynomial c.loop-j.forms c.at.result.1) in
           omega (arith, w, x, c.loop-j.invariant.count);
       steps = omega (arith, c.loop-j.invariant.steps, c.tick.ensures);
       memory = memory_from c.upd.new.self c.in_ok-memory.memory _ c.in_ok-memory.ensures.form;
-      left = rw u (sym (pending_turn c.args.forms.now (updates_held c.loop-j.forms c.loop-j.memory) c.args.self.now.queue c.loop-j.j c.at.result c.at.ensures) ∙ c.loop-j.invariant.left);
+      left = rw u (sym (pending_turn c.args.forms.now (updates_held c.loop-j.forms c.loop-j.memory)
+          c.args.self.now.queue c.loop-j.j c.at.result c.at.ensures) ∙ c.loop-j.invariant.left);
     }
 
 pub returns-clause-form : goal.returns-clause-form
 returns-clause-form g c =
-    let e = pending_end c.args.forms.now (updates_held c.loop-j.forms c.loop-j.memory) c.args.self.now.queue c.loop-j.j (omega arith) in
+    let e = pending_end c.args.forms.now (updates_held c.loop-j.forms c.loop-j.memory) c.args.self.now.queue c.loop-j.j
+    (omega arith) in
     c.loop-j.invariant.memory.found ∙ ap (λ (u : Updates). Some (memory_form u)) (sym e ∙ c.loop-j.invariant.left)

@@ -11,5 +11,6 @@ invariant-loop-j g l = record {
   memory : IsMemory l.forms l.memory;
   count : updates (updates_held l.forms l.memory) ≤ updates (updates_held l.fn.forms l.self.memory) + l.j;
   steps : l.steps ≤ l.fn.steps + l.j;
-  left : pending_memory (updates_held l.forms l.memory) (drop l.j (map (pair_in l.fn.forms) l.self.queue)) ≡ pending_memory (updates_held l.fn.forms l.self.memory) (map (pair_in l.fn.forms) l.self.queue);
+  left : pending_memory (updates_held l.forms l.memory) (drop l.j (map (pair_in l.fn.forms) l.self.queue))
+      ≡ pending_memory (updates_held l.fn.forms l.self.memory) (map (pair_in l.fn.forms) l.self.queue);
 }

@@ -15,21 +15,28 @@ use Rattle.ft_contexts.proofs.context.Context.queue_is_like.Goals as goal
 
 pub returns-then-len-rows-clause-like : goal.returns-then-len-rows-clause-like
 returns-then-len-rows-clause-like g c =
-    let h = (head_says (g.P.Program.object c.args.program.now) c.args.t c.code_type-rows.result c.code_type-rows.ensures).2 in
+    let h = (head_says (g.P.Program.object c.args.program.now) c.args.t c.code_type-rows.result
+    c.code_type-rows.ensures).2 in
     let n = length-map c.args.self.now.queue (pair_in c.args.forms.now) in
-    sym (unlike_lengths (g.P.Program.object c.args.program.now) _ _ _ (λ s. c.if-len-rows.true (c.len.ensures ∙ sym n ∙ s ∙ sym h)))
+    sym (unlike_lengths (g.P.Program.object c.args.program.now) _ _ _ (λ s.
+    c.if-len-rows.true (c.len.ensures ∙ sym n ∙ s ∙ sym h)))
 
 pub pair_is_like-requires-clause-row : goal.pair_is_like-requires-clause-row
-pair_is_like-requires-clause-row g c = rw c.requires.count (queue_row_spelled (g.P.Program.object c.args.program.now) c.args.t c.loop-j.j c.queue_row-row.result c.requires.spellable c.requires.there c.queue_row-row.ensures)
+pair_is_like-requires-clause-row g c = rw c.requires.count
+    (queue_row_spelled (g.P.Program.object c.args.program.now) c.args.t c.loop-j.j c.queue_row-row.result
+    c.requires.spellable c.requires.there c.queue_row-row.ensures)
 
 pub pair_is_like-requires-clause-address : goal.pair_is_like-requires-clause-address
-pair_is_like-requires-clause-address g c = integer_kept c.args.forms.now c.loop-j.forms c.at.result.0 c.loop-j.invariant.kept (c.requires.held.queue c.loop-j.j c.at.result c.at.ensures).0
+pair_is_like-requires-clause-address g c = integer_kept c.args.forms.now c.loop-j.forms c.at.result.0
+    c.loop-j.invariant.kept (c.requires.held.queue c.loop-j.j c.at.result c.at.ensures).0
 
 pub pair_is_like-requires-clause-value : goal.pair_is_like-requires-clause-value
-pair_is_like-requires-clause-value g c = integer_kept c.args.forms.now c.loop-j.forms c.at.result.1 c.loop-j.invariant.kept (c.requires.held.queue c.loop-j.j c.at.result c.at.ensures).1
+pair_is_like-requires-clause-value g c = integer_kept c.args.forms.now c.loop-j.forms c.at.result.1
+    c.loop-j.invariant.kept (c.requires.held.queue c.loop-j.j c.at.result c.at.ensures).1
 
 pub pair_is_like-requires-clause-put : goal.pair_is_like-requires-clause-put
-pair_is_like-requires-clause-put g c = variables_kept c.args.forms.now c.loop-j.forms c.args.put.now c.loop-j.invariant.kept c.requires.put
+pair_is_like-requires-clause-put g c = variables_kept c.args.forms.now c.loop-j.forms c.args.put.now
+    c.loop-j.invariant.kept c.requires.put
 
 pub returns-then-not-like-clause-like : goal.returns-then-not-like-clause-like
 returns-then-not-like-clause-like g c =
@@ -39,7 +46,11 @@ returns-then-not-like-clause-like g c =
     let a = integer_stays c.args.forms.now c.loop-j.forms pair.0 c.loop-j.invariant.kept k.0 in
     let v = integer_stays c.args.forms.now c.loop-j.forms pair.1 c.loop-j.invariant.kept k.1 in
     let x = replacement_stays c.args.forms.now c.loop-j.forms c.args.put.now c.loop-j.invariant.kept c.requires.put in
-    let turn = queue_turn (g.P.Program.object c.args.program.now) (replacement_in c.args.forms.now c.args.put.now) (map (pair_in c.args.forms.now) c.args.self.now.queue) (queue_rows (g.P.Program.object c.args.program.now) c.args.t) c.loop-j.j (pair_in c.args.forms.now pair) row c.in_ok-like.like (there_mapped (pair_in c.args.forms.now) c.args.self.now.queue c.loop-j.j pair c.at.ensures) c.queue_row-row.ensures (rw (a, v, x) at c.in_ok-like.ensures.like) in
+    let turn = queue_turn (g.P.Program.object c.args.program.now) (replacement_in c.args.forms.now c.args.put.now)
+    (map (pair_in c.args.forms.now) c.args.self.now.queue)
+    (queue_rows (g.P.Program.object c.args.program.now) c.args.t) c.loop-j.j (pair_in c.args.forms.now pair) row
+    c.in_ok-like.like (there_mapped (pair_in c.args.forms.now) c.args.self.now.queue c.loop-j.j pair c.at.ensures)
+    c.queue_row-row.ensures (rw (a, v, x) at c.in_ok-like.ensures.like) in
     let stop = rw c.if-not-like.true at turn in
     sym stop ∙ c.loop-j.invariant.left
 
@@ -51,13 +62,20 @@ loop-j-preserved g c =
     let a = integer_stays c.args.forms.now c.loop-j.forms pair.0 c.loop-j.invariant.kept k.0 in
     let v = integer_stays c.args.forms.now c.loop-j.forms pair.1 c.loop-j.invariant.kept k.1 in
     let x = replacement_stays c.args.forms.now c.loop-j.forms c.args.put.now c.loop-j.invariant.kept c.requires.put in
-    let turn = queue_turn (g.P.Program.object c.args.program.now) (replacement_in c.args.forms.now c.args.put.now) (map (pair_in c.args.forms.now) c.args.self.now.queue) (queue_rows (g.P.Program.object c.args.program.now) c.args.t) c.loop-j.j (pair_in c.args.forms.now pair) row c.in_ok-like.like (there_mapped (pair_in c.args.forms.now) c.args.self.now.queue c.loop-j.j pair c.at.ensures) c.queue_row-row.ensures (rw (a, v, x) at c.in_ok-like.ensures.like) in
+    let turn = queue_turn (g.P.Program.object c.args.program.now) (replacement_in c.args.forms.now c.args.put.now)
+    (map (pair_in c.args.forms.now) c.args.self.now.queue)
+    (queue_rows (g.P.Program.object c.args.program.now) c.args.t) c.loop-j.j (pair_in c.args.forms.now pair) row
+    c.in_ok-like.like (there_mapped (pair_in c.args.forms.now) c.args.self.now.queue c.loop-j.j pair c.at.ensures)
+    c.queue_row-row.ensures (rw (a, v, x) at c.in_ok-like.ensures.like) in
     let go = rw c.if-not-like.false at turn in
     let so = g.P.Program.object c.args.program.now in
-    let cost = tree_cost (g.P.Program.object c.args.program.now) (updates (updates_held c.args.forms.now c.args.put.now.memory)) in
-    let sz = memory_stays c.args.forms.now c.loop-j.forms c.args.put.now.memory c.loop-j.invariant.kept c.requires.put.memory in
+    let cost = tree_cost (g.P.Program.object c.args.program.now)
+    (updates (updates_held c.args.forms.now c.args.put.now.memory)) in
+    let sz = memory_stays c.args.forms.now c.loop-j.forms c.args.put.now.memory c.loop-j.invariant.kept
+    c.requires.put.memory in
     let sx : c.pair_is_like.new.steps ≤ c.loop-j.steps + 2 * cost = rw sz at c.pair_is_like.ensures.steps in
-    let sy = one_tree c.loop-j.steps c.pair_is_like.new.steps (c.loop-j.j + 1) c.args.steps.now c.loop-j.j (2 * cost) c.loop-j.invariant.steps sx refl in
+    let sy = one_tree c.loop-j.steps c.pair_is_like.new.steps (c.loop-j.j + 1) c.args.steps.now c.loop-j.j (2 * cost)
+    c.loop-j.invariant.steps sx refl in
     record {
       steps = sy;
       kept = keeps_both _ _ _ c.loop-j.invariant.kept c.pair_is_like.ensures.kept;
@@ -68,37 +86,49 @@ loop-j-preserved g c =
 
 pub returns-clause-like : goal.returns-clause-like
 returns-clause-like g c =
-    let h = (head_says (g.P.Program.object c.args.program.now) c.args.t c.code_type-rows.result c.code_type-rows.ensures).2 in
+    let h = (head_says (g.P.Program.object c.args.program.now) c.args.t c.code_type-rows.result
+    c.code_type-rows.ensures).2 in
     let n = length-map c.args.self.now.queue (pair_in c.args.forms.now) in
     let m = c.loop-j.invariant.count in
-    sym (queue_end (g.P.Program.object c.args.program.now) _ _ _ c.loop-j.j (omega arith) (omega arith)) ∙ c.loop-j.invariant.left
+    sym (queue_end (g.P.Program.object c.args.program.now) _ _ _ c.loop-j.j (omega arith) (omega arith))
+    ∙ c.loop-j.invariant.left
 
 pub returns-in_err-like-clause-steps : goal.returns-in_err-like-clause-steps
 returns-in_err-like-clause-steps g c =
     let o = g.P.Program.object c.args.program.now in
-    let cost = tree_cost (g.P.Program.object c.args.program.now) (updates (updates_held c.args.forms.now c.args.put.now.memory)) in
-    let z = memory_stays c.args.forms.now c.loop-j.forms c.args.put.now.memory c.loop-j.invariant.kept c.requires.put.memory in
+    let cost = tree_cost (g.P.Program.object c.args.program.now)
+    (updates (updates_held c.args.forms.now c.args.put.now.memory)) in
+    let z = memory_stays c.args.forms.now c.loop-j.forms c.args.put.now.memory c.loop-j.invariant.kept
+    c.requires.put.memory in
     let x : c.pair_is_like.new.steps ≤ c.loop-j.steps + 2 * cost = rw z at c.pair_is_like.ensures.steps in
-    let y = one_tree c.loop-j.steps c.pair_is_like.new.steps (c.loop-j.j + 1) c.args.steps.now c.loop-j.j (2 * cost) c.loop-j.invariant.steps x refl in
+    let y = one_tree c.loop-j.steps c.pair_is_like.new.steps (c.loop-j.j + 1) c.args.steps.now c.loop-j.j (2 * cost)
+    c.loop-j.invariant.steps x refl in
     let n = (head_says o c.args.t c.code_type-rows.result c.code_type-rows.ensures).2 in
     let f = few_queue_rows o c.args.t c.requires.spellable c.requires.there in
-    (let w = some_trees c.pair_is_like.new.steps c.args.steps.now (c.loop-j.j + 1) 8 (2 * cost) y (omega (arith, n, f, c.loop-j-test.true)) in omega (arith, w))
+    (let w = some_trees c.pair_is_like.new.steps c.args.steps.now (c.loop-j.j + 1) 8 (2 * cost) y
+    (omega (arith, n, f, c.loop-j-test.true)) in omega (arith, w))
 
 pub returns-then-not-like-clause-steps : goal.returns-then-not-like-clause-steps
 returns-then-not-like-clause-steps g c =
     let o = g.P.Program.object c.args.program.now in
-    let cost = tree_cost (g.P.Program.object c.args.program.now) (updates (updates_held c.args.forms.now c.args.put.now.memory)) in
-    let z = memory_stays c.args.forms.now c.loop-j.forms c.args.put.now.memory c.loop-j.invariant.kept c.requires.put.memory in
+    let cost = tree_cost (g.P.Program.object c.args.program.now)
+    (updates (updates_held c.args.forms.now c.args.put.now.memory)) in
+    let z = memory_stays c.args.forms.now c.loop-j.forms c.args.put.now.memory c.loop-j.invariant.kept
+    c.requires.put.memory in
     let x : c.pair_is_like.new.steps ≤ c.loop-j.steps + 2 * cost = rw z at c.pair_is_like.ensures.steps in
-    let y = one_tree c.loop-j.steps c.pair_is_like.new.steps (c.loop-j.j + 1) c.args.steps.now c.loop-j.j (2 * cost) c.loop-j.invariant.steps x refl in
+    let y = one_tree c.loop-j.steps c.pair_is_like.new.steps (c.loop-j.j + 1) c.args.steps.now c.loop-j.j (2 * cost)
+    c.loop-j.invariant.steps x refl in
     let n = (head_says o c.args.t c.code_type-rows.result c.code_type-rows.ensures).2 in
     let f = few_queue_rows o c.args.t c.requires.spellable c.requires.there in
-    (let w = some_trees c.pair_is_like.new.steps c.args.steps.now (c.loop-j.j + 1) 8 (2 * cost) y (omega (arith, n, f, c.loop-j-test.true)) in omega (arith, w))
+    (let w = some_trees c.pair_is_like.new.steps c.args.steps.now (c.loop-j.j + 1) 8 (2 * cost) y
+    (omega (arith, n, f, c.loop-j-test.true)) in omega (arith, w))
 
 pub returns-clause-steps : goal.returns-clause-steps
 returns-clause-steps g c =
     let o = g.P.Program.object c.args.program.now in
-    let cost = tree_cost (g.P.Program.object c.args.program.now) (updates (updates_held c.args.forms.now c.args.put.now.memory)) in
+    let cost = tree_cost (g.P.Program.object c.args.program.now)
+    (updates (updates_held c.args.forms.now c.args.put.now.memory)) in
     let n = (head_says o c.args.t c.code_type-rows.result c.code_type-rows.ensures).2 in
     let f = few_queue_rows o c.args.t c.requires.spellable c.requires.there in
-    (let w = some_trees c.loop-j.steps c.args.steps.now c.loop-j.j 8 (2 * cost) c.loop-j.invariant.steps (omega (arith, n, f, c.loop-j.auto.j-end)) in omega (arith, w))
+    (let w = some_trees c.loop-j.steps c.args.steps.now c.loop-j.j 8 (2 * cost) c.loop-j.invariant.steps
+    (omega (arith, n, f, c.loop-j.auto.j-end)) in omega (arith, w))

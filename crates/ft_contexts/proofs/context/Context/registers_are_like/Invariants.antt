@@ -12,5 +12,6 @@ invariant-loop-j g l = let o = g.P.Program.object l.program in record {
   kept : Keeps l.fn.forms l.forms;
   made : RemembersUnder o l.forms l.put l.made;
   steps : l.steps ≤ l.fn.steps + l.j * tree_cost o (updates (updates_held l.fn.forms l.put.memory));
-  left : are_like o (replacement_in l.fn.forms l.put) (context_in l.fn.forms l.self) (drop l.j (reg_rows o l.t)) ≡ are_like o (replacement_in l.fn.forms l.put) (context_in l.fn.forms l.self) (reg_rows o l.t);
+  left : are_like o (replacement_in l.fn.forms l.put) (context_in l.fn.forms l.self) (drop l.j (reg_rows o l.t))
+      ≡ are_like o (replacement_in l.fn.forms l.put) (context_in l.fn.forms l.self) (reg_rows o l.t);
 }

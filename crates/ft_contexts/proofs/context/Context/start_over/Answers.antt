@@ -18,10 +18,12 @@ pub returns-clause-held : goal.returns-clause-held
 returns-clause-held g c =
     let late = keeps_both _ _ _ c.start_registers.ensures.kept c.start_queue.ensures.kept in
     record {
-      registers = registers_kept c.start_registers.new.forms c.start_queue.new.forms c.in_ok-registers.registers c.start_queue.ensures.kept c.in_ok-registers.ensures.held;
+      registers = registers_kept c.start_registers.new.forms c.start_queue.new.forms c.in_ok-registers.registers
+          c.start_queue.ensures.kept c.in_ok-registers.ensures.held;
       d = tt;
       queue = c.in_ok-queue.ensures.held;
-      memory = memory_kept c.memory.new.forms c.start_queue.new.forms c.in_ok-memory.memory late (memory_from c.memory.new.forms c.in_ok-memory.memory _ c.in_ok-memory.ensures.form);
+      memory = memory_kept c.memory.new.forms c.start_queue.new.forms c.in_ok-memory.memory late
+          (memory_from c.memory.new.forms c.in_ok-memory.memory _ c.in_ok-memory.ensures.form);
     }
 
 pub returns-clause-types : goal.returns-clause-types
@@ -33,11 +35,17 @@ returns-clause-context g c =
     let last = c.start_queue.new.forms in
     let head = head_says o c.args.t c.code_type-head.result c.code_type-head.ensures in
     let ints = head.0 in
-    let registers : registers_in last 0 c.in_ok-registers.registers ≡ registers_after o finite.empty (reg_rows o c.args.t) = registers_stay c.start_registers.new.forms last 0 c.in_ok-registers.registers c.start_queue.ensures.kept c.in_ok-registers.ensures.held ∙ c.in_ok-registers.ensures.known in
-    let queue : map (pair_in last) c.in_ok-queue.queue ≡ map (queue_pair o) (queue_rows o c.args.t) = c.in_ok-queue.ensures.pairs in
+    let registers : registers_in last 0 c.in_ok-registers.registers
+    ≡ registers_after o finite.empty (reg_rows o c.args.t) =
+    registers_stay c.start_registers.new.forms last 0 c.in_ok-registers.registers c.start_queue.ensures.kept
+    c.in_ok-registers.ensures.held ∙ c.in_ok-registers.ensures.known in
+    let queue : map (pair_in last) c.in_ok-queue.queue ≡ map (queue_pair o) (queue_rows o c.args.t) =
+    c.in_ok-queue.ensures.pairs in
     let late = keeps_both _ _ _ c.start_registers.ensures.kept c.start_queue.ensures.kept in
     let first = updates_found c.memory.new.forms c.in_ok-memory.memory _ c.in_ok-memory.ensures.form in
-    let memory : updates_held last c.in_ok-memory.memory ≡ memory_form_of o (memory_of o c.args.t) = memory_stays c.memory.new.forms last c.in_ok-memory.memory late (memory_from c.memory.new.forms c.in_ok-memory.memory _ c.in_ok-memory.ensures.form) ∙ (rw head.3 at first) in
+    let memory : updates_held last c.in_ok-memory.memory ≡ memory_form_of o (memory_of o c.args.t) =
+    memory_stays c.memory.new.forms last c.in_ok-memory.memory late
+    (memory_from c.memory.new.forms c.in_ok-memory.memory _ c.in_ok-memory.ensures.form) ∙ (rw head.3 at first) in
     λ i. record { ints = ints i; registers = registers i; d = d_zero; queue = queue i; memory = memory i }
 
 pub returns-clause-pending : goal.returns-clause-pending
@@ -52,7 +60,8 @@ returns-clause-pending g c =
 pub returns-clause-count : goal.returns-clause-count
 returns-clause-count g c =
     let late = keeps_both _ _ _ c.start_registers.ensures.kept c.start_queue.ensures.kept in
-    let m = ap updates (memory_stays c.memory.new.forms c.start_queue.new.forms c.in_ok-memory.memory late (memory_from c.memory.new.forms c.in_ok-memory.memory _ c.in_ok-memory.ensures.form)) in
+    let m = ap updates (memory_stays c.memory.new.forms c.start_queue.new.forms c.in_ok-memory.memory late
+    (memory_from c.memory.new.forms c.in_ok-memory.memory _ c.in_ok-memory.ensures.form)) in
     omega (arith, m, c.in_ok-memory.ensures.count)
 
 pub returns-in_err-registers-clause-steps : goal.returns-in_err-registers-clause-steps
@@ -63,7 +72,8 @@ returns-in_err-registers-clause-steps g c =
     let m = c.memory.ensures.steps in
     let a = few_reg_rows o c.args.t c.requires.spellable c.requires.there in
     let e = head.1 in
-    let x = some_trees c.start_registers.new.steps c.memory.new.steps c.code_type-head.result.regs 64 cost c.start_registers.ensures.steps (omega (arith, e, a)) in
+    let x = some_trees c.start_registers.new.steps c.memory.new.steps c.code_type-head.result.regs 64 cost
+    c.start_registers.ensures.steps (omega (arith, e, a)) in
     omega (arith, m, x)
 
 pub returns-in_err-queue-clause-steps : goal.returns-in_err-queue-clause-steps
@@ -74,10 +84,12 @@ returns-in_err-queue-clause-steps g c =
     let m = c.memory.ensures.steps in
     let a = few_reg_rows o c.args.t c.requires.spellable c.requires.there in
     let e = head.1 in
-    let x = some_trees c.start_registers.new.steps c.memory.new.steps c.code_type-head.result.regs 64 cost c.start_registers.ensures.steps (omega (arith, e, a)) in
+    let x = some_trees c.start_registers.new.steps c.memory.new.steps c.code_type-head.result.regs 64 cost
+    c.start_registers.ensures.steps (omega (arith, e, a)) in
     let b = few_queue_rows o c.args.t c.requires.spellable c.requires.there in
     let f = head.2 in
-    let y = some_trees c.start_queue.new.steps c.start_registers.new.steps c.code_type-head.result.queue 8 (2 * cost) c.start_queue.ensures.steps (omega (arith, f, b)) in
+    let y = some_trees c.start_queue.new.steps c.start_registers.new.steps c.code_type-head.result.queue 8 (2 * cost)
+    c.start_queue.ensures.steps (omega (arith, f, b)) in
     omega (arith, m, x, y)
 
 pub returns-clause-steps : goal.returns-clause-steps
@@ -88,14 +100,17 @@ returns-clause-steps g c =
     let m = c.memory.ensures.steps in
     let a = few_reg_rows o c.args.t c.requires.spellable c.requires.there in
     let e = head.1 in
-    let x = some_trees c.start_registers.new.steps c.memory.new.steps c.code_type-head.result.regs 64 cost c.start_registers.ensures.steps (omega (arith, e, a)) in
+    let x = some_trees c.start_registers.new.steps c.memory.new.steps c.code_type-head.result.regs 64 cost
+    c.start_registers.ensures.steps (omega (arith, e, a)) in
     let b = few_queue_rows o c.args.t c.requires.spellable c.requires.there in
     let f = head.2 in
-    let y = some_trees c.start_queue.new.steps c.start_registers.new.steps c.code_type-head.result.queue 8 (2 * cost) c.start_queue.ensures.steps (omega (arith, f, b)) in
+    let y = some_trees c.start_queue.new.steps c.start_registers.new.steps c.code_type-head.result.queue 8 (2 * cost)
+    c.start_queue.ensures.steps (omega (arith, f, b)) in
     omega (arith, m, x, y)
 
 pub memory-requires-clause-node : goal.memory-requires-clause-node
 memory-requires-clause-node g c =
     let o = g.P.Program.object c.args.program.now in
     let head = head_says o c.args.t c.code_type-head.result c.code_type-head.ensures in
-    rw head.3 (most_scope o c.args.t (memory_of o c.args.t) _ c.requires.spellable c.requires.there (memory_spelled o c.args.t c.requires.spellable c.requires.there))
+    rw head.3 (most_scope o c.args.t (memory_of o c.args.t) _ c.requires.spellable c.requires.there
+    (memory_spelled o c.args.t c.requires.spellable c.requires.there))

@@ -25,7 +25,9 @@ loop-n-init g c = record {
 }
 
 pub integer-requires-clause-node : goal.integer-requires-clause-node
-integer-requires-clause-node g c = let o = g.P.Program.object c.args.program.now in all_there (IsNodeIn o.nodes 128 _) o.substs c.loop-n.n c.subst_row-row.result c.requires.spellable.substs c.subst_row-row.ensures
+integer-requires-clause-node g c = let o = g.P.Program.object c.args.program.now in
+    all_there (IsNodeIn o.nodes 128 _) o.substs c.loop-n.n c.subst_row-row.result c.requires.spellable.substs
+    c.subst_row-row.ensures
 
 pub loop-n-preserved : goal.loop-n-preserved
 loop-n-preserved g c =
@@ -38,16 +40,25 @@ loop-n-preserved g c =
     let f = polynomial_found new c.in_ok-form.form _ made in
     let others = map (integer_form_of o) (slice_range o.substs (c.loop-n.n + 1) c.args.subst.past) in
     let there = range_there o.substs c.loop-n.n c.args.subst.past row c.loop-n-test.true c.subst_row-row.ensures in
-    let rest : map (integer_form_of o) (slice_range o.substs c.loop-n.n c.args.subst.past) ≡ integer_form_of o row ∷ others = ap (map (integer_form_of o)) there in
-    let sy = one_tree c.loop-n.steps c.integer.new.steps (c.loop-n.n + 1 - c.args.subst.first) c.args.steps.now (c.loop-n.n - c.args.subst.first) (tree_cost o 0) c.loop-n.invariant.steps c.integer.ensures.steps (omega (arith, c.loop-n.invariant.from)) in
+    let rest : map (integer_form_of o) (slice_range o.substs c.loop-n.n c.args.subst.past)
+    ≡ integer_form_of o row ∷ others = ap (map (integer_form_of o)) there in
+    let sy = one_tree c.loop-n.steps c.integer.new.steps (c.loop-n.n + 1 - c.args.subst.first) c.args.steps.now
+    (c.loop-n.n - c.args.subst.first) (tree_cost o 0) c.loop-n.invariant.steps c.integer.ensures.steps
+    (omega (arith, c.loop-n.invariant.from)) in
     record {
       from = omega (arith, c.loop-n.invariant.from);
       steps = sy;
       kept = keeps_both _ _ _ c.loop-n.invariant.kept c.integer.ensures.kept;
       own = c.integer.ensures.own;
       fresh = c.loop-n.invariant.fresh;
-      held = rw c.in_ok-push.ensures.ok (λ i x e. get_pushed ints c.in_ok-form.form i x e (λ _ z. IsInteger new z) (integer_from new c.in_ok-form.form _ made) (λ j z s. integer_kept old new z c.integer.ensures.kept (c.loop-n.invariant.held j z s)));
-      left = rw (c.in_ok-push.ensures.ok, map_push (polynomial new) ints c.in_ok-form.form, polynomials_kept old new ints c.integer.ensures.kept c.loop-n.invariant.held) (
+      held = rw c.in_ok-push.ensures.ok (λ i x e. get_pushed ints c.in_ok-form.form i x e (λ _ z.
+          IsInteger new z) (integer_from new c.in_ok-form.form _ made) (λ j z s.
+          integer_kept old new z c.integer.ensures.kept (c.loop-n.invariant.held j z s)));
+      left = rw (
+        c.in_ok-push.ensures.ok,
+        map_push (polynomial new) ints c.in_ok-form.form,
+        polynomials_kept old new ints c.integer.ensures.kept c.loop-n.invariant.held,
+      ) (
           one_more (polynomials old ints) (polynomial new c.in_ok-form.form) others
           ∙ ap (λ (p : Polynomial). polynomials old ints ++ (p ∷ others)) f
           ∙ ap (λ (ps : List Polynomial). polynomials old ints ++ ps) (sym rest)
@@ -55,7 +66,11 @@ loop-n-preserved g c =
     }
 
 pub returns-clause-held : goal.returns-clause-held
-returns-clause-held g c = record { integers = λ i x e. integer_kept c.loop-n.forms c.memory.new.forms x c.memory.ensures.kept (c.loop-n.invariant.held i x e); memory = memory_from c.memory.new.forms c.in_ok-memory.memory _ c.in_ok-memory.ensures.form }
+returns-clause-held g c = record {
+  integers = λ i x e.
+      integer_kept c.loop-n.forms c.memory.new.forms x c.memory.ensures.kept (c.loop-n.invariant.held i x e);
+  memory = memory_from c.memory.new.forms c.in_ok-memory.memory _ c.in_ok-memory.ensures.form;
+}
 
 pub returns-clause-made : goal.returns-clause-made
 returns-clause-made g c = remembers_none _ c.memory.new.forms _ _ _ c.loop-n.invariant.fresh
@@ -68,30 +83,39 @@ returns-clause-replaced g c =
     let none = ap (map (integer_form_of o)) (range_past o.substs c.loop-n.n c.args.subst.past (omega arith)) in
     let integers : polynomials c.memory.new.forms ints ≡ map (integer_form_of o) (rows_of o c.args.subst) =
     polynomials_kept c.loop-n.forms c.memory.new.forms ints c.memory.ensures.kept c.loop-n.invariant.held
-    ∙ sym (append-nil (polynomials c.loop-n.forms ints)) ∙ ap (λ (ps : List Polynomial). polynomials c.loop-n.forms ints ++ ps) (sym none) ∙ c.loop-n.invariant.left in
+    ∙ sym (append-nil (polynomials c.loop-n.forms ints)) ∙ ap (λ (ps : List Polynomial). polynomials c.loop-n.forms ints
+    ++ ps) (sym none) ∙ c.loop-n.invariant.left in
     let memory = updates_found c.memory.new.forms c.in_ok-memory.memory _ c.in_ok-memory.ensures.form in
     λ i. record { integers = integers i; memory = memory i }
 
 pub returns-in_err-form-clause-steps : goal.returns-in_err-form-clause-steps
 returns-in_err-form-clause-steps g c =
     let so = g.P.Program.object c.args.program.now in
-    let sy = one_tree c.loop-n.steps c.integer.new.steps (c.loop-n.n + 1 - c.args.subst.first) c.args.steps.now (c.loop-n.n - c.args.subst.first) (tree_cost so 0) c.loop-n.invariant.steps c.integer.ensures.steps (omega (arith, c.loop-n.invariant.from)) in
-    some_trees c.integer.new.steps c.args.steps.now (c.loop-n.n + 1 - c.args.subst.first) 129 (tree_cost so 0) sy (omega (arith, c.requires.subst.few, c.loop-n-test.true))
+    let sy = one_tree c.loop-n.steps c.integer.new.steps (c.loop-n.n + 1 - c.args.subst.first) c.args.steps.now
+    (c.loop-n.n - c.args.subst.first) (tree_cost so 0) c.loop-n.invariant.steps c.integer.ensures.steps
+    (omega (arith, c.loop-n.invariant.from)) in
+    some_trees c.integer.new.steps c.args.steps.now (c.loop-n.n + 1 - c.args.subst.first) 129 (tree_cost so 0) sy
+    (omega (arith, c.requires.subst.few, c.loop-n-test.true))
 
 pub returns-in_err-push-clause-steps : goal.returns-in_err-push-clause-steps
 returns-in_err-push-clause-steps g c =
     let so = g.P.Program.object c.args.program.now in
-    let sy = one_tree c.loop-n.steps c.integer.new.steps (c.loop-n.n + 1 - c.args.subst.first) c.args.steps.now (c.loop-n.n - c.args.subst.first) (tree_cost so 0) c.loop-n.invariant.steps c.integer.ensures.steps (omega (arith, c.loop-n.invariant.from)) in
-    some_trees c.integer.new.steps c.args.steps.now (c.loop-n.n + 1 - c.args.subst.first) 129 (tree_cost so 0) sy (omega (arith, c.requires.subst.few, c.loop-n-test.true))
+    let sy = one_tree c.loop-n.steps c.integer.new.steps (c.loop-n.n + 1 - c.args.subst.first) c.args.steps.now
+    (c.loop-n.n - c.args.subst.first) (tree_cost so 0) c.loop-n.invariant.steps c.integer.ensures.steps
+    (omega (arith, c.loop-n.invariant.from)) in
+    some_trees c.integer.new.steps c.args.steps.now (c.loop-n.n + 1 - c.args.subst.first) 129 (tree_cost so 0) sy
+    (omega (arith, c.requires.subst.few, c.loop-n-test.true))
 
 pub returns-in_err-memory-clause-steps : goal.returns-in_err-memory-clause-steps
 returns-in_err-memory-clause-steps g c =
     let so = g.P.Program.object c.args.program.now in
-    let sy = some_trees c.loop-n.steps c.args.steps.now (c.loop-n.n - c.args.subst.first) 128 (tree_cost so 0) c.loop-n.invariant.steps (omega (arith, c.requires.subst.few, c.loop-n.auto.n-end)) in
+    let sy = some_trees c.loop-n.steps c.args.steps.now (c.loop-n.n - c.args.subst.first) 128 (tree_cost so 0)
+    c.loop-n.invariant.steps (omega (arith, c.requires.subst.few, c.loop-n.auto.n-end)) in
     omega (arith, c.memory.ensures.steps, sy)
 
 pub returns-clause-steps : goal.returns-clause-steps
 returns-clause-steps g c =
     let so = g.P.Program.object c.args.program.now in
-    let sy = some_trees c.loop-n.steps c.args.steps.now (c.loop-n.n - c.args.subst.first) 128 (tree_cost so 0) c.loop-n.invariant.steps (omega (arith, c.requires.subst.few, c.loop-n.auto.n-end)) in
+    let sy = some_trees c.loop-n.steps c.args.steps.now (c.loop-n.n - c.args.subst.first) 128 (tree_cost so 0)
+    c.loop-n.invariant.steps (omega (arith, c.requires.subst.few, c.loop-n.auto.n-end)) in
     omega (arith, c.memory.ensures.steps, sy)

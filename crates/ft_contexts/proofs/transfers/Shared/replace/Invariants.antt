@@ -14,5 +14,6 @@ invariant-loop-n g l = let o = g.P.Program.object l.program in record {
   own : HoldsOwn o l.forms l.self.own;
   fresh : IsFresh l.self.made;
   held : AreIntegers l.forms l.self.put.integers;
-  left : polynomials l.forms l.self.put.integers ++ map (integer_form_of o) (slice_range o.substs l.n l.fn.subst.past) ≡ map (integer_form_of o) (rows_of o l.fn.subst);
+  left : polynomials l.forms l.self.put.integers ++ map (integer_form_of o) (slice_range o.substs l.n l.fn.subst.past)
+      ≡ map (integer_form_of o) (rows_of o l.fn.subst);
 }

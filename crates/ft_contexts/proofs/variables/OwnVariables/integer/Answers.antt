@@ -15,18 +15,31 @@ pub integer-requires-clause-made : goal.integer-requires-clause-made
 integer-requires-clause-made g c = c.requires.own.made
 
 pub returns-in_err-form-clause-own : goal.returns-in_err-form-clause-own
-returns-in_err-form-clause-own g c = record { own = own_kept c.args.forms.now c.integer.new.forms 128 c.args.self.now.variables c.integer.ensures.kept c.requires.own.own; made = c.integer.ensures.made }
+returns-in_err-form-clause-own g c = record {
+  own =
+      own_kept c.args.forms.now c.integer.new.forms 128 c.args.self.now.variables c.integer.ensures.kept
+      c.requires.own.own;
+  made = c.integer.ensures.made;
+}
 
 pub returns-clause-own : goal.returns-clause-own
-returns-clause-own g c = record { own = own_kept c.args.forms.now c.integer.new.forms 128 c.args.self.now.variables c.integer.ensures.kept c.requires.own.own; made = c.integer.ensures.made }
+returns-clause-own g c = record {
+  own = own_kept c.args.forms.now c.integer.new.forms 128 c.args.self.now.variables
+      c.integer.ensures.kept c.requires.own.own;
+  made = c.integer.ensures.made;
+}
 
 pub returns-clause-form : goal.returns-clause-form
 returns-clause-form g c =
     let o = g.P.Program.object c.args.program.now in
-    c.in_ok-form.ensures.form ∙ ap (λ (x : Polynomial). Some (integer_form x)) (own_integer o c.args.forms.now 128 c.args.self.now.variables c.args.n c.requires.spellable.nodes c.requires.own.own (rw c.requires.own.own.count c.requires.node))
+    c.in_ok-form.ensures.form ∙ ap (λ (x : Polynomial).
+    Some (integer_form x)) (own_integer o c.args.forms.now 128 c.args.self.now.variables c.args.n
+    c.requires.spellable.nodes c.requires.own.own (rw c.requires.own.own.count c.requires.node))
 
 pub returns-in_err-form-clause-steps : goal.returns-in_err-form-clause-steps
-returns-in_err-form-clause-steps g c = own_steps (g.P.Program.object c.args.program.now) c.args.forms.now 128 c.args.self.now.variables c.args.steps.now c.integer.new.steps c.requires.own.own c.integer.ensures.steps
+returns-in_err-form-clause-steps g c = own_steps (g.P.Program.object c.args.program.now) c.args.forms.now 128
+    c.args.self.now.variables c.args.steps.now c.integer.new.steps c.requires.own.own c.integer.ensures.steps
 
 pub returns-clause-steps : goal.returns-clause-steps
-returns-clause-steps g c = own_steps (g.P.Program.object c.args.program.now) c.args.forms.now 128 c.args.self.now.variables c.args.steps.now c.integer.new.steps c.requires.own.own c.integer.ensures.steps
+returns-clause-steps g c = own_steps (g.P.Program.object c.args.program.now) c.args.forms.now 128
+    c.args.self.now.variables c.args.steps.now c.integer.new.steps c.requires.own.own c.integer.ensures.steps

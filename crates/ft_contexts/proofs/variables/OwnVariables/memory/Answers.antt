@@ -15,23 +15,37 @@ pub memory-requires-clause-made : goal.memory-requires-clause-made
 memory-requires-clause-made g c = c.requires.own.made
 
 pub returns-in_err-form-clause-own : goal.returns-in_err-form-clause-own
-returns-in_err-form-clause-own g c = record { own = own_kept c.args.forms.now c.memory.new.forms 128 c.args.self.now.variables c.memory.ensures.kept c.requires.own.own; made = c.memory.ensures.made }
+returns-in_err-form-clause-own g c = record {
+  own =
+      own_kept c.args.forms.now c.memory.new.forms 128 c.args.self.now.variables c.memory.ensures.kept
+      c.requires.own.own;
+  made = c.memory.ensures.made;
+}
 
 pub returns-clause-own : goal.returns-clause-own
-returns-clause-own g c = record { own = own_kept c.args.forms.now c.memory.new.forms 128 c.args.self.now.variables c.memory.ensures.kept c.requires.own.own; made = c.memory.ensures.made }
+returns-clause-own g c = record {
+  own = own_kept c.args.forms.now c.memory.new.forms 128 c.args.self.now.variables
+      c.memory.ensures.kept c.requires.own.own;
+  made = c.memory.ensures.made;
+}
 
 pub returns-clause-form : goal.returns-clause-form
 returns-clause-form g c =
     let o = g.P.Program.object c.args.program.now in
-    c.in_ok-form.ensures.form ∙ ap (λ (x : Updates). Some (memory_form x)) (own_memory o c.args.forms.now 128 c.args.self.now.variables c.args.n c.requires.spellable.nodes c.requires.own.own (rw c.requires.own.own.count c.requires.node))
+    c.in_ok-form.ensures.form ∙ ap (λ (x : Updates).
+    Some (memory_form x)) (own_memory o c.args.forms.now 128 c.args.self.now.variables c.args.n
+    c.requires.spellable.nodes c.requires.own.own (rw c.requires.own.own.count c.requires.node))
 
 pub returns-in_err-form-clause-steps : goal.returns-in_err-form-clause-steps
-returns-in_err-form-clause-steps g c = own_steps (g.P.Program.object c.args.program.now) c.args.forms.now 128 c.args.self.now.variables c.args.steps.now c.memory.new.steps c.requires.own.own c.memory.ensures.steps
+returns-in_err-form-clause-steps g c = own_steps (g.P.Program.object c.args.program.now) c.args.forms.now 128
+    c.args.self.now.variables c.args.steps.now c.memory.new.steps c.requires.own.own c.memory.ensures.steps
 
 pub returns-clause-steps : goal.returns-clause-steps
-returns-clause-steps g c = own_steps (g.P.Program.object c.args.program.now) c.args.forms.now 128 c.args.self.now.variables c.args.steps.now c.memory.new.steps c.requires.own.own c.memory.ensures.steps
+returns-clause-steps g c = own_steps (g.P.Program.object c.args.program.now) c.args.forms.now 128
+    c.args.self.now.variables c.args.steps.now c.memory.new.steps c.requires.own.own c.memory.ensures.steps
 
 pub returns-clause-count : goal.returns-clause-count
 returns-clause-count g c =
-    let z = ap updates (updates_found c.args.forms.now c.args.self.now.variables.memory unchanged c.requires.own.own.memory) in
+    let z = ap updates (updates_found c.args.forms.now c.args.self.now.variables.memory unchanged
+    c.requires.own.own.memory) in
     omega (arith, z, c.in_ok-form.ensures.count)

@@ -16,7 +16,10 @@ loop-i-preserved c =
     record {
       kept = keeps_both _ _ _ c.loop-i.invariant.kept c.var.ensures.kept;
       count = rw pushed (omega arith);
-      made = λ i f e. get_pushed c.loop-i.integers c.in_ok-form.form i f (subst (λ (xs : List Form). slice_get xs i ≡ Some f) pushed e) (λ j z. held c.var.new.self z ≡ Some (integer_form (alone (variable_atom j)))) (rw c.loop-i.invariant.count c.in_ok-form.ensures.form) (λ j z s. c.var.ensures.kept.forms_stay z _ (c.loop-i.invariant.made j z s));
+      made = λ i f e. get_pushed c.loop-i.integers c.in_ok-form.form i f (subst (λ (xs : List Form). slice_get xs i
+          ≡ Some f) pushed e) (λ j z. held c.var.new.self z ≡ Some (integer_form (alone (variable_atom j))))
+          (rw c.loop-i.invariant.count c.in_ok-form.ensures.form) (λ j z s.
+          c.var.ensures.kept.forms_stay z _ (c.loop-i.invariant.made j z s));
     }
 
 pub returns-clause-own : goal.returns-clause-own

@@ -9,5 +9,6 @@ abbrev pub invariant-loop-i : goal.invariant-loop-i
 invariant-loop-i l = record {
   kept : Keeps l.fn.forms l.forms;
   count : length l.integers ≡ l.i;
-  made : (i : ℕ) (f : Form) → slice_get l.integers i ≡ Some f → held l.forms f ≡ Some (integer_form (alone (variable_atom i)));
+  made : (i : ℕ) (f : Form) → slice_get l.integers i ≡ Some f → held l.forms f
+      ≡ Some (integer_form (alone (variable_atom i)));
 }

@@ -16,7 +16,9 @@ loop-init g c = record {
 pub returns-then-not-goes_on-clause-does : goal.returns-then-not-goes_on-clause-does
 returns-then-not-goes_on-clause-does g c =
     let m = c.loop.self.present.machine in
-    let off : (not (halting c.args.halts c.args.self.now.breaks m) && is_running m.status) ≡ false = ap (λ b. not (halting c.args.halts b m) && is_running m.status) (sym c.loop.invariant.breaks) ∙ sym c.goes_on.ensures ∙ c.if-not-goes_on.true in
+    let off : (not (halting c.args.halts c.args.self.now.breaks m) && is_running m.status)
+    ≡ false = ap (λ b. not (halting c.args.halts b m) && is_running m.status) (sym c.loop.invariant.breaks)
+    ∙ sym c.goes_on.ensures ∙ c.if-not-goes_on.true in
     walk_halts (g.P.Program.object c.args.program.now) (halting c.args.halts c.args.self.now.breaks) c.args.count
     c.loop.counter c.args.self.now c.loop.self _ _ off c.loop.invariant.walked
 
@@ -25,7 +27,8 @@ returns-in_err-advance-clause-does g c =
     let o = g.P.Program.object c.args.program.now in
     let h = halting c.args.halts c.args.self.now.breaks in
     let m = c.loop.self.present.machine in
-    let on : (not (h m) && is_running m.status) ≡ true = ap (λ b. not (halting c.args.halts b m) && is_running m.status) (sym c.loop.invariant.breaks) ∙ sym c.goes_on.ensures ∙ c.if-not-goes_on.false in
+    let on : (not (h m) && is_running m.status) ≡ true = ap (λ b. not (halting c.args.halts b m)
+    && is_running m.status) (sym c.loop.invariant.breaks) ∙ sym c.goes_on.ensures ∙ c.if-not-goes_on.false in
     walk_breaks o h c.args.count c.loop.counter c.args.self.now c.loop.self c.advance.new.self
     c.in_err-advance.field-0.0
     c.from_residual.result _ _ _ c.from_residual.ensures.0 c.loop-test.true on c.loop.invariant.walked
@@ -36,7 +39,8 @@ loop-preserved g c =
     let o = g.P.Program.object c.args.program.now in
     let h = halting c.args.halts c.args.self.now.breaks in
     let m = c.loop.self.present.machine in
-    let on : (not (h m) && is_running m.status) ≡ true = ap (λ b. not (halting c.args.halts b m) && is_running m.status) (sym c.loop.invariant.breaks) ∙ sym c.goes_on.ensures ∙ c.if-not-goes_on.false in
+    let on : (not (h m) && is_running m.status) ≡ true = ap (λ b. not (halting c.args.halts b m)
+    && is_running m.status) (sym c.loop.invariant.breaks) ∙ sym c.goes_on.ensures ∙ c.if-not-goes_on.false in
     record {
       ready = c.advance.ensures.ready;
       breaks = c.advance.ensures.breaks ∙ c.loop.invariant.breaks;

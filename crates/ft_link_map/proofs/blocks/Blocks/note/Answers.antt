@@ -8,4 +8,6 @@ pub returns-clause-noted : goal.returns-clause-noted
 unfolding knows_block
 returns-clause-noted c = λ m b.
     let known = knows_block c.args.self.now m b in
-    c.in_ok-added.ensures.updates.0 (m, b) ∙ cond_is_or (is_eq (ordering_then (nat_cmp c.args.module m) (nat_cmp c.args.block b))) known ∙ ap (λ t. t || known) (same_place c.args.module c.args.block m b)
+    c.in_ok-added.ensures.updates.0 (m, b) ∙ cond_is_or
+    (is_eq (ordering_then (nat_cmp c.args.module m) (nat_cmp c.args.block b))) known
+    ∙ ap (λ t. t || known) (same_place c.args.module c.args.block m b)

@@ -10,4 +10,6 @@ pub returns-clause-noted : goal.returns-clause-noted
 unfolding knows_name
 returns-clause-noted c = λ text.
     let known = knows_name c.args.self.now text in
-    c.in_ok-added.ensures.updates.0 (record c.args.name { now = text }) ∙ cond_is_or (is_eq (slice_cmp nat_cmp c.args.name.now text)) known ∙ ap (λ t. t || known) (is_eq-slice_cmp c.args.name.now text)
+    c.in_ok-added.ensures.updates.0 (record c.args.name { now = text })
+    ∙ cond_is_or (is_eq (slice_cmp nat_cmp c.args.name.now text)) known
+    ∙ ap (λ t. t || known) (is_eq-slice_cmp c.args.name.now text)

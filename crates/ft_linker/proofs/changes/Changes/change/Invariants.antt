@@ -1,7 +1,9 @@
-use Rattle.std.proofs.Common.{◌≡◌, [], ◌++◌, List, map, take}
+use Rattle.std.proofs.Common.{◌≡◌, ◌++◌, List, map, take, drop}
 use Rattle.ft_modules.specs.Linked.{Change, changed_instr}
 use Rattle.ft_linker.specs.Changes.{Holds}
 use Rattle.ft_linker.proofs.changes.Changes.change.Given as goal
 
-abbrev pub invariant-loop-i : goal.invariant-loop-i
-invariant-loop-i l = (cs : List Change) → Holds l.self cs → l.changed.items ≡ [] ++ map (changed_instr cs) (take l.i l.instrs)
+abbrev pub invariant-loop-instr : goal.invariant-loop-instr
+invariant-loop-instr l = (cs : List Change) → Holds l.self cs →
+    take l.instr-index l.instrs ++ map (changed_instr cs) (drop l.instr-index l.instrs)
+    ≡ map (changed_instr cs) l.fn.instrs

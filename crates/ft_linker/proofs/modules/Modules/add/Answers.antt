@@ -22,7 +22,9 @@ check_module-requires c =
     record {
       spelled = c.requires.spelled;
       counted = omega (arith, long, few);
-      few = c.are_few-few.ensures ∙ few_by_totals c.with-totals.result (ms ++ o ∷ []) (c.with-totals.ensures ms c.self.invariant.1) ∙ ap (λ (z : List Object). are_few (z ++ o ∷ [])) (sym same);
+      few = c.are_few-few.ensures ∙ few_by_totals c.with-totals.result (ms
+          ++ o ∷ []) (c.with-totals.ensures ms c.self.invariant.1)
+          ∙ ap (λ (z : List Object). are_few (z ++ o ∷ [])) (sym same);
     }
 
 pub invariant_of-self : goal.invariant_of-self
@@ -35,5 +37,8 @@ invariant_of-self-2 c =
     let ms = c.self.inside.objects.items in
     let o = c.args.object in
     let longer = c.in-Ok-push.ensures.items in
-    let unrefused = ap (λ (z : List Object). added_refusal z o) (sym c.as_slice.ensures.value) ∙ c.in-Ok.ensures.unrefused in
-    (subst AreAdded (sym longer) (added_more ms o c.self.invariant.0 c.requires.spelled c.requires.accepted unrefused), c.with-totals.ensures ms c.self.invariant.1 ∙ ap totals_of (sym longer))
+    let unrefused = ap (λ (z : List Object). added_refusal z o) (sym c.as_slice.ensures.value)
+    ∙ c.in-Ok.ensures.unrefused in (
+      subst AreAdded (sym longer) (added_more ms o c.self.invariant.0 c.requires.spelled c.requires.accepted unrefused),
+      c.with-totals.ensures ms c.self.invariant.1 ∙ ap totals_of (sym longer),
+    )

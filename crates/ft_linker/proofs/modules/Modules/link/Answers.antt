@@ -14,7 +14,8 @@ use Rattle.ft_linker.proofs.Ready.{all_are_nodes, are_ready, can_be_laid}
 use Rattle.ft_linker.proofs.modules.Modules.link.Goals as goal
 
 pub lay-requires : goal.lay-requires
-lay-requires c = can_be_laid c.as_slice-objects.result.now (subst AreAdded (sym c.as_slice-objects.ensures.value) c.self.invariant.0)
+lay-requires c = can_be_laid c.as_slice-objects.result.now
+    (subst AreAdded (sym c.as_slice-objects.ensures.value) c.self.invariant.0)
 
 pub number_trees-requires : goal.number_trees-requires
 number_trees-requires c =
@@ -28,7 +29,9 @@ check_imports-requires c =
     let map = c.args.linkage.now in
     let added = subst AreAdded (sym c.as_slice-objects.ensures.value) c.self.invariant.0 in
     let lines = no_line (first_without ms map.exports) (first_without ms map.imports) c.in-Ok.ensures.unrefused in
-    let numbered = subst (AreNumbered c.in-Ok-lay.laid.nodes.items) (sym c.as_slice-2.ensures.value) (subst (λ (z : List Node). AreNumbered z c.in-Ok-number_trees.numbers.items) c.as_slice.ensures.value c.in-Ok-number_trees.ensures) in
+    let numbered = subst (AreNumbered c.in-Ok-lay.laid.nodes.items) (sym c.as_slice-2.ensures.value)
+    (subst (λ (z : List Node). AreNumbered z c.in-Ok-number_trees.numbers.items) c.as_slice.ensures.value
+    c.in-Ok-number_trees.ensures) in
     record {
       ready = are_ready ms added c.in-Ok-lay.laid c.as_slice-2.result.now c.in-Ok-lay.ensures numbered;
       exports = have_blocks ms map.exports lines.0;
@@ -44,7 +47,10 @@ put_together-requires c =
     let files = c.requires.sound.some_files in
     let as_many = c.requires.modules in
     let some : 1 ≤ length ms = omega (arith, long, files, as_many) in
-    let refused : refusal_of map ms ≡ None = refusal_is map ms added some ∙ or_none (option_map NoBlock (lower_line (first_without ms map.exports) (first_without ms map.imports))) (imports_refusal ms map.exports map.imports) (ap (option_map NoBlock) c.in-Ok.ensures.unrefused) c.in-Ok-check_imports.ensures.unrefused in
+    let refused : refusal_of map ms ≡ None = refusal_is map ms added some
+    ∙ or_none (option_map NoBlock (lower_line (first_without ms map.exports) (first_without ms map.imports)))
+    (imports_refusal ms map.exports map.imports) (ap (option_map NoBlock) c.in-Ok.ensures.unrefused)
+    c.in-Ok-check_imports.ensures.unrefused in
     record {
       can = can_be_laid ms added;
       some = omega (arith, some);
@@ -62,8 +68,12 @@ returns-in-Ok-put_together-clause-linked c =
     let files = c.requires.sound.some_files in
     let as_many = c.requires.modules in
     let some : 1 ≤ length ms = omega (arith, long, files, as_many) in
-    let refused : refusal_of map ms ≡ None = refusal_is map ms added some ∙ or_none (option_map NoBlock (lower_line (first_without ms map.exports) (first_without ms map.imports))) (imports_refusal ms map.exports map.imports) (ap (option_map NoBlock) c.in-Ok.ensures.unrefused) c.in-Ok-check_imports.ensures.unrefused in
-    subst (λ (z : List Object). IsLinked map z c.in-Ok-put_together.object) same (is_linked map ms c.in-Ok-put_together.object added some refused c.in-Ok-put_together.ensures)
+    let refused : refusal_of map ms ≡ None = refusal_is map ms added some
+    ∙ or_none (option_map NoBlock (lower_line (first_without ms map.exports) (first_without ms map.imports)))
+    (imports_refusal ms map.exports map.imports) (ap (option_map NoBlock) c.in-Ok.ensures.unrefused)
+    c.in-Ok-check_imports.ensures.unrefused in
+    subst (λ (z : List Object). IsLinked map z c.in-Ok-put_together.object) same
+    (is_linked map ms c.in-Ok-put_together.object added some refused c.in-Ok-put_together.ensures)
 
 pub returns-in-Ok-put_together-clause-unrefused : goal.returns-in-Ok-put_together-clause-unrefused
 returns-in-Ok-put_together-clause-unrefused c =
@@ -75,7 +85,10 @@ returns-in-Ok-put_together-clause-unrefused c =
     let files = c.requires.sound.some_files in
     let as_many = c.requires.modules in
     let some : 1 ≤ length ms = omega (arith, long, files, as_many) in
-    ap (refusal_of map) (sym same) ∙ refusal_is map ms added some ∙ or_none (option_map NoBlock (lower_line (first_without ms map.exports) (first_without ms map.imports))) (imports_refusal ms map.exports map.imports) (ap (option_map NoBlock) c.in-Ok.ensures.unrefused) c.in-Ok-check_imports.ensures.unrefused
+    ap (refusal_of map) (sym same) ∙ refusal_is map ms added some
+    ∙ or_none (option_map NoBlock (lower_line (first_without ms map.exports) (first_without ms map.imports)))
+    (imports_refusal ms map.exports map.imports) (ap (option_map NoBlock) c.in-Ok.ensures.unrefused)
+    c.in-Ok-check_imports.ensures.unrefused
 
 pub returns-in-Err-clause-refused : goal.returns-in-Err-clause-refused
 returns-in-Err-clause-refused c =
@@ -89,7 +102,8 @@ returns-in-Err-clause-refused c =
     let some : 1 ≤ length ms = omega (arith, long, files, as_many) in
     let x = option_map NoBlock (lower_line (first_without ms map.exports) (first_without ms map.imports)) in
     let y = imports_refusal ms map.exports map.imports in
-    refusal_by _ _ c.in-Err.error (ap (refusal_of map) (sym same) ∙ refusal_is map ms added some) (refusal_first x y c.in-Err.error c.in-Err.ensures.refused)
+    refusal_by _ _ c.in-Err.error (ap (refusal_of map) (sym same) ∙ refusal_is map ms added some)
+    (refusal_first x y c.in-Err.error c.in-Err.ensures.refused)
 
 pub returns-in-Err-check_imports-clause-refused : goal.returns-in-Err-check_imports-clause-refused
 returns-in-Err-check_imports-clause-refused c =
@@ -103,4 +117,6 @@ returns-in-Err-check_imports-clause-refused c =
     let some : 1 ≤ length ms = omega (arith, long, files, as_many) in
     let x = option_map NoBlock (lower_line (first_without ms map.exports) (first_without ms map.imports)) in
     let y = imports_refusal ms map.exports map.imports in
-    refusal_by _ _ c.in-Err-check_imports.error (ap (refusal_of map) (sym same) ∙ refusal_is map ms added some) (refusal_after x y c.in-Err-check_imports.error (ap (option_map NoBlock) c.in-Ok.ensures.unrefused) c.in-Err-check_imports.ensures.refused)
+    refusal_by _ _ c.in-Err-check_imports.error (ap (refusal_of map) (sym same) ∙ refusal_is map ms added some)
+    (refusal_after x y c.in-Err-check_imports.error (ap (option_map NoBlock) c.in-Ok.ensures.unrefused)
+    c.in-Err-check_imports.ensures.refused)

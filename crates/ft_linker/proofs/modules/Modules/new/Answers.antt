@@ -5,4 +5,8 @@ use Rattle.ft_linker.proofs.Adding.{none_added}
 use Rattle.ft_linker.proofs.modules.Modules.new.Goals as goal
 
 pub invariant_of-result : goal.invariant_of-result
-invariant_of-result c = (subst AreAdded (sym c.new.ensures.items) none_added, c.none.ensures ∙ ap totals_of (sym c.new.ensures.items))
+invariant_of-result c = (
+  subst AreAdded (sym c.new.ensures.items) none_added,
+  c.none.ensures
+      ∙ ap totals_of (sym c.new.ensures.items),
+)

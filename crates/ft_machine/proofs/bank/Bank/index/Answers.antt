@@ -7,5 +7,7 @@ use Rattle.ft_machine.proofs.bank.Bank.index.Goals as goal
 
 pub returns : goal.returns
 returns c =
-    subst (λ (x : Coloured). DoesQuietly (writes c.args.rd x.colour (cell_in_run c.args.first c.args.length x.word)) c.args.self.now c.write.new.self c.write.result) c.get-colour.ensures
-    (subst (λ (v : ℕ). DoesQuietly (writes c.args.rd c.get-colour.result.colour v) c.args.self.now c.write.new.self c.write.result) c.cell_in_run-word.ensures c.write.ensures)
+    subst (λ (x : Coloured). DoesQuietly (writes c.args.rd x.colour (cell_in_run c.args.first c.args.length x.word))
+    c.args.self.now c.write.new.self c.write.result) c.get-colour.ensures
+    (subst (λ (v : ℕ). DoesQuietly (writes c.args.rd c.get-colour.result.colour v) c.args.self.now c.write.new.self
+    c.write.result) c.cell_in_run-word.ensures c.write.ensures)

@@ -7,5 +7,7 @@ use Rattle.ft_machine.proofs.bank.Bank.operate.Goals as goal
 
 pub returns : goal.returns
 returns c =
-    subst (λ (x : Coloured). DoesQuietly (writes c.args.rd x.colour (apply c.args.op x.word c.args.other)) c.args.self.now c.write.new.self c.write.result) c.get-colour.ensures
-    (subst (λ (v : ℕ). DoesQuietly (writes c.args.rd c.get-colour.result.colour v) c.args.self.now c.write.new.self c.write.result) c.applied-word.ensures c.write.ensures)
+    subst (λ (x : Coloured). DoesQuietly (writes c.args.rd x.colour (apply c.args.op x.word c.args.other))
+    c.args.self.now c.write.new.self c.write.result) c.get-colour.ensures
+    (subst (λ (v : ℕ). DoesQuietly (writes c.args.rd c.get-colour.result.colour v) c.args.self.now c.write.new.self
+    c.write.result) c.applied-word.ensures c.write.ensures)

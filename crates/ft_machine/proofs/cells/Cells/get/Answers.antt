@@ -5,7 +5,8 @@ use Rattle.ft_machine.proofs.Arrayed.{no_cell_below, cell_read}
 use Rattle.ft_machine.proofs.cells.Cells.get.Goals as goal
 
 pub returns-then-addr-lt-FIRST_CELL : goal.returns-then-addr-lt-FIRST_CELL
-returns-then-addr-lt-FIRST_CELL c = sym (no_cell_below c.self.inside.words.items c.args.addr c.if-addr-lt-FIRST_CELL.true) ∙ ap (λ m. cell_at m c.args.addr) c.self.view_is
+returns-then-addr-lt-FIRST_CELL c = sym (no_cell_below c.self.inside.words.items c.args.addr
+    c.if-addr-lt-FIRST_CELL.true) ∙ ap (λ m. cell_at m c.args.addr) c.self.view_is
 
 pub returns : goal.returns
 returns c =

@@ -4,7 +4,8 @@ use Rattle.ft_machine.proofs.Arrayed.{within, cell_put}
 use Rattle.ft_machine.proofs.cells.Cells.replace.Goals as goal
 
 pub overflow_sub-k : goal.overflow_sub-k
-overflow_sub-k c = (within c.self.inside.words.items c.args.addr (ap (λ m. is_cell m c.args.addr) c.self.view_is ∙ c.requires)).0
+overflow_sub-k c = (within c.self.inside.words.items c.args.addr (ap (λ m. is_cell m c.args.addr) c.self.view_is
+    ∙ c.requires)).0
 
 pub index_mut-requires : goal.index_mut-requires
 index_mut-requires c =
@@ -13,5 +14,6 @@ index_mut-requires c =
 
 pub returns : goal.returns
 returns c =
-    cell_put c.self.inside.words.items c.args.addr c.args.word (ap (λ m. is_cell m c.args.addr) c.self.view_is ∙ c.requires)
+    cell_put c.self.inside.words.items c.args.addr c.args.word (ap (λ m. is_cell m c.args.addr) c.self.view_is
+    ∙ c.requires)
     ∙ ap (λ m. with_cell m c.args.addr c.args.word) c.self.view_is

@@ -11,7 +11,8 @@ returns-clause-heard g c = λ first before h.
     let x = c.args.output in
     let old = g.K.Sink.log c.args.self.now.out.now in
     let new = g.K.Sink.log c.put_output.new.out in
-    let put = subst (λ q. Puts (end_of_puts c.put_output.result) (line_at q x ∷ []) old new) h.1 c.put_output.ensures in (
+    let put = subst (λ q. Puts (end_of_puts c.put_output.result) (line_at q x ∷ []) old new) h.1
+    c.put_output.ensures in (
       h.0,
       h.1,
       subst (λ b. PutsOutputs o (before ++ x ∷ []) b (g.K.Sink.log first.out.now) new) (sym c.is_ok.ensures.value)

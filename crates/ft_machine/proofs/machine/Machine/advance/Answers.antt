@@ -7,23 +7,31 @@ pub returns-clause-advances : goal.returns-clause-advances
 returns-clause-advances g c =
     let o = g.P.Program.object c.args.program.now in
     let gone = c.go-gone in
-    subst (λ x. Advances o c.args.self.now c.args.wild.now gone.new.self gone.new.wild c.args.most gone.result.taken x) (sym c.last.ensures)
-    (advances_first _ o c.args.self.now gone.new.self c.args.wild.now gone.new.wild _ gone.new.outlet gone.result.taken c.args.most
-    gone.result.pause gone.new.outlet.output gone.ensures.goes gone.ensures.heard gone.ensures.few gone.ensures.early gone.ensures.all)
+    subst (λ x. Advances o c.args.self.now c.args.wild.now gone.new.self gone.new.wild c.args.most gone.result.taken x)
+    (sym c.last.ensures)
+    (advances_first _ o c.args.self.now gone.new.self c.args.wild.now gone.new.wild _ gone.new.outlet gone.result.taken
+    c.args.most
+    gone.result.pause gone.new.outlet.output gone.ensures.goes gone.ensures.heard gone.ensures.few gone.ensures.early
+    gone.ensures.all)
 
 pub returns-clause-cells : goal.returns-clause-cells
 returns-clause-cells g c =
     let o = g.P.Program.object c.args.program.now in
     let gone = c.go-gone in
     advances_cells o c.args.self.now gone.new.self c.args.wild.now gone.new.wild c.args.most gone.result.taken _
-    (advances_first _ o c.args.self.now gone.new.self c.args.wild.now gone.new.wild _ gone.new.outlet gone.result.taken c.args.most
-    gone.result.pause gone.new.outlet.output gone.ensures.goes gone.ensures.heard gone.ensures.few gone.ensures.early gone.ensures.all)
+    (advances_first _ o c.args.self.now gone.new.self c.args.wild.now gone.new.wild _ gone.new.outlet gone.result.taken
+    c.args.most
+    gone.result.pause gone.new.outlet.output gone.ensures.goes gone.ensures.heard gone.ensures.few gone.ensures.early
+    gone.ensures.all)
 
 pub returns-clause-commits : goal.returns-clause-commits
 returns-clause-commits g c = λ output is.
     let o = g.P.Program.object c.args.program.now in
     let gone = c.go-gone in
     advances_to_cell o c.args.self.now gone.new.self c.args.wild.now gone.new.wild c.args.most gone.result.taken output
-    (subst (λ x. Advances o c.args.self.now c.args.wild.now gone.new.self gone.new.wild c.args.most gone.result.taken x) (sym c.last.ensures ∙ is)
-    (advances_first _ o c.args.self.now gone.new.self c.args.wild.now gone.new.wild _ gone.new.outlet gone.result.taken c.args.most
-    gone.result.pause gone.new.outlet.output gone.ensures.goes gone.ensures.heard gone.ensures.few gone.ensures.early gone.ensures.all))
+    (subst (λ x. Advances o c.args.self.now c.args.wild.now gone.new.self gone.new.wild c.args.most gone.result.taken x)
+    (sym c.last.ensures ∙ is)
+    (advances_first _ o c.args.self.now gone.new.self c.args.wild.now gone.new.wild _ gone.new.outlet gone.result.taken
+    c.args.most
+    gone.result.pause gone.new.outlet.output gone.ensures.goes gone.ensures.heard gone.ensures.few gone.ensures.early
+    gone.ensures.all))

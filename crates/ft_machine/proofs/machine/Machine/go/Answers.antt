@@ -5,22 +5,31 @@ use Rattle.ft_machine.proofs.Going.{goes_none, goes_more, goes_may}
 use Rattle.ft_machine.proofs.machine.Machine.go.Goals as goal
 
 pub loop-taken-init : goal.loop-taken-init
-loop-taken-init g c = record { few = omega arith; goes = goes_none g.T.Outlet (g.P.Program.object c.args.program.now) c.args.self.now c.args.wild.now c.args.outlet.now c.requires.running }
+loop-taken-init g c = record {
+  few = omega arith;
+  goes = goes_none g.T.Outlet (g.P.Program.object c.args.program.now)
+      c.args.self.now c.args.wild.now c.args.outlet.now c.requires.running;
+}
 
 pub go_some-next-requires-clause-may : goal.go_some-next-requires-clause-may
 go_some-next-requires-clause-may g c =
-    goes_may g.T.Outlet (g.P.Program.object c.args.program.now) c.args.self.now c.loop-taken.self c.args.wild.now c.loop-taken.wild c.args.outlet.now c.loop-taken.outlet
+    goes_may g.T.Outlet (g.P.Program.object c.args.program.now) c.args.self.now c.loop-taken.self c.args.wild.now
+    c.loop-taken.wild c.args.outlet.now c.loop-taken.outlet
     c.loop-taken.taken Running c.loop-taken.invariant.goes c.requires.may
 
 pub returns-then-not-runs_on-clause-goes : goal.returns-then-not-runs_on-clause-goes
 returns-then-not-runs_on-clause-goes g c =
-    goes_more g.T.Outlet (g.P.Program.object c.args.program.now) c.args.self.now c.loop-taken.self c.go_some-next.new.self c.args.wild.now c.loop-taken.wild c.go_some-next.new.wild
-    c.args.outlet.now c.loop-taken.outlet c.go_some-next.new.outlet c.loop-taken.taken c.go_some-next.result.taken c.go_some-next.result.pause c.loop-taken.invariant.goes c.go_some-next.ensures.goes
+    goes_more g.T.Outlet (g.P.Program.object c.args.program.now) c.args.self.now c.loop-taken.self
+    c.go_some-next.new.self c.args.wild.now c.loop-taken.wild c.go_some-next.new.wild
+    c.args.outlet.now c.loop-taken.outlet c.go_some-next.new.outlet c.loop-taken.taken c.go_some-next.result.taken
+    c.go_some-next.result.pause c.loop-taken.invariant.goes c.go_some-next.ensures.goes
 
 pub returns-then-not-runs_on-clause-heard : goal.returns-then-not-runs_on-clause-heard
 returns-then-not-runs_on-clause-heard g c =
-    let more = goes_more g.T.Outlet (g.P.Program.object c.args.program.now) c.args.self.now c.loop-taken.self c.go_some-next.new.self c.args.wild.now c.loop-taken.wild c.go_some-next.new.wild
-    c.args.outlet.now c.loop-taken.outlet c.go_some-next.new.outlet c.loop-taken.taken c.go_some-next.result.taken c.go_some-next.result.pause c.loop-taken.invariant.goes c.go_some-next.ensures.goes in
+    let more = goes_more g.T.Outlet (g.P.Program.object c.args.program.now) c.args.self.now c.loop-taken.self
+    c.go_some-next.new.self c.args.wild.now c.loop-taken.wild c.go_some-next.new.wild
+    c.args.outlet.now c.loop-taken.outlet c.go_some-next.new.outlet c.loop-taken.taken c.go_some-next.result.taken
+    c.go_some-next.result.pause c.loop-taken.invariant.goes c.go_some-next.ensures.goes in
     more.hears c.args.outlet.now [] (g.met.T.Outlet.heard_none c.args.outlet.now)
 
 pub loop-taken-preserved : goal.loop-taken-preserved
@@ -29,10 +38,15 @@ loop-taken-preserved g c =
     let running : c.go_some-next.result.pause ≡ Running = search rules in
     record {
       few = omega (arith, c.loop-taken.invariant.few, c.go_some-next.ensures.few);
-      goes = goes_more g.T.Outlet o c.args.self.now c.loop-taken.self c.go_some-next.new.self c.args.wild.now c.loop-taken.wild c.go_some-next.new.wild
-          c.args.outlet.now c.loop-taken.outlet c.go_some-next.new.outlet c.loop-taken.taken c.go_some-next.result.taken Running c.loop-taken.invariant.goes
-          (subst (λ x. Goes g.T.Outlet o c.loop-taken.self c.loop-taken.wild c.loop-taken.outlet c.go_some-next.new.self c.go_some-next.new.wild c.go_some-next.new.outlet c.go_some-next.result.taken x) running c.go_some-next.ensures.goes);
+      goes = goes_more g.T.Outlet o c.args.self.now c.loop-taken.self c.go_some-next.new.self c.args.wild.now
+          c.loop-taken.wild c.go_some-next.new.wild
+          c.args.outlet.now c.loop-taken.outlet c.go_some-next.new.outlet c.loop-taken.taken c.go_some-next.result.taken
+          Running c.loop-taken.invariant.goes
+          (subst (λ x. Goes g.T.Outlet o c.loop-taken.self c.loop-taken.wild c.loop-taken.outlet c.go_some-next.new.self
+          c.go_some-next.new.wild c.go_some-next.new.outlet c.go_some-next.result.taken x) running
+          c.go_some-next.ensures.goes);
     }
 
 pub returns-clause-heard : goal.returns-clause-heard
-returns-clause-heard g c = c.loop-taken.invariant.goes.hears c.args.outlet.now [] (g.met.T.Outlet.heard_none c.args.outlet.now)
+returns-clause-heard g c = c.loop-taken.invariant.goes.hears c.args.outlet.now []
+    (g.met.T.Outlet.heard_none c.args.outlet.now)

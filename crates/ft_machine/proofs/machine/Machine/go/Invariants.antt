@@ -6,7 +6,8 @@ use Rattle.ft_machine.proofs.machine.Machine.go.Given as goal
 abbrev pub invariant-loop-taken : goal.invariant-loop-taken
 invariant-loop-taken g l = record {
   few : l.taken ≤ l.most;
-  goes : Goes g.T.Outlet (g.P.Program.object l.program) l.fn.self l.fn.wild l.fn.outlet l.self l.wild l.outlet l.taken Running;
+  goes : Goes g.T.Outlet (g.P.Program.object l.program) l.fn.self l.fn.wild l.fn.outlet l.self l.wild l.outlet l.taken
+      Running;
 }
 
 abbrev pub decreases-loop-taken : goal.decreases-loop-taken

@@ -7,4 +7,5 @@ use Rattle.ft_machine.proofs.machine.Machine.step.Goals as goal
 pub returns-in-Running-clause-cells : goal.returns-in-Running-clause-cells
 returns-in-Running-clause-cells g c = λ n h a.
     let o = g.P.Program.object c.args.program.now in
-    ap (λ (s : State). is_cell s.cells a) c.fetch_or_execute.ensures.state_is ∙ (step_at_is_proper o Running c.args.self.now c.args.wild.now).cells a ∙ h a
+    ap (λ (s : State). is_cell s.cells a) c.fetch_or_execute.ensures.state_is
+    ∙ (step_at_is_proper o Running c.args.self.now c.args.wild.now).cells a ∙ h a

@@ -31,7 +31,8 @@ invariant-statements-loop-s g l = record {
       (p : List Output) × (v : ℕ) × (run (plain_list same_slot l.all) (state l.initial.self o w) ≡ run
       (plain_list same_slot (drop l.s-index l.all)) (state l.self p v)) × (g.K.Sink.log l.out ≡ told
       (map (λ n. n.items) l.names) first p);
-  fits : StatementsFit (length l.self.cells.items) (length l.self.vars.items) (plain_list same_slot (drop l.s-index l.all));
+  fits : StatementsFit (length l.self.cells.items) (length l.self.vars.items)
+      (plain_list same_slot (drop l.s-index l.all));
   ready : Ready (map (λ n. n.items) l.names) l.self;
   keeps : Keeps l.initial.self l.self;
 }

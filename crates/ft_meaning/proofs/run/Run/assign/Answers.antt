@@ -12,5 +12,10 @@ returns-in-Cell-clause-runs g c =
 
 pub returns-in-Var-clause-runs : goal.returns-in-Var-clause-runs
 returns-in-Var-clause-runs g c = λ first o w is.
-    let r = c.args.self.now in
-    (o, w, ap (λ x. Ended (assigned x c.args.word (state r o w))) c.in-Var.is ∙ ap (λ x. Ended (record (state r o w) { vars = slice_set r.vars.items x c.args.word })) (sym c.from.ensures), is)
+    let r = c.args.self.now in (
+      o,
+      w,
+      ap (λ x. Ended (assigned x c.args.word (state r o w))) c.in-Var.is
+          ∙ ap (λ x. Ended (record (state r o w) { vars = slice_set r.vars.items x c.args.word })) (sym c.from.ensures),
+      is,
+    )

@@ -6,4 +6,5 @@ use Rattle.ft_norm.proofs.keys.KeyedFoldHasher.write_u32.Goals as goal
 
 pub returns : goal.returns
 unfolding le_bytes
-returns c = c.note.ensures ∙ ap (noted c.args.self.now) (c.from.ensures ∙ sym (from_le_bytes-to_le_bytes_4 c.args.i c.ranges.i.fits))
+returns c = c.note.ensures ∙ ap (noted c.args.self.now) (c.from.ensures
+    ∙ sym (from_le_bytes-to_le_bytes_4 c.args.i c.ranges.i.fits))

@@ -7,7 +7,8 @@ use Rattle.ft_norm.specs.Held.{held, polynomials, updates_held}
 use Rattle.ft_norm.specs.Parts.{form_of_parts, updates_of_parts}
 use Rattle.ft_norm.proofs.Made.{node_made, part_lower, parts_count, parts_sorts, stands_kept, stands_more}
 use Rattle.ft_norm.proofs.Memos.{remembered, remembers_kept, remembers_same, stands_from}
-use Rattle.ft_norm.proofs.Paths.{count, count_bound, count_less, count_more, path_end, path_first, path_pop, path_push, steps_all, steps_more}
+use Rattle.ft_norm.proofs.Paths.{count, count_bound, count_less, count_more, path_end, path_first, path_pop, path_push}
+use Rattle.ft_norm.proofs.Paths.{steps_all, steps_more}
 use Rattle.ft_norm.proofs.HeldForms.{integers_kept, keeps_both, keeps_itself, polynomials_kept}
 use Rattle.ft_norm.proofs.substitution.Memo.make.Goals as goal
 
@@ -19,7 +20,8 @@ returns-in-Err-push-clause-steps g c =
     let u = updates_held s c.args.memory in
     let look = get nat_eq c.loop-part.self.made in
     let k = c.loop-part.k in
-    steps_all c.loop-part.steps c.args.steps.now (count look (c.args.n + 1)) c.args.n (1 + updates u + c.args.n) c.loop-part.invariant.steps (count_bound look (c.args.n + 1))
+    steps_all c.loop-part.steps c.args.steps.now (count look (c.args.n + 1)) c.args.n (1 + updates u + c.args.n)
+    c.loop-part.invariant.steps (count_bound look (c.args.n + 1))
 
 pub loop-part-smaller-in-Err : goal.loop-part-smaller-in-Err
 loop-part-smaller-in-Err g c =
@@ -29,7 +31,8 @@ loop-part-smaller-in-Err g c =
     let u = updates_held s c.args.memory in
     let look = get nat_eq c.loop-part.self.made in
     let k = c.loop-part.k in
-    let l = part_lower ns k c.node.result.scope c.in-Err.part c.node.result.shape (c.requires.nodes.each k c.node.result c.node.ensures).shape c.in-Err.ensures.missing.0 in
+    let l = part_lower ns k c.node.result.scope c.in-Err.part c.node.result.shape
+    (c.requires.nodes.each k c.node.result c.node.ensures).shape c.in-Err.ensures.missing.0 in
     let z = ap length c.in-Ok-push.ensures.items in
     omega (arith, l, z, c.loop-part.invariant.path.near, length-append c.loop-part.open.items (k ∷ []))
 
@@ -41,11 +44,13 @@ loop-part-preserved-in-Err g c =
     let u = updates_held s c.args.memory in
     let look = get nat_eq c.loop-part.self.made in
     let k = c.loop-part.k in
-    let l = part_lower ns k c.node.result.scope c.in-Err.part c.node.result.shape (c.requires.nodes.each k c.node.result c.node.ensures).shape c.in-Err.ensures.missing.0 in
+    let l = part_lower ns k c.node.result.scope c.in-Err.part c.node.result.shape
+    (c.requires.nodes.each k c.node.result c.node.ensures).shape c.in-Err.ensures.missing.0 in
     record {
       kept = c.loop-part.invariant.kept;
       made = c.loop-part.invariant.made;
-      path = rw c.in-Ok-push.ensures.items (path_push look c.args.n k c.in-Err.part c.loop-part.open.items c.loop-part.invariant.path l c.in-Err.ensures.missing.1);
+      path = rw c.in-Ok-push.ensures.items (path_push look c.args.n k c.in-Err.part c.loop-part.open.items
+          c.loop-part.invariant.path l c.in-Err.ensures.missing.1);
       steps = c.loop-part.invariant.steps;
     }
 
@@ -57,10 +62,13 @@ form_from-requires-clause-parts g c =
     let u = updates_held s c.args.memory in
     let look = get nat_eq c.loop-part.self.made in
     let k = c.loop-part.k in
-    parts_sorts ps u ns c.requires.nodes c.loop-part.self.made c.loop-part.forms (c.loop-part.invariant.made c.requires.nodes) k c.node.result.scope c.node.result.shape c.in-Ok.parts (c.requires.nodes.each k c.node.result c.node.ensures).shape c.in-Ok.ensures.made
+    parts_sorts ps u ns c.requires.nodes c.loop-part.self.made c.loop-part.forms
+    (c.loop-part.invariant.made c.requires.nodes) k c.node.result.scope c.node.result.shape c.in-Ok.parts
+    (c.requires.nodes.each k c.node.result c.node.ensures).shape c.in-Ok.ensures.made
 
 pub form_from-requires-clause-ints : goal.form_from-requires-clause-ints
-form_from-requires-clause-ints g c = integers_kept c.args.forms.now c.loop-part.forms c.args.ints.now c.loop-part.invariant.kept c.requires.ints
+form_from-requires-clause-ints g c = integers_kept c.args.forms.now c.loop-part.forms c.args.ints.now
+    c.loop-part.invariant.kept c.requires.ints
 
 pub form_from-requires-clause-memory : goal.form_from-requires-clause-memory
 form_from-requires-clause-memory g c = c.loop-part.invariant.kept.memories_stay c.args.memory c.requires.memory
@@ -73,10 +81,15 @@ returns-in_err-form-in-Ok-clause-steps g c =
     let u = updates_held s c.args.memory in
     let look = get nat_eq c.loop-part.self.made in
     let k = c.loop-part.k in
-    let r = parts_count ps u ns c.requires.nodes c.loop-part.self.made c.loop-part.forms (c.loop-part.invariant.made c.requires.nodes) k c.node.result.scope c.node.result.shape c.in-Ok.parts (c.requires.nodes.each k c.node.result c.node.ensures).shape c.in-Ok.ensures.made in
-    let x = steps_more c.loop-part.steps c.form_from.new.steps c.args.steps.now (count look (c.args.n + 1)) (updates u) (updates_of_parts c.loop-part.forms c.in-Ok.parts) k c.args.n c.loop-part.invariant.steps (omega (arith, c.form_from.ensures.steps, c.tick.ensures)) r (omega (arith, c.loop-part.invariant.path.near)) in
+    let r = parts_count ps u ns c.requires.nodes c.loop-part.self.made c.loop-part.forms
+    (c.loop-part.invariant.made c.requires.nodes) k c.node.result.scope c.node.result.shape c.in-Ok.parts
+    (c.requires.nodes.each k c.node.result c.node.ensures).shape c.in-Ok.ensures.made in
+    let x = steps_more c.loop-part.steps c.form_from.new.steps c.args.steps.now (count look (c.args.n + 1)) (updates u)
+    (updates_of_parts c.loop-part.forms c.in-Ok.parts) k c.args.n c.loop-part.invariant.steps
+    (omega (arith, c.form_from.ensures.steps, c.tick.ensures)) r (omega (arith, c.loop-part.invariant.path.near)) in
     let l = count_less look c.args.memory c.args.n k c.loop-part.open.items c.loop-part.invariant.path in
-    steps_all c.form_from.new.steps c.args.steps.now (count look (c.args.n + 1) + 1) c.args.n (1 + updates u + c.args.n) x l
+    steps_all c.form_from.new.steps c.args.steps.now (count look (c.args.n + 1) + 1) c.args.n (1 + updates u + c.args.n)
+    x l
 
 pub returns-in-Err-insert-clause-steps : goal.returns-in-Err-insert-clause-steps
 returns-in-Err-insert-clause-steps g c =
@@ -86,10 +99,15 @@ returns-in-Err-insert-clause-steps g c =
     let u = updates_held s c.args.memory in
     let look = get nat_eq c.loop-part.self.made in
     let k = c.loop-part.k in
-    let r = parts_count ps u ns c.requires.nodes c.loop-part.self.made c.loop-part.forms (c.loop-part.invariant.made c.requires.nodes) k c.node.result.scope c.node.result.shape c.in-Ok.parts (c.requires.nodes.each k c.node.result c.node.ensures).shape c.in-Ok.ensures.made in
-    let x = steps_more c.loop-part.steps c.form_from.new.steps c.args.steps.now (count look (c.args.n + 1)) (updates u) (updates_of_parts c.loop-part.forms c.in-Ok.parts) k c.args.n c.loop-part.invariant.steps (omega (arith, c.form_from.ensures.steps, c.tick.ensures)) r (omega (arith, c.loop-part.invariant.path.near)) in
+    let r = parts_count ps u ns c.requires.nodes c.loop-part.self.made c.loop-part.forms
+    (c.loop-part.invariant.made c.requires.nodes) k c.node.result.scope c.node.result.shape c.in-Ok.parts
+    (c.requires.nodes.each k c.node.result c.node.ensures).shape c.in-Ok.ensures.made in
+    let x = steps_more c.loop-part.steps c.form_from.new.steps c.args.steps.now (count look (c.args.n + 1)) (updates u)
+    (updates_of_parts c.loop-part.forms c.in-Ok.parts) k c.args.n c.loop-part.invariant.steps
+    (omega (arith, c.form_from.ensures.steps, c.tick.ensures)) r (omega (arith, c.loop-part.invariant.path.near)) in
     let l = count_less look c.args.memory c.args.n k c.loop-part.open.items c.loop-part.invariant.path in
-    steps_all c.form_from.new.steps c.args.steps.now (count look (c.args.n + 1) + 1) c.args.n (1 + updates u + c.args.n) x l
+    steps_all c.form_from.new.steps c.args.steps.now (count look (c.args.n + 1) + 1) c.args.n (1 + updates u + c.args.n)
+    x l
 
 pub loop-part-smaller : goal.loop-part-smaller
 loop-part-smaller g c =
@@ -100,7 +118,9 @@ loop-part-smaller g c =
     let look = get nat_eq c.loop-part.self.made in
     let k = c.loop-part.k in
     let l = count_less look c.args.memory c.args.n k c.loop-part.open.items c.loop-part.invariant.path in
-    let m = count_more look (get nat_eq c.insert.new.self) c.in_ok-form-in-Ok.form k (c.args.n + 1) (omega (arith, c.loop-part.invariant.path.near)) c.loop-part.invariant.path.absent c.in-Ok-insert.ensures.updates.0 in
+    let m = count_more look (get nat_eq c.insert.new.self) c.in_ok-form-in-Ok.form k (c.args.n + 1)
+    (omega (arith, c.loop-part.invariant.path.near)) c.loop-part.invariant.path.absent
+    c.in-Ok-insert.ensures.updates.0 in
     let z = ap length c.in-Some.ensures.items in
     omega (arith, l, m, z, c.loop-part.invariant.path.near, length-append c.pop.new.self.items (c.in-Some.above ∷ []))
 
@@ -112,19 +132,34 @@ loop-part-preserved g c =
     let u = updates_held s c.args.memory in
     let look = get nat_eq c.loop-part.self.made in
     let k = c.loop-part.k in
-    let e : polynomials c.loop-part.forms c.args.ints.now ≡ ps = polynomials_kept s c.loop-part.forms c.args.ints.now c.loop-part.invariant.kept c.requires.ints in
-    let v : updates_held c.loop-part.forms c.args.memory ≡ u = c.loop-part.invariant.kept.updates_stay c.args.memory c.requires.memory in
+    let e : polynomials c.loop-part.forms c.args.ints.now
+    ≡ ps = polynomials_kept s c.loop-part.forms c.args.ints.now c.loop-part.invariant.kept c.requires.ints in
+    let v : updates_held c.loop-part.forms c.args.memory
+    ≡ u = c.loop-part.invariant.kept.updates_stay c.args.memory c.requires.memory in
     let st = c.loop-part.invariant.made c.requires.nodes in
-    let t : held c.form_from.new.forms c.in_ok-form-in-Ok.form ≡ Some (form_of_parts ps u c.loop-part.forms c.in-Ok.parts) = rw (e, v) at c.in_ok-form-in-Ok.ensures.form in
-    let f : held c.form_from.new.forms c.in_ok-form-in-Ok.form ≡ Some (form_under ps u (tree_at ns k)) = t ∙ ap Some (node_made ps u ns c.requires.nodes c.loop-part.self.made c.loop-part.forms st k c.node.result c.in-Ok.parts c.node.ensures c.in-Ok.ensures.made) in
-    let r = parts_count ps u ns c.requires.nodes c.loop-part.self.made c.loop-part.forms (c.loop-part.invariant.made c.requires.nodes) k c.node.result.scope c.node.result.shape c.in-Ok.parts (c.requires.nodes.each k c.node.result c.node.ensures).shape c.in-Ok.ensures.made in
-    let x = steps_more c.loop-part.steps c.form_from.new.steps c.args.steps.now (count look (c.args.n + 1)) (updates u) (updates_of_parts c.loop-part.forms c.in-Ok.parts) k c.args.n c.loop-part.invariant.steps (omega (arith, c.form_from.ensures.steps, c.tick.ensures)) r (omega (arith, c.loop-part.invariant.path.near)) in
+    let t : held c.form_from.new.forms c.in_ok-form-in-Ok.form
+    ≡ Some (form_of_parts ps u c.loop-part.forms c.in-Ok.parts) = rw (e, v) at c.in_ok-form-in-Ok.ensures.form in
+    let f : held c.form_from.new.forms c.in_ok-form-in-Ok.form ≡ Some (form_under ps u (tree_at ns k)) = t
+    ∙ ap Some (node_made ps u ns c.requires.nodes c.loop-part.self.made c.loop-part.forms st k c.node.result
+    c.in-Ok.parts c.node.ensures c.in-Ok.ensures.made) in
+    let r = parts_count ps u ns c.requires.nodes c.loop-part.self.made c.loop-part.forms
+    (c.loop-part.invariant.made c.requires.nodes) k c.node.result.scope c.node.result.shape c.in-Ok.parts
+    (c.requires.nodes.each k c.node.result c.node.ensures).shape c.in-Ok.ensures.made in
+    let x = steps_more c.loop-part.steps c.form_from.new.steps c.args.steps.now (count look (c.args.n + 1)) (updates u)
+    (updates_of_parts c.loop-part.forms c.in-Ok.parts) k c.args.n c.loop-part.invariant.steps
+    (omega (arith, c.form_from.ensures.steps, c.tick.ensures)) r (omega (arith, c.loop-part.invariant.path.near)) in
     let l = count_less look c.args.memory c.args.n k c.loop-part.open.items c.loop-part.invariant.path in
-    let m = count_more look (get nat_eq c.insert.new.self) c.in_ok-form-in-Ok.form k (c.args.n + 1) (omega (arith, c.loop-part.invariant.path.near)) c.loop-part.invariant.path.absent c.in-Ok-insert.ensures.updates.0 in
+    let m = count_more look (get nat_eq c.insert.new.self) c.in_ok-form-in-Ok.form k (c.args.n + 1)
+    (omega (arith, c.loop-part.invariant.path.near)) c.loop-part.invariant.path.absent
+    c.in-Ok-insert.ensures.updates.0 in
     record {
       kept = keeps_both s c.loop-part.forms c.form_from.new.forms c.loop-part.invariant.kept c.form_from.ensures.kept;
-      made = λ h. stands_more ps u ns h c.form_from.new.forms look (get nat_eq c.insert.new.self) k c.in_ok-form-in-Ok.form (stands_kept ps u ns h c.loop-part.forms c.form_from.new.forms look c.form_from.ensures.kept (c.loop-part.invariant.made h)) f c.in-Ok-insert.ensures.updates.0;
-      path = path_pop look (get nat_eq c.insert.new.self) c.in_ok-form-in-Ok.form c.args.n k c.in-Some.above c.loop-part.open.items c.pop.new.self.items c.loop-part.invariant.path c.in-Some.ensures.items c.in-Ok-insert.ensures.updates.0;
+      made = λ h. stands_more ps u ns h c.form_from.new.forms look (get nat_eq c.insert.new.self) k
+          c.in_ok-form-in-Ok.form (stands_kept ps u ns h c.loop-part.forms c.form_from.new.forms look
+          c.form_from.ensures.kept (c.loop-part.invariant.made h)) f c.in-Ok-insert.ensures.updates.0;
+      path = path_pop look (get nat_eq c.insert.new.self) c.in_ok-form-in-Ok.form c.args.n k c.in-Some.above
+          c.loop-part.open.items c.pop.new.self.items c.loop-part.invariant.path c.in-Some.ensures.items
+          c.in-Ok-insert.ensures.updates.0;
       steps = rw m x;
     }
 
@@ -136,12 +171,18 @@ returns-in-None-clause-form g c =
     let u = updates_held s c.args.memory in
     let look = get nat_eq c.loop-part.self.made in
     let k = c.loop-part.k in
-    let e : polynomials c.loop-part.forms c.args.ints.now ≡ ps = polynomials_kept s c.loop-part.forms c.args.ints.now c.loop-part.invariant.kept c.requires.ints in
-    let v : updates_held c.loop-part.forms c.args.memory ≡ u = c.loop-part.invariant.kept.updates_stay c.args.memory c.requires.memory in
+    let e : polynomials c.loop-part.forms c.args.ints.now
+    ≡ ps = polynomials_kept s c.loop-part.forms c.args.ints.now c.loop-part.invariant.kept c.requires.ints in
+    let v : updates_held c.loop-part.forms c.args.memory
+    ≡ u = c.loop-part.invariant.kept.updates_stay c.args.memory c.requires.memory in
     let st = c.loop-part.invariant.made c.requires.nodes in
-    let t : held c.form_from.new.forms c.in_ok-form-in-Ok.form ≡ Some (form_of_parts ps u c.loop-part.forms c.in-Ok.parts) = rw (e, v) at c.in_ok-form-in-Ok.ensures.form in
-    let f : held c.form_from.new.forms c.in_ok-form-in-Ok.form ≡ Some (form_under ps u (tree_at ns k)) = t ∙ ap Some (node_made ps u ns c.requires.nodes c.loop-part.self.made c.loop-part.forms st k c.node.result c.in-Ok.parts c.node.ensures c.in-Ok.ensures.made) in
-    let z : k ≡ c.args.n = path_end look c.args.n k c.loop-part.open.items c.loop-part.invariant.path (omega (arith, c.in-None.ensures.cases.0, c.loop-part.open.ok.0)) in
+    let t : held c.form_from.new.forms c.in_ok-form-in-Ok.form
+    ≡ Some (form_of_parts ps u c.loop-part.forms c.in-Ok.parts) = rw (e, v) at c.in_ok-form-in-Ok.ensures.form in
+    let f : held c.form_from.new.forms c.in_ok-form-in-Ok.form ≡ Some (form_under ps u (tree_at ns k)) = t
+    ∙ ap Some (node_made ps u ns c.requires.nodes c.loop-part.self.made c.loop-part.forms st k c.node.result
+    c.in-Ok.parts c.node.ensures c.in-Ok.ensures.made) in
+    let z : k ≡ c.args.n = path_end look c.args.n k c.loop-part.open.items c.loop-part.invariant.path
+    (omega (arith, c.in-None.ensures.cases.0, c.loop-part.open.ok.0)) in
     rw z at f
 
 pub returns-in-None-clause-steps : goal.returns-in-None-clause-steps
@@ -152,17 +193,23 @@ returns-in-None-clause-steps g c =
     let u = updates_held s c.args.memory in
     let look = get nat_eq c.loop-part.self.made in
     let k = c.loop-part.k in
-    let r = parts_count ps u ns c.requires.nodes c.loop-part.self.made c.loop-part.forms (c.loop-part.invariant.made c.requires.nodes) k c.node.result.scope c.node.result.shape c.in-Ok.parts (c.requires.nodes.each k c.node.result c.node.ensures).shape c.in-Ok.ensures.made in
-    let x = steps_more c.loop-part.steps c.form_from.new.steps c.args.steps.now (count look (c.args.n + 1)) (updates u) (updates_of_parts c.loop-part.forms c.in-Ok.parts) k c.args.n c.loop-part.invariant.steps (omega (arith, c.form_from.ensures.steps, c.tick.ensures)) r (omega (arith, c.loop-part.invariant.path.near)) in
+    let r = parts_count ps u ns c.requires.nodes c.loop-part.self.made c.loop-part.forms
+    (c.loop-part.invariant.made c.requires.nodes) k c.node.result.scope c.node.result.shape c.in-Ok.parts
+    (c.requires.nodes.each k c.node.result c.node.ensures).shape c.in-Ok.ensures.made in
+    let x = steps_more c.loop-part.steps c.form_from.new.steps c.args.steps.now (count look (c.args.n + 1)) (updates u)
+    (updates_of_parts c.loop-part.forms c.in-Ok.parts) k c.args.n c.loop-part.invariant.steps
+    (omega (arith, c.form_from.ensures.steps, c.tick.ensures)) r (omega (arith, c.loop-part.invariant.path.near)) in
     let l = count_less look c.args.memory c.args.n k c.loop-part.open.items c.loop-part.invariant.path in
-    steps_all c.form_from.new.steps c.args.steps.now (count look (c.args.n + 1) + 1) c.args.n (1 + updates u + c.args.n) x l
+    steps_all c.form_from.new.steps c.args.steps.now (count look (c.args.n + 1) + 1) c.args.n (1 + updates u + c.args.n)
+    x l
 
 pub loop-part-init : goal.loop-part-init
 loop-part-init g c =
     let s = c.args.forms.now in
     record {
       kept = keeps_itself s s refl;
-      made = λ h. stands_from (g.N.Nodes.nodes c.args.nodes.now) s c.args.ints.now c.args.memory c.args.self.now h c.requires.made;
+      made = λ h. stands_from (g.N.Nodes.nodes c.args.nodes.now) s c.args.ints.now c.args.memory c.args.self.now h
+          c.requires.made;
       path = path_first (get nat_eq c.args.self.now.made) c.args.n _ c.new-open.ensures.items c.requires.absent;
       steps = omega arith;
     }
@@ -171,22 +218,30 @@ pub returns-in-Err-push-clause-made : goal.returns-in-Err-push-clause-made
 returns-in-Err-push-clause-made g c =
     let s = c.args.forms.now in
     let ns = g.N.Nodes.nodes c.args.nodes.now in
-    remembered ns s c.loop-part.forms c.args.ints.now c.args.memory c.loop-part.self c.requires.nodes c.loop-part.invariant.kept c.requires.ints c.requires.memory (c.loop-part.invariant.made c.requires.nodes)
+    remembered ns s c.loop-part.forms c.args.ints.now c.args.memory c.loop-part.self c.requires.nodes
+    c.loop-part.invariant.kept c.requires.ints c.requires.memory (c.loop-part.invariant.made c.requires.nodes)
 
 pub returns-in_err-form-in-Ok-clause-made : goal.returns-in_err-form-in-Ok-clause-made
 returns-in_err-form-in-Ok-clause-made g c =
     let s = c.args.forms.now in
     let ns = g.N.Nodes.nodes c.args.nodes.now in
-    let r = remembered ns s c.loop-part.forms c.args.ints.now c.args.memory c.loop-part.self c.requires.nodes c.loop-part.invariant.kept c.requires.ints c.requires.memory (c.loop-part.invariant.made c.requires.nodes) in
-    remembers_kept ns c.loop-part.forms c.form_from.new.forms c.args.ints.now c.args.memory c.loop-part.self c.form_from.ensures.kept (integers_kept s c.loop-part.forms c.args.ints.now c.loop-part.invariant.kept c.requires.ints) (c.loop-part.invariant.kept.memories_stay c.args.memory c.requires.memory) r
+    let r = remembered ns s c.loop-part.forms c.args.ints.now c.args.memory c.loop-part.self c.requires.nodes
+    c.loop-part.invariant.kept c.requires.ints c.requires.memory (c.loop-part.invariant.made c.requires.nodes) in
+    remembers_kept ns c.loop-part.forms c.form_from.new.forms c.args.ints.now c.args.memory c.loop-part.self
+    c.form_from.ensures.kept (integers_kept s c.loop-part.forms c.args.ints.now c.loop-part.invariant.kept
+    c.requires.ints) (c.loop-part.invariant.kept.memories_stay c.args.memory c.requires.memory) r
 
 pub returns-in-Err-insert-clause-made : goal.returns-in-Err-insert-clause-made
 returns-in-Err-insert-clause-made g c =
     let s = c.args.forms.now in
     let ns = g.N.Nodes.nodes c.args.nodes.now in
-    let r = remembered ns s c.loop-part.forms c.args.ints.now c.args.memory c.loop-part.self c.requires.nodes c.loop-part.invariant.kept c.requires.ints c.requires.memory (c.loop-part.invariant.made c.requires.nodes) in
-    let q = remembers_kept ns c.loop-part.forms c.form_from.new.forms c.args.ints.now c.args.memory c.loop-part.self c.form_from.ensures.kept (integers_kept s c.loop-part.forms c.args.ints.now c.loop-part.invariant.kept c.requires.ints) (c.loop-part.invariant.kept.memories_stay c.args.memory c.requires.memory) r in
-    remembers_same ns c.form_from.new.forms c.args.ints.now c.args.memory c.loop-part.self _ c.in-Err-insert.ensures.err q
+    let r = remembered ns s c.loop-part.forms c.args.ints.now c.args.memory c.loop-part.self c.requires.nodes
+    c.loop-part.invariant.kept c.requires.ints c.requires.memory (c.loop-part.invariant.made c.requires.nodes) in
+    let q = remembers_kept ns c.loop-part.forms c.form_from.new.forms c.args.ints.now c.args.memory c.loop-part.self
+    c.form_from.ensures.kept (integers_kept s c.loop-part.forms c.args.ints.now c.loop-part.invariant.kept
+    c.requires.ints) (c.loop-part.invariant.kept.memories_stay c.args.memory c.requires.memory) r in
+    remembers_same ns c.form_from.new.forms c.args.ints.now c.args.memory c.loop-part.self _ c.in-Err-insert.ensures.err
+    q
 
 pub returns-in-None-clause-made : goal.returns-in-None-clause-made
 returns-in-None-clause-made g c =
@@ -196,11 +251,20 @@ returns-in-None-clause-made g c =
     let u = updates_held s c.args.memory in
     let look = get nat_eq c.loop-part.self.made in
     let k = c.loop-part.k in
-    let e : polynomials c.loop-part.forms c.args.ints.now ≡ ps = polynomials_kept s c.loop-part.forms c.args.ints.now c.loop-part.invariant.kept c.requires.ints in
-    let v : updates_held c.loop-part.forms c.args.memory ≡ u = c.loop-part.invariant.kept.updates_stay c.args.memory c.requires.memory in
+    let e : polynomials c.loop-part.forms c.args.ints.now
+    ≡ ps = polynomials_kept s c.loop-part.forms c.args.ints.now c.loop-part.invariant.kept c.requires.ints in
+    let v : updates_held c.loop-part.forms c.args.memory
+    ≡ u = c.loop-part.invariant.kept.updates_stay c.args.memory c.requires.memory in
     let st = c.loop-part.invariant.made c.requires.nodes in
-    let t : held c.form_from.new.forms c.in_ok-form-in-Ok.form ≡ Some (form_of_parts ps u c.loop-part.forms c.in-Ok.parts) = rw (e, v) at c.in_ok-form-in-Ok.ensures.form in
-    let f : held c.form_from.new.forms c.in_ok-form-in-Ok.form ≡ Some (form_under ps u (tree_at ns k)) = t ∙ ap Some (node_made ps u ns c.requires.nodes c.loop-part.self.made c.loop-part.forms st k c.node.result c.in-Ok.parts c.node.ensures c.in-Ok.ensures.made) in
+    let t : held c.form_from.new.forms c.in_ok-form-in-Ok.form
+    ≡ Some (form_of_parts ps u c.loop-part.forms c.in-Ok.parts) = rw (e, v) at c.in_ok-form-in-Ok.ensures.form in
+    let f : held c.form_from.new.forms c.in_ok-form-in-Ok.form ≡ Some (form_under ps u (tree_at ns k)) = t
+    ∙ ap Some (node_made ps u ns c.requires.nodes c.loop-part.self.made c.loop-part.forms st k c.node.result
+    c.in-Ok.parts c.node.ensures c.in-Ok.ensures.made) in
     let h = c.requires.nodes in
-    let kept = keeps_both s c.loop-part.forms c.form_from.new.forms c.loop-part.invariant.kept c.form_from.ensures.kept in
-    remembered ns s c.form_from.new.forms c.args.ints.now c.args.memory _ h kept c.requires.ints c.requires.memory (stands_more ps u ns h c.form_from.new.forms look (get nat_eq c.insert.new.self) k c.in_ok-form-in-Ok.form (stands_kept ps u ns h c.loop-part.forms c.form_from.new.forms look c.form_from.ensures.kept st) f c.in-Ok-insert.ensures.updates.0)
+    let kept = keeps_both s c.loop-part.forms c.form_from.new.forms c.loop-part.invariant.kept c.form_from.ensures.kept
+    in
+    remembered ns s c.form_from.new.forms c.args.ints.now c.args.memory _ h kept c.requires.ints c.requires.memory
+    (stands_more ps u ns h c.form_from.new.forms look (get nat_eq c.insert.new.self) k c.in_ok-form-in-Ok.form
+    (stands_kept ps u ns h c.loop-part.forms c.form_from.new.forms look c.form_from.ensures.kept st) f
+    c.in-Ok-insert.ensures.updates.0)

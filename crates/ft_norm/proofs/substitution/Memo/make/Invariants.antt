@@ -9,9 +9,11 @@ use Rattle.ft_norm.proofs.substitution.Memo.make.Given as goal
 abbrev pub invariant-loop-part : goal.invariant-loop-part
 invariant-loop-part g l = record {
   kept : Keeps l.fn.forms l.forms;
-  made : (h : _) → Stands (polynomials l.fn.forms l.ints) (updates_held l.fn.forms l.memory) (g.N.Nodes.nodes l.nodes) h l.forms (get nat_eq l.self.made);
+  made : (h : _) → Stands (polynomials l.fn.forms l.ints) (updates_held l.fn.forms l.memory) (g.N.Nodes.nodes l.nodes) h
+      l.forms (get nat_eq l.self.made);
   path : Path (get nat_eq l.self.made) l.n l.k l.open.items;
-  steps : l.steps ≤ l.fn.steps + count (get nat_eq l.self.made) (l.n + 1) * (1 + updates (updates_held l.fn.forms l.memory) + l.n);
+  steps : l.steps ≤ l.fn.steps + count (get nat_eq l.self.made) (l.n + 1) *
+      (1 + updates (updates_held l.fn.forms l.memory) + l.n);
 }
 
 abbrev pub decreases-loop-part : goal.decreases-loop-part

@@ -11,9 +11,20 @@ loop-i-init c = refl
 
 pub loop-i-preserved : goal.loop-i-preserved
 loop-i-preserved c =
-    let below : c.loop-i.i < length c.args.self.now = omega (arith, c.loop-i-test.true, c.len-i-end.ensures.len, ap length c.self.view_is) in
+    let below : c.loop-i.i < length c.args.self.now = omega (
+      arith,
+      c.loop-i-test.true,
+      c.len-i-end.ensures.len,
+      ap length c.self.view_is,
+    ) in
     elim c.match-get.branch [
-      | in-Some+then-a-addr w ↦ w.newest-is ∙ newest_now c.args.self.now c.loop-i.i c.args.addr (w.in-Some.a, w.in-Some.value) below (sym c.get.ensures ∙ w.in-Some.is) w.if-a-addr.true
-      | in-Some+else-a-addr w ↦ w.newest-is ∙ c.loop-i.invariant ∙ newest_before c.args.self.now c.loop-i.i c.args.addr (w.in-Some.a, w.in-Some.value) below (sym c.get.ensures ∙ w.in-Some.is) w.if-a-addr.false
-      | in_default w ↦ absurd (w.in_default.not-Some (get_or c.args.self.now c.loop-i.i (0, 0)) (c.get.ensures ∙ slice_get-get_or c.args.self.now c.loop-i.i (0, 0) below))
+      | in-Some+then-a-addr w ↦ w.newest-is ∙ newest_now c.args.self.now c.loop-i.i c.args.addr (
+        w.in-Some.a,
+        w.in-Some.value,
+      ) below (sym c.get.ensures ∙ w.in-Some.is) w.if-a-addr.true
+      | in-Some+else-a-addr w ↦ w.newest-is ∙ c.loop-i.invariant
+          ∙ newest_before c.args.self.now c.loop-i.i c.args.addr (w.in-Some.a, w.in-Some.value) below (sym c.get.ensures
+          ∙ w.in-Some.is) w.if-a-addr.false
+      | in_default w ↦ absurd (w.in_default.not-Some (get_or c.args.self.now c.loop-i.i (0, 0)) (c.get.ensures
+          ∙ slice_get-get_or c.args.self.now c.loop-i.i (0, 0) below))
     ]

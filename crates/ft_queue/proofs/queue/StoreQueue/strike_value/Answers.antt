@@ -10,9 +10,11 @@ pub returns-clause-struck : goal.returns-clause-struck
 returns-clause-struck c =
     elim c.match-get_mut.branch [
       | in-Some w ↦ ap (λ (q : Inside). q.pairs.items) w.self-inside-is
-          ∙ value_put c.self.inside.pairs.items c.args.i c.args.value w.in-Some.pair.now (sym (ap option_copied_mut w.in-Some.is) ∙ c.get_mut.ensures.value)
+          ∙ value_put c.self.inside.pairs.items c.args.i c.args.value w.in-Some.pair.now
+          (sym (ap option_copied_mut w.in-Some.is) ∙ c.get_mut.ensures.value)
           ∙ ap (λ q. with_value q c.args.i c.args.value) c.self.view_is
       | in-None w ↦ ap (λ (q : Inside). q.pairs.items) w.self-inside-is
-          ∙ value_none c.self.inside.pairs.items c.args.i c.args.value (sym (ap option_copied_mut w.in-None.is) ∙ c.get_mut.ensures.value)
+          ∙ value_none c.self.inside.pairs.items c.args.i c.args.value (sym (ap option_copied_mut w.in-None.is)
+          ∙ c.get_mut.ensures.value)
           ∙ ap (λ q. with_value q c.args.i c.args.value) c.self.view_is
     ]

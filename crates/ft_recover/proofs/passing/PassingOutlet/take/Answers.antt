@@ -10,7 +10,8 @@ returns-then-self-gt0-clause-heard g c = λ first before h.
     let self = c.args.self.now in (
       h.0,
       h.1,
-      passes_over (g.P.Program.object first.program.now) first.passed first.count before c.args.output self.passed self.count (g.K.Sink.log first.out.now) (g.K.Sink.log self.out.now) h.2
+      passes_over (g.P.Program.object first.program.now) first.passed first.count before c.args.output self.passed
+          self.count (g.K.Sink.log first.out.now) (g.K.Sink.log self.out.now) h.2
           _ _ (omega (arith, c.if-self-gt0.true)) refl refl,
     )
 
@@ -22,9 +23,12 @@ returns-clause-heard g c = λ first before h.
     let start = g.K.Sink.log first.out.now in
     let old = g.K.Sink.log self.out.now in
     let new = g.K.Sink.log c.put_output.new.out in
-    let put = subst (λ q. Puts (end_of_puts c.put_output.result) (line_at q x ∷ []) old new) h.1 c.put_output.ensures in (
+    let put = subst (λ q. Puts (end_of_puts c.put_output.result) (line_at q x ∷ []) old new) h.1
+    c.put_output.ensures in (
       h.0,
       h.1,
-      subst (λ b. Passes o first.passed first.count (before ++ x ∷ []) b self.passed ((self.count + 1) % 2 ^ 64) start new) (sym c.is_ok.ensures.value)
-          (passes_put o first.passed first.count before x self.passed self.count start old h.2 c.put_output.result ((self.count + 1) % 2 ^ 64) new (omega (arith, c.if-self-gt0.false)) refl put),
+      subst (λ b. Passes o first.passed first.count (before ++ x ∷ []) b self.passed ((self.count + 1) % 2 ^ 64) start
+          new) (sym c.is_ok.ensures.value)
+          (passes_put o first.passed first.count before x self.passed self.count start old h.2 c.put_output.result
+          ((self.count + 1) % 2 ^ 64) new (omega (arith, c.if-self-gt0.false)) refl put),
     )

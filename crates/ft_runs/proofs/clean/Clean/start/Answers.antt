@@ -6,5 +6,6 @@ pub invariant_of-result : goal.invariant_of-result
 invariant_of-result g c = record {
   spellable = c.program-program.ensures.checked.spellable;
   accepted = c.program-program.ensures.checked.accepted;
-  state = λ w. c.in_ok-machine.ensures.start ∙ sym (ap (λ (r : Ran). r.state) (run-zero (g.P.Program.object c.program-program.result.now) None w));
+  state = λ w. c.in_ok-machine.ensures.start ∙ sym
+      (ap (λ (r : Ran). r.state) (run-zero (g.P.Program.object c.program-program.result.now) None w));
 }

@@ -7,5 +7,7 @@ returns c =
     let y = c.lay_all.new.self in
     let z = c.lay.new.self in
     on_both c.lay.result
-    (λ lays same. fixed_laid c.args.instr x.laid.items x.waiting y.laid.items y.waiting z.laid.items z.waiting x.queued x.committed y.queued y.committed z.queued z.committed c.requires c.in_ok-lay_all.ensures.lays c.in_ok-lay_all.ensures.waiting lays same)
+    (λ lays same. fixed_laid c.args.instr x.laid.items x.waiting y.laid.items y.waiting z.laid.items z.waiting x.queued
+    x.committed y.queued y.committed z.queued z.committed c.requires c.in_ok-lay_all.ensures.lays
+    c.in_ok-lay_all.ensures.waiting lays same)
     c.lay.ensures.lays c.lay.ensures.waiting

@@ -4,7 +4,9 @@ use Rattle.ft_sched.specs.Arranged.{Arranges}
 use Rattle.ft_sched.proofs.order.Order.lay_all.Given as goal
 
 abbrev pub invariant-loop-self : goal.invariant-loop-self
-invariant-loop-self l = (rows start past : ℕ) (base rest : List Instr) → Arranges rows start past base rest l.fn.self.laid.items l.fn.self.waiting l.fn.self.queued l.fn.self.committed → Arranges rows start past base rest l.self.laid.items l.self.waiting l.self.queued l.self.committed
+invariant-loop-self l = (rows start past : ℕ) (base rest : List Instr) →
+    Arranges rows start past base rest l.fn.self.laid.items l.fn.self.waiting l.fn.self.queued l.fn.self.committed →
+    Arranges rows start past base rest l.self.laid.items l.self.waiting l.self.queued l.self.committed
 
 abbrev pub decreases-loop-self : goal.decreases-loop-self
 decreases-loop-self l = length l.self.waiting

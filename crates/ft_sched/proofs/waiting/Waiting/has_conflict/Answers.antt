@@ -9,5 +9,6 @@ returns c =
     let is = c.args.self.now in
     c.any_of.ensures
     ∙ (λ j. (c.is_written-first.ensures j || c.is_written-second.ensures j) || c.is_touched-either.ensures j)
-    ∙ (λ j. (list_any (writes (c.first_read.ensures j)) is || list_any (writes (c.second_read.ensures j)) is) || list_any (meets (c.written.ensures j)) is)
+    ∙ (λ j. (list_any (writes (c.first_read.ensures j)) is || list_any (writes (c.second_read.ensures j)) is) ||
+    list_any (meets (c.written.ensures j)) is)
     ∙ sym (conflict_behind c.args.instr.now is)

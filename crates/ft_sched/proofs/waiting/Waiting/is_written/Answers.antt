@@ -7,5 +7,6 @@ use Rattle.ft_sched.proofs.waiting.Waiting.is_written.Goals as goal
 pub returns : goal.returns
 returns c =
     ap (nat_lt c.self.inside.front) c.at.ensures
-    ∙ writes_behind c.self.inside.instrs.items c.self.inside.front c.self.inside.written c.self.inside.touched c.self.inside.blue_store c.args.register c.self.invariant
+    ∙ writes_behind c.self.inside.instrs.items c.self.inside.front c.self.inside.written c.self.inside.touched
+    c.self.inside.blue_store c.args.register c.self.invariant
     ∙ ap (list_any (writes (number_of c.args.register))) c.self.view_is

@@ -16,7 +16,8 @@ returns-clause-ok c = λ ds at w h.
     let first : c.narrow.result ≡ min (cell_count ds) (2 ^ 32 - 1) = omega (arith, c.narrow.ensures, h.cells) in
     record {
       slots = table_push ds d (Run c.narrow.result c.narrow-2.result) (look c.args.self.now) (look c.name.new.self)
-          (ap (λ k. Run k c.narrow-2.result) first ∙ ap (Run (min (cell_count ds) (2 ^ 32 - 1))) c.narrow-2.ensures) h.slots noted.fresh noted.noted;
+          (ap (λ k. Run k c.narrow-2.result) first ∙ ap (Run (min (cell_count ds) (2 ^ 32 - 1))) c.narrow-2.ensures)
+          h.slots noted.fresh noted.noted;
       cells = omega (arith, noted.cells, h.cells, count_push ds d);
       vars = omega (arith, noted.vars, h.vars, variables_push ds d);
     }

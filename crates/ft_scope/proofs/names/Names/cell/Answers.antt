@@ -14,7 +14,8 @@ returns-clause-ok c = λ ds w h.
     let noted = c.in_ok-name.ensures in
     let number : c.narrow.result ≡ min (cell_count ds) (2 ^ 32 - 1) = omega (arith, c.narrow.ensures, h.cells) in
     record {
-      slots = table_push ds (cell n w) (Cell c.narrow.result) (look c.args.self.now) (look c.name.new.self) (ap Cell number) h.slots noted.fresh noted.noted;
+      slots = table_push ds (cell n w) (Cell c.narrow.result) (look c.args.self.now) (look c.name.new.self)
+          (ap Cell number) h.slots noted.fresh noted.noted;
       cells = omega (arith, noted.cells, h.cells, count_push ds (cell n w));
       vars = omega (arith, noted.vars, h.vars, variables_push ds (cell n w));
     }

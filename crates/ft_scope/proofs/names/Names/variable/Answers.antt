@@ -11,7 +11,8 @@ returns-clause-ok c = λ ds h.
     let n = named c.args.name in
     let noted = c.in_ok-name.ensures in
     record {
-      slots = table_push ds (var n) c.variable.result (look c.args.self.now) (look c.name.new.self) (c.variable.ensures ∙ ap (λ k. Var (min k 255)) h.vars) h.slots noted.fresh noted.noted;
+      slots = table_push ds (var n) c.variable.result (look c.args.self.now) (look c.name.new.self) (c.variable.ensures
+          ∙ ap (λ k. Var (min k 255)) h.vars) h.slots noted.fresh noted.noted;
       cells = omega (arith, noted.cells, h.cells, count_push ds (var n));
       vars = omega (arith, noted.vars, h.vars, variables_push ds (var n));
     }

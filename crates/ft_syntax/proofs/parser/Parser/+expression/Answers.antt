@@ -11,5 +11,9 @@ at_some P is h = subst (λ o. IfSome o P) is h
 pub expr-returns-clause-err : goal.expr-returns-clause-err
 expr-returns-clause-err t c =
     IfErr-weaker c.operations.result _ _
-    (λ e h x. subst (Refuses e) (sym (c.in_ok-first.ensures.ok empty x ∙ at_some _ c.in-Some.is c.in_ok-operator.ensures.taken empty (waiting c.push.new.self) (expression c.in_ok-first.first) x (sym (ap (λ (p : Waiting). push (kind_of c.in-Some.operator) p (expression c.in_ok-first.first)) c.new-pending.ensures) ∙ c.in_ok-push.ensures.ok))) (h x))
+    (λ e h x. subst (Refuses e) (sym (c.in_ok-first.ensures.ok empty x
+    ∙ at_some _ c.in-Some.is c.in_ok-operator.ensures.taken empty (waiting c.push.new.self)
+    (expression c.in_ok-first.first) x (sym (ap (λ (p : Waiting).
+    push (kind_of c.in-Some.operator) p (expression c.in_ok-first.first)) c.new-pending.ensures)
+    ∙ c.in_ok-push.ensures.ok))) (h x))
     c.operations.ensures.err

@@ -13,5 +13,6 @@ returns-in-Ok g c =
 
 pub returns-in-Err : goal.returns-in-Err
 returns-in-Err g c =
-    Ends-map c.refuse_bytes.result (λ a. a ≡ refused c.in-Err.error) (OverBytes (g.C.ObjectCommand.answer c.args.self.now.command) c.args.bytes.now) _ _ ⊥ ⊥
+    Ends-map c.refuse_bytes.result (λ a. a ≡ refused c.in-Err.error)
+    (OverBytes (g.C.ObjectCommand.answer c.args.self.now.command) c.args.bytes.now) _ _ ⊥ ⊥
     (λ a is. inr (c.in-Err.error, (c.in-Err.ensures.judged, is))) (λ n. n) c.refuse_bytes.ensures

@@ -8,6 +8,8 @@ invariant-loop l = record {
   there : 16 * (l.header.instrs - l.counter) ≤ length l.rest;
   places : l.place + 16 * (l.header.instrs - l.counter) ≤ 2 ^ 27;
   few : l.first ≤ l.header.substs;
-  broken : instrs_broken l.header l.nodes l.first l.place (rows code_layout (l.header.instrs - l.counter) l.rest) ≡ instrs_broken l.header l.nodes 0 l.at (rows code_layout l.header.instrs l.bytes);
-  taken : rows_taken l.first (rows code_layout (l.header.instrs - l.counter) l.rest) ≡ rows_taken 0 (rows code_layout l.header.instrs l.bytes);
+  broken : instrs_broken l.header l.nodes l.first l.place (rows code_layout (l.header.instrs - l.counter) l.rest)
+      ≡ instrs_broken l.header l.nodes 0 l.at (rows code_layout l.header.instrs l.bytes);
+  taken : rows_taken l.first (rows code_layout (l.header.instrs - l.counter) l.rest)
+      ≡ rows_taken 0 (rows code_layout l.header.instrs l.bytes);
 }

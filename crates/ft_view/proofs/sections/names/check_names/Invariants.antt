@@ -13,5 +13,7 @@ invariant-loop-i l = record {
   start : l.start ≤ length l.names;
   last : l.start ≡ last_end past_of 0 (rows cell_layout l.i l.records);
   ends : AreEnds past_of (length l.names) l.start (rows cell_layout (l.fn.count - l.i) l.rest);
-  broken : names_broken l.version l.fn.end (cells_of l.names 0 (rows cell_layout l.i l.records)) (l.at + l.start) (cells_of l.names l.start (rows cell_layout (l.fn.count - l.i) l.rest)) ≡ names_broken l.version l.fn.end [] l.at (cells_of l.names 0 (rows cell_layout l.fn.count l.records));
+  broken : names_broken l.version l.fn.end (cells_of l.names 0 (rows cell_layout l.i l.records)) (l.at + l.start)
+      (cells_of l.names l.start (rows cell_layout (l.fn.count - l.i) l.rest))
+      ≡ names_broken l.version l.fn.end [] l.at (cells_of l.names 0 (rows cell_layout l.fn.count l.records));
 }

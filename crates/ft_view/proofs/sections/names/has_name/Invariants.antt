@@ -10,5 +10,7 @@ abbrev pub invariant-loop : goal.invariant-loop
 invariant-loop l = record {
   there : 16 * (l.count - l.counter) ≤ length l.rest;
   ends : AreEnds past_of (length l.names) l.start (rows cell_layout (l.count - l.counter) l.rest);
-  left : list_any (λ c. bytes_eq l.name c.name) (cells_of l.names l.start (rows cell_layout (l.count - l.counter) l.rest)) ≡ list_any (λ c. bytes_eq l.name c.name) (cells_of l.names 0 (rows cell_layout l.count l.records));
+  left : list_any (λ c. bytes_eq l.name c.name) (cells_of l.names l.start
+      (rows cell_layout (l.count - l.counter) l.rest))
+      ≡ list_any (λ c. bytes_eq l.name c.name) (cells_of l.names 0 (rows cell_layout l.count l.records));
 }

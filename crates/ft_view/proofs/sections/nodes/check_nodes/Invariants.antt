@@ -9,5 +9,7 @@ invariant-loop-i l = record {
   there : 16 * (l.fn.count - l.i) ≤ length l.rest;
   places : l.place + 16 * (l.fn.count - l.i) ≤ 2 ^ 27;
   rest : l.rest ≡ drop (16 * l.i) l.bytes;
-  broken : nodes_broken l.version (map node_of (rows code_layout l.i l.bytes)) l.place (rows code_layout (l.fn.count - l.i) l.rest) ≡ nodes_broken l.version [] l.at (rows code_layout l.fn.count l.bytes);
+  broken : nodes_broken l.version (map node_of (rows code_layout l.i l.bytes)) l.place
+      (rows code_layout (l.fn.count - l.i) l.rest)
+      ≡ nodes_broken l.version [] l.at (rows code_layout l.fn.count l.bytes);
 }

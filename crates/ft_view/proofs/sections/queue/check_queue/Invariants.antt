@@ -12,5 +12,6 @@ invariant-loop l = record {
   there : 8 * (l.header.queue - l.start) ≤ length l.rest;
   places : l.place + 8 * (l.header.queue - l.start) ≤ 2 ^ 27;
   ends : AreEnds queue_end_of l.header.queue l.start (rows type_layout (l.header.types - l.counter) l.heads);
-  broken : queues_broken l.header l.nodes l.start l.place (rows type_layout (l.header.types - l.counter) l.heads) l.rest ≡ queues_broken l.header l.nodes 0 l.at (rows type_layout l.header.types l.types) l.bytes;
+  broken : queues_broken l.header l.nodes l.start l.place (rows type_layout (l.header.types - l.counter) l.heads) l.rest
+      ≡ queues_broken l.header l.nodes 0 l.at (rows type_layout l.header.types l.types) l.bytes;
 }

@@ -8,5 +8,6 @@ invariant-loop l = record {
   there : 8 * (l.count - l.counter) ≤ length l.rest;
   places : l.place + 8 * (l.count - l.counter) ≤ 2 ^ 27;
   rest : l.rest ≡ drop (8 * l.counter) l.bytes;
-  broken : type_queue_broken l.nodes l.ints l.place (rows pair_layout (l.count - l.counter) l.rest) ≡ type_queue_broken l.nodes l.ints l.at (rows pair_layout l.count l.bytes);
+  broken : type_queue_broken l.nodes l.ints l.place (rows pair_layout (l.count - l.counter) l.rest)
+      ≡ type_queue_broken l.nodes l.ints l.at (rows pair_layout l.count l.bytes);
 }

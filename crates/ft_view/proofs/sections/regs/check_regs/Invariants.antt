@@ -12,5 +12,6 @@ invariant-loop l = record {
   there : 12 * (l.header.regs - l.start) ≤ length l.rest;
   places : l.place + 12 * (l.header.regs - l.start) ≤ 2 ^ 27;
   ends : AreEnds regs_end_of l.header.regs l.start (rows type_layout (l.header.types - l.counter) l.heads);
-  broken : regs_broken l.header l.nodes l.start l.place (rows type_layout (l.header.types - l.counter) l.heads) l.rest ≡ regs_broken l.header l.nodes 0 l.at (rows type_layout l.header.types l.types) l.bytes;
+  broken : regs_broken l.header l.nodes l.start l.place (rows type_layout (l.header.types - l.counter) l.heads) l.rest
+      ≡ regs_broken l.header l.nodes 0 l.at (rows type_layout l.header.types l.types) l.bytes;
 }

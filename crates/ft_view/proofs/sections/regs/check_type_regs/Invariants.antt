@@ -9,5 +9,6 @@ invariant-loop l = record {
   places : l.place + 12 * (l.count - l.counter) ≤ 2 ^ 27;
   least : l.least ≤ 64;
   rest : l.rest ≡ drop (12 * l.counter) l.bytes;
-  broken : type_regs_broken l.types l.nodes l.ints l.least l.place (rows reg_layout (l.count - l.counter) l.rest) ≡ type_regs_broken l.types l.nodes l.ints 0 l.at (rows reg_layout l.count l.bytes);
+  broken : type_regs_broken l.types l.nodes l.ints l.least l.place (rows reg_layout (l.count - l.counter) l.rest)
+      ≡ type_regs_broken l.types l.nodes l.ints 0 l.at (rows reg_layout l.count l.bytes);
 }

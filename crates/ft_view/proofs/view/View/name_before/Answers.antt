@@ -8,4 +8,6 @@ use Rattle.ft_view.proofs.view.View.name_before.Goals as goal
 pub returns : goal.returns
 returns c =
     let e : suc (c.args.k - 1) ≡ c.args.k = omega arith in
-    subst (λ n. c.cell_record.result.past ≡ last_end past_of 0 (take n (cell_records c.args.self.now))) e (sym (last_at past_of 0 (cell_records c.args.self.now) (c.args.k - 1) (cell_numbers c.cell_record.result) c.cell_record.ensures))
+    subst (λ n. c.cell_record.result.past ≡ last_end past_of 0 (take n (cell_records c.args.self.now))) e
+    (sym (last_at past_of 0 (cell_records c.args.self.now) (c.args.k - 1) (cell_numbers c.cell_record.result)
+    c.cell_record.ensures))

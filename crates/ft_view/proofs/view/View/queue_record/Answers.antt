@@ -8,7 +8,15 @@ use Rattle.ft_view.proofs.view.View.queue_record.Goals as goal
 pub stretch-requires : goal.stretch-requires
 stretch-requires c =
     let u = sections c.self.inside.header c.self.inside.at c.self.inside.bytes.now c.self.invariant in
-    omega (arith, u.whole.whole, c.self.invariant.places.queue, below c.self.inside.header c.self.inside.at c.self.inside.bytes.now c.args.self.now (λ (k : Header). k.queue) c.args.i c.self.invariant (sym c.self.view_is) c.requires)
+    omega (
+      arith,
+      u.whole.whole,
+      c.self.invariant.places.queue,
+      below c.self.inside.header c.self.inside.at c.self.inside.bytes.now c.args.self.now (λ (k : Header).
+          k.queue) c.args.i c.self.invariant (sym c.self.view_is) c.requires,
+    )
 
 pub returns : goal.returns
-returns c = row_there pair_layout (λ (k : Header). k.queue) queue_at c.self.inside.header c.self.inside.at c.self.inside.bytes.now c.args.self.now c.stretch.result.now _ c.args.i _ c.self.invariant (sym c.self.view_is) c.requires (omega (arith, c.self.invariant.places.queue)) c.stretch.ensures.bytes c.read.ensures
+returns c = row_there pair_layout (λ (k : Header). k.queue) queue_at c.self.inside.header c.self.inside.at
+    c.self.inside.bytes.now c.args.self.now c.stretch.result.now _ c.args.i _ c.self.invariant (sym c.self.view_is)
+    c.requires (omega (arith, c.self.invariant.places.queue)) c.stretch.ensures.bytes c.read.ensures

@@ -8,9 +8,13 @@ use Rattle.ft_view.proofs.view.View.rows_before.Goals as goal
 pub returns-clause-regs : goal.returns-clause-regs
 returns-clause-regs c =
     let e : suc (c.args.t - 1) ≡ c.args.t = omega arith in
-    subst (λ n. c.type_record-row.result.regs ≡ last_end regs_end_of 0 (take n (type_records c.args.self.now))) e (sym (last_at regs_end_of 0 (type_records c.args.self.now) (c.args.t - 1) (type_numbers c.type_record-row.result) c.type_record-row.ensures))
+    subst (λ n. c.type_record-row.result.regs ≡ last_end regs_end_of 0 (take n (type_records c.args.self.now))) e
+    (sym (last_at regs_end_of 0 (type_records c.args.self.now) (c.args.t - 1) (type_numbers c.type_record-row.result)
+    c.type_record-row.ensures))
 
 pub returns-clause-queue : goal.returns-clause-queue
 returns-clause-queue c =
     let e : suc (c.args.t - 1) ≡ c.args.t = omega arith in
-    subst (λ n. c.type_record-row.result.queue ≡ last_end queue_end_of 0 (take n (type_records c.args.self.now))) e (sym (last_at queue_end_of 0 (type_records c.args.self.now) (c.args.t - 1) (type_numbers c.type_record-row.result) c.type_record-row.ensures))
+    subst (λ n. c.type_record-row.result.queue ≡ last_end queue_end_of 0 (take n (type_records c.args.self.now))) e
+    (sym (last_at queue_end_of 0 (type_records c.args.self.now) (c.args.t - 1) (type_numbers c.type_record-row.result)
+    c.type_record-row.ensures))

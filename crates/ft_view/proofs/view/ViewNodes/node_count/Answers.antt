@@ -4,4 +4,5 @@ use Rattle.ft_format.specs.Broken.{header_at}
 use Rattle.ft_view.proofs.view.ViewNodes.node_count.Goals as goal
 
 pub returns : goal.returns
-returns c = ap (λ h. h.nodes) c.self.invariant.header ∙ ap (λ b. (header_at b).nodes) c.self.view_is ∙ sym (node_count c.args.self.now)
+returns c = ap (λ h. h.nodes) c.self.invariant.header ∙ ap (λ b. (header_at b).nodes) c.self.view_is
+    ∙ sym (node_count c.args.self.now)

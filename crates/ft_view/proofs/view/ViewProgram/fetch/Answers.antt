@@ -22,4 +22,5 @@ pub instr_in-requires-clause-c : goal.instr_in-requires-clause-c
 instr_in-requires-clause-c c = c.record_in.ensures.known.c
 
 pub returns : goal.returns
-returns c = instr_is c.args.self.now _ (c.args.at / 16) c.instr_in.result c.record_in.ensures.there (c.instr_in.ensures ∙ sym (ap instr_of (numbers_in c.record_in.result.now)))
+returns c = instr_is c.args.self.now _ (c.args.at / 16) c.instr_in.result c.record_in.ensures.there (c.instr_in.ensures
+    ∙ sym (ap instr_of (numbers_in c.record_in.result.now)))
