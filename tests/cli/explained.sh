@@ -205,7 +205,7 @@ explained 'a map with carriage returns' 13 'link 1 1\n' \
 # Files of the wrong kind.
 explained 'an assembly text in the place of an object' 7 'object 1 0\n' \
   'five.asm: error: this is an assembly text, not an object: `talft asm FILE >OBJECT` makes an object\n' run five.asm
-explained 'an assembly text in the place of a source' 6 'source 2 471\n' \
+explained 'an assembly text in the place of a source' 6 'source 2 465\n' \
   'five.asm: error: this is an assembly text, not a source: `talft asm FILE >OBJECT` makes an object\n' compile five.asm
 explained 'a source in the place of an assembly text' 12 'asm 1 1\n' \
   'eight.src: error: this is a source, not an assembly text: `talft compile FILE >OBJECT` makes an object\n' asm eight.src

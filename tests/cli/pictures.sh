@@ -78,7 +78,7 @@ refuses 'a line that is none' \
 echo 'faults 0 masked 0 detected 0 idle 0 corrupt 0' >none.lines
 refuses 'a campaign without a fault' 'plot: none.lines: has no faults to draw: its campaign had an empty list' \
   plot none.lines
-refuses 'a missing file' 'plot: missing: no such file' plot missing
+refuses 'a missing file' 'plot: absent: no such file' plot absent
 refuses 'a page without an object' \
   'report: missing object: give `--dir DIR`, the folder of the tool `campaign`, or `--object OBJECT`' report few.lines
 refuses 'a page of lines that are cut off' \
