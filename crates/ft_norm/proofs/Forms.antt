@@ -10,7 +10,7 @@ use Rattle.ft_static.specs.Form.{Atom, Form, Monomial, Polynomial, Updates, inte
 use Rattle.ft_static.specs.Form.{updates_of, nought, one, plus, times, unchanged, update}
 use Rattle.ft_static.specs.NormalForm.{alone, with_factor}
 use Rattle.ft_norm.specs.declared.entry.Factor.{Factor}
-use Rattle.ft_norm.specs.declared.entry.Factor.TheVariants.{Variable, Operation, Sel, Rem}
+use Rattle.ft_norm.specs.declared.entry.Factor.TheVariants.{Variable}
 use Rattle.ft_norm.specs.declared.entry.Term.{Term}
 use Rattle.ft_norm.specs.declared.entry.Entry.{Entry}
 use Rattle.ft_norm.specs.Packing.{unpacked}
@@ -40,11 +40,7 @@ updates_agree n fs gs h k l = ap (λ (o : Option Form). updates_of (unwrap_or o 
 pub atom_agree : (n : ℕ) (fs gs hs : List Form) → Agree n fs gs → (a : Factor) → reach hs a ≤ n → atom_form fs a
     ≡ atom_form gs a
 atom_agree n fs gs hs h (Variable i) l = refl
-atom_agree n fs gs hs h (Operation o p q) l = let x = polynomials_agree n fs gs h p (omega arith) in
-    let y = polynomials_agree n fs gs h q (omega arith) in cc
-atom_agree n fs gs hs h (Rem p m) l = let x = polynomials_agree n fs gs h p (omega arith) in cc
-atom_agree n fs gs hs h (Sel p q) l = let x = updates_agree n fs gs h p (omega arith) in
-    let y = polynomials_agree n fs gs h q (omega arith) in cc
+atom_agree n fs gs hs h a l = grind (arith, polynomials_agree n fs gs h, updates_agree n fs gs h)
 
 -- so is one of a number
 with_atom_agree : (n : ℕ) (fs gs hs : List Form) → Agree n fs gs → (x : ℕ) → atom_reach hs x ≤ n → (m : Monomial) →
@@ -176,11 +172,7 @@ memory_reach_agree n m fs gs h l k i r = go (is_memory_form (slice_get fs i)) (i
 reach_agree : (n m : ℕ) (fs gs : List Form) → Agree n fs gs → n ≤ length fs → m ≤ n → (a : Factor) → reach fs a ≤ m →
     reach gs a ≤ m
 reach_agree n m fs gs h l k (Variable i) r = r
-reach_agree n m fs gs h l k (Operation o p q) r = let x = integer_reach_agree n m fs gs h l k p (omega arith) in
-    let y = integer_reach_agree n m fs gs h l k q (omega arith) in omega arith
-reach_agree n m fs gs h l k (Rem p q) r = integer_reach_agree n m fs gs h l k p (omega (arith, r))
-reach_agree n m fs gs h l k (Sel p q) r = let x = memory_reach_agree n m fs gs h l k p (omega arith) in
-    let y = integer_reach_agree n m fs gs h l k q (omega arith) in omega arith
+reach_agree n m fs gs h l k a r = omega (arith, integer_reach_agree n m fs gs h l k, memory_reach_agree n m fs gs h l k)
 
 -- so is one that is an atom's
 atom_reach_agree : (n m : ℕ) (fs gs : List Form) → Agree n fs gs → n ≤ length fs → m ≤ n → (x : ℕ) →

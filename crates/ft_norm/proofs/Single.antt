@@ -17,7 +17,7 @@ use Rattle.ft_static.proofs.Counts.{count_join}
 use Rattle.ft_static.proofs.Spelled.{atom_equal, cmp_atom_total, cmp_monomial_total, monomial_equal}
 use Rattle.ft_static.proofs.Coefficients.{order_split}
 use Rattle.ft_norm.specs.declared.entry.Factor.{Factor}
-use Rattle.ft_norm.specs.declared.entry.Factor.TheVariants.{Variable, Operation, Sel, Rem}
+use Rattle.ft_norm.specs.declared.entry.Factor.TheVariants.{Variable}
 use Rattle.ft_norm.specs.declared.entry.Term.{Term}
 use Rattle.ft_norm.specs.Held.{polynomial_at, updates_at}
 use Rattle.ft_norm.specs.Entries.{IsDistinct, alone_term, atom_at, atom_form, atom_reach, greatest, integer_reach}
@@ -185,15 +185,7 @@ module _ (fs : List Form) (d : IsDistinct fs) where
   pub one_factor : (a b : Factor) → reach fs a ≤ length fs → reach fs b ≤ length fs → atom_form fs a ≡ atom_form fs b →
       a ≡ b
   one_factor (Variable i) (Variable j) a b e = let t : i ≡ j = cc in ap Variable t
-  one_factor (Operation o p q) (Operation n r s) a b e = let t : polynomial_at fs p ≡ polynomial_at fs r = cc in
-      let u : polynomial_at fs q ≡ polynomial_at fs s = cc in let w : o ≡ n = cc in
-      rw (w, one_integer p r (omega arith) (omega arith) t, one_integer q s (omega arith) (omega arith) u) refl
-  one_factor (Sel p q) (Sel r s) a b e = let t : updates_at fs p ≡ updates_at fs r = cc in
-      let u : polynomial_at fs q ≡ polynomial_at fs s = cc in
-      rw (one_memory p r (omega arith) (omega arith) t, one_integer q s (omega arith) (omega arith) u) refl
-  one_factor (Rem p m) (Rem r n) a b e = let t : polynomial_at fs p ≡ polynomial_at fs r = cc in let u : m ≡ n = cc in
-      rw (u, one_integer p r (omega (arith, a)) (omega (arith, b)) t) refl
-  one_factor x y a b e = cc
+  one_factor x y a b e = grind (arith, one_integer, one_memory)
 
   -- and one number
   one_atom : (i j : ℕ) → atom_reach fs (suc i) ≤ length fs → atom_reach fs (suc j) ≤ length fs → atom_at fs i

@@ -11,7 +11,7 @@ ghost use Rattle.ft_norm.specs.Parts.{HaveSorts, form_of_parts, updates_of_parts
 
 use crate::form::Form;
 use crate::interner::Interner;
-use crate::parts::{Parts, parts_of};
+use crate::parts::parts_of;
 use ft_isa::{NoMemory, Steps};
 use ft_static::{Nodes, Shape};
 use indexmap::IndexMap;
@@ -44,10 +44,11 @@ fn leaf(shape: Shape, ints: &[Form], memory: Form) -> Option<Form>
     }
 }
 
-/// The form of a node from the forms of its parts. A variable beyond `ints` is the word 0.
+/// The form of a node with these forms, by their numbers, in the places of its parts. A variable beyond
+/// `ints` is the word 0.
 fn form_from<L: Ledger>(
     forms: &mut Interner,
-    parts: Parts,
+    parts: Shape,
     ints: &[Form],
     memory: Form,
     steps: &mut Steps<L>,
@@ -60,20 +61,20 @@ fn form_from<L: Ledger>(
     ensures steps { steps.new ≤ steps.old + updates_of_parts forms.old parts }
 {
     match parts {
-        Parts::Word(w) => forms.word(w),
-        Parts::Var(i) => match ints.get(i as usize) {
+        Shape::Word(w) => forms.word(w),
+        Shape::Var(i) => match ints.get(i as usize) {
             Some(form) => Ok(*form),
             None => forms.word(0),
         },
-        Parts::Op { op, a, b } => forms.op(op, a, b),
-        Parts::Sel { memory: m, at } => forms.sel(m, at, steps),
-        Parts::Memory => Ok(memory),
-        Parts::Upd {
+        Shape::Op { op, a, b } => forms.op(op, Form(a), Form(b)),
+        Shape::Sel { memory: m, at } => forms.sel(Form(m), Form(at), steps),
+        Shape::Memory => Ok(memory),
+        Shape::Upd {
             memory: m,
             at,
             value,
-        } => forms.upd(m, at, value),
-        Parts::Rem { a, length } => forms.rem(a, length),
+        } => forms.upd(Form(m), Form(at), Form(value)),
+        Shape::Rem { a, length } => forms.rem(Form(a), length),
     }
 }
 

@@ -28,13 +28,8 @@ has_none_is [] = (λ e. refl, λ e. refl)
 has_none_is (x ∷ xs) = (λ e. cc, λ e. cc)
 
 is_variable_is : (x : Shape) → Decides (is_variable x) (x ≡ shape.Memory)
-is_variable_is (shape.Word w) = (λ e. cc, λ e. cc)
-is_variable_is (shape.Var i) = (λ e. cc, λ e. cc)
-is_variable_is (shape.Op op a b) = (λ e. cc, λ e. cc)
-is_variable_is (shape.Sel m a) = (λ e. cc, λ e. cc)
 is_variable_is shape.Memory = (λ e. refl, λ e. refl)
-is_variable_is (shape.Upd m a v) = (λ e. cc, λ e. cc)
-is_variable_is (shape.Rem a m) = (λ e. cc, λ e. cc)
+is_variable_is x = (λ e. cc, λ e. cc)
 
 is_memory_variable_is : (o : Object) (n : ℕ) (x : Option Node) → slice_get o.nodes n ≡ x →
     Decides (is_memory_variable x) (HasShape o.nodes n shape.Memory)

@@ -49,13 +49,8 @@ pub data Refusal : Type 0 where
 
 -- whether this is the shape of the memory variable
 abbrev pub is_variable : Shape → Bool
-is_variable (shape.Word w) = false
-is_variable (shape.Var i) = false
-is_variable (shape.Op op a b) = false
-is_variable (shape.Sel memory at) = false
 is_variable shape.Memory = true
-is_variable (shape.Upd memory at value) = false
-is_variable (shape.Rem a m) = false
+is_variable x = false
 
 -- whether a node is there and is the memory variable
 abbrev pub is_memory_variable : Option Node → Bool
