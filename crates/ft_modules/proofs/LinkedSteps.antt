@@ -31,8 +31,9 @@ use Rattle.ft_tolerance.specs.TypedState.{Place, instr_number, valuation_by, con
 use Rattle.ft_tolerance.specs.TypedState.{IsPlace}
 use Rattle.ft_tolerance.proofs.Premises.{After, after_typed}
 use Rattle.ft_tolerance.proofs.AcceptedSteps.{Here, here, Passes, goes, next_address}
-use Rattle.ft_tolerance.proofs.StayingRows.{GoesOn, op_row, op_word_row, mov_row, load_row, store_green_row}
-use Rattle.ft_tolerance.proofs.StayingRows.{store_blue_row, jump_green_row, branch_green_row, index_row}
+use Rattle.ft_tolerance.proofs.RegisterRows.{GoesOn, op_row, op_word_row, mov_row, load_row, index_row}
+use Rattle.ft_tolerance.proofs.StoreRows.{store_green_row, store_blue_row}
+use Rattle.ft_tolerance.proofs.StayingRows.{jump_green_row, branch_green_row}
 use Rattle.ft_tolerance.proofs.Transfers.{block_there, Arrives, jump_blue_row, Branch, taken, passed, branch_blue_row}
 use Rattle.ft_tolerance.proofs.WantedColours.{anyhow}
 use Rattle.ft_modules.specs.CodeWalk.{code_claimed, entered_after, is_free, is_traced, code_walk}
