@@ -21,7 +21,7 @@ use crate::keys::keys_of;
 use ft_isa::{Instr, NoMemory, Steps};
 use ft_norm::Interner;
 use ft_rules::{Context, Next, RuleError, Shared, Why, apply_rule_over};
-use ft_types::Program;
+use ft_types::{Program, end_of};
 use std::alloc::Global;
 use std::sync::ledger::Ledger;
 
@@ -64,19 +64,6 @@ fn turn<P: Program, L: Ledger>(
             Err(RuleError::Refused(Why::BlockEnd))
         }
     }
-}
-
-/// Where block `b` ends: where the next block begins, or after the last instruction.
-fn end_of<P: Program>(program: &P, b: u32) -> u32
-    requires spellable { IsSpellable (P.object program.now) }
-    requires there { b < length (P.object program.now).blocks }
-    ensures { result ≡ block_end (P.object program.now) b }
-{
-    let counts = program.counts();
-    if b + 1 < counts.blocks {
-        return program.block(b + 1).start;
-    }
-    counts.instrs
 }
 
 /// What is answered for an instruction that does not type.

@@ -1,5 +1,5 @@
 //! The whole check.
-ghost use Rattle.std.specs.Prelude.{◌≡◌, ◌+◌, ◌≤◌, IfOk};
+ghost use Rattle.std.specs.Prelude.{◌≡◌, ◌+◌, ◌<◌, ◌≤◌, IfOk};
 ghost use Rattle.ft_typing.specs.Accepted.{refusal};
 ghost use Rattle.ft_types.specs.Spellable.{IsSpellable};
 ghost use Rattle.ft_checker.specs.Costs.{check_cost};
@@ -13,7 +13,8 @@ use crate::error::CheckError;
 use ft_isa::Steps;
 use ft_types::Program;
 use std::alloc::Global;
-use std::sync::ledger::Ledger;
+use std::marker::Brand;
+use std::sync::ledger::{Blank, Ledger};
 
 /// Tries the entry block's code type, then the cells, then the blocks.
 fn judge<P: Program, L: Ledger>(
@@ -52,4 +53,33 @@ pub fn check<'a, P: Program, L: Ledger>(
         Ok(()) => Ok(Checked { program }),
         Err(error) => Err(error),
     }
+}
+
+/// Checks a program, with steps counted from 0.
+fn check_from_0<'a, P: Program, L: Ledger>(
+    alloc: Global,
+    program: &'a P,
+    blank: Blank,
+) -> Result<Checked<'a, P>, CheckError>
+    requires name { blank.name ≡ L.name }
+    requires parts { blank.parts ≡ L.parts }
+    requires some { 0 < L.parts }
+    requires spellable { IsSpellable (P.object program.now) }
+    ensures judged { Judges (refusal (P.object program.now)) result }
+    ensures program { IfOk result (λ k. k ≡ program.now) }
+{
+    let mut steps = Steps::<L>::new(blank);
+    check(alloc, program, &mut steps)
+}
+
+/// The same check, for callers that count no steps.
+pub fn check_uncounted<'a, P: Program>(
+    alloc: Global,
+    program: &'a P,
+) -> Result<Checked<'a, P>, CheckError>
+    requires { IsSpellable (P.object program.now) }
+    ensures judged { Judges (refusal (P.object program.now)) result }
+    ensures program { IfOk result (λ k. k ≡ program.now) }
+{
+    check_from_0::<P, Brand>(alloc, program, Blank::new(1))
 }

@@ -18,4 +18,4 @@ mod keys;
 
 pub use checked::Checked;
 pub use error::CheckError;
-pub use judge::check;
+pub use judge::{check, check_uncounted};

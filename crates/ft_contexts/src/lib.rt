@@ -7,7 +7,6 @@
 //! with the target of a transfer are exact.
 #![tactic(auto)]
 
-mod basic_types;
 mod context;
 mod destination;
 mod forms;
@@ -18,7 +17,6 @@ mod start;
 mod transfers;
 mod variables;
 
-pub use basic_types::{is_seen_as, same_basic, same_colour};
 pub use context::Context;
 pub use destination::StateD;
 pub use forms::same_integers;

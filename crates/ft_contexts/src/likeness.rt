@@ -12,7 +12,6 @@ ghost use Rattle.ft_typing.specs.TypingRow.{same_colour};
 ghost use Rattle.ft_contexts.specs.Contexts.{HoldsVariables, RemembersUnder, replacement_in};
 ghost use Rattle.ft_contexts.specs.Costs.{tree_cost};
 
-use crate::basic_types::{is_seen_as, same_colour};
 use crate::context::Context;
 use crate::forms::{same_integers, same_memories};
 use crate::register::RegForm;
@@ -20,6 +19,7 @@ use crate::variables::Variables;
 use ft_isa::{NoMemory, Steps, Subst};
 use ft_norm::{Form, Interner, Memo};
 use ft_types::{Program, RegType};
+use ft_typing::{is_seen_as, same_colour};
 use std::sync::ledger::Ledger;
 
 /// Whether a node's scope is at most so many variables.

@@ -76,17 +76,10 @@ fetched_state i m d q c I = record (stands (suc i) m d q c) { fetched = Some I }
 
 -- claims and substitutions do nothing
 execute_bare : (I : Instr) (s : State) (w : List Wild) → execute I s w ≡ execute (bare I) s w
-execute_bare (instr.OpReg o rd rs rt) s w = refl
-execute_bare (instr.OpWord o rd rs v) s w = refl
 execute_bare (instr.Mov rd v b) s w = refl
-execute_bare (instr.Ld c rd rs) s w = refl
-execute_bare (instr.St c rd rs) s w = refl
-execute_bare (instr.JmpG rd) s w = refl
 execute_bare (instr.JmpB rd t) s w = refl
-execute_bare (instr.BzG rz rd) s w = refl
 execute_bare (instr.BzB rz rd t) s w = refl
-execute_bare instr.Halt s w = refl
-execute_bare (instr.Idx rd rs first m) s w = refl
+execute_bare I s w = refl
 
 -- an instruction that stands there without its claims
 get_bare : (xs : List Instr) (i : ℕ) (J : Instr) → slice_get (map bare xs) i ≡ Some J → (I : Instr)

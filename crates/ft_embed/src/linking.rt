@@ -8,12 +8,12 @@ ghost use Rattle.ft_embed.specs.Links.{AddsAll, AddsObject, EndsAtModule, EndsAt
 ghost use Rattle.ft_embed.specs.Texts.{Given};
 ghost use Rattle.ft_embed.specs.Verdicts.{nothing as nothing_told};
 
-use crate::checking::check;
 use crate::handing::{Written, hand_over, none_written, not_written};
 use crate::refused::{nothing, told_error};
 use crate::unlinked::{
     Module, Unlinked, bad_map, no_room, refuse_map, refuse_module, refuse_modules,
 };
+use ft_checker::check_uncounted;
 use ft_link_map::{LinkMap, read_map};
 use ft_linker::Linker;
 use ft_object::encode;
@@ -50,7 +50,7 @@ fn add_object<P: Program>(
     ensures some { IfErr result (λ u. (u.status ≢ 0) × (u.status ≢ 15)) }
     ensures unrefused { IfErr result (λ u. u.status ≡ 5 → u.why ≡ nothing_told) }
 {
-    match check(alloc, program) {
+    match check_uncounted(alloc, program) {
         Ok(checked) => match linker.add(&checked) {
             Ok(()) => Ok(()),
             Err(error) => Err(refuse_modules(error)),

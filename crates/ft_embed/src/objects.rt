@@ -7,10 +7,10 @@ ghost use Rattle.ft_embed.specs.Cells.{HasNoCell};
 ghost use Rattle.ft_embed.specs.Texts.{Given, IsCellName, IsMalformed, IsNameOf, IsScheduleOf, IsScheduleOfFile, IsUpgraded, IsWhy};
 ghost use Rattle.ft_embed.specs.Verdicts.{Tells, judged, nothing as nothing_told, verdict_on};
 
-use crate::checking::{check, refuse};
+use crate::checking::refuse;
 use crate::handing::{Written, hand_over, none_accepted, none_written, not_written};
 use crate::refused::told_error;
-use ft_checker::Checked;
+use ft_checker::{Checked, check_uncounted};
 use ft_isa::NoMemory;
 use ft_object::{DecodeError, decode, encode};
 use ft_sched::schedule;
@@ -118,7 +118,7 @@ fn schedule_program<P: Program>(alloc: Global, program: &P, out: &mut [u8]) -> W
     ensures accepted { result.status ≢ 5 → result.status ≢ 8 → IsAccepted (P.object program.now) }
     ensures unrefused { result.status ≢ 8 → result.why ≡ nothing_told }
 {
-    let checked = match check(alloc, program) {
+    let checked = match check_uncounted(alloc, program) {
         Ok(checked) => checked,
         Err(error) => return none_accepted(refuse(error)),
     };

@@ -11,12 +11,13 @@ ghost use Rattle.ft_embed.specs.Recoveries.{RecoversFile, RecoversInto};
 ghost use Rattle.ft_embed.specs.Verdicts.{Tells, judged, nothing as nothing_told, verdict_on};
 
 use crate::answer::{RunAnswer, has_run, has_run_again, not_run};
-use crate::checking::{check, refuse};
+use crate::checking::refuse;
 use crate::filling::CellOutput;
 use crate::plan_text::{read_answers, read_fault};
 use crate::refused::told_error;
 use crate::running::{end_of, no_run, run_machine};
 use crate::verdict::Verdict;
+use ft_checker::check_uncounted;
 use ft_isa::{Plan, WildError};
 use ft_machine::Machine;
 use ft_semantics::Status;
@@ -90,7 +91,7 @@ fn recover_program<P: Program>(
     ensures unrun { (result.status ≡ 5) ⊎ (result.status ≡ 8) → result.ran ≡ not_begun }
     ensures kept { (result.status ≡ 5) ⊎ (result.status ≡ 8) → out.new ≡ out.old }
 {
-    match check(alloc, program) {
+    match check_uncounted(alloc, program) {
         Ok(_) => {}
         Err(error) => return not_run(refuse(error)),
     }

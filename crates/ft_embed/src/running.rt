@@ -12,43 +12,18 @@ ghost use Rattle.ft_embed.specs.Outputs.{Ends, IsOnce, RunsFile, RunsInto, Takes
 ghost use Rattle.ft_embed.specs.Verdicts.{Tells, judged, nothing as nothing_told, verdict_on};
 
 use crate::answer::{RunAnswer, has_run, not_run};
-use crate::checking::{check, refuse};
+use crate::checking::refuse;
 use crate::filling::{CellOutput, Filled, fill};
 use crate::plan_text::{read_answers, read_fault};
 use crate::refused::told_error;
 use crate::verdict::{Verdict, unrefused};
+use ft_checker::check_uncounted;
 use ft_isa::{Plan, Strike, WildError};
-use ft_machine::{Machine, WildLeft};
+use ft_machine::{Machine, WildLeft, steps_before, strike_before};
 use ft_semantics::Status;
 use ft_types::Program;
 use ft_view::View;
 use std::alloc::Global;
-
-/// How many steps of a run come before its strike.
-fn steps_before(strike: Option<Strike>, steps: u64) -> u64
-    ensures within { result ≤ steps }
-    ensures before { (j : ℕ) → j < result → Spares strike j }
-    ensures after { (j : ℕ) → result < steps → result < j → Spares strike j }
-{
-    let Some(strike) = strike else {
-        return steps;
-    };
-    if strike.step < steps {
-        return strike.step;
-    }
-    steps
-}
-
-/// Strikes before step `k`, where the plan strikes there.
-fn strike_before(machine: &mut Machine, strike: Option<Strike>, k: u64)
-    ensures { machine.new ≡ struck_before strike k machine.old }
-{
-    if let Some(strike) = strike {
-        if strike.step == k {
-            let _ = machine.strike(strike.site, strike.value);
-        }
-    }
-}
 
 /// Runs a machine from its start under a plan.
 pub(crate) fn run_machine<P: Program>(
@@ -126,7 +101,7 @@ fn run_program<P: Program>(
     ensures unrun { (result.status ≡ 5) ⊎ (result.status ≡ 8) → result.ran ≡ not_begun }
     ensures kept { (result.status ≡ 5) ⊎ (result.status ≡ 8) → out.new ≡ out.old }
 {
-    match check(alloc, program) {
+    match check_uncounted(alloc, program) {
         Ok(_) => {}
         Err(error) => return not_run(refuse(error)),
     }

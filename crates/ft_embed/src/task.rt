@@ -10,11 +10,12 @@ ghost use Rattle.ft_embed.specs.Tasks.{IsLimit, WentOn};
 ghost use Rattle.ft_embed.specs.Verdicts.{IsAcceptedFile, Tells, judged, nothing, verdict_on};
 
 use crate::answer::{RunAnswer, has_run};
-use crate::checking::{check, refuse};
+use crate::checking::refuse;
 use crate::filling::{CellOutput, fill};
 use crate::refused::told_error;
 use crate::running::end_of;
 use crate::verdict::{Verdict, unrefused};
+use ft_checker::check_uncounted;
 use ft_isa::{NoMemory, Site, Strike};
 use ft_machine::{Machine, WildLeft};
 use ft_types::{Object, Program, copy_object};
@@ -61,7 +62,7 @@ impl Task {
         ensures some { IfErr result (λ v. v.status ≢ 0) }
         ensures unrefused { IfErr result (λ v. v.status ≢ 7 → v.status ≢ 8 → v.why ≡ nothing) }
     {
-        match check(alloc, program) {
+        match check_uncounted(alloc, program) {
             Ok(_) => {}
             Err(error) => return Err(refuse(error)),
         }

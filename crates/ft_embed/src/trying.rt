@@ -9,12 +9,13 @@ ghost use Rattle.ft_embed.specs.Plans.{AreAnswers};
 ghost use Rattle.ft_embed.specs.Trials.{IsListRefused, Tries, TriesFile, TriesList, WantsRoom, told_list, untried};
 ghost use Rattle.ft_embed.specs.Verdicts.{IsAcceptedFile, Tells, judged, nothing as nothing_told, verdict_on};
 
-use crate::checking::{check, refuse};
+use crate::checking::refuse;
 use crate::plan_text::read_answers;
 use crate::refused::{Refused, nothing, told_error};
 use crate::trial::{FaultTotals, FaultVerdict, fault_totals, no_totals, put_verdicts};
 use crate::verdict::Verdict;
 use ft_campaign::{ListError, find_verdicts, read_faults, totals_of};
+use ft_checker::check_uncounted;
 use ft_isa::{NoMemory, Steps, Strike, Wild, WildError};
 use ft_types::Program;
 use ft_view::View;
@@ -196,7 +197,7 @@ fn try_program<P: Program>(
     ensures unrefused { result.status ≢ 8 → result.status ≢ 11 → result.why ≡ nothing_told }
     ensures untried { result.status ≢ 0 → result.status ≢ 15 → result.totals ≡ untried 0 }
 {
-    match check(alloc, program) {
+    match check_uncounted(alloc, program) {
         Ok(_) => try_list(alloc, program, trial, out),
         Err(error) => {
             let verdict = refuse(error);

@@ -12,7 +12,8 @@ use Rattle.ft_format.specs.Rows.{all_queue, all_names, header_row, spelling}
 use Rattle.ft_format.specs.Values.{header_of}
 use Rattle.ft_format.specs.Broken.{nodes_at, types_at, regs_at, queue_at, blocks_at, instrs_at, substs_at, names_at}
 use Rattle.ft_format.specs.Broken.{total, header_at}
-use Rattle.ft_format.proofs.Write.{header_for, length_cell_rows, length_type_rows, after_section, section_rows}
+use Rattle.ft_format.proofs.SpelledSections.{header_for, length_cell_rows, length_type_rows, after_section}
+use Rattle.ft_format.proofs.SpelledSections.{section_rows}
 use Rattle.ft_format.proofs.Layouts.{Fit, AllFit, numbers_back, length_written, length_spelled}
 
 -- the bytes that are written after a section

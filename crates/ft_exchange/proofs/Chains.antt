@@ -7,7 +7,7 @@ use Rattle.std.proofs.lemmas.Bool.{cases_eq}
 use Rattle.std.proofs.lemmas.Option.{slice_get_within}
 use Rattle.ft_simulation.proofs.Lists.{begins_itself, begins_on}
 use Rattle.ft_isa.specs.declared.instr.Instr.{Instr}
-use Rattle.ft_isa.specs.declared.instr.Instr.TheVariants.{OpReg, OpWord, Mov, Ld, St, JmpG, JmpB, BzG, BzB, Halt, Idx}
+use Rattle.ft_isa.specs.declared.instr.Instr.TheVariants.{JmpG, JmpB, BzG, BzB, Halt}
 use Rattle.ft_isa.specs.declared.plan.Wild.{Wild}
 use Rattle.ft_semantics.specs.declared.status.Status.{Status}
 use Rattle.ft_semantics.specs.declared.status.Status.TheVariants.{Running, Done, Detected}
@@ -168,17 +168,12 @@ kept o _ spelled acc (exchange {s = s} b k h p) =
 
 further_free : (o : Object) (i : Instr) (t : State) (P : Place) → is_fixed i ≡ false → place_after o i t P
     ≡ further (row o P.context i) P
-further_free o (OpReg op rd rs rt) t P h = refl
-further_free o (OpWord op rd rs value) t P h = refl
-further_free o (Mov rd value basic) t P h = refl
-further_free o (Ld k rd rs) t P h = refl
-further_free o (St k rd rs) t P h = refl
 further_free o (JmpG rd) t P h = cc
 further_free o (JmpB rd u) t P h = cc
 further_free o (BzG rz rd) t P h = cc
 further_free o (BzB rz rd u) t P h = cc
 further_free o Halt t P h = cc
-further_free o (Idx rd rs first m) t P h = refl
+further_free o i t P h = refl
 
 -- an instruction that isn't fixed goes on
 goes_free : (o : Object) (c : Context) (i : Instr) → Passes o c i → is_fixed i ≡ false → (d : Context)

@@ -8,7 +8,6 @@ use Rattle.ft_static.specs.declared.node.Node.{Node}
 use Rattle.ft_static.specs.declared.node.Shape.{Shape}
 use Rattle.ft_static.specs.declared.node.Shape.TheVariants.{Word, Var, Op as OpNode, Sel, Memory, Upd, Rem}
 use Rattle.ft_static.specs.NodeRules.{IsLength, MayName, IsShape, IsNode}
-use Rattle.ft_isa.specs.Operations.{op_code}
 use Rattle.ft_isa.proofs.Operations.{op_back}
 use Rattle.ft_types.specs.NodeRows.{shape_row, node_row}
 use Rattle.ft_format.specs.declared.object_error.ObjectError.TheVariants as errors

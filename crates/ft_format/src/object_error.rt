@@ -1,4 +1,6 @@
 //! Why bytes spell no object.
+ghost use Rattle.std.specs.Prelude.{◌≡◌};
+
 use thiserror::Error;
 
 /// The first rule of the format that bytes break. `at` is the place of the field that breaks it, counted in
@@ -35,4 +37,42 @@ pub enum ObjectError {
     /// The entry block is not there.
     #[error("object 9 {at}")]
     Entry { at: usize },
+}
+
+impl ObjectError {
+    ghost use Rattle.ft_format.specs.Errors.{error_number, error_place};
+
+    /// The number of the rule, from 1.
+    pub fn number(self) -> u32
+        ensures { result ≡ error_number self }
+    {
+        match self {
+            ObjectError::Magic { at: _ } => 1,
+            ObjectError::Length { at: _ } => 2,
+            ObjectError::Count { at: _ } => 3,
+            ObjectError::Pad { at: _ } => 4,
+            ObjectError::Kind { at: _ } => 5,
+            ObjectError::Index { at: _ } => 6,
+            ObjectError::Order { at: _ } => 7,
+            ObjectError::Name { at: _ } => 8,
+            ObjectError::Entry { at: _ } => 9,
+        }
+    }
+
+    /// The place of the field that breaks it, in bytes.
+    pub fn place(self) -> usize
+        ensures { result ≡ error_place self }
+    {
+        match self {
+            ObjectError::Magic { at } => at,
+            ObjectError::Length { at } => at,
+            ObjectError::Count { at } => at,
+            ObjectError::Pad { at } => at,
+            ObjectError::Kind { at } => at,
+            ObjectError::Index { at } => at,
+            ObjectError::Order { at } => at,
+            ObjectError::Name { at } => at,
+            ObjectError::Entry { at } => at,
+        }
+    }
 }

@@ -22,7 +22,7 @@ use Rattle.ft_modules.specs.SameTrees.{like_types}
 use Rattle.ft_modules.proofs.Deciding.{is_like, like_is, map_parts}
 use Rattle.ft_tolerance.proofs.Lists.{found_there}
 use Rattle.ft_types.specs.declared.object.Block.{Block as Placed}
-use Rattle.ft_modules.proofs.Placing.{type_there}
+use Rattle.ft_modules.proofs.Landings.{type_there}
 use Rattle.ft_modules.proofs.Elements.{all_of}
 use Rattle.ft_linker.proofs.Walks.{range_one}
 use Rattle.ft_modules.proofs.Addresses.{same_tests}

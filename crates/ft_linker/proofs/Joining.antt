@@ -25,7 +25,7 @@ use Rattle.ft_linker.specs.declared.joins.Join.{Join}
 use Rattle.ft_linker.specs.Changes.{Holds}
 use Rattle.ft_linker.specs.declared.changes.Changes.{Changes}
 use Rattle.ft_linker.specs.Joins.{HasBoth, address_in, code_type_in, is_from, link_as}
-use Rattle.ft_modules.proofs.Placing.{start_there, type_there}
+use Rattle.ft_modules.proofs.Landings.{start_there, type_there}
 
 -- JOINS
 

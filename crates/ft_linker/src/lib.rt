@@ -8,7 +8,6 @@
 #![tactic(auto)]
 
 mod assembling;
-mod basic_types;
 mod blocks;
 mod cells;
 mod changes;

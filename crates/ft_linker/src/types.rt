@@ -6,8 +6,8 @@ ghost use Rattle.ft_modules.specs.LikeTypes.{LikeTypes, SamePair, SameRow};
 ghost use Rattle.ft_modules.specs.TreeKeys.{number_in};
 ghost use Rattle.ft_linker.specs.Numbers.{AreCompared, HasPair, HasRow};
 
-use crate::basic_types::{same_basic, same_colour};
 use ft_types::{Object, RegType, Table};
+use ft_typing::{same_basic, same_colour};
 
 /// A module's object, and where the numbers of its nodes' trees begin.
 #[derive(Clone, Copy)]

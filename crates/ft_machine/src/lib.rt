@@ -24,6 +24,6 @@ pub use ft_semantics::Status;
 pub use lines::{Lines, put_output};
 pub use machine::Machine;
 pub use outlet::Outlet;
-pub use run::{RunEnd, drive, run_under};
+pub use run::{RunEnd, drive, run_under, steps_before, strike_before};
 pub use stepped::{Advance, Gone, Pause, Stepped};
 pub use wild::WildLeft;

@@ -33,7 +33,7 @@ pub enum RunEnd {
 }
 
 /// Strikes before step `k`, where the plan strikes there.
-fn strike_before(machine: &mut Machine, strike: Option<Strike>, k: u64)
+pub fn strike_before(machine: &mut Machine, strike: Option<Strike>, k: u64)
     ensures { machine.new ≡ struck_before strike k machine.old }
 {
     if let Some(strike) = strike {
@@ -44,7 +44,7 @@ fn strike_before(machine: &mut Machine, strike: Option<Strike>, k: u64)
 }
 
 /// How many steps of a run come before its strike.
-fn steps_before(strike: Option<Strike>, steps: u64) -> u64
+pub fn steps_before(strike: Option<Strike>, steps: u64) -> u64
     ensures within { result ≤ steps }
     ensures before { (j : ℕ) → j < result → Spares strike j }
     ensures after { (j : ℕ) → result < steps → result < j → Spares strike j }

@@ -36,8 +36,9 @@ use Rattle.ft_modules.specs.ModulesRun.{link_at}
 use Rattle.ft_modules.proofs.Addresses.{find_same, same_tests, one_number, block_at_own}
 use Rattle.ft_modules.proofs.LinkedBlocks.{start_beside, applies_beside}
 use Rattle.ft_modules.proofs.Laying.{whence}
-use Rattle.ft_modules.proofs.Placing.{is_module, sits_in, sent_in, block_in, block_alike, change_is, sent_by_change}
-use Rattle.ft_modules.proofs.Placing.{sent_to, start_there, type_there, world, to_is}
+use Rattle.ft_modules.proofs.ModuleInstrs.{sent_by_change, sent_to}
+use Rattle.ft_modules.proofs.Landings.{is_module, sits_in, change_is, start_there, type_there}
+use Rattle.ft_modules.proofs.Placing.{sent_in, block_in, block_alike, world, to_is}
 use Rattle.ft_modules.proofs.ModuleParts.{of_blocks, blocks_grow}
 use Rattle.ft_modules.proofs.SpelledLinked.{from_map}
 use Rattle.ft_modules.proofs.SpelledWhole.{none_before_first, spelled_linked}

@@ -23,7 +23,7 @@ use Rattle.ft_typing.specs.Context.{Context, typed, start_context}
 use Rattle.ft_typing.specs.TypingRow.{Outcome, Goes, Ends, Fails, row}
 use Rattle.ft_tolerance.specs.TypedState.{Place, instr_number, FitsContext, Fits}
 use Rattle.ft_tolerance.proofs.Premises.{After}
-use Rattle.ft_tolerance.proofs.AcceptedSteps.{Here, here, Passes, ends, goes}
+use Rattle.ft_tolerance.proofs.AcceptedSteps.{Here, Passes, ends, goes}
 use Rattle.ft_modules.specs.Linked.{raised_block}
 use Rattle.ft_modules.specs.Links.{Link}
 use Rattle.ft_modules.specs.ModulesRun.{InModule, sent}

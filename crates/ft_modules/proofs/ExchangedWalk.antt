@@ -1,6 +1,6 @@
 -- A permitted exchange keeps the walk that traces code addresses, so it keeps a module.
-use Rattle.std.proofs.Common.{◌≡◌, ℕ, zero, suc, ◌<◌, Bool, true, false, cond, not, ◌&&◌, ◌==◌, if◌then◌else◌, List, []}
-use Rattle.std.proofs.Common.{◌∷◌, length, Option, Some, None, is_some, slice_get, refl, sym, ap, ◌∙◌, subst, arith}
+use Rattle.std.proofs.Common.{◌≡◌, ℕ, zero, suc, Bool, true, false, cond, not, ◌&&◌, ◌==◌, if◌then◌else◌, List, []}
+use Rattle.std.proofs.Common.{◌∷◌, Option, Some, None, is_some, slice_get, refl, sym, ap, ◌∙◌, subst, arith}
 use Rattle.std.proofs.Common.{inl, inr, eqb-true, eq-eqb}
 use Rattle.std.specs.Cmp.{nat_cmp_total}
 use Rattle.std.specs.FinMap as finite
@@ -15,7 +15,7 @@ use Rattle.ft_types.specs.declared.object.Block.{Block}
 use Rattle.ft_types.specs.declared.object.Cell.{Cell}
 use Rattle.ft_types.specs.Objects.{block_instrs}
 use Rattle.ft_types.specs.Spellable.{IsSpellable}
-use Rattle.ft_exchange.specs.Exchange.{is_fixed, written, reads, is_register, leaves_alone, queue_before, may_exchange}
+use Rattle.ft_exchange.specs.Exchange.{is_fixed, written, reads, leaves_alone, queue_before, may_exchange}
 use Rattle.ft_exchange.specs.Exchange.{IsPermitted, exchanged, with_instrs, after_exchange}
 use Rattle.ft_exchange.specs.Scheduled.{ComesFrom, itself, exchange}
 use Rattle.ft_exchange.proofs.Permits.{Trailing, trailing_write, trailing_store, Leading, leading_write, leading_store}

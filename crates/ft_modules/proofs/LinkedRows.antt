@@ -126,13 +126,13 @@ both_leads R o x to e c b u q t k y z h s l f both =
     ≡ same_updates b.memory (memory_form_after x (replacement x q) (memory_of x k)) =
     (λ i. same_updates (h.memory i) (memory_form_after o (s.forms i) (memory_of o t)))
     ∙ ap (same_updates b.memory) (memory_after_same o x (replacement x q) (memory_of o t) (memory_of x k) l.memory) in
-    both_need R premise.Annotation _ _ _ _ (λ i. (
+    both_need R _ _ _ _ _ (λ i. (
       sym annotated ∙ i,
-      both_need R premise.RegisterUnlike _ _ _ _ (λ j. (
+      both_need R _ _ _ _ _ (λ j. (
         sym rows ∙ j,
-        both_need R premise.QueueUnlike _ _ _ _ (λ m. (
+        both_need R _ _ _ _ _ (λ m. (
           sym queue ∙ m,
-          both_need R premise.MemoryUnlike _ _ _ _ (λ n. (
+          both_need R _ _ _ _ _ (λ n. (
             sym memory ∙ n,
             both,
           )),

@@ -35,7 +35,8 @@ use Rattle.ft_modules.proofs.Elements.{all_of}
 use Rattle.ft_modules.proofs.Addresses.{within_blocks}
 use Rattle.ft_modules.proofs.LaidNodes.{laid_nodes}
 use Rattle.ft_modules.proofs.Laying.{whence, laid_length}
-use Rattle.ft_modules.proofs.Placing.{typed_moves, start_there, type_there}
+use Rattle.ft_modules.proofs.ModuleInstrs.{typed_moves}
+use Rattle.ft_modules.proofs.Landings.{start_there, type_there}
 use Rattle.ft_modules.proofs.ModuleParts.{of_nodes, of_types, of_blocks, of_instrs, of_substs, nodes_grow, types_grow}
 use Rattle.ft_modules.proofs.ModuleParts.{blocks_grow, instrs_grow, substs_grow, among_all, linked_instr, Sits, sits}
 use Rattle.ft_modules.proofs.ModuleParts.{first_block}

@@ -15,11 +15,11 @@ use crate::runs::index;
 use crate::transfer::leads;
 use crate::typed_words::has_type;
 use crate::why::{Next, RuleError};
-use ft_contexts::{Context, QUEUE_ROOM, RegForm, Shared, StateD, same_colour, same_integers};
+use ft_contexts::{Context, QUEUE_ROOM, RegForm, Shared, StateD, same_integers};
 use ft_isa::{Basic, Colour, Coloured, INT, Instr, Op, Reg, Steps, Subst};
 use ft_norm::Interner;
 use ft_types::Program;
-use ft_typing::Why;
+use ft_typing::{Why, same_colour};
 use std::sync::ledger::Ledger;
 
 /// An operation on two registers.

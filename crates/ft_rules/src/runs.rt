@@ -14,11 +14,11 @@ ghost use Rattle.ft_rules.specs.Answers.{Does, Passes};
 
 use crate::premises::typed;
 use crate::why::{Next, RuleError};
-use ft_contexts::{Context, RegForm, same_basic};
+use ft_contexts::{Context, RegForm};
 use ft_isa::{Basic, FIRST_CELL, Instr, NoMemory, Op, Reg};
 use ft_norm::{Form, Interner};
 use ft_types::Program;
-use ft_typing::Why;
+use ft_typing::{Why, same_basic};
 
 /// The greatest number of `ref` of a basic type.
 const REFS: u8 = 8;

@@ -3,9 +3,9 @@ ghost use Rattle.std.specs.Prelude.{◌≡◌, ◌<◌, length};
 ghost use Rattle.ft_types.specs.Spellable.{IsSpellable};
 ghost use Rattle.ft_typing.specs.TypedWord.{block_at, cell_type, has_type, has_type_over};
 
-use ft_contexts::same_basic;
 use ft_isa::{Base, Basic, FIRST_CELL};
 use ft_types::{Block, Program};
+use ft_typing::same_basic;
 
 /// Whether a word has a basic type: every word has `int`, the code address of a block's first
 /// instruction has that block's code type, and the address of a cell has `ref` of the cell's type.

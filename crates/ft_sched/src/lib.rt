@@ -8,7 +8,6 @@
 #![tactic(auto)]
 
 mod blocks;
-mod instruction;
 mod last_places;
 mod order;
 mod scheduling;

@@ -9,7 +9,6 @@ ghost use Rattle.ft_exchange.specs.Exchange.{is_leading, is_fixed};
 ghost use Rattle.ft_sched.specs.Waiting.{holds_back};
 ghost use Rattle.ft_sched.specs.Arranged.{Lays, LaysFirst, LaysAll, GetsPlace};
 
-use crate::instruction::{is_blue_store, is_fixed, is_green_store, is_leading};
 use crate::waiting::Waiting;
 use ft_isa::Instr;
 use std::alloc::{AllocError, Global};
@@ -73,8 +72,8 @@ impl Order {
         ensures lays { OnOk result (Lays instr self.old.laid.items self.new.laid.items self.old.queued self.new.queued self.old.committed self.new.committed) }
         ensures waiting { OnOk result (self.new.waiting ≡ self.old.waiting) }
     {
-        let queues = is_green_store(&instr);
-        let commits = is_blue_store(&instr);
+        let queues = instr.is_green_store();
+        let commits = instr.is_blue_store();
         self.laid.push(instr)?;
         self.queued = with(self.queued, queues);
         self.committed = with(self.committed, commits);
@@ -104,7 +103,7 @@ impl Order {
         if self.waiting.has_conflict(instr) {
             return true;
         }
-        is_green_store(instr) && self.is_full() && self.waiting.has_blue_store()
+        instr.is_green_store() && self.is_full() && self.waiting.has_blue_store()
     }
 
     /// Lays a leading instruction down, behind the last one that it may not pass.
@@ -142,10 +141,10 @@ impl Order {
     pub fn place(&mut self, instr: Instr) -> Result<(), AllocError>
         ensures { OnOk result (GetsPlace instr self.old.laid.items self.old.waiting self.old.queued self.old.committed self.new.laid.items self.new.waiting self.new.queued self.new.committed) }
     {
-        if is_leading(&instr) {
+        if instr.is_leading() {
             return self.lead(instr);
         }
-        if is_fixed(&instr) {
+        if instr.is_fixed() {
             return self.fix(instr);
         }
         self.waiting.push(instr)

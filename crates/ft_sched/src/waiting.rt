@@ -5,7 +5,6 @@ ghost use Rattle.ft_exchange.specs.Exchange.{is_blue_store};
 ghost use Rattle.ft_sched.specs.Registers.{number_of, writes, meets};
 ghost use Rattle.ft_sched.specs.Waiting.{conflicts};
 
-use crate::instruction::{first_read, is_blue_store, second_read, written};
 use crate::last_places::LastPlaces;
 use ft_isa::{Instr, Reg};
 use std::alloc::{AllocError, Global};
@@ -71,10 +70,10 @@ impl Waiting {
     pub fn push(&mut self, instr: Instr) -> Result<(), AllocError>
         ensures { OnOk result (self.new ≡ self.old ++ instr ∷ []) }
     {
-        let register = written(&instr);
-        let first = first_read(&instr);
-        let second = second_read(&instr);
-        let stores = is_blue_store(&instr);
+        let register = instr.written();
+        let first = instr.first_read();
+        let second = instr.second_read();
+        let stores = instr.is_blue_store();
         self.instrs.push(instr)?;
         let place = self.instrs.len();
         self.written.mark(register, place);
@@ -123,9 +122,9 @@ impl Waiting {
     pub fn has_conflict(&self, instr: &Instr) -> bool
         ensures { result ≡ list_any (conflicts instr.now) self.now }
     {
-        let first = self.is_written(first_read(instr));
-        let second = self.is_written(second_read(instr));
-        let either = self.is_touched(written(instr));
+        let first = self.is_written(instr.first_read());
+        let second = self.is_written(instr.second_read());
+        let either = self.is_touched(instr.written());
         any_of(first, second, either)
     }
 }

@@ -1,4 +1,6 @@
 //! Why a source is refused.
+ghost use Rattle.std.specs.Prelude.{◌≡◌};
+
 use thiserror::Error;
 
 /// The first refusal of a source, in the order of the variants; places count bytes from 0. `NoMemory`,
@@ -45,4 +47,50 @@ pub enum SourceError {
     /// There was no memory left.
     #[error("out of memory")]
     NoMemory,
+}
+
+impl SourceError {
+    ghost use Rattle.ft_syntax.specs.Errors.{source_number, source_told};
+
+    /// The number of the refusal, from 1; 0 when out of memory.
+    pub fn number(self) -> u32
+        ensures { result ≡ source_number self }
+    {
+        match self {
+            SourceError::TooLong => 1,
+            SourceError::Byte { at: _ } => 2,
+            SourceError::Number { at: _ } => 3,
+            SourceError::Syntax { at: _ } => 4,
+            SourceError::Deep { at: _ } => 5,
+            SourceError::Twice { at: _ } => 6,
+            SourceError::Unknown { at: _ } => 7,
+            SourceError::Cells { count: _ } => 8,
+            SourceError::Registers { need: _ } => 9,
+            SourceError::Weight { weight: _ } => 10,
+            SourceError::Array { at: _ } => 11,
+            SourceError::Length { at: _ } => 12,
+            SourceError::NoMemory => 0,
+        }
+    }
+
+    /// What the refusal tells: a place in bytes, or what is above a limit; 0 when out of memory.
+    pub fn told(self) -> u64
+        ensures { result ≡ source_told self }
+    {
+        match self {
+            SourceError::TooLong => 1_048_576,
+            SourceError::Byte { at } => at as u64,
+            SourceError::Number { at } => at as u64,
+            SourceError::Syntax { at } => at as u64,
+            SourceError::Deep { at } => at as u64,
+            SourceError::Twice { at } => at as u64,
+            SourceError::Unknown { at } => at as u64,
+            SourceError::Cells { count } => count,
+            SourceError::Registers { need } => need,
+            SourceError::Weight { weight } => weight,
+            SourceError::Array { at } => at as u64,
+            SourceError::Length { at } => at as u64,
+            SourceError::NoMemory => 0,
+        }
+    }
 }

@@ -29,7 +29,8 @@ use Rattle.ft_tolerance.specs.TypedState.{Fits, context_of, context_after, conte
 use Rattle.ft_tolerance.specs.Soundness.{IsUntroubled, EndsOrFits, ended, running, Keeps}
 use Rattle.ft_tolerance.proofs.Premises.{After}
 use Rattle.ft_typing.proofs.TypingRows.{row_holds}
-use Rattle.ft_tolerance.proofs.StayingRows.{GoesOn, staying_row}
+use Rattle.ft_tolerance.proofs.RegisterRows.{GoesOn}
+use Rattle.ft_tolerance.proofs.StayingRows.{staying_row}
 use Rattle.ft_tolerance.proofs.Transfers.{block_there, Arrives, jump_blue_row, Branch, taken, passed, branch_blue_row}
 use Rattle.ft_tolerance.proofs.WantedColours.{Wants, wants, found_is_not_wild}
 

@@ -16,14 +16,14 @@ use Rattle.ft_types.specs.declared.object.Object.{Object}
 use Rattle.ft_semantics.specs.State.{State, held, word, colour, cell_at}
 use Rattle.ft_semantics.specs.Step.{found}
 use Rattle.ft_semantics.specs.StepTable.{is_wild}
-use Rattle.ft_typing.specs.declared.why.Why.TheVariants as premise
 use Rattle.ft_typing.specs.Context.{Typed, FormPair, Context, typed}
 use Rattle.ft_typing.specs.TypingRow.{Outcome, Goes, Ends, Fails, same_colour, is_empty}
 use Rattle.ft_typing.specs.TypingTable.{known, refers as is_reference_over, referred}
 use Rattle.ft_typing.proofs.TypingRows.{Holds}
 use Rattle.ft_tolerance.specs.TypedState.{FitsContext}
 use Rattle.ft_tolerance.proofs.Premises.{After, same_colour_is}
-use Rattle.ft_tolerance.proofs.StayingRows.{refers, finds, queue_length}
+use Rattle.ft_tolerance.proofs.RegisterRows.{refers, finds}
+use Rattle.ft_tolerance.proofs.StoreRows.{queue_length}
 
 -- the colours that an instruction wants, that its load finds a word, and that its store finds room or an entry
 abbrev pub Wants : Instr → State → Type 0

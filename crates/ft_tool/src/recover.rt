@@ -8,10 +8,9 @@ ghost use Rattle.ft_tool.specs.Answers.{RecoversObject, again_lines};
 ghost use Rattle.ft_tool.specs.Endings.{Ends, again_of, ending_of_recovery};
 ghost use Rattle.ft_tool.specs.Texts.{again_line};
 
-use crate::check::check;
 use crate::ending::{Ending, refuse_check};
 use crate::over_object::ObjectCommand;
-use ft_checker::Checked;
+use ft_checker::{Checked, check_uncounted};
 use ft_command::Run;
 use ft_edge::{Failed, Sink, put_line};
 use ft_isa::Plan;
@@ -94,7 +93,7 @@ fn recover_object<P: Program, K: Sink>(alloc: Global, program: &P, run: &Run, ou
     ensures { Ends result (RecoversObject (run_view run.now) (P.object program.now))
         (K.log out.old) (K.log out.new) ⊥ }
 {
-    let checked = match check(alloc, program) {
+    let checked = match check_uncounted(alloc, program) {
         Ok(checked) => checked,
         Err(error) => return refuse_check(error, out),
     };

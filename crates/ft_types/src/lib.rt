@@ -15,6 +15,6 @@ mod words;
 
 pub use copying::{copy_cells, copy_object, copy_with_instrs};
 pub use object::{Block, Cell, CellHead, CodeType, Counts, Object, RegType, TypeHead};
-pub use program::{INSTR_BYTES, Program};
+pub use program::{INSTR_BYTES, Program, end_of};
 pub use table::Table;
 pub use words::{ShapeNumbers, high_half, joined, low_half, row_words, shape_numbers};

@@ -1,6 +1,8 @@
 //! Programs: objects, however they are kept.
 ghost use Rattle.std.specs.Prelude.{◌≡◌, ◌<◌, ◌*◌, ◌/◌, ◌^◌, Some, length, slice_get};
 ghost use Rattle.std.specs.Option.{option_map};
+ghost use Rattle.ft_types.specs.Objects.{block_end};
+ghost use Rattle.ft_types.specs.Spellable.{IsSpellable};
 
 use crate::object::{Block, CellHead, Counts, Object, RegType, TypeHead};
 use crate::words::node_words;
@@ -191,4 +193,17 @@ impl Program for Object {
     fn name(&self, k: u32) -> &[u8] {
         self.cells.at(k as usize).name.as_slice()
     }
+}
+
+/// Where block `b` ends: where the next block begins, or after the last instruction.
+pub fn end_of<P: Program>(program: &P, b: u32) -> u32
+    requires spellable { IsSpellable (P.object program.now) }
+    requires there { b < length (P.object program.now).blocks }
+    ensures { result ≡ block_end (P.object program.now) b }
+{
+    let counts = program.counts();
+    if b + 1 < counts.blocks {
+        return program.block(b + 1).start;
+    }
+    counts.instrs
 }

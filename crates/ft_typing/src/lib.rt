@@ -7,10 +7,12 @@
 //! `specs/Accepted.antt`. Objects that are accepted or refused are in `specs/Examples.antt`.
 #![tactic(auto)]
 
+mod basic_types;
 mod examples;
 mod laws;
 mod why;
 
+pub use basic_types::{is_seen_as, same_basic, same_colour};
 pub use examples::{examples_of_acceptance, examples_of_refusal};
 pub use laws::{acceptance_is_no_refusal, rows_are_the_table, types_are_tested};
 pub use why::Why;

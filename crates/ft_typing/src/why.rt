@@ -1,4 +1,6 @@
 //! The premises of the typing rules.
+ghost use Rattle.std.specs.Prelude.{◌≡◌};
+
 use thiserror::Error;
 
 /// The first failing premise of a typing rule. They are numbered from 1 in this order
@@ -65,4 +67,34 @@ pub enum Why {
     /// The cells of a run are not all of one basic type, or that type has 8 `ref`.
     #[error("the cells of a run are not of one type to which a ref can refer")]
     Array,
+}
+
+impl Why {
+    ghost use Rattle.ft_typing.specs.Premise.{number_of};
+
+    /// The number of the premise, from 1.
+    pub fn number(self) -> u32
+        ensures { result ≡ number_of self }
+    {
+        match self {
+            Why::Untyped => 1,
+            Why::Colour => 2,
+            Why::BasicType => 3,
+            Why::NotRef => 4,
+            Why::NotCode => 5,
+            Why::StateOfD => 6,
+            Why::QueueFull => 7,
+            Why::QueueEmpty => 8,
+            Why::Addresses => 9,
+            Why::Values => 10,
+            Why::Conditions => 11,
+            Why::Targets => 12,
+            Why::RegisterUnlike => 13,
+            Why::QueueUnlike => 14,
+            Why::MemoryUnlike => 15,
+            Why::Annotation => 16,
+            Why::BlockEnd => 17,
+            Why::Array => 18,
+        }
+    }
 }

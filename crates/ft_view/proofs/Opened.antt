@@ -16,7 +16,7 @@ use Rattle.ft_format.specs.Broken.{header_at, instrs_at, instrs_part, instr_rows
 use Rattle.ft_format.specs.Broken.{tables_read, broken}
 use Rattle.ft_format.specs.Values.{instr_of}
 use Rattle.ft_format.proofs.Layouts.{length_rows}
-use Rattle.ft_format.proofs.Instrs.{IsPlain, row_plain}
+use Rattle.ft_format.proofs.InstrsBack.{IsPlain, row_plain}
 use Rattle.ft_format.proofs.ReadWhole.{tables_of}
 use Rattle.ft_view.specs.Viewed.{IsView}
 use Rattle.ft_view.specs.Sections.{section_of}
