@@ -21,7 +21,7 @@ use Rattle.ft_format.specs.Values.{register_of, colour_of, basic_type_of, instr_
 use Rattle.ft_format.specs.Broken.{instrs_broken, rows_taken}
 use Rattle.ft_format.proofs.Layouts.{Fit, AllFit}
 use Rattle.ft_format.proofs.Unbroken.{both, each}
-use Rattle.ft_format.proofs.Codes.{le_held, lt_held, eq_held, zero_again, up_to_1, up_to_8, colour_again, op_again}
+use Rattle.ft_format.proofs.Codes.{le_held, lt_held, eq_held, zero_again, up_to, colour_again, op_again}
 use Rattle.ft_format.proofs.Codes.{register_again, basic_again, high_back, low_back}
 use Rattle.ft_format.proofs.References.{AreNarrowNodes, number_again}
 use Rattle.ft_format.proofs.Versions.{few_instr_kinds}
@@ -173,7 +173,7 @@ module _ (h : Header) (nodes : List Node) (first at a b c x high low : ℕ) (nar
       ∷ transfer_broken h nodes first (at + 4) c x high low ∷ []) n in
       let rd = register_again (at + 1) a r.0 in
       let no_b = zero_again (at + 2) b r.1.0 in
-      up_to_1 (After 5)
+      up_to (After 5) 1
       (λ m. let z = zeros m in record {
         written = same_seven refl rd no_b refl z.0 z.1 z.2;
         instr = tt;
@@ -197,7 +197,7 @@ module _ (h : Header) (nodes : List Node) (first at a b c x high low : ℕ) (nar
       ∷ transfer_broken h nodes first (at + 4) c x high low ∷ []) n in
       let rz = register_again (at + 1) a r.0 in
       let rd = register_again (at + 2) b r.1.0 in
-      up_to_1 (After 6)
+      up_to (After 6) 1
       (λ m. let z = zeros m in record {
         written = same_seven refl rz rd refl z.0 z.1 z.2;
         instr = tt;
@@ -259,8 +259,8 @@ instr_again h nodes first at (kind ∷ a ∷ b ∷ c ∷ x ∷ high ∷ low ∷ 
     let most = both (must (nat_le kind (last_instr_kind v)) (errors.Kind at))
     (fields_broken h nodes first at kind a b c x high low) n in
     let has : kind ≤ last_instr_kind v = le_held kind (last_instr_kind v) (errors.Kind at) most.0 in
-    up_to_8 (λ k. k ≤ last_instr_kind v → fields_broken h nodes first at k a b c x high low ≡ None →
-    InstrAgain h nodes first (k ∷ a ∷ b ∷ c ∷ x ∷ high ∷ low ∷ []))
+    up_to (λ k. k ≤ last_instr_kind v → fields_broken h nodes first at k a b c x high low ≡ None →
+    InstrAgain h nodes first (k ∷ a ∷ b ∷ c ∷ x ∷ high ∷ low ∷ [])) 8
     (λ le. instr_0 h nodes first at a b c x high low narrow fit.1.1.1.1.1.0 fit.1.1.1.1.1.1.0)
     (λ le. instr_1 h nodes first at a b c x high low narrow fit.1.1.1.1.1.0 fit.1.1.1.1.1.1.0)
     (λ le. instr_2 h nodes first at a b c x high low narrow fit.1.1.1.1.1.0 fit.1.1.1.1.1.1.0)
