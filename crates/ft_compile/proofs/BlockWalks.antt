@@ -34,7 +34,7 @@ use Rattle.ft_compile.specs.Emitted.{Noted, jump_subst, step_noted, begun, scope
 use Rattle.ft_compile.specs.Emitted.{entry_type, variables_type, cell_from, at_first, emitted, IsEmitted}
 use Rattle.ft_compile.proofs.Walked.{block_noted, RowsAreFine, well_rows}
 use Rattle.ft_compile.proofs.Coded.{coded_step, row_coded, rows_coded}
-use Rattle.ft_compile.proofs.Typing.{green_is_not_blue, blue_is_not_green}
+use Rattle.ft_compile.proofs.KnownPairs.{green_is_not_blue, blue_is_not_green}
 use Rattle.ft_compile.proofs.BlockTypes.{AreRows, type_rows}
 use Rattle.ft_compile.proofs.Objects.{emission, row_of_block, block_is_row, block_count}
 use Rattle.ft_compile.proofs.Names.{program_cells}

@@ -16,7 +16,8 @@ use Rattle.ft_lower.proofs.Runs.{Reaches, reach_trans, reach_one, done_stays, do
 use Rattle.ft_lower.proofs.Runs.{after-append, HasAt, has_front, has_back, has_all}
 use Rattle.ft_lower.proofs.EndBlocks.{zeros_block}
 use Rattle.ft_lower.proofs.Expressions.{Like, same_pair, other_pair}
-use Rattle.ft_lower.proofs.Statements.{Runs, statements_run}
+use Rattle.ft_lower.proofs.Ends.{Runs}
+use Rattle.ft_lower.proofs.Statements.{statements_run}
 
 -- what a resolved program keeps: its names are there, and need and weight are within their limits
 pub record IsResolved (p : Program) : Type 0 where
