@@ -2,6 +2,7 @@
 use Rattle.std.specs.Prelude.{◌≡◌, ℕ, List, [], ◌∷◌, ◌++◌, Some, slice_get, slice_index_or, ◌<◌}
 use Rattle.ft_static.specs.Expression.{Integer, Memory, Expression, word, variable, operation, sel, rem, memory_variable, upd, integer, memory}
 use Rattle.ft_isa.specs.declared.op.Op.{Op}
+use Rattle.ft_static.specs.NodeParts.{EachPart}
 use Rattle.ft_static.specs.declared.node.Node.{Node}
 use Rattle.ft_static.specs.declared.node.Shape.{Shape}
 use Rattle.ft_static.specs.declared.node.Shape.TheVariants as shape
@@ -65,10 +66,4 @@ pub data StandsFor (nodes : List Node) : ℕ → Expression → Type 0 where
 
 -- the parts of a shape are below n
 abbrev pub HasPartsBelow : ℕ → Shape → Type 0
-HasPartsBelow n (shape.Word w) = Unit {0}
-HasPartsBelow n (shape.Var i) = Unit {0}
-HasPartsBelow n (shape.Op o a b) = (a < n) × (b < n)
-HasPartsBelow n (shape.Sel m a) = (m < n) × (a < n)
-HasPartsBelow n shape.Memory = Unit {0}
-HasPartsBelow n (shape.Upd m a v) = (m < n) × (a < n) × (v < n)
-HasPartsBelow n (shape.Rem a m) = a < n
+HasPartsBelow n x = EachPart (λ s k. k < n) x
