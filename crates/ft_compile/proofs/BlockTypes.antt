@@ -28,7 +28,7 @@ use Rattle.ft_compile.specs.Emitted.{node, variable_node, at_first, green_row, b
 use Rattle.ft_compile.proofs.Lists.{Starts, get_starts}
 use Rattle.ft_compile.proofs.Named.{IsNamed}
 use Rattle.ft_compile.proofs.Walked.{variable_there}
-use Rattle.ft_compile.proofs.Forms.{variable_after, memory_after}
+use Rattle.ft_compile.proofs.Forms.{integer_after, memory_after}
 use Rattle.ft_compile.proofs.PremiseRows.{ty}
 
 -- THE CODE TYPES
@@ -108,7 +108,7 @@ module _ (o : Object) (vars : ℕ) (T : HasTypes o vars) (scope : ℕ) (pairs : 
       let f = integer_form_of o in
       let z : 1 + q ≡ suc q = omega arith in
       ap (integer_form_after o (replacement o u)) z
-      ∙ variable_after o T.nodes (suc q) vars q (replacement o u)
+      ∙ integer_after o T.nodes (suc q) vars (shape.Var q) (replacement o u)
       (get_starts (at_first vars).nodes o.nodes (suc q) (variable_node vars q) T.first_nodes
       (variable_there vars q lt))
       ∙ ap (λ ps. slice_index_or ps q nought) (put_rows P)
@@ -148,7 +148,7 @@ module _ (o : Object) (vars : ℕ) (T : HasTypes o vars) (scope : ℕ) (pairs : 
       same_updates m (memory_form_after o (replacement o u) (memory_of o 1)) ≡ true
   memory_like P m e =
       (equal_updates m (memory_form_after o (replacement o u) (memory_of o 1))).1
-      (e ∙ sym (put_memory P) ∙ sym (memory_after o T.nodes 0 0 (replacement o u)
+      (e ∙ sym (put_memory P) ∙ sym (memory_after o T.nodes 0 0 shape.Memory (replacement o u)
       (get_starts (at_first vars).nodes o.nodes 0 (node 0 shape.Memory) T.first_nodes refl))
       ∙ ap (memory_form_after o (replacement o u)) (sym T.memory))
 

@@ -61,14 +61,14 @@ gives o c (Idx rd rs first m) = of_idx first m (run_type o first m) (typed c rs.
 gives o c i = None
 
 -- the row of a write, by what it gives
-write_row : ℕ → Context → Option Typed → Premise → Outcome
+unfoldable pub write_row : ℕ → Context → Option Typed → Premise → Outcome
 write_row r c (Some t) p = Goes (with_type r t c)
 write_row r c None p = Fails p
 
 -- a row that goes on with a write
-record Gave (r : ℕ) (c : Context) (u : Option Typed) (x : Outcome) : Type 0 where
-  failing : Premise
-  row_is : x ≡ write_row r c u failing
+pub record Gave (r : ℕ) (c : Context) (u : Option Typed) (x : Outcome) : Type 0 where
+  pub failing : Premise
+  pub row_is : x ≡ write_row r c u failing
 
 -- a write that a test decides
 gave_if : (r : ℕ) (c : Context) (p : Premise) (t : Typed) (b : Bool) →
@@ -134,7 +134,7 @@ gave_idx first m r c (Some b) (Some s) = record { failing = premise.Array; row_i
 gave_there : (q r : ℕ) (c : Context) (u : Option Typed) (x : Outcome) → Some q ≡ Some r → Gave q c u x → Gave r c u x
 gave_there q r c u x e g = (let same : q ≡ r = cc in subst (λ n. Gave n c u x) same g)
 
-gave : (o : Object) (c : Context) (i : Instr) (r : ℕ) → written i ≡ Some r → Gave r c (gives o c i) (row o c i)
+pub gave : (o : Object) (c : Context) (i : Instr) (r : ℕ) → written i ≡ Some r → Gave r c (gives o c i) (row o c i)
 unfolding gives
 gave o c (OpReg op rd rs rt) r e = gave_there _ _ _ _ _ e
     (gave_op_reg op rd.number c (typed c rs.number) (typed c rt.number))
@@ -179,3 +179,13 @@ gives_same o c d (Ld k rd rs) h m = λ j. of_ld k (m k rd rs refl j) (h rs.numbe
 gives_same o c d (Idx rd rs first n) h m = ap (of_idx first n (run_type o first n))
     (h rs.number (eq-eqb rs.number rs.number refl))
 gives_same o c d i h m = refl
+
+-- it looks at an object for the types of runs, and of the words of moves
+pub gives_there : (o x : Object) (c : Context) (i : Instr) →
+    ((first m : ℕ) → run_type x first m ≡ run_type o first m) →
+    ((rd : Reg) (v : Coloured) (y : Basic) → i ≡ Mov rd v y → has_type x v.word y ≡ has_type o v.word y) → gives x c i
+    ≡ gives o c i
+unfolding gives
+gives_there o x c (Mov rd value basic) runs words = ap (λ h. of_mov h value basic) (words rd value basic refl)
+gives_there o x c (Idx rd rs first m) runs words = ap (λ b. of_idx first m b (typed c rs.number)) (runs first m)
+gives_there o x c i runs words = refl

@@ -14,7 +14,6 @@ mod changes;
 mod checks;
 mod imports;
 mod joins;
-mod key;
 mod laying;
 mod lines;
 mod link_error;

@@ -68,13 +68,8 @@ variable_memory o n nodes s = ap memory_part (tree_at-row o.nodes n s.node nodes
 -- a memory's node of which the tree is the memory variable
 variable_shape : (x : Object) (y : Shape) → is_memory y ≡ true → memory_part (tree_of (trees x.nodes) y)
     ≡ memory_variable → y ≡ shape.Memory
-variable_shape x (shape.Word w) m e = cc
-variable_shape x (shape.Var i) m e = cc
-variable_shape x (shape.Op o a b) m e = cc
-variable_shape x (shape.Sel k a) m e = cc
 variable_shape x shape.Memory m e = refl
-variable_shape x (shape.Upd k a v) m e = cc
-variable_shape x (shape.Rem a n) m e = cc
+variable_shape x y m e = cc
 
 -- what says the same as an entry type is one
 entry_like : (o x : Object) (t u : ℕ) (y : CodeType) → IsSpellable o → IsSpellable x → LikeTypes o t x u →

@@ -6,7 +6,7 @@ use Rattle.ft_isa.specs.declared.basic.Basic.{Basic}
 use Rattle.ft_typing.specs.Premise.{Premise}
 use Rattle.ft_typing.specs.Context.{Typed, FormPair, Context}
 use Rattle.ft_typing.specs.TypingRow.{Outcome, Goes, Ends, Fails, need, for_typed, for_ref_over, for_code_over}
-use Rattle.ft_typing.specs.TypingRow.{for_oldest, for_run}
+use Rattle.ft_typing.specs.TypingRow.{for_oldest}
 
 -- R of the two contexts that the rows go on to, or both end the block, or the first fails
 unfoldable pub Both : (Context → Context → Type 0) → Outcome → Outcome → Type 0
@@ -82,16 +82,3 @@ pub both_oldest : (R : Context → Context → Type 0) (q q' : List FormPair) (f
     Both R (for_oldest q f) (for_oldest q' f')
 both_oldest R q q' f f' e h = subst (λ (z : List FormPair). Both R (for_oldest q f) (for_oldest z f')) e
     (both_oldest_same R q f f' h)
-
--- the same run of cells
-both_run_same : (R : Context → Context → Type 0) (y : Option Basic) (f f' : Basic → Outcome) →
-    ((b : Basic) → Both R (f b) (f' b)) → Both R (for_run y f) (for_run y f')
-unfolding Both for_run
-both_run_same R None f f' h = tt
-both_run_same R (Some b) f f' h = h b
-
--- runs of the same type
-pub both_run : (R : Context → Context → Type 0) (y y' : Option Basic) (f f' : Basic → Outcome) → y ≡ y' →
-    ((b : Basic) → Both R (f b) (f' b)) → Both R (for_run y f) (for_run y' f')
-both_run R y y' f f' e h = subst (λ (z : Option Basic). Both R (for_run y f) (for_run z f')) e
-    (both_run_same R y f f' h)

@@ -39,7 +39,7 @@ use Rattle.ft_modules.proofs.LinkedContexts.{free_target_entered}
 use Rattle.ft_modules.proofs.LinkedRows.{row_beside}
 use Rattle.ft_modules.proofs.LinkedBlocks.{both_ends, both_go, Walked, walked_first}
 use Rattle.ft_modules.proofs.World.{before_of, InWorld, World, none_fetched, Stands, AreTogether, both_stand}
-use Rattle.ft_modules.proofs.Arrivals.{zip_at, if_silent, pass_silent, jump_blue_silent, claimed, goes_to, ends_by}
+use Rattle.ft_modules.proofs.Arrivals.{zip_at, silent, claimed, goes_to, ends_by}
 use Rattle.ft_modules.proofs.Arrivals.{goes_holds, ends_holds, address_word, Steps, arrives}
 
 module _ (modules : List Object) (joins : List Link) (x : Object) (spelled : IsSpellable x) (accepted : IsAccepted x)
@@ -220,7 +220,7 @@ module _ (modules : List Object) (joins : List Link) (x : Object) (spelled : IsS
       let z = ends_holds _ _ (row x b (JmpB rd q)) (jump_blue_row x u b t [] rd q spelled.nodes h.other_fits.context)
       (both_ends _ _ _ both y.0) in
       record {
-        output = jump_blue_silent (word s rd) s ∙ sym (jump_blue_silent (word t rd) t);
+        output = silent (JmpB rd w) s refl ∙ sym (silent (JmpB rd q) t refl);
         after = leave rd w q _ _ entered same y.1 z;
       }
 
@@ -252,8 +252,7 @@ module _ (modules : List Object) (joins : List Link) (x : Object) (spelled : IsS
       let z = goes_holds _ _ (row x b (BzB rz rd q)) k.context
       (branch_blue_row x u b t [] rz rd q spelled.nodes h.other_fits.context) (ap (row x b) (sym ex) ∙ k.goes) in
       record {
-        output = if_silent (word s rz == 0) _ _ (jump_blue_silent (word s rd) s) (pass_silent s)
-            ∙ sym (if_silent (word t rz == 0) _ _ (jump_blue_silent (word t rd) t) (pass_silent t));
+        output = silent (BzB rz rd w) s refl ∙ sym (silent (BzB rz rd q) t refl);
         after = branched rz rd w q y.context k.context _ _ (word s rz == 0) (word t rz == 0)
             (ap (λ n. n == 0) zero_same) entered same eo' k.goes k.beside y.holds z;
       }

@@ -111,10 +111,14 @@ some_free None e = refl
 some_free (Some t) e = cc
 
 -- a register that is not entered is known alike
+pub free_at : (o : Object) (to : ℕ → ℕ × ℕ) (e : Entered) (c b : Context) (r : ℕ) → Beside o to e c b →
+    not (is_some (finite.get e r)) ≡ true → typed c r ≡ typed b r
+free_at o to e c b r h f = subst (λ (u : Option ℕ). RegistersBeside o to u (typed c r) (typed b r))
+    (some_free (finite.get e r) f) (h.registers r)
+
 pub free_same : (o : Object) (to : ℕ → ℕ × ℕ) (e : Entered) (c b : Context) (r : Reg) → Beside o to e c b → is_free e r
     ≡ true → typed c r.number ≡ typed b r.number
-free_same o to e c b r h f = subst (λ (u : Option ℕ). RegistersBeside o to u (typed c r.number) (typed b r.number))
-    (some_free (finite.get e r.number) f) (h.registers r.number)
+free_same o to e c b r h f = free_at o to e c b r.number h f
 
 -- a register that is entered
 pub record Target (o : Object) (to : ℕ → ℕ × ℕ) (e : Entered) (c b : Context) (r : Reg) : Type 0 where

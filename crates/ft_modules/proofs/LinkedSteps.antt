@@ -1,30 +1,31 @@
 -- The modules' run and the linked object's run: one step from states that stand beside each other.
-use Rattle.std.proofs.Common.{◌≡◌, ◌⊎◌, inl, inr, ℕ, true, ◌==◌, nat_lt, List, [], length, slice_get, Option, Some}
+use Rattle.std.proofs.Common.{◌≡◌, ◌≢◌, ◌⊎◌, inl, inr, ℕ, true, false, List, [], length, slice_get, Option, Some}
 use Rattle.std.proofs.Common.{None, refl, sym, ap, ◌∙◌, subst}
 use Rattle.ft_isa.specs.Words.{IsWord}
 use Rattle.ft_isa.specs.declared.basic.Basic.{Basic}
-use Rattle.ft_isa.specs.declared.colour.Colour.TheVariants.{Green, Blue}
+use Rattle.ft_isa.specs.declared.colour.Colour.TheVariants.{Blue}
 use Rattle.ft_isa.specs.declared.colour.Coloured.{Coloured}
 use Rattle.ft_isa.specs.declared.reg.Reg.{Reg}
 use Rattle.ft_isa.specs.declared.instr.Instr.{Instr}
-use Rattle.ft_isa.specs.declared.instr.Instr.TheVariants.{OpReg, OpWord, Mov, Ld, St, JmpG, JmpB, BzG, BzB, Halt, Idx}
+use Rattle.ft_isa.specs.declared.instr.Instr.TheVariants.{Mov, St, JmpB, BzB, Halt}
+use Rattle.ft_isa.specs.Instructions.{is_blue_store}
 use Rattle.ft_isa.proofs.Lists.{all_there}
 use Rattle.ft_static.specs.Expression.{Valuation}
 use Rattle.ft_types.specs.declared.object.Object.{Object}
 use Rattle.ft_semantics.specs.declared.status.Status.{Status}
 use Rattle.ft_semantics.specs.declared.status.Status.TheVariants.{Running}
 use Rattle.ft_typing.specs.Accepted.{IsAccepted}
-use Rattle.ft_types.specs.Spellable.{IsInstr, IsSpellable}
+use Rattle.ft_types.specs.Spellable.{IsInstr, IsSpellable, subst_of}
 use Rattle.ft_semantics.specs.State.{State, word}
-use Rattle.ft_semantics.specs.Step.{Stepping, quiet, found, execute, advance, step_at, step}
+use Rattle.ft_semantics.specs.Step.{Stepping, quiet, execute, advance, step_at, step}
 use Rattle.ft_typing.specs.Context.{Context}
 use Rattle.ft_typing.specs.TypingRow.{row}
 use Rattle.ft_tolerance.specs.TypedState.{instr_number}
 use Rattle.ft_tolerance.proofs.Premises.{After}
 use Rattle.ft_tolerance.proofs.AcceptedSteps.{Here, here}
-use Rattle.ft_tolerance.proofs.RegisterRows.{GoesOn, op_row, op_word_row, mov_row, load_row, index_row}
-use Rattle.ft_tolerance.proofs.StoreRows.{store_green_row, store_blue_row}
-use Rattle.ft_tolerance.proofs.StayingRows.{jump_green_row, branch_green_row}
+use Rattle.ft_tolerance.proofs.RegisterRows.{GoesOn, mov_row}
+use Rattle.ft_tolerance.proofs.StoreRows.{store_blue_row}
+use Rattle.ft_tolerance.proofs.StayingRows.{staying_row}
 use Rattle.ft_modules.specs.CodeWalk.{code_claimed, is_traced}
 use Rattle.ft_modules.specs.Linked.{moves_to}
 use Rattle.ft_modules.specs.Links.{Link}
@@ -33,8 +34,7 @@ use Rattle.ft_modules.proofs.LinkedContexts.{IsMovOf, IsInstrOf}
 use Rattle.ft_modules.proofs.LinkedBlocks.{both_go}
 use Rattle.ft_modules.proofs.World.{InWorld, World, SameFetched, none_fetched, both_fetched, Stands, both_ended}
 use Rattle.ft_modules.proofs.World.{both_stand}
-use Rattle.ft_modules.proofs.Arrivals.{fetches, load_silent, if_silent, jump_green_silent, pass_silent}
-use Rattle.ft_modules.proofs.Arrivals.{store_blue_shows, goes_to, goes_holds, Steps}
+use Rattle.ft_modules.proofs.Arrivals.{fetches, silent, store_blue_shows, goes_to, goes_holds, Steps}
 use Rattle.ft_modules.proofs.GoTogether.{related, walked, rows, further, stored_words, jumps, branches}
 
 module _ (modules : List Object) (joins : List Link) (x : Object) (spelled : IsSpellable x) (accepted : IsAccepted x)
@@ -120,35 +120,23 @@ module _ (modules : List Object) (joins : List Link) (x : Object) (spelled : IsS
       ∙ is) (mov_row o v c s [] ⊥ rd y basic below h.fits.context)
       (mov_row x u b t [] ⊥ rd _ _ k'.0 h.other_fits.context) (λ _ _. refl))
 
+  -- an instruction that stays in its block and has no output
+  stays_silent : (i j : Instr) → here_o.instr ≡ i → here_x.instr ≡ j → j ≡ i → subst_of i ≡ None → i ≢ Halt →
+      is_blue_store i ≡ false → IsInstr (length o.types) (length o.cells) i →
+      IsInstr (length x.types) (length x.cells) j →
+      Steps modules joins x world a.number (execute i s []) (execute j t [])
+  stays_silent i j eo ex is plain going still k l =
+      subst (λ (z : Instr). Steps modules joins x world a.number (execute i s []) (execute z t [])) (sym is)
+      (stays_as i i eo (ex ∙ is) (staying_row o v c s [] ⊥ i plain going home.spelled.few_cells k h.fits.context)
+      (staying_row x u b t [] ⊥ i plain going spelled.few_cells (subst (IsInstr (length x.types) (length x.cells)) is l)
+      h.other_fits.context) (λ _ _. silent i s still ∙ sym (silent i t still)))
+
   -- an instruction that both execute
   executed_by : (i j : Instr) → here_o.instr ≡ i → here_x.instr ≡ j → IsInstrOf o x home.to i j →
       is_traced o h.entered i ≡ true → IsInstr (length o.types) (length o.cells) i →
       IsInstr (length x.types) (length x.cells) j →
       Steps modules joins x world a.number (execute i s []) (execute j t [])
-  executed_by (OpReg op rd rs rt) j eo ex is f k l =
-      subst (λ (z : Instr). Steps modules joins x world a.number (execute (OpReg op rd rs rt) s []) (execute z t []))
-      (sym is)
-      (stays_as (OpReg op rd rs rt) (OpReg op rd rs rt) eo (ex ∙ is) (op_row o v c s [] ⊥ op rd rs rt h.fits.context)
-      (op_row x u b t [] ⊥ op rd rs rt h.other_fits.context) (λ _ _. refl))
-  executed_by (OpWord op rd rs y) j eo ex is f k l =
-      subst (λ (z : Instr). Steps modules joins x world a.number (execute (OpWord op rd rs y) s []) (execute z t []))
-      (sym is)
-      (stays_as (OpWord op rd rs y) (OpWord op rd rs y) eo (ex
-      ∙ is) (op_word_row o v c s [] ⊥ op rd rs y k h.fits.context)
-      (op_word_row x u b t [] ⊥ op rd rs y k h.other_fits.context) (λ _ _. refl))
   executed_by (Mov rd y basic) j eo ex is f k l = moves rd y basic j (code_claimed basic) eo ex is k.0 l
-  executed_by (Ld n rd rs) j eo ex is f k l =
-      subst (λ (z : Instr). Steps modules joins x world a.number (execute (Ld n rd rs) s []) (execute z t [])) (sym is)
-      (stays_as (Ld n rd rs) (Ld n rd rs) eo (ex ∙ is) (load_row o v c s [] ⊥ n rd rs h.fits.context)
-      (load_row x u b t [] ⊥ n rd rs h.other_fits.context) (λ _ _. load_silent n rd (found n s (word s rs)) s
-      ∙ sym (load_silent n rd (found n t (word t rs)) t)))
-  executed_by (St Green rd rs) j eo ex is f k l =
-      subst (λ (z : Instr). Steps modules joins x world a.number (execute (St Green rd rs) s []) (execute z t []))
-      (sym is)
-      (stays_as (St Green rd rs) (St Green rd rs) eo (ex ∙ is) (store_green_row o v c s [] ⊥ rd rs h.fits.context)
-      (store_green_row x u b t [] ⊥ rd rs h.other_fits.context)
-      (λ _ _. if_silent (nat_lt (length s.queue) 8) _ _ refl refl
-      ∙ sym (if_silent (nat_lt (length t.queue) 8) _ _ refl refl)))
   executed_by (St Blue rd rs) j eo ex is f k l =
       let words = stored_words modules joins x spelled accepted world a t h rd rs eo f in
       subst (λ (z : Instr). Steps modules joins x world a.number (execute (St Blue rd rs) s []) (execute z t []))
@@ -158,17 +146,6 @@ module _ (modules : List Object) (joins : List Link) (x : Object) (spelled : IsS
       (λ go gx. store_blue_shows (word s rd) (word s rs) s h.going go
       ∙ (λ i. Some (record { addr = words.0 i; value = words.1 i }))
       ∙ sym (store_blue_shows (word t rd) (word t rs) t h.other_going gx)))
-  executed_by (JmpG rd) j eo ex is f k l =
-      subst (λ (z : Instr). Steps modules joins x world a.number (execute (JmpG rd) s []) (execute z t [])) (sym is)
-      (stays_as (JmpG rd) (JmpG rd) eo (ex ∙ is) (jump_green_row o v c s [] ⊥ rd h.fits.context)
-      (jump_green_row x u b t [] ⊥ rd h.other_fits.context) (λ _ _. jump_green_silent (word s rd) s
-      ∙ sym (jump_green_silent (word t rd) t)))
-  executed_by (BzG rz rd) j eo ex is f k l =
-      subst (λ (z : Instr). Steps modules joins x world a.number (execute (BzG rz rd) s []) (execute z t [])) (sym is)
-      (stays_as (BzG rz rd) (BzG rz rd) eo (ex ∙ is) (branch_green_row o v c s [] ⊥ rz rd h.fits.context)
-      (branch_green_row x u b t [] ⊥ rz rd h.other_fits.context)
-      (λ _ _. if_silent (word s rz == 0) _ _ (jump_green_silent (word s rd) s) (pass_silent s)
-      ∙ sym (if_silent (word t rz == 0) _ _ (jump_green_silent (word t rd) t) (pass_silent t))))
   executed_by (JmpB rd w) j eo ex is f k l =
       subst (λ (z : Instr). Steps modules joins x world a.number (execute (JmpB rd w) s []) (execute z t [])) (sym is.1)
       (jumps modules joins x spelled accepted world a t h rd w is.0 eo (ex ∙ is.1) is.2 f)
@@ -178,14 +155,7 @@ module _ (modules : List Object) (joins : List Link) (x : Object) (spelled : IsS
   executed_by Halt j eo ex is f k l =
       subst (λ (z : Instr). Steps modules joins x world a.number (execute Halt s []) (execute z t [])) (sym is)
       (record { output = refl; after = both_ended refl refl })
-  executed_by (Idx rd rs first n) j eo ex is f k l =
-      let l' : IsInstr (length x.types) (length x.cells) (Idx rd rs first n) =
-      subst (IsInstr (length x.types) (length x.cells)) is l in
-      subst (λ (z : Instr). Steps modules joins x world a.number (execute (Idx rd rs first n) s []) (execute z t []))
-      (sym is)
-      (stays_as (Idx rd rs first n) (Idx rd rs first n) eo (ex
-      ∙ is) (index_row o v c s [] ⊥ rd rs first n home.spelled.few_cells k h.fits.context)
-      (index_row x u b t [] ⊥ rd rs first n spelled.few_cells l' h.other_fits.context) (λ _ _. refl))
+  executed_by i j eo ex is f k l = stays_silent i j eo ex is refl (λ e. cc) refl k l
 
   -- the instructions at both places, executed
   executed : Steps modules joins x world a.number (execute here_o.instr s []) (execute here_x.instr t [])

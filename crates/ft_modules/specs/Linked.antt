@@ -8,9 +8,9 @@ use Rattle.ft_isa.specs.declared.reg.Reg.{Reg}
 use Rattle.ft_isa.specs.declared.instr.Subst.{Subst}
 use Rattle.ft_isa.specs.declared.instr.Instr.{Instr}
 use Rattle.ft_isa.specs.declared.instr.Instr.TheVariants.{Mov, JmpB, BzB}
+use Rattle.ft_static.specs.NodeParts.{renamed}
 use Rattle.ft_static.specs.declared.node.Node.{Node}
 use Rattle.ft_static.specs.declared.node.Shape.{Shape}
-use Rattle.ft_static.specs.declared.node.Shape.TheVariants as shape
 use Rattle.ft_types.specs.declared.object.Object.{Object}
 use Rattle.ft_types.specs.declared.object.Block.{Block}
 use Rattle.ft_types.specs.declared.object.CodeType.{CodeType}
@@ -45,13 +45,7 @@ before_module k (o ∷ os) (suc m) = before_module (after_module k o) os m
 
 -- a node whose parts are so many nodes further
 abbrev pub raised_shape : ℕ → Shape → Shape
-raised_shape n (shape.Word w) = shape.Word w
-raised_shape n (shape.Var i) = shape.Var i
-raised_shape n (shape.Op op a b) = shape.Op op (n + a) (n + b)
-raised_shape n (shape.Sel m a) = shape.Sel (n + m) (n + a)
-raised_shape n shape.Memory = shape.Memory
-raised_shape n (shape.Upd m a v) = shape.Upd (n + m) (n + a) (n + v)
-raised_shape n (shape.Rem a m) = shape.Rem (n + a) m
+raised_shape n x = renamed (λ k. n + k) x
 
 -- a node, with the same scope
 abbrev pub raised_node : ℕ → Node → Node

@@ -1,10 +1,11 @@
 -- Expressions as trees, what they denote, and substitution.
-use Rattle.std.specs.Prelude.{ℕ, ◌%◌, ◌<◌, List, map, slice_index_or}
+use Rattle.std.specs.Prelude.{ℕ, ◌%◌, ◌<◌, ◌==◌, ◌&&◌, Bool, true, false, List, map, slice_index_or}
 use Rattle.std.specs.Option.{unwrap_or}
 use Rattle.std.specs.Ordering.{nat_cmp}
 use Rattle.std.specs.FinMap as words
 use Rattle.std.specs.FinMap.{FinMap}
 use Rattle.ft_isa.specs.declared.op.Op.{Op}
+use Rattle.ft_isa.specs.Operations.{op_code}
 use Rattle.ft_isa.specs.Words.{apply, IsWord}
 use Rattle.ft_static.specs.NodeRules.{IsLength}
 
@@ -133,3 +134,19 @@ pub data Denotation : Type 0 where
 abbrev pub denotation : Expression → Valuation → Denotation
 denotation (integer e) s = denoted_word (value e s)
 denotation (memory m) s = denoted_memory (memory_value m s)
+
+abbrev mutual
+  -- whether two integers are the same tree
+  pub same_integer : Integer → Integer → Bool
+  same_integer (word v) (word w) = v == w
+  same_integer (variable i) (variable j) = i == j
+  same_integer (operation o a b) (operation p c d) = (op_code o == op_code p) && same_integer a c && same_integer b d
+  same_integer (sel m a) (sel n c) = same_memory m n && same_integer a c
+  same_integer (rem a l) (rem c k) = (l == k) && same_integer a c
+  same_integer e f = false
+
+  -- whether two memories are
+  pub same_memory : Memory → Memory → Bool
+  same_memory memory_variable memory_variable = true
+  same_memory (upd m a b) (upd n c d) = same_memory m n && same_integer a c && same_integer b d
+  same_memory m n = false
