@@ -91,8 +91,7 @@ module _ (ps : List Polynomial) (u : Updates) (s : Valuation) (lawful : IsLawful
 
   -- the form of an expression under forms denotes what the expression does in the valuation under them
   pub value_under : OfAll (λ e. AreWords e → Denotes e) (λ m. AreWordsOfMemory m → MemoryDenotes m)
-  value_under = by_parts_where AreWords Denotes AreWordsOfMemory MemoryDenotes words_of_parts (λ m h. split m h) whole
-      stored
+  value_under = by_parts_where AreWords Denotes AreWordsOfMemory MemoryDenotes words_of_parts split whole stored
     where
       split : (m : Memory) → AreWordsOfMemory m → OfMemoryParts AreWords AreWordsOfMemory m
       split memory_variable h = h
