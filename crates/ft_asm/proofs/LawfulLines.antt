@@ -1,6 +1,7 @@
 -- Each line of an object that obeys the rules fits, and its instructions are read back from their lines.
 use Rattle.std.proofs.Common.{◌≡◌, inl, inr, ℕ, zero, suc, ◌+◌, ◌-◌, ◌≤◌, ◌==◌, nat_le, true, false, ◌&&◌, ◌||◌, List}
-use Rattle.std.proofs.Common.{[], ◌∷◌, ◌++◌, length, map, take, drop, Some, refl, ap, sym, ◌∙◌, subst, arith}
+use Rattle.std.proofs.Common.{[], ◌∷◌, ◌++◌, length, map, take, drop, Option, None, Some, refl, ap, sym, ◌∙◌, subst}
+use Rattle.std.proofs.Common.{arith}
 use Rattle.std.specs.Prelude.{slice_get, slice_range}
 use Rattle.std.specs.List.{AllByRecursion, flat_map, list_all}
 use Rattle.std.proofs.lemmas.Bool.{and_parts, leb-true, eqb-true, or_cases}
@@ -20,11 +21,11 @@ use Rattle.ft_types.specs.declared.object.RegType.{RegType}
 use Rattle.ft_types.specs.Spellable.{is_letter, is_digit, is_bracket, is_name_byte, is_name, IsCell, IsRegRow}
 use Rattle.ft_types.specs.Spellable.{IsQueueRow, IsCodeType, IsInstr, subst_of, IsSubst, before, substs_of, Cover}
 use Rattle.ft_asm.specs.declared.line.Line.TheVariants as lines
-use Rattle.ft_format.specs.Fits.{Is32}
+use Rattle.ft_format.specs.Fits.{Is32, FitsInstr}
 use Rattle.ft_format.proofs.Codes.{basic_fits}
 use Rattle.ft_format.proofs.Nodes.{named_fits, shape_fits}
-use Rattle.ft_asm.specs.Lines.{FitsCode, FitsLine, HasParts, IsAnyWord}
-use Rattle.ft_asm.specs.Listings.{pend_line, type_lines, rows_of, subst_at, instr_at, instrs_from, rows_in, code_of}
+use Rattle.ft_asm.specs.Lines.{placed, FitsRows, FitsCode, FitsLine, HasParts, IsAnyWord}
+use Rattle.ft_asm.specs.Listings.{pend_line, type_lines, rows_of, instr_at, instrs_from, rows_in, code_of}
 use Rattle.ft_asm.proofs.Texts.{part_from}
 
 -- LISTS
@@ -142,13 +143,6 @@ module _ (types : ℕ) (nodes : List Node) (few_types : types ≤ 4096) (few_nod
   -- INSTRUCTIONS
 
   module _ (cells : ℕ) (few_cells : cells ≤ 1024) (substs : List ℕ) (rows_fit : AllByRecursion Is32 substs) where
-    subst_fits : (first : ℕ) (s : Subst) → IsSubst nodes (length substs) first s → Is32 s.memory
-        × AllByRecursion Is32 (rows_in substs s)
-    subst_fits first s h = (
-      named_fits nodes (length nodes) 128 true s.memory few_nodes h.memory,
-      all_taken Is32 (s.past - s.first) (drop s.first substs) (all_dropped Is32 s.first substs rows_fit),
-    )
-
     -- what is shown of one instruction: it fits, it is had back, and the rows after it are those after its own
     record OneShown (first : ℕ) (i : Instr) (rest : List Subst) : Type 0 where
       fits : FitsCode (code_of substs i)
@@ -156,91 +150,90 @@ module _ (types : ℕ) (nodes : List Node) (few_types : types ≤ 4096) (few_nod
       rows : rows_of (code_of substs i) ++ drop (first + length (rows_of (code_of substs i))) substs ≡ drop first substs
       covers : Cover nodes (length substs) (first + length (rows_of (code_of substs i))) rest
 
-    -- an instruction without a substitution
-    no_rows : (first : ℕ) (rest : List Subst) → Cover nodes (length substs) first rest →
-        (([] ++ drop (first + 0) substs) ≡ drop first substs) × Cover nodes (length substs) (first + 0) rest
-    no_rows first rest h =
-        let same : first ≡ first + 0 = omega arith in (
-          ap (λ n. drop n substs) (sym same),
-          subst (λ n. Cover nodes (length substs) n rest) same h,
-        )
-
-    some_length : (first : ℕ) (s : Subst) → IsSubst nodes (length substs) first s → first + length (rows_in substs s)
-        ≡ s.past
+    some_length : (first : ℕ) (s : Subst) → IsSubst nodes (length substs) first s →
+        first + length (slice_range substs s.first s.past) ≡ s.past
     some_length first s h =
         let long = range_length substs s.first s.past h.rising h.there in
         let at = h.first_is in
         let up = h.rising in
         omega arith
 
+    -- the rows of an instruction, and those after them
+    record RowsShown (first : ℕ) (s : Option Subst) (rest : List Subst) : Type 0 where
+      fit : FitsRows (rows_in substs s) s
+      rows : rows_in substs s ++ drop (first + length (rows_in substs s)) substs ≡ drop first substs
+      covers : Cover nodes (length substs) (first + length (rows_in substs s)) rest
+
+    rows_shown : (first : ℕ) (s : Option Subst) (rest : List Subst) →
+        Cover nodes (length substs) first (before s rest) → RowsShown first s rest
+    rows_shown first None rest c =
+        let same : first ≡ first + 0 = omega arith in
+        record {
+          fit = refl;
+          rows = ap (λ n. drop n substs) (sym same);
+          covers = subst (λ n. Cover nodes (length substs) n rest) same c;
+        }
+    rows_shown first (Some s) rest c =
+        let long = some_length first s c.0 in
+        record {
+          fit = all_taken Is32 (s.past - s.first) (drop s.first substs) (all_dropped Is32 s.first substs rows_fit);
+          rows = ap (λ n. slice_range substs s.first s.past ++ drop n substs) long
+              ∙ sym (drop_split substs s.first s.past c.0.rising) ∙ ap (λ n. drop n substs) c.0.first_is;
+          covers = subst (λ n. Cover nodes (length substs) n rest) (sym long) c.1;
+        }
+
+    memory_fits : (first : ℕ) (s : Subst) → IsSubst nodes (length substs) first s → Is32 s.memory
+    memory_fits first s h = named_fits nodes (length nodes) 128 true s.memory few_nodes h.memory
+
+    numbers_fit : (first : ℕ) (i : Instr) (rest : List Subst) → IsInstr types cells i →
+        Cover nodes (length substs) first (before (subst_of i) rest) → FitsInstr (placed 0 0 i)
+    numbers_fit first (instrs.Mov rd value basic) rest h c = (h.0, basic_fits types basic few_types h.1)
+    numbers_fit first (instrs.JmpB rd s) rest h c = (omega arith, omega arith, memory_fits first s c.0)
+    numbers_fit first (instrs.BzB rz rd s) rest h c = (omega arith, omega arith, memory_fits first s c.0)
+    numbers_fit first (instrs.Idx rd rs x m) rest h c = (
+      let begins = h.begins in omega arith,
+      let short = h.length.1 in omega arith,
+    )
+    numbers_fit first i rest h c = h
+
     subst_back : (first : ℕ) (s : Subst) → IsSubst nodes (length substs) first s →
-        subst_at first s.memory (rows_in substs s) ≡ s
+        record {
+          first = first;
+          past = first + length (slice_range substs s.first s.past);
+          memory = s.memory;
+        } ≡ s
     subst_back first s h =
         ap (λ n. record { first = first; past = n; memory = s.memory }) (some_length first s h)
         ∙ ap (λ n. record { first = n; past = s.past; memory = s.memory }) (sym h.first_is)
 
-    some_rows : (first : ℕ) (s : Subst) (rest : List Subst) → IsSubst nodes (length substs) first s →
-        Cover nodes (length substs) s.past rest
-        → ((rows_in substs s ++ drop (first + length (rows_in substs s)) substs) ≡ drop first substs)
-        × Cover nodes (length substs) (first + length (rows_in substs s)) rest
-    some_rows first s rest h c =
-        let long = some_length first s h in (
-          ap (λ n. rows_in substs s ++ drop n substs) long ∙ sym (drop_split substs s.first s.past h.rising)
-              ∙ ap (λ n. drop n substs) h.first_is,
-          subst (λ n. Cover nodes (length substs) n rest) (sym long) c,
-        )
+    instr_back : (first : ℕ) (i : Instr) (rest : List Subst) →
+        Cover nodes (length substs) first (before (subst_of i) rest) → instr_at first (code_of substs i) ≡ i
+    instr_back first (instrs.JmpB rd s) rest c = ap (instrs.JmpB rd) (subst_back first s c.0)
+    instr_back first (instrs.BzB rz rd s) rest c = ap (instrs.BzB rz rd) (subst_back first s c.0)
+    instr_back first i rest c = refl
 
-    plain : (first : ℕ) (i : Instr) (rest : List Subst) → rows_of (code_of substs i) ≡ [] →
-        FitsCode (code_of substs i) → instr_at first (code_of substs i) ≡ i → Cover nodes (length substs) first rest →
-        OneShown first i rest
-    plain first i rest none f b c =
-        let two = no_rows first rest c in
-        let same : first + 0 ≡ first + length (rows_of (code_of substs i)) =
-        ap (λ (l : List ℕ). first + length l) (sym none) in
-        record {
-          fits = f;
-          back = b;
-          rows = ap (λ l. l ++ drop (first + length (rows_of (code_of substs i))) substs) none
-              ∙ ap (λ n. [] ++ drop n substs) (sym same) ∙ two.0;
-          covers = subst (λ n. Cover nodes (length substs) n rest) same two.1;
-        }
+    placed_twice : (i : Instr) → placed 0 0 (placed 0 0 i) ≡ placed 0 0 i
+    placed_twice (instrs.JmpB rd s) = refl
+    placed_twice i = refl
+
+    still_fit : (rows : List ℕ) (i : Instr) → FitsRows rows (subst_of i) → FitsRows rows (subst_of (placed 0 0 i))
+    still_fit rows (instrs.JmpB rd s) h = h
+    still_fit rows i h = h
 
     one_shown : (first : ℕ) (i : Instr) (rest : List Subst) → IsInstr types cells i →
         Cover nodes (length substs) first (before (subst_of i) rest) → OneShown first i rest
-    one_shown first (instrs.OpReg op rd rs rt) rest h c = plain first (instrs.OpReg op rd rs rt) rest refl tt refl c
-    one_shown first (instrs.OpWord op rd rs value) rest h c =
-        plain first (instrs.OpWord op rd rs value) rest refl h refl c
-    one_shown first (instrs.Mov rd value basic) rest h c = plain first (instrs.Mov rd value basic) rest refl (
-      h.0,
-      basic_fits types basic few_types h.1,
-    ) refl c
-    one_shown first (instrs.Ld colour rd rs) rest h c = plain first (instrs.Ld colour rd rs) rest refl tt refl c
-    one_shown first (instrs.St colour rd rs) rest h c = plain first (instrs.St colour rd rs) rest refl tt refl c
-    one_shown first (instrs.JmpG rd) rest h c = plain first (instrs.JmpG rd) rest refl tt refl c
-    one_shown first (instrs.JmpB rd s) rest h c =
-        let more = some_rows first s rest c.0 c.1 in
+    one_shown first i rest h c =
+        let rows = rows_shown first (subst_of i) rest c in
         record {
-          fits = subst_fits first s c.0;
-          back = ap (instrs.JmpB rd) (subst_back first s c.0);
-          rows = more.0;
-          covers = more.1;
+          fits = record {
+            instr = numbers_fit first i rest h c;
+            apart = placed_twice i;
+            rows = still_fit (rows_in substs (subst_of i)) i rows.fit;
+          };
+          back = instr_back first i rest c;
+          rows = rows.rows;
+          covers = rows.covers;
         }
-    one_shown first (instrs.BzG rz rd) rest h c = plain first (instrs.BzG rz rd) rest refl tt refl c
-    one_shown first (instrs.BzB rz rd s) rest h c =
-        let more = some_rows first s rest c.0 c.1 in
-        record {
-          fits = subst_fits first s c.0;
-          back = ap (instrs.BzB rz rd) (subst_back first s c.0);
-          rows = more.0;
-          covers = more.1;
-        }
-    one_shown first instrs.Halt rest h c = plain first instrs.Halt rest refl tt refl c
-    one_shown first (instrs.Idx rd rs x m) rest h c =
-        plain first (instrs.Idx rd rs x m) rest refl (
-          let begins = h.begins in omega arith,
-          let short = h.length.1 in
-              omega arith,
-        ) refl c
 
     -- what is shown of all instructions
     pub record AllShown (first : ℕ) (is : List Instr) : Type 0 where

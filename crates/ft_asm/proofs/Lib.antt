@@ -1,4 +1,5 @@
 pub mod FieldLaws
+pub mod RowLaws
 pub mod FormLaws
 pub mod Order
 pub mod Texts

@@ -1,14 +1,10 @@
 -- What a line makes of those before it: private to the assembler.
 use Rattle.std.specs.Prelude.{◌≡◌, ◌⊎◌, ℕ, true, false, List, Some, None}
-use Rattle.ft_types.specs.declared.object.Object as objects
-use Rattle.ft_asm.specs.declared.asm_error.AsmError.{AsmError}
-use Rattle.ft_asm.specs.declared.asm_error.AsmError.TheVariants as errors
 use Rattle.ft_asm.specs.declared.assembly.Turn.{Turn}
 use Rattle.ft_asm.specs.declared.assembly.Turn.TheVariants.{On, Bad, Stuck}
 use Rattle.ft_asm.specs.declared.draft.Draft as tables
 use Rattle.ft_asm.specs.declared.line.Line.{Line}
 use Rattle.ft_asm.specs.Words.{words_of, is_said}
-use Rattle.ft_asm.specs.Reads.{rule_broken}
 use Rattle.ft_asm.specs.Forms.{line_in}
 use Rattle.ft_asm.specs.Drafts.{Draft, next}
 use Rattle.ft_asm.specs.Held.{Holds}

@@ -3,7 +3,8 @@ ghost use Rattle.std.specs.Prelude.{◌≡◌, IfOk};
 ghost use Rattle.ft_asm.specs.Drafts as drafts;
 ghost use Rattle.std.specs.Prelude.{[]};
 ghost use Rattle.ft_asm.specs.declared.line.Line.TheVariants as lines;
-ghost use Rattle.ft_asm.specs.Held.{Holds, Adds, is_block, Closes, PutsRows, PutsCode, Ends};
+ghost use Rattle.ft_asm.specs.Held.{Holds, Adds, is_block, Closes, PutsCode, Ends};
+ghost use Rattle.ft_asm.specs.Lines.{placed};
 
 use crate::line::{Code, Line};
 use ft_isa::{Instr, NoMemory, Subst};
@@ -37,6 +38,31 @@ pub(crate) struct Draft {
     blocks: Vec<Block>,
     instrs: Vec<Instr>,
     substs: Vec<u32>,
+}
+
+/// An instruction whose substitution, where it carries one, has the rows between these places.
+fn with_places(instr: Instr, first: u32, past: u32) -> Instr
+    ensures { result ≡ placed first past instr }
+{
+    match instr {
+        Instr::JmpB { rd, subst } => {
+            let subst = Subst {
+                first,
+                past,
+                memory: subst.memory,
+            };
+            Instr::JmpB { rd, subst }
+        }
+        Instr::BzB { rz, rd, subst } => {
+            let subst = Subst {
+                first,
+                past,
+                memory: subst.memory,
+            };
+            Instr::BzB { rz, rd, subst }
+        }
+        other => other,
+    }
 }
 
 impl Draft {
@@ -178,62 +204,18 @@ impl Draft {
         Ok(true)
     }
 
-    /// The substitution of these rows, which are put at the end.
-    fn add_rows(&mut self, rows: &[u32], memory: u32) -> Result<Subst, NoMemory>
-        ensures { IfOk result (λ s. PutsRows self.old self.new s memory rows.now) }
-    {
-        let Ok(first) = u32::try_from(self.substs.len()) else {
-            return Err(NoMemory);
-        };
-        self.substs.extend_from_slice(rows)?;
-        let Ok(past) = u32::try_from(self.substs.len()) else {
-            return Err(NoMemory);
-        };
-        Ok(Subst {
-            first,
-            past,
-            memory,
-        })
-    }
-
     /// The instruction that a line says, of which the rows are put at the end.
     fn placed(&mut self, code: Code) -> Result<Instr, NoMemory>
         ensures { IfOk result (PutsCode self.old self.new code) }
     {
-        match code {
-            Code::OpReg { op, rd, rs, rt } => Ok(Instr::OpReg { op, rd, rs, rt }),
-            Code::OpWord { op, rd, rs, value } => Ok(Instr::OpWord { op, rd, rs, value }),
-            Code::Mov { rd, value, basic } => Ok(Instr::Mov { rd, value, basic }),
-            Code::Ld { colour, rd, rs } => Ok(Instr::Ld { colour, rd, rs }),
-            Code::St { colour, rd, rs } => Ok(Instr::St { colour, rd, rs }),
-            Code::JmpG { rd } => Ok(Instr::JmpG { rd }),
-            Code::JmpB { rd, memory, rows } => {
-                let subst = self.add_rows(rows.as_slice(), memory)?;
-                Ok(Instr::JmpB { rd, subst })
-            }
-            Code::BzG { rz, rd } => Ok(Instr::BzG { rz, rd }),
-            Code::BzB {
-                rz,
-                rd,
-                memory,
-                rows,
-            } => {
-                let subst = self.add_rows(rows.as_slice(), memory)?;
-                Ok(Instr::BzB { rz, rd, subst })
-            }
-            Code::Halt => Ok(Instr::Halt),
-            Code::Idx {
-                rd,
-                rs,
-                first,
-                length,
-            } => Ok(Instr::Idx {
-                rd,
-                rs,
-                first,
-                length,
-            }),
-        }
+        let Ok(first) = u32::try_from(self.substs.len()) else {
+            return Err(NoMemory);
+        };
+        self.substs.extend_from_slice(code.rows.as_slice())?;
+        let Ok(past) = u32::try_from(self.substs.len()) else {
+            return Err(NoMemory);
+        };
+        Ok(with_places(code.instr, first, past))
     }
 
     /// One more instruction; `false` where none may stand here.

@@ -2,7 +2,7 @@
 ghost use Rattle.std.specs.Prelude.{◌≡◌, ◌≤◌, ◌^◌, option_map, IfSome};
 ghost use Rattle.std.specs.Str.{bytes_eq};
 ghost use Rattle.ft_asm.specs.Words.{words_of};
-ghost use Rattle.ft_asm.specs.Forms.{number_of, below, reg_in, colour_in, basic_in, base_in, taken, ended, any_word};
+ghost use Rattle.ft_asm.specs.Forms.{number_of, below, reg_in, colour_in, basic_in, base_in, taken, ended};
 
 use crate::line::Line;
 use crate::words::next_word;

@@ -1,7 +1,7 @@
 //! Lines, written.
 ghost use Rattle.std.specs.Prelude.{◌≡◌, [], ◌∷◌, ◌++◌, decimal, OnOk};
 ghost use Rattle.ft_isa.specs.Operations.{op_word};
-ghost use Rattle.ft_asm.specs.Lines.{reg_word, colour_word, basic_word, base_word, shape_words};
+ghost use Rattle.ft_asm.specs.Lines.{reg_word, colour_word, basic_word, base_word, shape_form, form_words};
 ghost use Rattle.ft_asm.specs.Reads.{line_text, spaced, cell_line, reg_head};
 ghost use Rattle.ft_asm.specs.declared.line.Line.TheVariants as lines;
 
@@ -103,7 +103,7 @@ fn put_pair(out: &mut Vec<u8>, a: u32, b: u32) -> Result<(), NoMemory>
 
 /// The words of a node after its scope.
 fn put_shape(out: &mut Vec<u8>, shape: Shape) -> Result<(), NoMemory>
-    ensures { OnOk result (out.new.items ≡ out.old.items ++ spaced (shape_words shape)) }
+    ensures { OnOk result (out.new.items ≡ out.old.items ++ spaced (form_words (shape_form shape))) }
 {
     match shape {
         Shape::Word(word) => {
