@@ -1,6 +1,6 @@
 //! Worked objects as bytes, made by another implementation of the format.
 //!
-//! The crate holds constants alone, which the crates of rows share: objects that the checker accepts, and
+//! The crate has only constants, which the crates of rows share: objects that the checker accepts, and
 //! objects that it refuses, each with what it does.
 #![tactic(auto)]
 
