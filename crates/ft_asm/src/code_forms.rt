@@ -103,7 +103,7 @@ fn st_of(colour: Colour, text: &[u8]) -> Option<Line>
     end(text, Line::Code(Code::St { colour, rd, rs }))
 }
 
-/// The rows of a substitution; `None` where a word is none.
+/// The rows of a substitution; `None` if a word is not one.
 fn rows_of(alloc: Global, text: &[u8]) -> Result<Option<Vec<u32>>, NoMemory>
     ensures { IfOk result (λ o. rows_in (words_of text.now) ≡ option_map (λ rows. rows.items) o) }
 {
@@ -153,7 +153,7 @@ fn bz_green_of(text: &[u8]) -> Option<Line>
     end(text, Line::Code(Code::BzG { rz, rd }))
 }
 
-/// A jump, or a branch, which is blue.
+/// A blue branch.
 fn bz_blue_of(alloc: Global, text: &[u8]) -> Result<Option<Line>, NoMemory>
     ensures { IfOk result (λ line. line ≡ bz_blue_in (words_of text.now)) }
 {

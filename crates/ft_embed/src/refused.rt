@@ -115,7 +115,7 @@ pub(crate) fn told_entry() -> Refused
     }
 }
 
-/// A cell whose initial word has not its type.
+/// A cell whose initial word does not have its type.
 pub(crate) fn told_cell(cell: u32) -> Refused
     ensures { result ≡ told_refusal (accepted.CellType cell) }
 {
@@ -160,7 +160,7 @@ fn source_number(error: SourceError) -> u32
     }
 }
 
-/// What a refusal of a source tells: a place, or what is above a limit.
+/// What a refusal of a source reports: a place, or what is above a limit.
 fn source_told(error: SourceError) -> u64
     ensures { result ≡ source_told error }
 {

@@ -36,7 +36,7 @@ pub enum Wild {
     Stop,
 }
 
-/// What befalls a run: a strike or none, and the answers to its wild loads in turn.
+/// What happens to a run: a strike or none, and the answers to its wild loads in turn.
 #[derive(Clone, Copy)]
 pub struct Plan<'w> {
     pub strike: Option<Strike>,

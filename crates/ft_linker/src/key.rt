@@ -1,5 +1,5 @@
 //! Keys of nodes: their shapes over numbers of trees.
-/// A node's shape, with the numbers of its parts' trees in the place of the parts. An operation is its code.
+/// A node's shape, with the numbers of its parts' trees in place of the parts. An operation is its code.
 #[derive(Clone, Copy, PartialEq, Eq, PartialOrd, Ord)]
 pub enum Key {
     Word(u64),

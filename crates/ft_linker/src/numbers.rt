@@ -22,7 +22,7 @@ fn number(numbers: &[u32], n: u32) -> u32
     numbers[n as usize]
 }
 
-/// The key of a shape of which the parts have numbers.
+/// The key of a shape whose parts have numbers.
 fn key_of(numbers: &[u32], shape: Shape) -> Key
     requires { HasPartsBelow (length numbers.now) shape }
     ensures { result ≡ key_as (key_of numbers.now shape) }
@@ -42,7 +42,7 @@ fn key_of(numbers: &[u32], shape: Shape) -> Key
     }
 }
 
-/// The number that is known of a key, or else this one, which is known of it from then on.
+/// The known number of a key, or else this one, which is known from then on.
 #[tactic(auto, unfolding(crate::specs::Keys::look))]
 fn number_key(known: &mut BTreeMap<Key, u32>, key: Key, next: u32) -> Result<u32, AllocError>
     ensures number { IfOk result (λ c. c ≡ unwrap_or (look known.old key) next) }
@@ -53,7 +53,7 @@ fn number_key(known: &mut BTreeMap<Key, u32>, key: Key, next: u32) -> Result<u32
     Ok(number)
 }
 
-/// Numbers of nodes, in their order: two nodes have one number exactly when they stand for one tree.
+/// Numbers of nodes, in their order: two nodes have the same number exactly if they stand for the same tree.
 pub fn number_trees(alloc: Global, nodes: &[Node]) -> Result<Vec<u32>, AllocError>
     requires { AreNodes nodes.now }
     ensures { IfOk result (λ v. AreNumbered nodes.now v.items) }

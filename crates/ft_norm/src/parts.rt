@@ -20,7 +20,7 @@ pub enum Parts {
     Rem { a: Form, length: u32 },
 }
 
-/// The form of node `n`, or `n` where none was made.
+/// The form of node `n`, or `n` if none was made.
 fn part(made: &IndexMap<u32, Form>, n: u32) -> Result<Form, u32>
     ensures made { IfOk result (λ f. get nat_eq made.now n ≡ Some f) }
     ensures missing { IfErr result (λ k. (k ≡ n) × (get nat_eq made.now n ≡ None)) }
@@ -31,7 +31,7 @@ fn part(made: &IndexMap<u32, Form>, n: u32) -> Result<Form, u32>
     }
 }
 
-/// The forms of the parts of a node of this shape, or the first part of which none was made.
+/// The forms of the parts of a node of this shape, or the first part without one.
 pub fn parts_of(made: &IndexMap<u32, Form>, shape: Shape) -> Result<Parts, u32>
     ensures made { IfOk result (AreMade made.now shape) }
     ensures missing { IfErr result (λ k. IsPart shape k × (get nat_eq made.now k ≡ None)) }

@@ -21,7 +21,7 @@ fn end_of<P: Program>(program: &P, b: u32) -> u32
     counts.instrs
 }
 
-/// Lays the instructions of block `b` down, as they are ordered where no exchange is permitted in it.
+/// Writes the instructions of block `b`, ordered so that no exchange is permitted in it.
 pub fn schedule_block<P: Program>(program: &P, order: &mut Order, b: u32) -> Result<(), AllocError>
     requires spellable { IsSpellable (P.object program.now) }
     requires there { b < length (P.object program.now).blocks }

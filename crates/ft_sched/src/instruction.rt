@@ -5,7 +5,7 @@ ghost use Rattle.ft_sched.specs.Registers.{number_of, first_read, second_read};
 
 use ft_isa::{Colour, Instr, Reg};
 
-/// Whether an instruction stands fixed: a jump, a branch or `halt`.
+/// Whether an instruction is fixed: a jump, a branch or `halt`.
 pub fn is_fixed(instr: &Instr) -> bool
     ensures { result ≡ is_fixed instr.now }
 {
@@ -44,7 +44,7 @@ pub fn is_leading(instr: &Instr) -> bool
     }
 }
 
-/// The register that an instruction writes, if it writes one.
+/// The register that an instruction writes, if any.
 pub fn written(instr: &Instr) -> Option<Reg>
     ensures { number_of result ≡ written instr.now }
 {
@@ -58,7 +58,7 @@ pub fn written(instr: &Instr) -> Option<Reg>
     }
 }
 
-/// The first register that an instruction reads, if it reads one.
+/// The first register that an instruction reads, if any.
 pub fn first_read(instr: &Instr) -> Option<Reg>
     ensures { number_of result ≡ first_read instr.now }
 {
@@ -76,7 +76,7 @@ pub fn first_read(instr: &Instr) -> Option<Reg>
     }
 }
 
-/// The second register that an instruction reads, if it reads two.
+/// The second register that an instruction reads, if any.
 pub fn second_read(instr: &Instr) -> Option<Reg>
     ensures { number_of result ≡ second_read instr.now }
 {

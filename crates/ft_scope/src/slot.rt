@@ -8,6 +8,6 @@ pub enum Slot {
     Cell(u32),
     /// A variable.
     Var(u8),
-    /// The cells of an array, so many from the first one on.
+    /// The cells of an array, `length` of them from `first`.
     Run { first: u32, length: u32 },
 }

@@ -4,10 +4,10 @@ ghost use Rattle.std.specs.Prelude.{◌≡◌, ◌≤◌, ◌+◌, ◌++◌, [],
 use itoa::Buffer;
 use std::marker::Model;
 
-/// The most bytes that a line takes.
+/// The maximum bytes of a line.
 pub const ROOM: usize = 160;
 
-/// The most digits of a number below 2^64.
+/// The maximum digits of a number below 2^64.
 const DIGITS: usize = 20;
 
 /// A line in the making: at most `ROOM` bytes. Contracts see it as the list of its bytes.

@@ -91,7 +91,7 @@ pub(crate) fn entry_line() -> Line
     line
 }
 
-/// The line of a cell whose initial word has not its type.
+/// The line of a cell whose initial word does not have its type.
 pub(crate) fn cell_line(cell: u32) -> Line
     ensures { result ≡ check_line (accepted.CellType cell) }
 {
@@ -192,7 +192,7 @@ fn source_number(error: SourceError) -> u64
     }
 }
 
-/// What a refusal of a source tells: a place, or what is above a limit.
+/// What a refusal of a source reports: a place, or what is above a limit.
 fn source_told(error: SourceError) -> u64
     ensures { result ≡ source_told error }
 {

@@ -63,7 +63,7 @@ fn run<R: Env + Files + Print + Eprint + Input + AllocGlobal + Clone + Drop>(
     Ok(ended(out, status))
 }
 
-/// Hands on what is still gathered, unless a put failed: then nothing more is written.
+/// Writes what is still gathered, unless a put failed: then nothing more is written.
 fn ended<W: Write + Drop>(out: GatheringSink<W>, status: u8) -> u8 {
     if status == NOT_WRITTEN {
         let _ = out.discard();
