@@ -35,7 +35,7 @@ abbrev pub base_word : Base → List ℕ
 base_word Int = codes "int"
 base_word (bases.Code t) = codes "code:" ++ decimal t
 
--- so many times `ref:` before a base
+-- `ref:` this many times before a base
 abbrev pub refs_word : ℕ → Base → List ℕ
 refs_word zero base = base_word base
 refs_word (suc n) base = codes "ref:" ++ refs_word n base
@@ -106,7 +106,7 @@ FitsCode (BzB rz rd memory rows) = Is32 memory × AllByRecursion Is32 rows
 FitsCode Halt = Unit {0}
 FitsCode (Idx rd rs first m) = Is32 first × Is32 m
 
--- whether bytes make a word: there are some, and none is a blank or a line feed
+-- whether bytes make a word: there are some, and none of them is a blank or a line feed
 abbrev pub is_part : ℕ → Bool
 is_part byte = not (is_blank byte) && not (byte == 10)
 

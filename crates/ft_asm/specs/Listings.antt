@@ -53,11 +53,11 @@ rows_of (JmpB rd memory rows) = rows
 rows_of (BzB rz rd memory rows) = rows
 rows_of _ = []
 
--- a substitution of the rows from these on
+-- a substitution of the rows from this place
 abbrev pub subst_at : ℕ → ℕ → List ℕ → Subst
 subst_at first memory rows = record { first = first; past = first + length rows; memory = memory }
 
--- the instruction that a line says, after so many substitution rows
+-- the instruction that a line says, after this many substitution rows
 abbrev pub instr_at : ℕ → Code → Instr
 instr_at first (OpReg op rd rs rt) = instrs.OpReg op rd rs rt
 instr_at first (OpWord op rd rs value) = instrs.OpWord op rd rs value
@@ -71,12 +71,12 @@ instr_at first (BzB rz rd memory rows) = instrs.BzB rz rd (subst_at first memory
 instr_at first Halt = instrs.Halt
 instr_at first (Idx rd rs x m) = instrs.Idx rd rs x m
 
--- the instructions that lines say, after so many substitution rows
+-- the instructions that lines say, after this many substitution rows
 abbrev pub instrs_from : ℕ → List Code → List Instr
 instrs_from first [] = []
 instrs_from first (code ∷ codes) = instr_at first code ∷ instrs_from (first + length (rows_of code)) codes
 
--- the blocks of these parts, after so many instructions
+-- the blocks of these parts, after this many instructions
 abbrev pub blocks_from : ℕ → List Part → List Block
 blocks_from start [] = []
 blocks_from start (p ∷ ps) = record { start = start; code_type = p.code_type } ∷ blocks_from (start + length p.codes) ps
@@ -122,7 +122,7 @@ abbrev pub begins_at : ℕ → List Block → ℕ
 begins_at end [] = end
 begins_at end (b ∷ bs) = b.start
 
--- these blocks, each with its instructions up to the next block, or to the last
+-- these blocks, each with its instructions up to the next block or the end
 abbrev pub parts_of : List Instr → List ℕ → List Block → List Part
 parts_of is substs [] = []
 parts_of is substs (b ∷ bs) = record { code_type = b.code_type; codes = map (code_of substs) (slice_range is b.start (begins_at (length is) bs)) } ∷ parts_of is substs bs

@@ -1,4 +1,4 @@
--- Keys: shapes of nodes of which the parts are numbers of trees, in an order of their own.
+-- Keys: shapes of nodes with numbers of trees as their parts, in an order of their own.
 use Rattle.std.specs.Prelude.{ℕ, Option}
 use Rattle.std.specs.BTreeMap.{BTreeMap, get}
 use Rattle.ft_static.specs.declared.node.Shape.{Shape}

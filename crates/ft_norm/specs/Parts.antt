@@ -32,7 +32,7 @@ AreMade m (shape.Upd k a v) (part.Upd f g h) = (get nat_eq m k ≡ Some f) × (g
 AreMade m (shape.Rem a l) (part.Rem f n) = (get nat_eq m a ≡ Some f) × (l ≡ n)
 AreMade m s p = ⊥
 
--- each part is held and of its sort, and a length is one
+-- each part is held and of its sort, and a length is a number from 1 to 1,024
 abbrev pub HaveSorts : List Normal → Parts → Type 0
 HaveSorts fs (part.Word w) = Unit {0}
 HaveSorts fs (part.Var i) = Unit {0}
@@ -42,7 +42,7 @@ HaveSorts fs part.Memory = Unit {0}
 HaveSorts fs (part.Upd f g h) = IsMemory fs f × IsInteger fs g × IsInteger fs h
 HaveSorts fs (part.Rem f n) = IsInteger fs f × IsLength n
 
--- the form of a node of these parts
+-- the form of a node with these parts
 abbrev pub form_of_parts : List Polynomial → Updates → List Normal → Parts → Normal
 form_of_parts ps u fs (part.Word w) = integer_form (constant w)
 form_of_parts ps u fs (part.Var i) = integer_form (slice_index_or ps i nought)

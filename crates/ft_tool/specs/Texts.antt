@@ -46,7 +46,7 @@ check_line EntryType = codes "check entry\n"
 check_line (CellType k) = codes "check cell " ++ decimal k ++ codes "\n"
 check_line (Refused b i p) = codes "check block " ++ decimal b ++ codes " index " ++ decimal i ++ codes " premise " ++ decimal (number_of p) ++ codes "\n"
 
--- `list`, the number of the refusal, and what it tells: a line's number, 65536, or a product
+-- `list`, the number of the refusal, and its argument: a line's number, 65536, or a product
 abbrev pub list_line : ℕ → ℕ → List ℕ
 list_line n x = codes "list " ++ decimal n ++ codes " " ++ decimal x ++ codes "\n"
 
@@ -70,7 +70,7 @@ source_number (source.Array at) = 11
 source_number (source.Length at) = 12
 source_number source.NoMemory = 0
 
--- what it tells: a place, or what is above a limit
+-- its argument: a place, or what is above a limit
 abbrev pub source_told : SourceError → ℕ
 source_told source.TooLong = 1048576
 source_told (source.Byte at) = at
@@ -86,15 +86,15 @@ source_told (source.Array at) = at
 source_told (source.Length at) = at
 source_told source.NoMemory = 0
 
--- `source`, the refusal's number, and what it tells
+-- `source`, the refusal's number, and its argument
 abbrev pub source_line : SourceError → List ℕ
 source_line e = codes "source " ++ decimal (source_number e) ++ codes " " ++ decimal (source_told e) ++ codes "\n"
 
--- `asm`, the number of the refusal, and what it tells: a line's number, or the most bytes of a text
+-- `asm`, the number of the refusal, and its argument: a line's number, or the maximum bytes of a text
 abbrev pub asm_line : ℕ → ℕ → List ℕ
 asm_line n x = codes "asm " ++ decimal n ++ codes " " ++ decimal x ++ codes "\n"
 
--- `link`, the number of the refusal, and what it tells: a line's number, a module's, or the most bytes of a map
+-- `link`, the number of the refusal, and its argument: a line's number, a module's, or the maximum bytes of a map
 abbrev pub link_line : ℕ → ℕ → List ℕ
 link_line n x = codes "link " ++ decimal n ++ codes " " ++ decimal x ++ codes "\n"
 
