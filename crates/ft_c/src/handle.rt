@@ -1,4 +1,4 @@
-//! What C holds of a run that goes on from call to call: a pointer to it, or none.
+//! C's reference to a run that continues across calls: a pointer to it, or none.
 ghost use Rattle.std.specs.Prelude.{◌≡◌, Option, None, Some};
 ghost use Rattle.std.specs.Option.{option_map};
 ghost use Rattle.ft_c.specs.Held.{held};

@@ -1,4 +1,4 @@
-//! Runs that C takes from call to call.
+//! Runs that C continues across calls.
 ghost use Rattle.std.specs.Prelude.{◌≡◌, ◌≢◌, None};
 ghost use Rattle.ft_isa.specs.PlanText.{IsSiteText};
 ghost use Rattle.ft_isa.specs.declared.plan.Site.{Site as Place};

@@ -15,7 +15,7 @@ use ft_types::Program;
 use std::alloc::Global;
 use std::sync::ledger::Ledger;
 
-/// Where the run is: its machine, the answers left, and the number of its outputs.
+/// The state of the run: its machine, the answers left, and the number of its outputs.
 #[derive(Clone, Copy)]
 struct Moment<'a, 'w> {
     machine: &'a Machine,

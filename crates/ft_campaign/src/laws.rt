@@ -1,4 +1,4 @@
-//! Laws of verdicts and of fault lists, over the definitions alone. Each function does nothing: its
+//! Laws of verdicts and of fault lists, over the definitions only. Each function does nothing: its
 //! clauses are the law.
 ghost use Rattle.std.specs.Prelude.{◌≡◌, ◌≢◌, ◌≤◌, ℕ, List};
 ghost use Rattle.ft_isa.specs.declared.plan.Strike.{Strike};

@@ -1,4 +1,4 @@
-//! What a target wants: whether what holds here is as its code type says, after a substitution.
+//! What a target requires: whether what holds here is as its code type says, after a substitution.
 ghost use Rattle.std.specs.Prelude.{◌≡◌, ◌+◌, ◌*◌, ◌<◌, ◌≤◌, ◌&&◌, IfOk, length, nat_le};
 ghost use Rattle.std.specs.List.{list_all};
 ghost use Rattle.ft_static.specs.Form.{updates};

@@ -1,4 +1,4 @@
-//! Break places.
+//! Breakpoints.
 ghost use Rattle.std.specs.Prelude.{◌≡◌, ◌<◌, ◌++◌, ◌∷◌, [], not, nat_lt, length, IfOk};
 ghost use Rattle.ft_debug.specs.Sessions.{is_set};
 

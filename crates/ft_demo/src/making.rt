@@ -1,4 +1,4 @@
-//! The object of so many turns.
+//! The object of a number of turns.
 ghost use Rattle.std.specs.Prelude.{◌≡◌, ◌≤◌, ◌++◌, ◌∷◌, [], IfOk, OnOk};
 ghost use Rattle.ft_demo.specs.Sample.{opening, sample_object, turn, turns_from};
 ghost use Rattle.ft_typing.specs.Accepted.{IsAccepted};

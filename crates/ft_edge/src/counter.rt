@@ -1,4 +1,4 @@
-//! Calls numbered from 0, some of which are to fail.
+//! Calls numbered from 0, some of which must fail.
 ghost use Rattle.std.specs.Prelude.{◌≡◌, ◌≤◌, OnOk, OnErr};
 
 use ft_isa::NoMemory;

@@ -1,4 +1,4 @@
-//! A sink that gathers what it takes and hands it to a writer in large pieces.
+//! A sink that buffers pieces and passes them to a writer in large ones.
 ghost use Rattle.std.specs.Prelude.{◌≡◌, ◌≢◌, ◌≤◌, ◌+◌, [], length, drop, None, IsTrue, IfOk, IfErr, OnOk, OnErr};
 ghost use Rattle.std.specs.Io.KnownBytes.{Appends, Keeps};
 ghost use Rattle.ft_edge.specs.Calls.{next_count};

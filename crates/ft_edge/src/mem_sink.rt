@@ -1,4 +1,4 @@
-//! Bytes written to memory, with puts that are to fail.
+//! Bytes written to memory, with puts that must fail.
 ghost use Rattle.std.specs.Prelude.{◌≡◌, ◌≤◌, None, Some, is_err, IfOk, OnOk, OnErr};
 
 use crate::counter::Counter;

@@ -1,4 +1,4 @@
-//! Bytes in memory to be taken, with takes that are to fail.
+//! Bytes in memory to read, with takes that must fail.
 ghost use Rattle.std.specs.Prelude.{◌≡◌, ◌<◌, ◌≤◌, length, min, take, None, Some, is_err, IfOk, OnOk, OnErr};
 
 use crate::counter::Counter;

@@ -1,4 +1,4 @@
-//! One line that is put.
+//! Writing one line.
 ghost use Rattle.std.specs.Prelude.{◌∷◌, []};
 ghost use Rattle.ft_edge.specs.Lines.{Puts, end_of_puts};
 

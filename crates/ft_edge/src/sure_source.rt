@@ -1,4 +1,4 @@
-//! Bytes to be taken that never fail.
+//! A source that never fails.
 ghost use Rattle.std.specs.Prelude.{◌≡◌, ◌<◌, None, Ok, Some, length, min};
 ghost use Rattle.std.specs.Io.{ReadsAtMost};
 ghost use Rattle.std.specs.Io.KnownBytes.{ReadConsumes};

@@ -1,4 +1,4 @@
-//! Single reads and writes, begun again where a signal interrupted them.
+//! Single reads and writes, repeated if a signal interrupts them.
 ghost use Rattle.std.specs.Prelude.{◌≡◌, ◌<◌, length, take, drop};
 ghost use Rattle.std.specs.Io.{ReadsAtMost, WritesAtMost};
 ghost use Rattle.std.specs.Io.KnownBytes.{ReadConsumes, WriteAppends};

@@ -1,4 +1,4 @@
-//! How far a run came, and how it ended.
+//! How far a run got, and how it ended.
 ghost use Rattle.std.specs.Prelude.{◌≡◌};
 ghost use Rattle.ft_embed.specs.Verdicts.{nothing as nothing_told};
 

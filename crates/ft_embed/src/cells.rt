@@ -1,4 +1,4 @@
-//! Objects that get another initial word of a cell, in place.
+//! Changing the initial word of a cell, in place.
 ghost use Rattle.std.specs.Prelude.{◌≡◌, ◌≢◌, ◌≤◌, ◌+◌, ◌*◌, ◌++◌, length, take, drop, slice_get, Some, true, false};
 ghost use Rattle.ft_isa.specs.BasicTypes.{int};
 ghost use Rattle.ft_types.specs.Spellable.{IsSpellable};

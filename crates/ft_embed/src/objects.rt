@@ -107,7 +107,7 @@ fn schedule_bytes<'a, P: Program>(
     encode(alloc, &object)
 }
 
-/// Writes the schedule of a program, where it is accepted.
+/// Writes the schedule of a program, if it is accepted.
 fn schedule_program<P: Program>(alloc: Global, program: &P, out: &mut [u8]) -> Written
     requires { IsSpellable (P.object program.now) }
     ensures given { result.status ≢ 5 → result.status ≢ 8 → Given (IsScheduleOf (P.object program.now)) out.old out.new result.made result.status }

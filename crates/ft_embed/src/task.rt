@@ -1,4 +1,4 @@
-//! Runs that go on from call to call.
+//! Runs that continue across calls.
 ghost use Rattle.std.specs.Prelude.{◌≡◌, ◌≢◌, ◌≤◌, ◌+◌, [], IfOk, IfErr, OnOk, OnErr, None, Some, true, false};
 ghost use Rattle.ft_types.specs.Spellable.{IsSpellable};
 ghost use Rattle.ft_typing.specs.Accepted.{IsAccepted, refusal};

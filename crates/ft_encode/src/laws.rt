@@ -1,4 +1,4 @@
-//! A law of what is written, for all objects.
+//! A law of written objects, for all objects.
 ghost use Rattle.std.specs.Prelude.{◌≡◌, None};
 ghost use Rattle.ft_types.specs.declared.object.Object.{Object};
 ghost use Rattle.ft_types.specs.Spellable.{IsSpellable};

@@ -1,4 +1,4 @@
-//! Laws of exchanges, over the definitions alone. Each function does nothing: its clause is the law.
+//! Laws of exchanges, over the definitions only. Each function does nothing: its clause is the law.
 ghost use Rattle.std.specs.Prelude.{◌≡◌, ℕ, List, None, Option};
 ghost use Rattle.ft_isa.specs.declared.plan.Strike.{Strike};
 ghost use Rattle.ft_isa.specs.declared.plan.Wild.{Wild};

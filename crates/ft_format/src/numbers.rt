@@ -1,4 +1,4 @@
-//! Big-endian numbers at the front of bytes, and at the end of those that are written.
+//! Big-endian numbers, read from the front of bytes and appended to others.
 ghost use Rattle.std.specs.Prelude.{◌≡◌, ◌≤◌, ◌+◌, ◌++◌, ◌∷◌, [], length, drop, OnOk};
 ghost use Rattle.std.specs.Int.{w8, w16, w32, w64};
 ghost use Rattle.ft_format.specs.Puts.{Puts};

@@ -1,4 +1,4 @@
-//! Why a text is cut into no tokens.
+//! Why a text cannot be cut into tokens.
 use thiserror::Error;
 
 /// The first error of a text.

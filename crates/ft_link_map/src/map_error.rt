@@ -1,4 +1,4 @@
-//! Why a text is no link map.
+//! Why a text is not a link map.
 use thiserror::Error;
 
 /// Why a text is not a link map. `line` counts lines from 1.

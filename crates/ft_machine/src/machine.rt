@@ -1,4 +1,4 @@
-//! The machine: its state, and what can be asked of it.
+//! The machine: its state, and queries on it.
 ghost use Rattle.std.specs.Prelude.{◌≡◌, ℕ, IfOk, IsTrue, Decides, Some, length};
 ghost use Rattle.ft_isa.specs.Words.{cell_address};
 ghost use Rattle.ft_types.specs.Spellable.{IsSpellable};

@@ -1,4 +1,4 @@
-//! What is gathered over a writer that is interrupted, takes little and fails.
+//! A buffering sink over a writer that is interrupted, accepts little and fails.
 use ft_edge::{GatheringSink, Sink};
 use std::alloc::Global;
 use std::io;

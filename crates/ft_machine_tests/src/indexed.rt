@@ -1,4 +1,4 @@
-//! The machine over an object that names a cell of a run by a register.
+//! The machine over an object that selects a cell of a run by a register.
 ghost use Rattle.ft_types.specs.Spellable.{IsSpellable};
 
 use ft_isa::{NoMemory, Output, Reg, Site};

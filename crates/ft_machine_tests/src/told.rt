@@ -1,7 +1,5 @@
-//! A sink, a shelf and a source that tell all they were asked, and end the process where there is no
-//! memory for it.
-//!
-//! They show that what the traits say of pieces, loads and takes is met by code that runs.
+//! A sink, a shelf and a source that record every call, and end the process if there is no memory for it.
+//! They show that code can satisfy what the traits say about pieces, loads and takes.
 ghost use Rattle.std.specs.Prelude.{Some, map};
 
 use ft_edge::{Failed, Load, LoadFault, MemShelf, MemSink, MemSource, Shelf, Sink, Source};

@@ -1,4 +1,4 @@
-//! A run of a program, which puts its outputs as they come.
+//! A run of a program, which writes its outputs as they come.
 ghost use Rattle.std.specs.Prelude.{◌≡◌, ◌<◌, ◌≤◌, length, map, slice_index};
 ghost use Rattle.ft_isa.specs.Words.{apply};
 ghost use Rattle.ft_syntax.specs.Plain.{none, plain_expression, plain_statement, plain_list};

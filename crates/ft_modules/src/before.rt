@@ -1,4 +1,4 @@
-//! What stands before a module.
+//! The totals before a module.
 
 /// How many rows of each kind come before a module.
 #[derive(Clone, Copy, Debug, PartialEq, Eq)]

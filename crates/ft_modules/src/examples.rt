@@ -1,4 +1,4 @@
-//! Examples of what is linked, of walks that fail and why they have to, and of where machines are sent.
+//! Examples of linked objects, of walks that fail and why they have to, and of where machines are sent.
 //! Each function does nothing: its clauses are computed from the definitions.
 ghost use Rattle.std.specs.Prelude.{◌≡◌, None, Some, [], ◌∷◌, ◌++◌};
 ghost use Rattle.std.specs.FinMap as finite;

@@ -1,4 +1,4 @@
-//! Laws of modules, over the definitions alone. Each function does nothing: its clause is the law.
+//! Laws of modules, over the definitions only. Each function does nothing: its clause is the law.
 ghost use Rattle.std.specs.Prelude.{◌≡◌, ◌≤◌, ◌↔◌, ◌∷◌, ◌++◌, [], ℕ, List, None, Some, length, slice_get};
 ghost use Rattle.std.specs.Option.{option_or};
 ghost use Rattle.ft_static.specs.declared.node.Node.{Node};

@@ -1,4 +1,4 @@
-//! Laws of linked objects, over the definitions alone. Each function does nothing: its clause is the
+//! Laws of linked objects, over the definitions only. Each function does nothing: its clause is the
 //! law.
 ghost use Rattle.std.specs.Prelude.{◌≡◌, ◌≤◌, ◌+◌, [], ℕ, List, None, Option, Some, length, slice_get, sum_by};
 ghost use Rattle.ft_isa.specs.declared.plan.Strike.{Strike};

@@ -1,4 +1,4 @@
-//! Laws of one module, over the definitions alone. Each function does nothing: its clause is the law.
+//! Laws of one module, over the definitions only. Each function does nothing: its clause is the law.
 ghost use Rattle.std.specs.Prelude.{◌≡◌, ◌∷◌, ◌++◌, [], ℕ, List, None};
 ghost use Rattle.ft_types.specs.declared.object.Cell.{Cell};
 ghost use Rattle.ft_types.specs.declared.object.Object.{Object};

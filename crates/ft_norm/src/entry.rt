@@ -1,6 +1,5 @@
-//! Entries: how an interner keeps a normal form. A part that is itself a form is named by its number.
-//! Terms are kept in an order that goes by these numbers: a comparison of two terms never goes into the
-//! forms that they name.
+//! Entries: how an interner keeps a normal form. A part that is itself a form is identified by its number. Terms are
+//! ordered by these numbers: comparing two terms never looks into the forms that they refer to.
 ghost use Rattle.std.specs.Prelude.{◌≡◌, List, true};
 ghost use Rattle.ft_static.specs.Form.{Form as Normal, integer_form};
 ghost use Rattle.ft_static.specs.NormalForm.{constant};

@@ -1,4 +1,4 @@
-//! Texts, with what they are refused for.
+//! Texts, and why they are refused.
 use ft_asm::AsmError;
 use ft_object::ObjectError;
 

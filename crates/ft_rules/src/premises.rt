@@ -1,4 +1,4 @@
-//! The premises that need no form to be made: each is a word of the typing rows.
+//! The premises that need no new form: each is a word of the typing rows.
 ghost use Rattle.std.specs.Prelude.{◌≡◌, ◌<◌, IfOk, IsTrue, OnOk, List, ℕ, drop, length};
 ghost use Rattle.ft_static.specs.Form.{Form as Normal, Polynomial};
 ghost use Rattle.ft_norm.specs.Held.{IsInteger, polynomial};

@@ -1,4 +1,4 @@
-//! Why a row does not apply, and what it gives where it does.
+//! Why a row does not apply, and its result if it does.
 use ft_isa::NoMemory as OutOfMemory;
 use ft_typing::Why;
 use std::alloc::AllocError;

@@ -1,4 +1,4 @@
-//! What a strike of a run does.
+//! The result of a strike.
 use crate::clean::Clean;
 use crate::struck::Struck;
 use ft_types::Program;

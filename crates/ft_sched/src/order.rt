@@ -2,8 +2,8 @@
 //!
 //! Leading instructions keep their order, and so do trailing ones. So a trailing instruction waits until
 //! it is known that no leading one passes it. A leading instruction stops at the last one that it may not
-//! pass: what waits is laid down up to there, and then the leading instruction itself. Each instruction
-//! waits once at most, so the work grows with their number.
+//! pass: what waits up to there is written, and then the leading instruction itself. Each instruction waits at most
+//! once, so the work grows with their number.
 ghost use Rattle.std.specs.Prelude.{◌≡◌, ◌+◌, ◌-◌, ◌<◌, ◌≤◌, ◌^◌, [], true, not, nat_lt, length, cond, OnOk};
 ghost use Rattle.ft_exchange.specs.Exchange.{is_leading, is_fixed};
 ghost use Rattle.ft_sched.specs.Waiting.{holds_back};

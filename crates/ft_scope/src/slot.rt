@@ -1,4 +1,4 @@
-//! What a name names.
+//! What a name refers to.
 
 /// A cell or a variable by its number, or the cells of an array; cells and variables are numbered
 /// from 0 in the order of their declarations.

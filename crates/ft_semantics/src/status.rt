@@ -1,4 +1,4 @@
-//! How a machine stands.
+//! A machine's status.
 
 /// The machine's status. One that is not running takes no more steps.
 #[derive(Clone, Copy, Debug, PartialEq, Eq)]

@@ -50,9 +50,9 @@ pub fn forms_are_in_order()
 {}
 
 /// The coefficient of a sum of polynomials in order, at each monomial, is the sum of the coefficients
-/// modulo 2^64. That of a product within the limit on degrees is the sum of the products of the
-/// coefficients of monomials of which it is the product, modulo 2^64. A polynomial in order is known
-/// by its coefficients. The product of two monomials has each atom as often as the two together.
+/// modulo 2^64. That of a product within the limit on degrees is the sum, modulo 2^64, of the products of the
+/// coefficients of two monomials whose product is this one. Polynomials in order with the same coefficients are the
+/// same. The product of two monomials has each atom as often as the two together.
 pub fn forms_are_known_by_coefficients()
     ensures sum { (k : Monomial) (p q : Polynomial) → IsProper p → IsProper q → coefficient k (total p q) ≡ (coefficient k p + coefficient k q) % 2 ^ 64 }
     ensures product { (k : Monomial) (p q : Polynomial) → degree p + degree q ≤ 4 → IsProper p → IsProper q → coefficient k (add_products p q nought) ≡ share_of_products k p q % 2 ^ 64 }

@@ -1,4 +1,4 @@
-//! The words of a line: a piece at its start, and what stands around its first space.
+//! The words of a line: a piece at its start, and the parts around its first space.
 ghost use Rattle.std.specs.Prelude.{◌≡◌, ◌≢◌, ℕ, List, ◌++◌, All, codes, position, ◌==◌, IfSome, MatchOption};
 
 /// What follows a piece at the start of a text; `None` if the text does not begin with it.

@@ -1,4 +1,4 @@
-//! Laws of runs of accepted objects, over the definitions alone. Each function does nothing: its
+//! Laws of runs of accepted objects, over the definitions only. Each function does nothing: its
 //! clause is the law.
 ghost use Rattle.std.specs.Prelude.{◌≡◌, ℕ, List, None, Option};
 ghost use Rattle.ft_isa.specs.declared.colour.Colour.{Colour};

@@ -1,4 +1,4 @@
-//! What the script of a command holds.
+//! The script of a command.
 ghost use Rattle.std.specs.Prelude.{◌≡◌};
 ghost use Rattle.ft_edge.specs.Streams.{TakesAtMost};
 ghost use Rattle.ft_tool.specs.Scripts.{TakesScript, TakeCause};

@@ -1,4 +1,4 @@
-//! Queue rows: what each type says of the stores that wait.
+//! Queue rows: what each type says about the stores that wait.
 ghost use Rattle.std.specs.Prelude.{◌≤◌, ◌^◌};
 ghost use Rattle.ft_view.specs.Found.{Finds};
 ghost use Rattle.ft_format.specs.Fields.{pair_numbers};

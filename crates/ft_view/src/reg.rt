@@ -1,4 +1,4 @@
-//! Register rows: what each type says of registers.
+//! Register rows: what each type says about registers.
 ghost use Rattle.std.specs.Prelude.{◌≡◌, ◌≤◌, ◌^◌, ◌<◌, OnOk};
 ghost use Rattle.ft_view.specs.Found.{Finds};
 ghost use Rattle.ft_format.specs.Fields.{reg_numbers};

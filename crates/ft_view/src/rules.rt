@@ -1,4 +1,4 @@
-//! Rules that several records share. Each answers the error with its place where its rule is broken.
+//! Rules that several records share. Each returns the error with its place if its rule is broken.
 ghost use Rattle.std.specs.Prelude.{◌≤◌, ◌^◌};
 ghost use Rattle.ft_view.specs.Found.{Finds};
 ghost use Rattle.ft_format.specs.Rules.{must, zero_broken, count_broken, some_broken, colour_broken, op_broken, register_broken, code_type_broken, basic_broken, node_number_broken, named_broken};

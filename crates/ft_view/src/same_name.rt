@@ -1,4 +1,4 @@
-//! Whether two names are the same, seen quickly where they are not: each name of an object is compared with all before.
+//! Whether two names are the same; quick if they are not, since each name of an object is compared with all before it.
 ghost use Rattle.std.specs.Prelude.{◌≡◌, ◌+◌, ◌≤◌, true, length, take, drop};
 ghost use Rattle.std.specs.Int.{w64};
 ghost use Rattle.std.specs.Str.{bytes_eq};

@@ -1,4 +1,4 @@
-//! What stands under names in the folders of the system.
+//! What the system has under a name.
 use ft_explain::{Found, Look};
 use std::fs;
 use std::fs::File;
