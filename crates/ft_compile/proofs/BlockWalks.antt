@@ -59,7 +59,7 @@ out_stays e r q h = entered_get e r None q ∙ either (q == r) (finite.get e q) 
 taken_out : (e : Entered) (r : ℕ) (v : Option ℕ) → finite.get (entered_with r v e) r ≡ v
 taken_out e r v = entered_get e r v r ∙ ap (λ b. cond b v (finite.get e r)) (eq-eqb r r refl)
 
--- another register is as before
+-- another register is unchanged
 other_stays : (e : Entered) (r q : ℕ) (v : Option ℕ) → q ≢ r → finite.get (entered_with r v e) q ≡ finite.get e q
 other_stays e r q v ne = entered_get e r v q ∙ ap (λ b. cond b v (finite.get e q)) (ne_eqb q r ne)
 
@@ -94,7 +94,7 @@ unentered_learn k e p lt h = record {
   ];
 }
 
--- nor where its registers are written once more
+-- nor if its registers are written once more
 unentered_again : (k : Known) (e : Entered) (p : ℕ) → AreUnentered k e → AreUnentered k (two p None e)
 unentered_again k e p h = record {
   below = h.below;
@@ -136,7 +136,7 @@ entered_blue e p v = taken_out (entered_with (green p).number v e) (blue p).numb
 
 -- TARGETS
 
--- the registers of variables are free where no variable's pair is entered
+-- the registers of variables are free if no variable's pair is entered
 rows_free : (vars : ℕ) (k : Known) (e : Entered) (xs : List RegType) → AreUnentered k e →
     ((x : ℕ) → x < vars → k x ≡ true) → AreRows vars xs → are_free e xs ≡ true
 rows_free vars k e [] h known r = refl

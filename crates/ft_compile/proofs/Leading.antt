@@ -96,7 +96,7 @@ module _ (o : Object) (vars : ℕ) (T : HasTypes o vars) (cells blocks : ℕ) (s
     (refs : (c : ℕ) → c < cells → has_type o (cell_address c) (ref int) ≡ true)
     (arrays : (begin many : ℕ) → RunFits cells (Run begin many) → run_type o begin many ≡ Some int)
     (targets : (b : ℕ) → IsTarget blocks b → has_type o (code_address (start b)) (code 1) ≡ true) where
-  -- what a jump's substitution puts, where its rows are among all
+  -- what a jump's substitution puts, if its rows are among all
   puts_these : (scope : ℕ) (w : Noted) → length w.pairs ≡ 32 → Starts (with_jump vars w).rows o.substs →
       PutsThese o vars T scope w.pairs w.memory (jump_subst vars w)
   puts_these scope w many s =
@@ -325,7 +325,7 @@ row_there o m (y ∷ ys) r t zero x f e h =
 row_there o m (y ∷ ys) r t (suc n) x f e h = row_there o (finite.insert m y.reg.number (typed_row o y)) ys r t n x f e
     (λ k z a b. h (suc k) z a b)
 
--- a row of a variable stands where it should
+-- a row of a variable is where it should be
 green_there : (a n i : ℕ) (rest : List RegType) → i < n → slice_get (map green_row (range_with_len a n) ++ rest) i
     ≡ Some (green_row (a + i))
 green_there a zero i rest lt = absurd (omega (arith, lt))

@@ -33,7 +33,7 @@ use Rattle.ft_dup.specs.Doubles.{bare}
 abbrev pub machine_step : Object → Ran → Ran
 machine_step o r = extended r.outputs (step o r.state r.wild)
 
--- a run with no strike is steps from its start on
+-- a run with no strike is steps from its start
 pub run_is : (o : Object) (w : List Wild) (n : ℕ) → run o None w n ≡ iterate (machine_step o) n (run o None w 0)
 unfolding run
 run_is o w zero = refl
@@ -88,7 +88,7 @@ execute_bare (instr.BzB rz rd t) s w = refl
 execute_bare instr.Halt s w = refl
 execute_bare (instr.Idx rd rs first m) s w = refl
 
--- an instruction that stands there without its claims
+-- an instruction there without its claims
 get_bare : (xs : List Instr) (i : ℕ) (J : Instr) → slice_get (map bare xs) i ≡ Some J → (I : Instr)
     × (slice_get xs i ≡ Some I) × (bare I ≡ J)
 get_bare [] i J h = absurd cc
@@ -123,7 +123,7 @@ two o J i m d q c w os t at does =
     let T = two_any o J i m d q c w os at in
     subst (λ x. Leads o 2 (spot i m d q c w os) (extended os x)) (does T.0) T.1
 
--- and where it is quiet
+-- and if it is quiet
 two_quiet : (o : Object) (J : Instr) (i : ℕ) (m : Registers) (d : ℕ) (q : Pending) (c : Cells) (w : List Wild)
     (os : List Output) (s : State) → slice_get (map bare o.instrs) i ≡ Some J →
     ((I : Instr) → execute J (fetched_state i m d q c I) w ≡ quiet s w) → Leads o 2 (spot i m d q c w os) (ran s w os)
@@ -151,7 +151,7 @@ col c v = record { colour = c; word = v }
 -- EACH INSTRUCTION
 
 module _ (o : Object) (w : List Wild) (i : ℕ) (short : i < 65537) where
-  -- both counters go on
+  -- both counters are advanced
   goes_by : (m : Registers) (d : ℕ) (q : Pending) (c : Cells) → quiet (stands (next (suc i)) m d q c) w
       ≡ quiet (stands (suc (suc i)) m d q c) w
   goes_by m d q c = ap (λ z. quiet (stands z m d q c) w) (next_small i short)
@@ -189,14 +189,14 @@ module _ (o : Object) (w : List Wild) (i : ℕ) (short : i < 65537) where
       ap (λ (h : Coloured). machine.writes rd h.colour (cell_in_run first n h.word) (fetched_state i m 0 [] c I) w) es
       ∙ goes_by (with_held m rd.number (col k (cell_in_run first n x))) 0 [] c)
 
-  -- what stands in a cell is found where nothing is pending
+  -- what is in a cell is found if nothing is pending
   finds : (k : Colour) (m : Registers) (c : Cells) (a : ℕ) (I : Instr) → machine.found k (fetched_state i m 0 [] c I) a
       ≡ cell_at c a
   unfolding newest_at
   finds Green m c a I = refl
   finds Blue m c a I = refl
 
-  -- a load from a cell, where nothing is pending
+  -- a load from a cell, if nothing is pending
   pub load : (m : Registers) (c : Cells) (os : List Output) (rd rs : Reg) (a v : ℕ) (k : Colour) →
       slice_get (map bare o.instrs) i ≡ Some (instr.Ld k rd rs) → held m rs.number ≡ col k a → cell_at c a ≡ Some v →
       Leads o 2 (spot i m 0 [] c w os) (spot (suc i) (with_held m rd.number (col k v)) 0 [] c w os)
@@ -206,7 +206,7 @@ module _ (o : Object) (w : List Wild) (i : ℕ) (short : i < 65537) where
       ∙ ap (λ x. machine.load k rd x s w) (finds k m c a I ∙ there)
       ∙ goes_by (with_held m rd.number (col k v)) 0 [] c)
 
-  -- a green store, where nothing is pending
+  -- a green store, if nothing is pending
   pub store_green : (m : Registers) (c : Cells) (os : List Output) (rd rs : Reg) (a v : ℕ) →
       slice_get (map bare o.instrs) i ≡ Some (instr.St Green rd rs) → held m rd.number ≡ col Green a → held m rs.number
       ≡ col Green v → Leads o 2 (spot i m 0 [] c w os) (spot (suc i) m 0 ((a, v) ∷ []) c w os)

@@ -94,7 +94,7 @@ of_idx first m b None = None
 of_idx first m None (Some s) = None
 of_idx first m (Some b) (Some s) = Some (record { colour = s.colour; basic = ref b; form = run_form first m s.form })
 
--- what an instruction that writes a register makes known of it, where its row goes on
+-- what an instruction that writes a register makes known of it, if its row goes on
 abbrev gives : Object → Context → Instr → Option Typed
 gives o c (OpReg op rd rs rt) = of_op_reg op (typed c rs.number) (typed c rt.number)
 gives o c (OpWord op rd rs value) = of_op_word op value (typed c rs.number)
@@ -223,7 +223,7 @@ gives_same o c d i h m = refl
 
 -- STORES
 
--- the pair of a store, where the premises on its registers hold
+-- the pair of a store, if the premises on its registers hold
 of_value : ℕ → Base → Polynomial → Typed → Option FormPair
 of_value zero base f v = None
 of_value (suc n) base f v = if is_seen_as v.basic (record { refs = n; base = base }) then Some (f, v.form) else None

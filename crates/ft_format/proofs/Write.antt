@@ -468,7 +468,7 @@ spelled_again bytes v o s has e =
       back = rw (cells_are, nodes_are, types_are, blocks_are, instrs_are, substs_are) refl;
     }
 
--- the header stands in the first bytes, whatever follows
+-- the header is the first bytes, whatever follows
 header_first : (v : Version) (o : Object) (rest : List ℕ) → IsSpellable o → Supports v o →
     header_at (spelling v o ++ rest) ≡ header_for v o
 unfolding spelling

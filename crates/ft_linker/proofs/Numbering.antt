@@ -56,7 +56,7 @@ number_more cs c i lt = get_or_append_left cs (c ∷ []) 0 i lt
 number_last : (cs : List ℕ) (c : ℕ) → number_in (cs ++ c ∷ []) (length cs) ≡ c
 number_last cs c = get_or_push cs c 0 (length cs) refl
 
--- so a key stays of which the parts are earlier
+-- so a key stays if its parts are earlier
 key_more : (cs : List ℕ) (c n : ℕ) (s : Shape) → HasPartsBelow n s → n ≤ length cs → key_of (cs ++ c ∷ []) s
     ≡ key_of cs s
 key_more cs c n (shape.Word w) h le = refl
@@ -218,7 +218,7 @@ pub all_known : (nodes : List Node) (cs : List ℕ) (n : ℕ) (known : Key → O
     ≡ length nodes → AreNumbered nodes cs
 all_known nodes cs n known h e = record { count = h.count ∙ e; trees = subst (AreTreeNumbers nodes cs) e h.trees }
 
--- one more node, with a longer list that is told by an equation
+-- one more node, with a longer list given by an equation
 pub known_next : (nodes : List Node) (cs ds : List ℕ) (n c : ℕ) (y : Node) (known next : Key → Option ℕ) (test : Key →
     Bool) (k : Key) → AreNodes nodes → AreKnown nodes cs n known → slice_get nodes n ≡ Some y → k
     ≡ key_as (key_of cs y.shape) → c ≡ unwrap_or (known k) n → ((q : Key) → next q ≡ cond (test q) (Some c) (known q)) →

@@ -1,4 +1,4 @@
--- The order of keys finds two keys equal exactly where they are one.
+-- The order of keys finds two keys equal exactly if they are one.
 use Rattle.std.proofs.Common.{◌≡◌, true, refl, sym, ap, ◌∙◌, true≢false}
 use Rattle.std.proofs.lemmas.Bool.Decides.{Decides-and, Decides-eqb}
 use Rattle.std.specs.BTreeMap.{is_at}

@@ -1,4 +1,4 @@
--- Shapes with numbered parts are equal exactly where the trees are.
+-- Shapes with numbered parts are equal exactly if the trees are.
 use Rattle.std.proofs.Common.{◌≡◌, ℕ, ◌<◌, ◌≤◌, true, false, List, slice_get, Some, refl, sym, ap, ◌∙◌, arith}
 use Rattle.std.specs.Prelude.{◌↔◌}
 use Rattle.ft_static.specs.Expression.{word, variable, operation, sel, rem, upd, integer, memory}

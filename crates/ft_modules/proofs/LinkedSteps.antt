@@ -1,4 +1,4 @@
--- The modules' run and the linked object's run: one step from states that stand beside each other.
+-- The modules' run and the linked object's run: one step from states that correspond.
 use Rattle.std.proofs.Common.{◌≡◌, ◌⊎◌, inl, inr, ℕ, suc, ◌+◌, Bool, true, not, ◌==◌, nat_lt, List, [], length, drop}
 use Rattle.std.proofs.Common.{slice_get, Option, Some, None, is_some, refl, sym, ap, ◌∙◌, subst, arith, true≢false}
 use Rattle.std.specs.FinMap as finite
@@ -172,7 +172,7 @@ module _ (modules : List Object) (joins : List Link) (x : Object) (spelled : IsS
         after = further _ _ g.context k.context g.goes_to k.goes k.beside go gx;
       }
 
-  -- instructions of which this is known
+  -- instructions about which this is known
   stays_as : (i j : Instr) → here_o.instr ≡ i → here_x.instr ≡ j →
       After (GoesOn o v s [] (execute i s [])) ⊥ (row o c i) → After (GoesOn x u t [] (execute j t [])) ⊥ (row x b j) →
       ((execute i s []).state.status ≡ Running → (execute j t []).state.status ≡ Running → (execute i s []).output

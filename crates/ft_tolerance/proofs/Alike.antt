@@ -74,7 +74,7 @@ step_by c s t w v o Running h f ok = subst (λ (x : Option Instr). Follows c (ad
 step_by c s t w v o Done h f ok = keeps_alike h refl
 step_by c s t w v o Detected h f ok = keeps_alike h refl
 
--- the step of a state whose instruction finds what it wants, and of one that is alike
+-- the step of a state whose instruction finds what it requires, and of one that is alike
 pub alike_step : (c : Colour) (o : Object) (s t : State) (w v : List Wild) → AreAlike c s t →
     (s.status ≡ Running → (i : Instr) → s.fetched ≡ Some i → Wants i s) → (step o s w).state.status ≢ Detected →
     Follows c (step o s w) (step o t v)

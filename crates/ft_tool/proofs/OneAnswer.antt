@@ -277,7 +277,7 @@ begins_both : (x y : List ℕ) (xs ys : List (List ℕ)) → x ≡ y → LinesBe
 begins_both x y xs ys e (inl h) = inl (h.0, ap (λ z. z ∷ (xs ++ h.0)) e ∙ ap (λ zs. y ∷ zs) h.1)
 begins_both x y xs ys e (inr h) = inr (h.0, ap (λ z. z ∷ (ys ++ h.0)) (sym e) ∙ ap (λ zs. x ∷ zs) h.1)
 
--- of two lists that begin a third one, one begins the other
+-- of two prefixes of a third list, one is a prefix of the other
 begins_either : (xs ys zs : List (List ℕ)) → LinesBegin xs zs → LinesBegin ys zs → LinesBegin xs ys ⊎ LinesBegin ys xs
 begins_either [] ys zs h g = inl (ys, refl)
 begins_either (x ∷ xs) [] zs h g = inr (x ∷ xs, refl)
@@ -538,7 +538,7 @@ same_answers l (Schedules name) files script a b h g = over_file l.one_object l.
 same_answers l (Links name) files script a b h g = link_same l.one_object l.unbroken (says_same l.one_map) name files a
     b h g
 
--- an answer over files and a script that are told
+-- an answer over files and a script that are known
 answers_told : HasLaws → (words : List Word) (r : Request) (files : Files) (script : List ℕ) (a : Answer) →
     Asks words r → IsAnswer words (Some files) (Some script) a → Answers r (Some files) files script a
 answers_told l words r files script a asks h =
