@@ -8,8 +8,8 @@ pub enum AsmError {
     /// The first line at fault has none of the forms.
     #[error("asm 1 {line}")]
     Text { line: u32 },
-    /// The first line at fault has one of the forms, but no text of this order begins with the lines up to it. Or no
-    /// line is at fault, and this one, after the last, is missing.
+    /// The first line at fault has one of the forms, but no text that reads as an object begins with the lines up to
+    /// it. Or no line is at fault, and this one, after the last, is missing.
     #[error("asm 2 {line}")]
     Order { line: u32 },
     /// The text has more than 134,217,728 bytes.

@@ -6,7 +6,7 @@ use std::test::Fail;
 /// A map of two modules.
 const MAP: &str = "module m\nimport go 1\nmodule a\nexport go 0\n";
 
-/// Maps, the line of a refusal, and what is said where the modules are not there.
+/// Maps, the line of a refusal, and its explanation if the modules do not exist.
 const MAPS: &[(&str, &str, &str)] = &[
     (
         "import go 1\nmodule a\n",

@@ -87,7 +87,7 @@ fn lines_that_are_no_command_are_explained(rt: HostRuntime) -> Result<(), Fail> 
     check_told(&rt, "debug file", 0, "", &[("script", script)], text)
 }
 
-/// Calls by words, status and line, each with what is said where only the object is there.
+/// Calls by words, status and line, each with its explanation if only the object exists.
 const TOLD: &[(&str, u8, &str, &str)] = &[
     (
         "campaign file --faults list",

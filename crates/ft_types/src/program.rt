@@ -22,7 +22,8 @@ pub trait Program: Nodes {
     /// fetch has to find them again.
     type Code: Copy;
 
-    // What a loop keeps is the result of `code` for the program, where `fetch` reads it. Elsewhere it may be anything.
+    // Where `fetch` reads what a loop keeps, that is the result of `code` for the program. Elsewhere it may be
+    // anything.
     ghost is_code: { Self → Self.Code → Type 0 };
 
     /// How many there are of each kind of part.

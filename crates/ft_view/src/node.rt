@@ -79,7 +79,7 @@ fn check_rem(earlier: &NodeRecords, at: usize, row: NodeRow) -> Result<(), Objec
     Ok(())
 }
 
-/// The parts a, b and c of a node, by its kind, where any above 5 is that of a remainder.
+/// The parts a, b and c of a node, by its kind; any kind above 5 is that of a remainder.
 #[inline(always)]
 fn check_parts(earlier: &NodeRecords, at: usize, row: NodeRow) -> Result<(), ObjectError>
     requires { at ≤ 2 ^ 27 }
@@ -135,7 +135,7 @@ pub fn check_node(
     }
 }
 
-/// The shape of a record, by its kind, where any above 5 is that of a remainder.
+/// The shape of a record, by its kind; any kind above 5 is that of a remainder.
 fn shape(row: NodeRow) -> Shape
     requires { row.kind ≡ 1 → row.a < 256 }
     ensures { result ≡ shape_of row.kind row.op row.a row.b row.c }
