@@ -20,7 +20,7 @@ use Rattle.ft_asm.specs.Listings.{Listing, listing_lines, object_of, listing_of}
 abbrev pub Say : List (List ℕ) → Listing → Type 0
 Say texts listing = AllZip IsForm (said_in texts) (listing_lines listing)
 
--- the lines of the text, in this order, mean the tables of the object
+-- the lines of the text, in the prescribed order, mean the tables of the object
 pub record Reads (text : List ℕ) (object : Object) : Type 0 where
   pub listing : Listing
   pub said : Say (lines_of text) listing
@@ -48,7 +48,7 @@ cell_line name basic init = lines.Cell (record { name = name; basic = basic; ini
 abbrev pub text_of : Object → List ℕ
 text_of object = flat_map line_text (listing_lines (listing_of object))
 
--- some text of this order begins with these lines
+-- some text that reads as an object begins with these lines
 pub record Begin (texts : List (List ℕ)) : Type 0 where
   pub whole : List ℕ
   pub object : Object
@@ -56,7 +56,7 @@ pub record Begin (texts : List (List ℕ)) : Type 0 where
   pub rest : List (List ℕ)
   pub so_far : lines_of whole ≡ texts ++ rest
 
--- some text of this order begins with the lines before this one, and this one is meaningful
+-- some text that reads as an object begins with the lines before this one, and this one is meaningful
 pub record Stops (text : List ℕ) (number : ℕ) : Type 0 where
   pub before : List (List ℕ)
   pub line : List ℕ
@@ -71,14 +71,15 @@ pub record IsTextFault (text : List ℕ) (number : ℕ) : Type 0 where
   pub stop : Stops text number
   pub none : (form : Line) → ¬ (IsForm (words_of stop.line) form)
 
--- line n is the first at fault: it has one of the forms, but no text of this order begins with the lines up to it
+-- line n is the first at fault: it has one of the forms, but no text that reads as an object begins with the lines up
+-- to it
 pub record IsOrderFault (text : List ℕ) (number : ℕ) : Type 0 where
   pub stop : Stops text number
   pub form : Line
   pub is_form : IsForm (words_of stop.line) form
   pub none : ¬ (Begin (stop.before ++ stop.line ∷ []))
 
--- all lines together begin some text of this order, but are not one: line n, after the last, is missing
+-- some text that reads as an object begins with all lines, but they are not one: line n, after the last, is missing
 pub record Lacks (text : List ℕ) (number : ℕ) : Type 0 where
   pub here : number ≡ suc (length (lines_of text))
   pub begin : Begin (lines_of text)

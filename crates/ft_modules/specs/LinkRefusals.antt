@@ -82,7 +82,7 @@ are_few modules =
 abbrev pub unless : Bool → LinkRefusal → Option LinkRefusal
 unless b r = if b then None else Some r
 
--- module m, added to modules the first of which has these cells
+-- why module m is refused if it is added to modules the first of which has these cells
 abbrev pub module_refusal : List Object → ℕ → List Cell → Object → Option LinkRefusal
 module_refusal earlier m cells o =
     option_or (unless (same_cells o.cells cells && list_all is_plain_cell o.cells) (Cells m)) (

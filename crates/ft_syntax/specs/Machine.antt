@@ -146,7 +146,7 @@ abbrev pub had_by : Kind → Option Waiting → Waiting → NamedExpression → 
 had_by k (Some q) p a x = Some (want q x)
 had_by k None p a x = ended k (close p a) x
 
--- after a name, if nothing follows it yet: a bracket opens its index
+-- after a name, whose index may follow: a bracket opens it
 abbrev pub had_name_by : Kind → Waiting → Named → Context → Option State
 had_name_by LBracket p n x = Some (want empty (index_of p n x))
 had_name_by k p n x = had_by k (push k p (name n)) p (name n) x
