@@ -52,7 +52,7 @@ use Rattle.ft_compile.proofs.PremiseRows.{ty, mov_row}
 
 -- JUMPS
 
--- the row of a green branch, where d is 0
+-- the row of a green branch, if d is 0
 branch_green_row : (o : Object) (c : Context) (rz rd : Reg) (z a : Polynomial) → typed c rz.number
     ≡ Some (ty Green int z) → typed c rd.number ≡ Some (ty Green (code 1) a) → c.d ≡ d_zero → row o c (instr.BzG rz rd)
     ≡ Goes (record c { d = d_conditional z 1 a })
@@ -68,7 +68,7 @@ branch_blue_row : (o : Object) (c : Context) (rz rd : Reg) (u : Subst) (z a : Po
 unfolding need for_typed for_code_over for_conditional same_colour
 branch_blue_row o c rz rd u z a hz hd l = rw (hz, hd) (rw (same_itself z) (rw (same_itself a) l))
 
--- the row of a green jump, where d is 0
+-- the row of a green jump, if d is 0
 jump_green_row : (o : Object) (c : Context) (rd : Reg) (a : Polynomial) → typed c rd.number
     ≡ Some (ty Green (code 1) a) → c.d ≡ d_zero → row o c (instr.JmpG rd) ≡ Goes (record c { d = d_code 1 a })
 unfolding need for_typed for_code_over for_zero same_colour
@@ -81,7 +81,7 @@ jump_blue_row : (o : Object) (c : Context) (rd : Reg) (u : Subst) (a : Polynomia
 unfolding need for_typed for_code_over for_target same_colour
 jump_blue_row o c rd u a hd l = rw hd (rw (same_itself a) l)
 
--- the row of a halt, where d is 0 and nothing waits
+-- the row of a halt, if d is 0 and nothing waits
 halt_row : (o : Object) (c : Context) → c.d ≡ d_zero → c.queue ≡ [] → row o c instr.Halt ≡ Ends
 unfolding need for_zero is_empty
 halt_row o c d q = rw (d, q) refl

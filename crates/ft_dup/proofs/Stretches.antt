@@ -115,7 +115,7 @@ two_any o J i m d q c w os at =
     ap (extended os) (execute_bare I.0 f w) ∙ ap (λ x. extended os (execute x f w)) I.2 in
     (I.0, record { is = ap (machine_step o) a ∙ b })
 
--- the same where what comes of it is known
+-- the same if its result is known
 two : (o : Object) (J : Instr) (i : ℕ) (m : Registers) (d : ℕ) (q : Pending) (c : Cells) (w : List Wild)
     (os : List Output) (t : Stepping) → slice_get (map bare o.instrs) i ≡ Some J →
     ((I : Instr) → execute J (fetched_state i m d q c I) w ≡ t) → Leads o 2 (spot i m d q c w os) (extended os t)
@@ -240,7 +240,7 @@ module _ (o : Object) (w : List Wild) (i : ℕ) (short : i < 65537) where
         output = Some (record { addr = a; value = v });
       } in t) (next_small i short))
 
-  -- a green jump, where d is 0
+  -- a green jump, if d is 0
   pub jump_green : (m : Registers) (c : Cells) (os : List Output) (rd : Reg) (a : ℕ) → slice_get (map bare o.instrs) i
       ≡ Some (instr.JmpG rd) → held m rd.number ≡ col Green a →
       Leads o 2 (spot i m 0 [] c w os) (spot (suc i) m a [] c w os)
@@ -257,7 +257,7 @@ module _ (o : Object) (w : List Wild) (i : ℕ) (short : i < 65537) where
       (ne_eqb (suc t) 0 (λ e. omega arith))
       ∙ ap (λ b. cond b (quiet (machine.transfers (suc t) s) w) (detected s w)) (eq-eqb (suc t) (suc t) refl)
 
-  -- a blue jump, where d is its target
+  -- a blue jump, if d is its target
   pub jump_blue : (m : Registers) (c : Cells) (os : List Output) (rd : Reg) (t : ℕ) → slice_get (map bare o.instrs) i
       ≡ Some (instr.JmpB rd empty) → held m rd.number ≡ col Blue (suc t) →
       Leads o 2 (spot i m (suc t) [] c w os) (spot t m 0 [] c w os)

@@ -184,7 +184,7 @@ queue_fine nodes ints at (q ∷ qs) k h =
       fit = ((omega (arith, h.0.address.lower), (omega (arith, h.0.value.lower), tt)), after.fit);
     }
 
--- where a block may begin at the least
+-- where a block may begin at the earliest
 abbrev pub least_after : Option ℕ → ℕ
 least_after None = 0
 least_after (Some previous) = suc previous

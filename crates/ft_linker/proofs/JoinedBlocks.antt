@@ -176,7 +176,7 @@ export_never exports name n le = found_never (λ (z : Ask). same_name z.name nam
 
 -- REFUSALS IN ORDER
 
--- what an error says stays where something comes after
+-- what an error says stays if something comes after
 pub refusal_first : (x y : Option LinkRefusal) (e : LinkError) → IsRefusalOf x e → IsRefusalOf (option_or x y) e
 refusal_first x y (Cells m) h = ap (λ z. option_or z y) h
 refusal_first x y (Rows m) h = ap (λ z. option_or z y) h

@@ -63,7 +63,7 @@ effect_status effects.Detected b green blue f = refl
 pub rest_below : (n m j : ℕ) → n ≤ j → j < n + m → j - n < m
 rest_below n m j le below = omega arith
 
--- the last output is the same where outputs are the same, and where others come before
+-- the last output is the same if outputs are the same, and if others come before
 pub last_as : (pause : Pause) (f g : ℕ → List Output) (n : ℕ) → ((i : ℕ) → i ≤ n → f i ≡ g i) → EndsWith pause f n →
     EndsWith pause g n
 last_as pauses.Running f g n same h = tt

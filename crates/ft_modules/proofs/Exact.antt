@@ -331,7 +331,7 @@ module _ (linkage : LinkMap) (first : Object) (others : List Object) where
             (unless_true _ _ q.0) w.3);
       }
 
-  -- where modules can be linked, nothing is refused
+  -- if modules can be linked, nothing is refused
   pub unrefused : AreLinkable linkage first others → link_refusal linkage first others ≡ None
   unfolding links
   unrefused h =

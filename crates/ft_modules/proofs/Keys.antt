@@ -177,7 +177,7 @@ module _ (nodes : List Node) (cs : List ℕ) (n : ℕ) (h : AreNodes nodes) (s :
       let g : integer_at (trees nodes) a ≡ integer_at (trees nodes) c = cc in
       λ k. shape.Rem ((same_integers i j sc sd a c li lj p.0 q.0).1 g k) (f k)
 
-  -- two nodes up to number n have equal keys exactly where their trees are equal
+  -- two nodes up to number n have equal keys exactly if their trees are equal
   pub keys_same : (i j : ℕ) (y z : Node) → i ≤ n → j ≤ n → slice_get nodes i ≡ Some y → slice_get nodes j ≡ Some z →
       key_of cs y.shape ≡ key_of cs z.shape ↔ tree_at nodes i ≡ tree_at nodes j
   keys_same i j y z li lj e f =

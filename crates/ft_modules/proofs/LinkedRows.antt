@@ -155,7 +155,7 @@ run_same : (o x : Object) (first n : ℕ) → x.cells ≡ o.cells → run_type o
 unfolding run_type
 run_same o x first n e = λ i. only_referable (common_type (map basic_of (slice_range (sym e i) first (first + n))))
 
--- constants are equal where their words are
+-- constants are equal if their words are
 constant_word : (w v : ℕ) → IsWord w → IsWord v → constant w ≡ constant v → w ≡ v
 constant_word w v a b e =
     let s : Valuation = record { integers = []; memory = finite.empty } in

@@ -1,4 +1,4 @@
--- The names of statements in a row are there where those of each are.
+-- The names of statements in a row exist if those of each do.
 use Rattle.std.proofs.Common.{ℕ}
 use Rattle.ft_syntax.specs.Plain.{StatementList, none, assign, assign_at, loop, choose, follow}
 use Rattle.ft_scope.specs.declared.slot.Slot.{Slot}

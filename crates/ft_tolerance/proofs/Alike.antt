@@ -27,7 +27,7 @@ alike_cond : (c : Colour) (b : Bool) (x y f g : Coloured) → AreAlikeWords c x 
 alike_cond c true x y f g p q = p
 alike_cond c false x y f g p q = q
 
--- registers stay alike where alike words are written
+-- registers stay alike if alike words are written
 alike_write : (c : Colour) (m n : Registers) (r : ℕ) (x y : Coloured) → AreAlikeRegisters c m n → x.colour ≡ y.colour →
     (x.colour ≢ c → x.word ≡ y.word) → AreAlikeRegisters c (with_held m r x) (with_held n r y)
 unfolding AreAlikeRegisters

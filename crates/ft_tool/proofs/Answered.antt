@@ -198,7 +198,7 @@ pub object_failed : (name : Word) (e : ObjectFault) (old new : ShelfLog) → Fau
     → LoadFails name old new
 object_failed name e old new h is = subst (λ f. FaultCause name f old new) is h
 
--- a request that came to load a file, where files play no part in that
+-- a request that got to loading a file, if files do not matter for that
 pub failed_in : (request : Request) (old new : ShelfLog) (name : Word)
     → ((files : Files) → ComesTo request old.files files name) → LoadFails name old new
     → OfFiles old.files (λ files. FailsIn request files old new)
