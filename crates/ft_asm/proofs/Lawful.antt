@@ -32,7 +32,7 @@ module _ (is : List Instr) (substs : List ℕ) where
   ends_within least b [] h = (let low = h.1 in omega arith, omega arith)
   ends_within least b (d ∷ ds) h = (let up = h.2.0 in omega arith, let low = h.2.1 in omega arith)
 
-  -- the parts of blocks have all instructions from the first block on
+  -- the parts of blocks have all instructions from the first block
   parts_have : (least : ℕ) (b : Block) (bs : List Block) → AreBlocks (length is) least (b ∷ bs) →
       flat_map codes_of (parts_of is substs (b ∷ bs)) ≡ map (code_of substs) (drop b.start is)
   parts_have least b [] h = append-nil (map (code_of substs) (slice_range is b.start (length is)))
@@ -74,7 +74,7 @@ module _ (is : List Instr) (substs : List ℕ) where
 
 -- OBJECTS
 
--- the parts of blocks of which the first begins at instruction 0
+-- the parts of blocks the first of which begins at instruction 0
 parts_all : (is : List Instr) (substs : List ℕ) (bs : List Block) → BeginAtZero bs → AreBlocks (length is) 0 bs →
     (flat_map codes_of (parts_of is substs bs) ≡ map (code_of substs) is) × (blocks_from 0 (parts_of is substs bs) ≡ bs)
 parts_all is substs [] z h = absurd z

@@ -59,7 +59,7 @@ base_in word = if bytes_eq word (codes "int") then Some Int else (if bytes_eq (t
 abbrev pub one_more_ref : Basic → Basic
 one_more_ref basic = record { refs = suc basic.refs; base = basic.base }
 
--- the basic type of a word, of at most so many refs
+-- the basic type of a word, with at most this many refs
 unfoldable pub basic_in : ℕ → List ℕ → Option Basic
 basic_in zero word = option_map plain_basic (base_in word)
 basic_in (suc n) word = if bytes_eq (take 4 word) (codes "ref:") then option_map one_more_ref (basic_in n (drop 4 word)) else option_map plain_basic (base_in word)
@@ -71,7 +71,7 @@ abbrev pub taken : {A : Type 0} → (List ℕ → Option A) → List (List ℕ) 
 taken read [] = None
 taken read (word ∷ words) = option_map (λ a. (a, words)) (read word)
 
--- a line, where no word is left
+-- a line, if no word is left
 abbrev pub ended : Line → List (List ℕ) → Option Line
 ended line [] = Some line
 ended line (word ∷ words) = None

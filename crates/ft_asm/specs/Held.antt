@@ -47,7 +47,7 @@ Holds t (InType cs ns ts u) = (t.place ≡ places.InType u.ints u.memory) × Are
 Holds t (InBlock cs ns ts ps p) = (t.place ≡ places.InBlock) × HasNoRows t × IsTables t cs ns ts (ps ++ p ∷ [])
 Holds t (Done l) = (t.place ≡ places.Done l.entry) × HasNoRows t × IsTables t l.cells l.nodes l.types l.parts
 
--- the tables after one more line, where it was taken, or that it leads nowhere
+-- the tables after one more line, or that this line is not allowed there
 abbrev pub Adds : Bool → tables.Draft → Draft → Line → Type 0
 Adds true t d line = (e : Draft) × (next d line ≡ Some e) × Holds t e
 Adds false t d line = next d line ≡ None
@@ -59,12 +59,12 @@ shut (InType cs ns ts u) = Some (record { cells = cs; nodes = ns; types = ts ++ 
 shut (InBlock cs ns ts ps p) = Some (record { cells = cs; nodes = ns; types = ts; parts = ps ++ p ∷ []; entry = 0 })
 shut (Done l) = None
 
--- the tables after the last code type was ended, where something may follow
+-- the tables after the last code type was ended, or that the draft is done
 abbrev pub Closes : Bool → tables.Draft → Draft → Type 0
 Closes true t d = (l : Listing) × (shut d ≡ Some l) × HasNoRows t × IsTables t l.cells l.nodes l.types l.parts
 Closes false t d = shut d ≡ None
 
--- the rows of this instruction were put at the end, and this is how it stands after them
+-- the rows of this instruction were put at the end, and this is the instruction with them
 pub record PutsCode (t u : tables.Draft) (code : Code) (i : Instr) : Type 0 where
   pub place : u.place ≡ t.place
   pub rows_kept : HasNoRows t → HasNoRows u

@@ -37,7 +37,7 @@ abbrev pub base_word : Base → List ℕ
 base_word Int = codes "int"
 base_word (bases.Code t) = codes "code:" ++ decimal t
 
--- so many times `ref:` before a base
+-- `ref:` this many times before a base
 abbrev pub refs_word : ℕ → Base → List ℕ
 refs_word zero base = base_word base
 refs_word (suc n) base = codes "ref:" ++ refs_word n base
@@ -152,7 +152,7 @@ pub record FitsCode (code : Code) : Type 0 where
   pub apart : placed 0 0 code.instr ≡ code.instr
   pub rows : FitsRows code.rows (subst_of code.instr)
 
--- whether bytes make a word: there are some, and none is a blank or a line feed
+-- whether bytes make a word: there are some, and none of them is a blank or a line feed
 abbrev pub is_part : ℕ → Bool
 is_part byte = not (is_blank byte) && not (byte == 10)
 

@@ -51,16 +51,16 @@ listing_lines l = map lines.Cell l.cells ++ (map lines.Node l.nodes ++ (flat_map
 abbrev pub rows_of : Code → List ℕ
 rows_of code = code.rows
 
--- the instruction that a line says, after so many substitution rows
+-- the instruction that a line says, after this many substitution rows
 abbrev pub instr_at : ℕ → Code → Instr
 instr_at first code = placed first (first + length code.rows) code.instr
 
--- the instructions that lines say, after so many substitution rows
+-- the instructions that lines say, after this many substitution rows
 abbrev pub instrs_from : ℕ → List Code → List Instr
 instrs_from first [] = []
 instrs_from first (code ∷ codes) = instr_at first code ∷ instrs_from (first + length (rows_of code)) codes
 
--- the blocks of these parts, after so many instructions
+-- the blocks of these parts, after this many instructions
 abbrev pub blocks_from : ℕ → List Part → List Block
 blocks_from start [] = []
 blocks_from start (p ∷ ps) = record { start = start; code_type = p.code_type } ∷ blocks_from (start + length p.codes) ps
@@ -97,7 +97,7 @@ abbrev pub begins_at : ℕ → List Block → ℕ
 begins_at end [] = end
 begins_at end (b ∷ bs) = b.start
 
--- these blocks, each with its instructions up to the next block, or to the last
+-- these blocks, each with its instructions up to the next block or the end
 abbrev pub parts_of : List Instr → List ℕ → List Block → List Part
 parts_of is substs [] = []
 parts_of is substs (b ∷ bs) = record { code_type = b.code_type; codes = map (code_of substs) (slice_range is b.start (begins_at (length is) bs)) } ∷ parts_of is substs bs

@@ -206,7 +206,7 @@ pub(crate) fn carried(instr: Instr) -> Option<Subst>
     }
 }
 
-/// The rows of a substitution; `None` where a word is none.
+/// The rows of a substitution; `None` if a word is not one.
 fn rows_of(alloc: Global, text: &[u8]) -> Result<Option<Vec<u32>>, NoMemory>
     ensures { IfOk result (λ o. rows_in (words_of text.now) ≡ option_map (λ rows. rows.items) o) }
 {

@@ -83,7 +83,7 @@ impl Draft {
         }
     }
 
-    /// One more cell; `false` where none may stand here.
+    /// One more cell; `false` if none is allowed here.
     fn add_cell(&mut self, cell: Cell) -> Result<bool, NoMemory>
         ensures { (d : drafts.Draft) → Holds self.old d → IfOk result (λ taken. Adds taken self.new d (lines.Cell cell)) }
     {
@@ -97,7 +97,7 @@ impl Draft {
         Ok(true)
     }
 
-    /// One more node; `false` where none may stand here.
+    /// One more node; `false` if none is allowed here.
     fn add_node(&mut self, node: Node) -> Result<bool, NoMemory>
         ensures { (d : drafts.Draft) → Holds self.old d → IfOk result (λ taken. Adds taken self.new d (lines.Node node)) }
     {
@@ -108,7 +108,7 @@ impl Draft {
         Ok(true)
     }
 
-    /// Ends the last code type; `false` where nothing may follow.
+    /// Ends the last code type; `false` if nothing may follow.
     fn close(&mut self, alloc: Global) -> Result<bool, NoMemory>
         ensures { (d : drafts.Draft) → Holds self.old d → IfOk result (λ going. Closes going self.new d) }
     {
@@ -131,14 +131,14 @@ impl Draft {
         }
     }
 
-    /// Whether the last line stands in a block.
+    /// Whether the last line is in a block.
     fn is_in_block(&self) -> bool
         ensures { result ≡ is_block self.now.place }
     {
         matches!(self.place, Place::InBlock)
     }
 
-    /// One more code type; `false` where none may stand here.
+    /// One more code type; `false` if none is allowed here.
     fn add_type(&mut self, alloc: Global, ints: u8, memory: u32) -> Result<bool, NoMemory>
         ensures { (d : drafts.Draft) → Holds self.old d → IfOk result (λ taken. Adds taken self.new d (lines.Type ints memory)) }
     {
@@ -152,7 +152,7 @@ impl Draft {
         Ok(true)
     }
 
-    /// One more register row; `false` where none may stand here.
+    /// One more register row; `false` if none is allowed here.
     fn add_reg(&mut self, row: RegType) -> Result<bool, NoMemory>
         ensures { (d : drafts.Draft) → Holds self.old d → IfOk result (λ taken. Adds taken self.new d (lines.Reg row)) }
     {
@@ -166,7 +166,7 @@ impl Draft {
         Ok(true)
     }
 
-    /// One more queue row; `false` where none may stand here.
+    /// One more queue row; `false` if none is allowed here.
     fn add_pend(&mut self, address: u32, value: u32) -> Result<bool, NoMemory>
         ensures { (d : drafts.Draft) → Holds self.old d → IfOk result (λ taken. Adds taken self.new d (lines.Pend address value)) }
     {
@@ -177,7 +177,7 @@ impl Draft {
         Ok(true)
     }
 
-    /// One more block; `false` where none may stand here.
+    /// One more block; `false` if none is allowed here.
     fn add_block(&mut self, alloc: Global, code_type: u32) -> Result<bool, NoMemory>
         ensures { (d : drafts.Draft) → Holds self.old d → IfOk result (λ taken. Adds taken self.new d (lines.Block code_type)) }
     {
@@ -193,7 +193,7 @@ impl Draft {
         Ok(true)
     }
 
-    /// The entry block; `false` where it may not stand here.
+    /// The entry block; `false` if it is not allowed here.
     fn add_entry(&mut self, alloc: Global, block: u32) -> Result<bool, NoMemory>
         ensures { (d : drafts.Draft) → Holds self.old d → IfOk result (λ taken. Adds taken self.new d (lines.Entry block)) }
     {
@@ -204,7 +204,7 @@ impl Draft {
         Ok(true)
     }
 
-    /// The instruction that a line says, of which the rows are put at the end.
+    /// The instruction that a line says, whose rows are appended.
     fn placed(&mut self, code: Code) -> Result<Instr, NoMemory>
         ensures { IfOk result (PutsCode self.old self.new code) }
     {
@@ -218,7 +218,7 @@ impl Draft {
         Ok(with_places(code.instr, first, past))
     }
 
-    /// One more instruction; `false` where none may stand here.
+    /// One more instruction; `false` if none is allowed here.
     fn add_code(&mut self, code: Code) -> Result<bool, NoMemory>
         ensures { (d : drafts.Draft) → Holds self.old d → IfOk result (λ taken. Adds taken self.new d (lines.Code code)) }
     {
@@ -230,7 +230,7 @@ impl Draft {
         Ok(true)
     }
 
-    /// One more line; `false` where it may not stand here.
+    /// One more line; `false` if it is not allowed here.
     pub(crate) fn add(&mut self, alloc: Global, line: Line) -> Result<bool, NoMemory>
         ensures { (d : drafts.Draft) → Holds self.old d → IfOk result (λ taken. Adds taken self.new d line) }
     {
@@ -246,7 +246,7 @@ impl Draft {
         }
     }
 
-    /// The object of the tables, where the entry block was said.
+    /// The object of the tables, if the entry block was given.
     pub(crate) fn finish(self) -> Option<Object>
         ensures { (d : drafts.Draft) → Holds self d → Ends result d }
     {

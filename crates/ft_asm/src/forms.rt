@@ -117,11 +117,11 @@ fn line_of(alloc: Global, word: &[u8], text: &[u8]) -> Result<Option<Line>, NoMe
 
 /// What a line says.
 pub(crate) enum Said {
-    /// It has no word, or its first begins a comment.
+    /// It has no word, or the first begins a comment.
     Nothing,
     /// It says this.
     Line(Line),
-    /// It is none of the forms.
+    /// It has none of the forms.
     Bad,
 }
 

@@ -13,7 +13,7 @@ use crate::writing::{put, put_basic, put_colour, put_number, put_op, put_reg};
 use ft_isa::{Basic, Colour, Coloured, Instr, NoMemory, Op, Reg, Subst};
 use ft_types::Program;
 
-/// Puts the words of two registers at the end.
+/// Appends the words of two registers.
 fn put_regs(out: &mut Vec<u8>, a: Reg, b: Reg) -> Result<(), NoMemory>
     ensures { OnOk result (out.new.items ≡ out.old.items ++ spaced (reg_word a ∷ reg_word b ∷ [])) }
 {
@@ -22,7 +22,7 @@ fn put_regs(out: &mut Vec<u8>, a: Reg, b: Reg) -> Result<(), NoMemory>
     put_reg(out, b)
 }
 
-/// Puts the words of a coloured word at the end.
+/// Appends the words of a coloured word.
 fn put_value(out: &mut Vec<u8>, value: Coloured) -> Result<(), NoMemory>
     ensures { OnOk result (out.new.items ≡ out.old.items ++ spaced (colour_word value.colour ∷ decimal value.word ∷ [])) }
 {
@@ -31,7 +31,7 @@ fn put_value(out: &mut Vec<u8>, value: Coloured) -> Result<(), NoMemory>
     put_number(out, value.word)
 }
 
-/// Puts an operation on two registers at the end.
+/// Appends an operation on two registers.
 fn put_op_reg(out: &mut Vec<u8>, op: Op, rd: Reg, rs: Reg, rt: Reg) -> Result<(), NoMemory>
     ensures { OnOk result (out.new.items ≡ out.old.items ++ spaced (form_words (instr_form (instrs.OpReg op rd rs rt)))) }
 {
@@ -42,7 +42,7 @@ fn put_op_reg(out: &mut Vec<u8>, op: Op, rd: Reg, rs: Reg, rt: Reg) -> Result<()
     put_reg(out, rt)
 }
 
-/// Puts an operation on a register and a word at the end.
+/// Appends an operation on a register and a word.
 fn put_op_word(out: &mut Vec<u8>, op: Op, rd: Reg, rs: Reg, value: Coloured) -> Result<(), NoMemory>
     ensures { OnOk result (out.new.items ≡ out.old.items ++ spaced (form_words (instr_form (instrs.OpWord op rd rs value)))) }
 {
@@ -53,7 +53,7 @@ fn put_op_word(out: &mut Vec<u8>, op: Op, rd: Reg, rs: Reg, value: Coloured) -> 
     put_value(out, value)
 }
 
-/// Puts a `mov` at the end.
+/// Appends a `mov`.
 fn put_mov(out: &mut Vec<u8>, rd: Reg, value: Coloured, basic: Basic) -> Result<(), NoMemory>
     ensures { OnOk result (out.new.items ≡ out.old.items ++ spaced (form_words (instr_form (instrs.Mov rd value basic)))) }
 {
@@ -65,7 +65,7 @@ fn put_mov(out: &mut Vec<u8>, rd: Reg, value: Coloured, basic: Basic) -> Result<
     put_basic(out, basic)
 }
 
-/// Puts the first word of a load at the end.
+/// Appends the first word of a load.
 fn put_ld_word(out: &mut Vec<u8>, colour: Colour) -> Result<(), NoMemory>
     ensures { OnOk result (out.new.items ≡ out.old.items ++ ld_word colour) }
 {
@@ -75,7 +75,7 @@ fn put_ld_word(out: &mut Vec<u8>, colour: Colour) -> Result<(), NoMemory>
     }
 }
 
-/// Puts a load at the end.
+/// Appends a load.
 fn put_ld(out: &mut Vec<u8>, colour: Colour, rd: Reg, rs: Reg) -> Result<(), NoMemory>
     ensures { OnOk result (out.new.items ≡ out.old.items ++ spaced (form_words (instr_form (instrs.Ld colour rd rs)))) }
 {
@@ -84,7 +84,7 @@ fn put_ld(out: &mut Vec<u8>, colour: Colour, rd: Reg, rs: Reg) -> Result<(), NoM
     put_regs(out, rd, rs)
 }
 
-/// Puts the first word of a store at the end.
+/// Appends the first word of a store.
 fn put_st_word(out: &mut Vec<u8>, colour: Colour) -> Result<(), NoMemory>
     ensures { OnOk result (out.new.items ≡ out.old.items ++ st_word colour) }
 {
@@ -94,7 +94,7 @@ fn put_st_word(out: &mut Vec<u8>, colour: Colour) -> Result<(), NoMemory>
     }
 }
 
-/// Puts a store at the end.
+/// Appends a store.
 fn put_st(out: &mut Vec<u8>, colour: Colour, rd: Reg, rs: Reg) -> Result<(), NoMemory>
     ensures { OnOk result (out.new.items ≡ out.old.items ++ spaced (form_words (instr_form (instrs.St colour rd rs)))) }
 {
@@ -103,7 +103,7 @@ fn put_st(out: &mut Vec<u8>, colour: Colour, rd: Reg, rs: Reg) -> Result<(), NoM
     put_regs(out, rd, rs)
 }
 
-/// Puts a green jump at the end.
+/// Appends a green jump.
 fn put_jmp_green(out: &mut Vec<u8>, rd: Reg) -> Result<(), NoMemory>
     ensures { OnOk result (out.new.items ≡ out.old.items ++ spaced (form_words (instr_form (instrs.JmpG rd)))) }
 {
@@ -111,7 +111,7 @@ fn put_jmp_green(out: &mut Vec<u8>, rd: Reg) -> Result<(), NoMemory>
     put_reg(out, rd)
 }
 
-/// Puts a green branch at the end.
+/// Appends a green branch.
 fn put_bz_green(out: &mut Vec<u8>, rz: Reg, rd: Reg) -> Result<(), NoMemory>
     ensures { OnOk result (out.new.items ≡ out.old.items ++ spaced (form_words (instr_form (instrs.BzG rz rd)))) }
 {
@@ -119,7 +119,7 @@ fn put_bz_green(out: &mut Vec<u8>, rz: Reg, rd: Reg) -> Result<(), NoMemory>
     put_regs(out, rz, rd)
 }
 
-/// Puts an `idx` at the end.
+/// Appends an `idx`.
 fn put_idx(out: &mut Vec<u8>, rd: Reg, rs: Reg, first: u32, length: u32) -> Result<(), NoMemory>
     ensures { OnOk result (out.new.items ≡ out.old.items ++ spaced (form_words (instr_form (instrs.Idx rd rs first length)))) }
 {
@@ -175,7 +175,7 @@ fn put_instr(out: &mut Vec<u8>, instr: Instr) -> Result<(), NoMemory>
     }
 }
 
-/// Puts a row of a substitution at the end, with a space before it.
+/// Appends a row of a substitution, with a space before it.
 fn put_row(out: &mut Vec<u8>, row: u32) -> Result<(), NoMemory>
     ensures { OnOk result (out.new.items ≡ out.old.items ++ row_text row) }
 {
@@ -183,7 +183,7 @@ fn put_row(out: &mut Vec<u8>, row: u32) -> Result<(), NoMemory>
     put_number(out, u64::from(row))
 }
 
-/// Puts the rows of a substitution at the end, each with a space before it.
+/// Appends the rows of a substitution, each with a space before it.
 fn put_rows<P: Program>(out: &mut Vec<u8>, program: &P, subst: Subst) -> Result<(), NoMemory>
     requires { subst.past ≤ length (P.object program.now).substs }
     ensures { OnOk result (out.new.items ≡ out.old.items ++ flat_map row_text (slice_range (P.object program.now).substs subst.first subst.past)) }
@@ -194,7 +194,7 @@ fn put_rows<P: Program>(out: &mut Vec<u8>, program: &P, subst: Subst) -> Result<
     Ok(())
 }
 
-/// Puts the words of an instruction at the end.
+/// Appends the words of an instruction.
 fn put_words<P: Program>(out: &mut Vec<u8>, program: &P, instr: Instr) -> Result<(), NoMemory>
     requires { HasRows (P.object program.now).substs (subst_of instr) }
     ensures { OnOk result (out.new.items ≡ out.old.items ++ spaced (code_words (code_of (P.object program.now).substs instr))) }

@@ -18,14 +18,13 @@ pub enum Line {
     Cell(Cell),
     /// A node.
     Node(Node),
-    /// A code type, of which the rows follow: the number of its integer variables, and the node of its
-    /// memory.
+    /// A code type, whose rows follow: the number of its integer variables, and the node of its memory.
     Type { ints: u8, memory: u32 },
     /// A register row of the last type.
     Reg(RegType),
     /// A queue row of the last type: the nodes of an address and of a value.
     Pend { address: u32, value: u32 },
-    /// A block of a code type, which starts here.
+    /// A block of a code type, which begins here.
     Block(u32),
     /// An instruction.
     Code(Code),

@@ -32,7 +32,7 @@ check_cost o = (most_visits o + 9 * length o.instrs) * (1 + most_updates o)
 unfoldable pub visit_cost : Object → ℕ
 visit_cost o = 210 * length o.nodes * (1 + most_updates o)
 
--- the most steps for an instruction beside its nodes
+-- the most steps for an instruction apart from its nodes
 unfoldable pub walk_cost : Object → ℕ
 walk_cost o = 9 * (1 + most_updates o)
 

@@ -16,7 +16,7 @@ use std::alloc::Global;
 use std::marker::Brand;
 use std::sync::ledger::{Blank, Ledger};
 
-/// Tries the entry block's code type, then the cells, then the blocks.
+/// Tests the entry block's code type, then the cells, then the blocks.
 fn judge<P: Program, L: Ledger>(
     alloc: Global,
     program: &P,
@@ -35,10 +35,10 @@ fn judge<P: Program, L: Ledger>(
     check_blocks(alloc, program, steps)
 }
 
-/// Checks a program. Ok comes exactly when its object is accepted. Otherwise the error is exactly the
-/// refusal: `EntryType`, then the lowest cell with `CellType`, then the first instruction that is
-/// refused, by blocks in order. It counts a step for each node that is handled, for each update that a
-/// walk of `sel` passes, and for each update that is applied for a pending memory.
+/// Checks a program. Ok is returned exactly if its object is accepted. Otherwise the error is exactly the refusal:
+/// `EntryType`, then the lowest cell with `CellType`, then the first instruction that is refused, by blocks in order.
+/// It counts a step for each node that is handled, for each update that a walk of `sel` passes, and for each update
+/// that is applied for a pending memory.
 pub fn check<'a, P: Program, L: Ledger>(
     alloc: Global,
     program: &'a P,

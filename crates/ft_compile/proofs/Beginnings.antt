@@ -51,7 +51,7 @@ row_there o m (y ∷ ys) r t zero x f e h =
 row_there o m (y ∷ ys) r t (suc n) x f e h = row_there o (finite.insert m y.reg.number (typed_row o y)) ys r t n x f e
     (λ k z a b. h (suc k) z a b)
 
--- a row of a variable stands where it should
+-- a row of a variable is where it should be
 green_there : (a n i : ℕ) (rest : List RegType) → i < n → slice_get (map green_row (range_with_len a n) ++ rest) i
     ≡ Some (green_row (a + i))
 green_there a zero i rest lt = absurd (omega (arith, lt))

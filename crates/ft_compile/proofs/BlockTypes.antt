@@ -82,7 +82,7 @@ module _ (o : Object) (vars : ℕ) (T : HasTypes o vars) (scope : ℕ) (pairs : 
     pub memory_is : u.memory ≡ memory
     pub many : length pairs ≡ 32
 
-  -- the registers have what the target wants
+  -- the registers have what the target requires
   abbrev HasVariables : Context → Type 0
   HasVariables c = (q : ℕ) → q < vars → (typed c (green q).number
       ≡ Some (ty Green int (integer_form_of o (slice_index pairs q))))
@@ -116,7 +116,7 @@ module _ (o : Object) (vars : ℕ) (T : HasTypes o vars) (scope : ℕ) (pairs : 
       ∙ get_or-map f (take vars pairs) q 0
       ∙ ap f (get_or-take vars pairs q 0 lt)
 
-  -- the register of each row is as the row wants it
+  -- the register of each row is as the row requires
   row_like : PutsThese → (c : Context) (q : ℕ) (x : RegType) → q < vars → HasVariables c →
       (x ≡ green_row q) ⊎ (x ≡ blue_row q) → is_like o (replacement o u) (typed c x.reg.number) x ≡ true
   unfolding is_like same_colour is_seen_as same_basic
@@ -138,7 +138,7 @@ module _ (o : Object) (vars : ℕ) (T : HasTypes o vars) (scope : ℕ) (pairs : 
   rows_like P c (x ∷ xs) h r = and_from (is_like o (replacement o u) (typed c x.reg.number) x)
       (are_like o (replacement o u) c xs) (row_like P c r.0.0 x r.0.1 h r.0.2) (rows_like P c xs h r.1)
 
-  -- nothing waits, as code type 1 wants it
+  -- nothing waits, as code type 1 requires
   queue_like : (q : List FormPair) → q ≡ [] → is_queue_like o (replacement o u) q (queue_rows o 1) ≡ true
   unfolding is_queue_like
   queue_like q e = rw (e, T.queue) refl

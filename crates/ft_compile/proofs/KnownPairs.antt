@@ -21,7 +21,7 @@ use Rattle.ft_compile.proofs.PremiseRows.{ty, typed_same, typed_other}
 abbrev pub both : ℕ → Basic → Polynomial → Context → Context
 both p b x c = with_type (blue p).number (ty Blue b x) (with_type (green p).number (ty Green b x) c)
 
--- a green one is no blue one
+-- a green one is not a blue one
 pub green_is_not_blue : (p q : ℕ) → p < 32 → q < 32 → (green q).number ≢ (blue p).number
 green_is_not_blue p q lp lq e = let f = sym (green_number q (omega arith)) ∙ e ∙ blue_number p lp in
     (let g : q ≡ 32 + p = f in omega arith)
@@ -71,13 +71,13 @@ pub record IsGood (o : Object) (scope : ℕ) (k : Known) (pairs : List ℕ) (mem
   pub memory_is : c.memory ≡ memory_form_of o memory
   pub ints : c.ints ≡ scope
 
--- what is so of a pair other than p
+-- what holds of a pair other than p
 abbrev pub Others : Object → Known → List ℕ → ℕ → Context → Type 0
 Others o k pairs p c = (q : ℕ) → q ≢ p → k q ≡ true →
     (typed c (green q).number ≡ Some (ty Green int (integer_form_of o (slice_index pairs q))))
     × (typed c (blue q).number ≡ Some (ty Blue int (integer_form_of o (slice_index pairs q)))) × (q < 32)
 
--- it is so of all known pairs
+-- it holds of all known pairs
 pub others_of : (o : Object) (scope : ℕ) (k : Known) (pairs : List ℕ) (memory p : ℕ) (c : Context) →
     IsGood o scope k pairs memory c → Others o k pairs p c
 others_of o scope k pairs memory p c G q ne h = (G.green_pair q h, G.blue_pair q h, G.small q h)

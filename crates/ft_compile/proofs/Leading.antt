@@ -40,7 +40,7 @@ use Rattle.ft_compile.proofs.PremiseRows.{ty, mov_row}
 
 -- JUMPS
 
--- the row of a green branch, where d is 0
+-- the row of a green branch, if d is 0
 branch_green_row : (o : Object) (c : Context) (rz rd : Reg) (z a : Polynomial) → typed c rz.number
     ≡ Some (ty Green int z) → typed c rd.number ≡ Some (ty Green (code 1) a) → c.d ≡ d_zero → row o c (instr.BzG rz rd)
     ≡ Goes (record c { d = d_conditional z 1 a })
@@ -56,7 +56,7 @@ branch_blue_row : (o : Object) (c : Context) (rz rd : Reg) (u : Subst) (z a : Po
 unfolding need for_typed for_code_over for_conditional same_colour
 branch_blue_row o c rz rd u z a hz hd l = rw (hz, hd) (rw (same_itself z) (rw (same_itself a) l))
 
--- the row of a green jump, where d is 0
+-- the row of a green jump, if d is 0
 jump_green_row : (o : Object) (c : Context) (rd : Reg) (a : Polynomial) → typed c rd.number
     ≡ Some (ty Green (code 1) a) → c.d ≡ d_zero → row o c (instr.JmpG rd) ≡ Goes (record c { d = d_code 1 a })
 unfolding need for_typed for_code_over for_zero same_colour
@@ -69,7 +69,7 @@ jump_blue_row : (o : Object) (c : Context) (rd : Reg) (u : Subst) (a : Polynomia
 unfolding need for_typed for_code_over for_target same_colour
 jump_blue_row o c rd u a hd l = rw hd (rw (same_itself a) l)
 
--- the row of a halt, where d is 0 and nothing waits
+-- the row of a halt, if d is 0 and nothing waits
 halt_row : (o : Object) (c : Context) → c.d ≡ d_zero → c.queue ≡ [] → row o c instr.Halt ≡ Ends
 unfolding need for_zero is_empty
 halt_row o c d q = rw (d, q) refl
@@ -84,7 +84,7 @@ module _ (o : Object) (vars : ℕ) (T : HasTypes o vars) (cells blocks : ℕ) (s
     (refs : (c : ℕ) → c < cells → has_type o (cell_address c) (ref int) ≡ true)
     (arrays : (begin many : ℕ) → RunFits cells (Run begin many) → run_type o begin many ≡ Some int)
     (targets : (b : ℕ) → IsTarget blocks b → has_type o (code_address (start b)) (code 1) ≡ true) where
-  -- what a jump's substitution puts, where its rows are among all
+  -- what a jump's substitution puts, if its rows are among all
   puts_these : (scope : ℕ) (w : Noted) → length w.pairs ≡ 32 → Starts (with_jump vars w).rows o.substs →
       PutsThese o vars T scope w.pairs w.memory (jump_subst vars w)
   puts_these scope w many s =

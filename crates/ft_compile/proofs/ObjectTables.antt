@@ -125,7 +125,7 @@ pub first_type : (ss : List ℕ) → unwrap_or (option_map code_type_of (slice_g
 first_type [] = refl
 first_type (s ∷ ss) = refl
 
--- blocks have an instruction, where there is one
+-- blocks have an instruction, if there is one
 pub first_there : (bs : Blocks) → HaveSome bs → 0 < length bs → 0 < blocks_size bs
 first_there [] h lt = absurd (omega (arith, lt))
 first_there (x ∷ xs) h lt = omega (arith, h.0)

@@ -1,4 +1,4 @@
--- The rows of a step's instructions apply, where the known pairs have the forms of their nodes.
+-- The rows of a step's instructions apply, if the known pairs have the forms of their nodes.
 use Rattle.std.proofs.Common.{◌≡◌, ◌≢◌, ℕ, ◌+◌, ◌<◌, true, List, [], ◌∷◌, ◌++◌, length, Some, refl, sym, ap, ◌∙◌, arith}
 use Rattle.std.specs.Prelude.{All}
 use Rattle.ft_isa.specs.Words.{cell_address}
@@ -42,7 +42,7 @@ abbrev pub Passes : Object → Context → List Instr → Context → Type 0
 Passes o c [] d = c ≡ d
 Passes o c (i ∷ is) d = (e : Context) × (row o c i ≡ Goes e) × Passes o e is d
 
--- a step that goes to the next one alone
+-- a step that goes only to the next one
 abbrev pub IsStraight : Step3 → Type 0
 IsStraight (Put p v) = Unit {0}
 IsStraight (Copy p q) = Unit {0}

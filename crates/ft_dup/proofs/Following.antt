@@ -94,7 +94,7 @@ module _ (o : Object) (vars cells : ℕ) (bs : Blocks) (W : IsWell vars cells bs
       pub words : All IsWord cs
       pub running : done ≡ false
 
-    -- a running flow stands before the steps `rest` of its block, after the steps `front`, and the machine with it
+    -- a running flow is before the steps `rest` of its block, after the steps `front`, and the machine with it
     pub record At (f : FlowState) (i : ℕ) (m : Registers) (c : Cells) (front rest : List Step3) (known : Known) : Type 0
       where
         pub within : f.place.block < length bs
@@ -109,7 +109,7 @@ module _ (o : Object) (vars cells : ℕ) (bs : Blocks) (W : IsWell vars cells bs
         pub memory : CellsHold c f.cells
         pub fine : Fine f.cells f.done
 
-    -- the machine where the flow stands
+    -- the machine at the flow's place
     abbrev from : FlowState → ℕ → Registers → Cells → Ran
     from f i m c = spot i m 0 [] c w f.out
 
@@ -319,7 +319,7 @@ module _ (o : Object) (vars cells : ℕ) (bs : Blocks) (W : IsWell vars cells bs
     one f r (over d h) = subst (λ b. Beside (act_if b (step_at bs f.place) f)
         (iterate (machine_step o) (cost_if b (step_at bs f.place)) r)) (sym d) (over d h)
 
-    -- what is known where they stand is held
+    -- what is known at their place is held
     held_at : (f : FlowState) (i : ℕ) (m : Registers) (c : Cells) (front rest : List Step3) (known : Known) →
         At f i m c front rest known → Holds (known_at vars bs f.place) f.pairs (from f i m c).state
     held_at f i m c front rest known A =

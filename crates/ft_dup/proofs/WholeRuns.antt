@@ -27,7 +27,7 @@ use Rattle.ft_dup.proofs.Following.{no_known, Agrees, At, Beside, standing, agre
 
 -- THE START
 
--- the initial words stand in the cells
+-- the cells hold the initial words
 start_cells : (o : Object) → CellsHold (tabulate (length o.cells) cell_address (init_of o)) (words_of o)
 start_cells o = λ c. elim (slice_get_cases o.cells c).1 [
   | inl x ↦ tabulated (length o.cells) cell_address cells_tell (init_of o) c (slice_get_within o.cells c x.0 x.2)

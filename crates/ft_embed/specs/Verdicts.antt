@@ -1,4 +1,4 @@
--- What is answered over the bytes of an object: a status, and why they are refused.
+-- What is returned over the bytes of an object: a status, and why they are refused.
 use Rattle.std.specs.Prelude.{◌≡◌, ℕ, List, Option, Some, None}
 use Rattle.ft_typing.specs.Accepted.{Refusal, EntryType, CellType, Refused as AtInstr, refusal, IsAccepted}
 use Rattle.ft_typing.specs.Premise.{number_of}
@@ -23,12 +23,12 @@ told_refusal EntryType = record { part = 2; number = 0; place = 0; index = 0 }
 told_refusal (CellType k) = record { part = 3; number = 0; place = k; index = 0 }
 told_refusal (AtInstr b i p) = record { part = 4; number = number_of p; place = b; index = i }
 
--- an object that is accepted, or refused so
+-- an object that is accepted, or has this refusal
 abbrev pub judged : Option Refusal → Verdict
 judged None = record { status = 0; why = nothing }
 judged (Some r) = record { status = 8; why = told_refusal r }
 
--- bytes that break this rule, or an object that is refused so
+-- bytes that break this rule, or an object with this refusal
 abbrev pub verdict : Option ObjectError → Option Refusal → Verdict
 verdict (Some e) r = record { status = 7; why = told_error e }
 verdict None r = judged r
@@ -38,7 +38,7 @@ verdict None r = judged r
 abbrev pub verdict_on : List ℕ → Verdict
 verdict_on bytes = verdict (broken bytes) (refusal (object_of bytes))
 
--- a call answered this verdict
+-- a call returned this verdict
 pub record Tells (status : ℕ) (why : Refused) (v : Verdict) : Type 0 where
   pub status_is : status ≡ v.status
   pub why_is : why ≡ v.why

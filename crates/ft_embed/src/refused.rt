@@ -54,7 +54,7 @@ pub(crate) fn told_entry() -> Refused
     }
 }
 
-/// A cell whose initial word has not its type.
+/// A cell whose initial word does not have its type.
 pub(crate) fn told_cell(cell: u32) -> Refused
     ensures { result ≡ told_refusal (accepted.CellType cell) }
 {

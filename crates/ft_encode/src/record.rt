@@ -13,19 +13,19 @@ use ft_isa::{Base, Basic, Colour, Coloured, Instr, NoMemory, Reg, Subst};
 use ft_static::{Node, Shape};
 use ft_types::{Block, RegType, high_half, low_half, shape_numbers};
 
-/// What is written in a record of its own.
+/// What is written as one record.
 pub(crate) trait Record {
     ghost use Rattle.std.specs.Prelude.{ℕ, List, OnOk};
     ghost use Rattle.ft_format.specs.Puts.{Puts};
 
     ghost bytes: { Self → List ℕ };
 
-    /// Puts the record's bytes at the end.
+    /// Appends the record's bytes.
     fn write(&self, out: &mut Vec<u8>) -> Result<(), NoMemory>
         ensures { OnOk result (Puts out.old.items out.new.items (bytes self.now)) };
 }
 
-/// Puts records at the end, one after the other.
+/// Appends records, one after the other.
 pub(crate) fn write_all<T: Record>(records: &[T], out: &mut Vec<u8>) -> Result<(), NoMemory>
     ensures { OnOk result (Puts out.old.items out.new.items (flat_map T.bytes records.now)) }
 {
@@ -239,7 +239,7 @@ impl Record for Instr {
     }
 }
 
-/// Puts substitution rows at the end, two at a time: an object may have a million of them.
+/// Appends substitution rows, two at a time: an object may have a million of them.
 #[tactic(auto, unfolding(ft_format::specs::Layout::written))]
 pub(crate) fn write_rows(rows: &[u32], out: &mut Vec<u8>) -> Result<(), NoMemory>
     ensures { OnOk result (Puts out.old.items out.new.items (flat_map subst_bytes rows.now)) }

@@ -41,7 +41,7 @@ use Rattle.ft_exchange.proofs.Lockstep.{next_of, sides}
 
 -- WHERE RUNS MEET
 
--- a state meets where it has stopped, or is at an instruction that stands fixed
+-- a state meets if it has stopped, or is at a fixed instruction
 abbrev meets_by : Status → Option Instr → Bool
 meets_by Running (Some i) = is_fixed i
 meets_by Running None = true
@@ -181,7 +181,7 @@ goes_free : (o : Object) (c : Context) (i : Instr) → Passes o c i → is_fixed
 goes_free o c i (ends e) free = (let f = ends_fixed o c i e in absurd (cc))
 goes_free o c i (goes d e) free = (d, e)
 
--- 1 where something is fetched
+-- 1 if something is fetched
 abbrev fetched_one : Option Instr → ℕ
 fetched_one None = 0
 fetched_one (Some i) = 1
@@ -190,7 +190,7 @@ fetched_few : (u : Option Instr) → fetched_one u ≤ 1
 fetched_few None = omega arith
 fetched_few (Some i) = omega arith
 
--- a place of the object with at most so many steps to the last instruction of its block
+-- a place of the object with at most n steps to the last instruction of its block
 pub record Ahead (o : Object) (t : State) (P : Place) (f : ℕ) : Type 0 where
   pub at : IsPlace o P
   pub enough : 2 * length (block_instrs o at.number) ≤ f + fetched_one t.fetched + 2 * P.index
@@ -261,7 +261,7 @@ module _ (o : Object) (spelled : IsSpellable o) (acc : IsAccepted o) where
       ahead_executed t w P f a h (e ∙ h.there) (ap is_fixed same ∙ free.free))
       fits.fetched
 
-  -- where there is an instruction, something is ahead
+  -- if there is an instruction, something is ahead
   ahead_some : (t : State) (P : Place) → Ahead o t P 0 → ⊥
   ahead_some t P a =
       let h = here o P acc a.at in
@@ -270,7 +270,7 @@ module _ (o : Object) (spelled : IsSpellable o) (acc : IsAccepted o) where
       let few = fetched_few t.fetched in
       omega arith
 
-  -- after at most so many steps the run meets
+  -- after at most n steps the run meets
   pub record Soon (n f : ℕ) : Type 0 where
     pub step_number : ℕ
     pub from : n ≤ step_number

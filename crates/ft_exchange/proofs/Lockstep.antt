@@ -134,7 +134,7 @@ number_after o i s p = number_further _ p
 abbrev pub ran : State → List Output → Ran
 ran s os = record { state = s; wild = []; outputs = os }
 
--- where both are in one state: not between the two, and not about to do the first
+-- if both are in one state: not between the two, and not about to do the first
 pub record Clear (n : ℕ) (s : State) : Type 0 where
   pub not_between : s.status ≡ Running → s.pc_green ≢ suc (suc n)
   pub not_fetched : s.status ≡ Running → (i : Instr) → s.fetched ≡ Some i → s.pc_green ≢ suc n
@@ -259,7 +259,7 @@ module _ (o : Object) (b k : ℕ) (spelled : IsSpellable o) (acc : IsAccepted o)
         not_fetched = λ go i f. cc;
       })))
 
-  -- the next step of both, where they are in one state that runs
+  -- the next step of both, if they are in one state that runs
   clear_stopped : (x : State) → x.status ≢ Running → Clear n0 x
   clear_stopped x h = record { not_between = λ go e. h go; not_fetched = λ go i f e. h go }
 
@@ -270,7 +270,7 @@ module _ (o : Object) (b k : ℕ) (spelled : IsSpellable o) (acc : IsAccepted o)
   pc_next t t' P Q (at_start e) f at' f' h l g = (let c = f'.pc_green in
       no_start o b k at'.number Q.block spelled p at'.block (omega arith))
 
-  -- what is known of a step from a place, where it leaves the machine running
+  -- what is known of a step from a place, if it leaves the machine running
   abbrev Onward : State → List Wild → Place → Type 0
   Onward t w P = (step o t w).state.status ≡ Running → IsPlace o (next_place o t.fetched t P)
       × Fits o (next_place o t.fetched t P) (step o t w).state

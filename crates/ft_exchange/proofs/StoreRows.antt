@@ -19,7 +19,7 @@ use Rattle.ft_typing.specs.Context.{Typed, FormPair, Context, typed}
 use Rattle.ft_typing.specs.TypingRow.{Outcome, Goes, Fails, same_colour, need, for_typed, for_ref_over, for_oldest, row}
 use Rattle.ft_isa.specs.Instructions.{reads}
 
--- the pair of a store, where the premises on its registers hold
+-- the pair of a store, if the premises on its registers hold
 of_value : ℕ → Base → Polynomial → Typed → Option FormPair
 of_value zero base f v = None
 of_value (suc n) base f v = if is_seen_as v.basic (record { refs = n; base = base }) then Some (f, v.form) else None

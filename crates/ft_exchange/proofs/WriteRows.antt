@@ -51,7 +51,7 @@ of_idx first m b None = None
 of_idx first m None (Some s) = None
 of_idx first m (Some b) (Some s) = Some (record { colour = s.colour; basic = ref b; form = run_form first m s.form })
 
--- what an instruction that writes a register makes known of it, where its row goes on
+-- what an instruction that writes a register makes known of it, if its row goes on
 pub gives : Object → Context → Instr → Option Typed
 gives o c (OpReg op rd rs rt) = of_op_reg op (typed c rs.number) (typed c rt.number)
 gives o c (OpWord op rd rs value) = of_op_word op value (typed c rs.number)

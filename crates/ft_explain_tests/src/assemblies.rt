@@ -1,4 +1,4 @@
-//! What is said of assembly texts that are refused.
+//! Explanations of refused assembly texts.
 use crate::calls::{check_said, check_told};
 use std::test::Fail;
 

@@ -1,4 +1,4 @@
-//! What is said of objects that are not accepted.
+//! Explanations of objects that are not accepted.
 use crate::calls::check_altered;
 use ft_worked_objects::{
     A, A2, I, J, N, P1, P3, P4, P5, P6, P8, P9, P11, P12, P13, P14, P15, P16, P17, X2,

@@ -1,4 +1,4 @@
-//! What is said of links that are refused, by status and line.
+//! Explanations of refused links, by status and line.
 use crate::calls::check_told;
 use ft_worked_objects::{A, A2};
 use std::test::Fail;
@@ -6,7 +6,7 @@ use std::test::Fail;
 /// A map of two modules.
 const MAP: &str = "module m\nimport go 1\nmodule a\nexport go 0\n";
 
-/// Maps, the line of a refusal, and what is said where the modules are not there.
+/// Maps, the line of a refusal, and its explanation if the modules do not exist.
 const MAPS: &[(&str, &str, &str)] = &[
     (
         "import go 1\nmodule a\n",
@@ -81,7 +81,7 @@ const MAPS: &[(&str, &str, &str)] = &[
     ),
 ];
 
-/// Maps whose line 2 is none of a map, each with what is said of it.
+/// Maps with an invalid line 2, each with its explanation.
 const LINES: &[(&str, &str)] = &[
     (
         "module m\nexport go\n",

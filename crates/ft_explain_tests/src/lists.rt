@@ -1,4 +1,4 @@
-//! What is said of fault lists, campaigns and scripts that are refused, and of files that cannot be read.
+//! Explanations of refused fault lists, campaigns and scripts, and of files that cannot be read.
 use crate::calls::{check_said, check_told};
 use ft_tests::repeated;
 use ft_worked_objects::A;
@@ -30,7 +30,7 @@ fn a_campaign_that_is_too_long_is_explained(rt: HostRuntime) -> Result<(), Fail>
     )
 }
 
-/// Lines of a list that are no fault, each with what is said.
+/// Lines of a list that are not faults, each with its explanation.
 const LINES: &[(&str, &str)] = &[
     (
         "4:r1:6\r\n",
@@ -87,7 +87,7 @@ fn lines_that_are_no_command_are_explained(rt: HostRuntime) -> Result<(), Fail> 
     check_told(&rt, "debug file", 0, "", &[("script", script)], text)
 }
 
-/// Calls by words, status and line, each with what is said where only the object is there.
+/// Calls by words, status and line, each with its explanation if only the object exists.
 const TOLD: &[(&str, u8, &str, &str)] = &[
     (
         "campaign file --faults list",

@@ -1,4 +1,4 @@
-//! What is said of bytes that spell no object.
+//! Explanations of bytes that spell no object.
 use crate::calls::{check_altered, check_said, check_told};
 use ft_worked_objects::A;
 use std::test::Fail;
@@ -65,7 +65,7 @@ fn lengths_are_explained(rt: HostRuntime) -> Result<(), Fail> {
     check_told(&rt, "dis file", 7, "object 2 67108864\n", &[], text)
 }
 
-/// Files that are no objects, each with what is said.
+/// Files that are not objects, each with its explanation.
 const OTHERS: &[(&[u8], &str)] = &[
     (
         b"cell out = 0;\n",

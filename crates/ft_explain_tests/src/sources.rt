@@ -1,4 +1,4 @@
-//! What is said of sources that are refused.
+//! Explanations of refused sources.
 use crate::calls::check_said;
 use ft_tests::{declared, repeated};
 use std::test::Fail;
@@ -187,7 +187,7 @@ const HABITS: &[(&str, &str)] = &[
     ),
 ];
 
-/// Sources of a text and so many copies of another, each with what is said of it.
+/// Sources of a text and a number of copies of another, each with its explanation.
 const REPEATED: &[(&str, &str, u32, &str)] = &[
     (
         "",

@@ -1,4 +1,4 @@
-//! What is said of words that are no command.
+//! Explanations of words that are not a command.
 use crate::calls::check_said;
 use std::test::Fail;
 

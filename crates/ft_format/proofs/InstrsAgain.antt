@@ -31,7 +31,7 @@ use Rattle.ft_format.proofs.Nodes.{same_seven, length_again}
 parts_joined : (x : ℕ) → x / 2 ^ 24 * 2 ^ 24 + x / 2 ^ 16 % 2 ^ 8 * 2 ^ 16 + x % 2 ^ 16 ≡ x
 parts_joined x = omega arith
 
--- what an instruction's substitution is, where the ones before took the rows up to `first`
+-- what an instruction's substitution is, where earlier ones took the rows up to `first`
 abbrev pub Carries : List Node → ℕ → ℕ → Option Subst → Type 0
 Carries nodes rows first None = Unit {0}
 Carries nodes rows first (Some s) = IsSubst nodes rows first s
@@ -41,7 +41,7 @@ abbrev pub past_of : ℕ → Option Subst → ℕ
 past_of first None = first
 past_of first (Some s) = s.past
 
--- what a record that breaks no rule stands for
+-- what a record stands for, if it breaks no rule
 pub record InstrAgain (h : Header) (nodes : List Node) (first : ℕ) (row : List ℕ) : Type 0 where
   pub written : instr_row (instr_of row) ≡ row
   pub instr : IsInstr h.types h.cells (instr_of row)

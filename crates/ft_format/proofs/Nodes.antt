@@ -27,7 +27,7 @@ use Rattle.ft_format.proofs.Codes.{high_back, low_back, word_back}
 use Rattle.ft_format.proofs.Versions.{few_node_kinds, has_node_kind, has_op}
 use Rattle.ft_format.proofs.References.{named_again, named_fine, named_after, named_before}
 
--- what a record that breaks no rule stands for
+-- what a record stands for, if it breaks no rule
 pub record NodeAgain (v : Version) (earlier : List Node) (row : List ℕ) : Type 0 where
   pub written : node_row (node_of row) ≡ row
   pub node : IsNode earlier (length earlier) (node_of row)

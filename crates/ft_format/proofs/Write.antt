@@ -19,7 +19,7 @@ use Rattle.ft_format.proofs.Versions.{names_magic}
 use Rattle.ft_format.proofs.SpelledSections.{header_for, small_for, header_fine, header_fit}
 use Rattle.ft_format.proofs.SpelledAgain.{spelled_again}
 
--- the header stands in the first bytes, whatever follows
+-- the header is the first bytes, whatever follows
 header_first : (v : Version) (o : Object) (rest : List ℕ) → IsSpellable o → Supports v o →
     header_at (spelling v o ++ rest) ≡ header_for v o
 unfolding spelling

@@ -85,7 +85,7 @@ pub enum Instr {
 impl Instr {
     ghost use Rattle.ft_isa.specs.Instructions.{first_read, is_blue_store, is_fixed, is_green_store, is_leading, number_of, second_read, written};
 
-    /// Whether it stands fixed: a jump, a branch or `halt`.
+    /// Whether it is fixed: a jump, a branch or `halt`.
     pub fn is_fixed(&self) -> bool
         ensures { result ≡ is_fixed self.now }
     {

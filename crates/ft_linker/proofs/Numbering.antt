@@ -25,7 +25,7 @@ number_more cs c i lt = get_or_append_left cs (c ∷ []) 0 i lt
 number_last : (cs : List ℕ) (c : ℕ) → number_in (cs ++ c ∷ []) (length cs) ≡ c
 number_last cs c = get_or_push cs c 0 (length cs) refl
 
--- so a key stays of which the parts are earlier
+-- so a key stays if its parts are earlier
 key_more : (cs : List ℕ) (c n : ℕ) (s : Shape) → HasPartsBelow n s → n ≤ length cs → key_of (cs ++ c ∷ []) s
     ≡ key_of cs s
 key_more cs c n s h le = renamed_alike (number_in (cs ++ c ∷ [])) (number_in cs) s
@@ -120,7 +120,7 @@ module _ (nodes : List Node) (cs : List ℕ) (n c : ℕ) (y : Node) (known next 
   first_next : (k : Shape) (d : ℕ) → next k ≡ Some d → First k d
   first_next k d e = first_by (test k) k d refl e
 
-  -- numbers are equal exactly where keys are
+  -- numbers are equal exactly if keys are
   numbers_of_keys : (i j : ℕ) (u z : Node) → i < n + 1 → j < n + 1 → slice_get nodes i ≡ Some u → slice_get nodes j
       ≡ Some z → number_in ds i ≡ number_in ds j → key_of ds u.shape ≡ key_of ds z.shape
   unfolding First
@@ -180,7 +180,7 @@ pub all_known : (nodes : List Node) (cs : List ℕ) (n : ℕ) (known : Shape →
     ≡ length nodes → AreNumbered nodes cs
 all_known nodes cs n known h e = record { count = h.count ∙ e; trees = subst (AreTreeNumbers nodes cs) e h.trees }
 
--- one more node, with a longer list that is told by an equation
+-- one more node, with a longer list given by an equation
 pub known_next : (nodes : List Node) (cs ds : List ℕ) (n c : ℕ) (y : Node) (known next : Shape →
     Option ℕ) (test : Shape →
     Bool) (k : Shape) → AreNodes nodes → AreKnown nodes cs n known → slice_get nodes n ≡ Some y → k

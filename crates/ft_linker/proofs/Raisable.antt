@@ -1,4 +1,4 @@
--- What a module that is spelled has can be raised, where its numbers fit behind what stands before it.
+-- A spelled module's parts can be raised, if its numbers fit after those before it.
 use Rattle.std.proofs.Common.{◌≡◌, ℕ, zero, suc, ◌+◌, ◌<◌, ◌≤◌, ◌^◌, ◌==◌, List, [], ◌∷◌, length, slice_get, Option}
 use Rattle.std.proofs.Common.{Some, None, refl, ap, ◌∙◌, subst, arith, eqb-true}
 use Rattle.std.specs.Option.{option_map}

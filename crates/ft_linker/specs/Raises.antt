@@ -1,4 +1,4 @@
--- What can be raised: parts of a module of which the numbers stay within their types behind what stands before it.
+-- What can be raised: parts of a module whose numbers stay within their types after they are raised.
 use Rattle.std.specs.Prelude.{◌≡◌, ℕ, zero, suc, ◌+◌, ◌<◌, ◌^◌, List, Some, slice_get}
 use Rattle.ft_isa.specs.declared.basic.Base.{Base}
 use Rattle.ft_isa.specs.declared.basic.Base.TheVariants.{Int, Code}
@@ -17,7 +17,7 @@ use Rattle.ft_modules.specs.declared.before.Before.{Before}
 abbrev pub Each : {X : Type 0} → (X → Type 0) → List X → Type 0
 Each {X} P xs = (n : ℕ) (x : X) → slice_get xs n ≡ Some x → P x
 
--- a shape of which the parts can be so many nodes further
+-- a shape whose parts can be raised by this many nodes
 abbrev pub CanRaiseShape : ℕ → Shape → Type 0
 CanRaiseShape k y = EachPart (λ s m. k + m < 2 ^ 32) y
 

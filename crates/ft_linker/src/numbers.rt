@@ -49,7 +49,7 @@ fn key_of(numbers: &[u32], shape: Shape) -> Shape
     }
 }
 
-/// The number that is known of a key, or else this one, which is known of it from then on.
+/// The known number of a key, or else this one, which is known from then on.
 #[tactic(auto, unfolding(crate::specs::Keys::look))]
 fn number_key(known: &mut BTreeMap<Shape, u32>, key: Shape, next: u32) -> Result<u32, AllocError>
     ensures number { IfOk result (λ c. c ≡ unwrap_or (look known.old key) next) }
@@ -60,7 +60,7 @@ fn number_key(known: &mut BTreeMap<Shape, u32>, key: Shape, next: u32) -> Result
     Ok(number)
 }
 
-/// Numbers of nodes, in their order: two nodes have one number exactly when they stand for one tree.
+/// Numbers of nodes, in their order: two nodes have the same number exactly if they stand for the same tree.
 pub fn number_trees(alloc: Global, nodes: &[Node]) -> Result<Vec<u32>, AllocError>
     requires { AreNodes nodes.now }
     ensures { IfOk result (λ v. AreNumbered nodes.now v.items) }

@@ -53,7 +53,7 @@ impl Traced {
         self.types[r.number() as usize]
     }
 
-    /// Enters a register, or takes it out.
+    /// Enters a register, or removes it.
     fn enter(&mut self, r: Reg, target: Option<u16>)
         ensures { (e : Entered) → Stands self.old e → Stands self.new (entered_with r.number target e) }
     {
@@ -90,7 +90,7 @@ impl Traced {
         }
     }
 
-    /// Whether no row types an entered register.
+    /// Whether no row is for an entered register.
     fn are_free(&self, rows: &Table<RegType>) -> bool
         ensures { (e : Entered) → Stands self.now e → result ≡ are_free e rows.now }
     {
@@ -103,7 +103,7 @@ impl Traced {
         true
     }
 
-    /// Whether a target is entered, with a code type that types no entered register.
+    /// Whether a target is entered, with a code type without rows for entered registers.
     fn is_free_target(&self, object: &Object, target: Option<u16>) -> bool
         ensures { (e : Entered) → Stands self.now e → result ≡ is_free_target object.now e target }
     {
@@ -133,7 +133,7 @@ impl Traced {
         }
     }
 
-    /// Goes past an instruction.
+    /// Passes an instruction.
     pub fn pass(&mut self, instr: Instr)
         ensures { (e : Entered) → Stands self.old e → Stands self.new (entered_after instr e) }
     {

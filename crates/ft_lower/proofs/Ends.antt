@@ -29,7 +29,7 @@ pub record CutsAt (bs : Blocks) (c : ℕ) (s : State) (f : FlowState) (t : State
   pub out : end.out ≡ t.out
   pub running : end.done ≡ false
 
--- what the flow does where the program has this outcome
+-- what the flow does if the program has this outcome
 abbrev pub Runs : Blocks → ℕ → ℕ → Place → State → FlowState → Outcome → Type 0
 Runs bs n c p s f (Ended t) = EndsAt bs n c p s f t
 Runs bs n c p s f (Cut t) = CutsAt bs c s f t

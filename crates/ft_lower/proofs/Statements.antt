@@ -42,7 +42,7 @@ module _ (bs : Blocks) (n m : ℕ) where
     like = like_evaluated n q e s g l;
   }
 
-  -- where the word is 0 the exit is taken
+  -- if the word is 0 the exit is taken
   tested_zero : (e : Expression Slot) (to : ℕ) (p : Place) (s : State) (f : FlowState) →
       Valued bs n (after p (expression_steps (n + 1) e)) (n + 1) e s f →
       step_at bs (after p (expression_steps (n + 1) e))
@@ -52,7 +52,7 @@ module _ (bs : Blocks) (n m : ℕ) where
       tested_by e to p (first to) s f a V at (ap (λ v. at_zero v a (goes_on (with_pair n 0 V.end))) (V.value ∙ z))
       (put_first n n 0 to _ s V.end (omega arith) V.like)
 
-  -- where it is not the flow goes on
+  -- if it is not, the flow goes on
   tested_suc : (e : Expression Slot) (to v : ℕ) (p : Place) (s : State) (f : FlowState) →
       Valued bs n (after p (expression_steps (n + 1) e)) (n + 1) e s f →
       step_at bs (after p (expression_steps (n + 1) e))
@@ -196,7 +196,7 @@ module _ (bs : Blocks) (n m : ℕ) where
           like = T.like;
         }
 
-    -- what a turn does, where the rest of the loop does what it should
+    -- what a turn does, if the rest of the loop does what it should
     turn_run : (l w : ℕ) (s : State) (f : FlowState) (rest : State → Outcome) → l ≡ s.left → value e s.vars s.cells
         ≡ suc w → Valued bs n (after (first head) (expression_steps (n + 1) e)) (n + 1) e s f →
         ((t : State) (g : FlowState) → suc t.left ≤ l → Like n (first head) t g → Runs bs n 1 (first out) t g (rest t))

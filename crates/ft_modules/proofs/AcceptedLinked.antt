@@ -65,7 +65,7 @@ variable_memory : (o : Object) (n : ℕ) → AreNodes o.nodes → HasShape o.nod
 variable_memory o n nodes s = ap memory_part (tree_at-row o.nodes n s.node nodes s.found)
     ∙ ap (λ (y : Shape). memory_part (tree_of (trees o.nodes) y)) s.shape
 
--- a memory's node of which the tree is the memory variable
+-- a memory's node whose tree is the memory variable
 variable_shape : (x : Object) (y : Shape) → is_memory y ≡ true → memory_part (tree_of (trees x.nodes) y)
     ≡ memory_variable → y ≡ shape.Memory
 variable_shape x shape.Memory m e = refl
@@ -94,8 +94,7 @@ entry_like o x t u y so sx l there e =
       });
     }
 
--- the linked object's entry block, n, which stands at address a, is of a code type that says what the first module's
--- entry type says
+-- the linked object's entry block, n, at address a, is of a code type that says what the first module's entry type says
 record EntryIn (first x : Object) (n a : ℕ) : Type 0 where
   pub block : Block
   pub there : slice_get x.blocks n ≡ Some block

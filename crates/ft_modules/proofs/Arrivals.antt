@@ -107,7 +107,7 @@ silent i s h = refl
 
 -- CLAIMS
 
--- a fact that is claimed of a row holds where the row passes
+-- a fact that is claimed of a row holds if the row passes
 pub claimed : (o : Object) (c : Context) (i : Instr) (C : Type 0) (x : Outcome) → row o c i ≡ x → After (λ _. C) C x →
     Passes o c i → C
 unfolding After
@@ -116,7 +116,7 @@ claimed o c i C Ends e a p = a
 claimed o c i C (Fails n) e a (ends f) = cc
 claimed o c i C (Fails n) e a (goes d f) = cc
 
--- the context that a row goes on to, with what holds of it, where it never ends the block
+-- the context that a row leads to, with what holds of it, if it never ends the block
 pub record GoesTo (o : Object) (c : Context) (i : Instr) (G : Context → Type 0) : Type 0 where
   pub context : Context
   pub goes_to : row o c i ≡ Goes context
@@ -136,7 +136,7 @@ pub goes_to : (o : Object) (c : Context) (i : Instr) (G : Context → Type 0) �
     GoesTo o c i G
 goes_to o c i G a p = goes_to_by o c i G (row o c i) refl a p
 
--- what holds where a row ends the block, which never goes on
+-- what holds if a row ends the block and so never goes on
 pub ends_by : (o : Object) (c : Context) (i : Instr) (E : Type 0) (x : Outcome) → row o c i ≡ x → After (λ _. ⊥) E x →
     Passes o c i → (row o c i ≡ Ends) × E
 unfolding After

@@ -165,7 +165,7 @@ int_is (Code t) e = cc
 is_int_of : (b : Base) → b ≡ Int → is_int b ≡ true
 is_int_of b e = ap is_int e
 
--- cells that the test finds plain are so
+-- cells that the test finds plain are plain
 pub plain_cells_are : (cs : List Cell) → list_all is_plain_cell cs ≡ true → All HasPlainCell cs
 plain_cells_are cs e = all_of HasPlainCell cs (λ n c f. int_is c.basic.base (each_passes is_plain_cell cs e n c f))
 
@@ -173,7 +173,7 @@ plain_cells_are cs e = all_of HasPlainCell cs (λ n c f. int_is c.basic.base (ea
 pub are_plain_cells : (cs : List Cell) → All HasPlainCell cs → list_all is_plain_cell cs ≡ true
 are_plain_cells cs h = all_pass is_plain_cell cs (λ n c f. is_int_of c.basic.base (all_there HasPlainCell cs n c h f))
 
--- code types of which the test finds the rows plain have such rows
+-- code types whose rows the test finds plain have plain rows
 pub plain_rows_are : (ts : List CodeType) → list_all has_plain_rows ts ≡ true → All HasPlainRows ts
 plain_rows_are ts e = all_of HasPlainRows ts (λ n t f.
     all_of HasPlainRow t.regs (λ m r g. int_is r.basic.base
@@ -199,7 +199,7 @@ map_parts f (Some x) e = cc
 
 -- WALKS
 
--- where no walk is found to fail, none fails
+-- if no walk is found to fail, none fails
 pub no_walk_fault : (o : Object) (b : ℕ) (ys : List Block) → first_walk_fault o b ys ≡ None → (n : ℕ) → n < length ys →
     code_walk o finite.empty 0 (block_instrs o (b + n)) ≡ None
 no_walk_fault o b [] e n lt = absurd (omega (arith, lt))
@@ -227,7 +227,7 @@ walk_without_fault o b (y ∷ ys) h =
 
 -- TOTALS
 
--- totals that the test finds within their limits are so
+-- totals that the test finds within their limits are within them
 pub few_are : (ms : List Object) → are_few ms ≡ true → AreFew ms
 unfolding are_few
 few_are ms e =

@@ -38,7 +38,7 @@ turned a b h = by_test (b == a) refl
     by_test false e = e
     by_test true e = (let f : (a == b) ≡ true = eq-eqb a b (sym (eqb-true b a e)) in cc)
 
--- after an instruction that writes a register this one alone may have changed
+-- after an instruction that writes a register, only this one may have changed
 enters : (e : Entered) (i : Instr) (r : ℕ) → written i ≡ Some r → entered_after i e ≡ entered_with r (claimed i) e
 enters e i r h = ap (λ w. entered_past w (claimed i) e) h
 
@@ -88,7 +88,7 @@ entered_twice e p q v w other = finite.same_map nat_cmp_total nat_cmp-IsAntisymm
 
 -- TWO NEIGHBOURS
 
--- an instruction that leaves a written register alone is passed after the write as before it
+-- an instruction that does not use a written register is passed after the write as before it
 pass_over : (o : Object) (e : Entered) (i w : Instr) (r : ℕ) → is_fixed i ≡ false → written w ≡ Some r →
     leaves_alone i (written w) ≡ true → is_traced o (entered_after w e) i ≡ is_traced o e i
 pass_over o e i w r free wr alone =
@@ -177,7 +177,7 @@ walk_exchanged o e k (i ∷ j ∷ is) zero q a b ea eb m h =
 
 -- TABLES
 
--- the walk looks at the rows of code types alone
+-- the walk looks only at the rows of code types
 target_same : (o : Object) (xs : List Instr) (e : Entered) (u : Option ℕ) → is_free_target (with_instrs o xs) e u
     ≡ is_free_target o e u
 target_same o xs e None = refl

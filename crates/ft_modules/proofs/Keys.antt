@@ -1,4 +1,4 @@
--- Shapes with numbered parts are equal exactly where the trees are.
+-- Shapes with numbered parts are equal exactly if the trees are.
 use Rattle.std.proofs.Common.{◌≡◌, ℕ, ◌<◌, ◌≤◌, Bool, true, false, List, [], ◌∷◌, map, drop}
 use Rattle.std.proofs.Common.{get_or, slice_get, Some, refl, sym, ap, ◌∙◌, arith, true≢false}
 use Rattle.std.specs.Prelude.{◌↔◌}
@@ -84,7 +84,7 @@ module _ (nodes : List Node) (cs : List ℕ) (n : ℕ) (h : AreNodes nodes) (s :
             one_renamed (number_in cs) (number_in cs) y z f.0 (t.1 f.1),
       )
 
-  -- two nodes up to number n have equal keys exactly where their trees are equal
+  -- two nodes up to number n have equal keys exactly if their trees are equal
   pub keys_same : (i j : ℕ) (y z : Node) → i ≤ n → j ≤ n → slice_get nodes i ≡ Some y → slice_get nodes j ≡ Some z →
       key_of cs y.shape ≡ key_of cs z.shape ↔ tree_at nodes i ≡ tree_at nodes j
   keys_same i j y z li lj e f =

@@ -67,11 +67,11 @@ module _ (linkage : LinkMap) (first : Object) (others : List Object) (h : AreLin
   pub is_module : (m : ℕ) (o : Object) → slice_get modules m ≡ Some o → IsModule first.cells o
   is_module m o e = all_there (IsModule first.cells) modules m o h.modules e
 
-  -- where its parts stand
+  -- where its parts are
   pub sits_in : (m : ℕ) (o : Object) → slice_get modules m ≡ Some o → Sits o x (before_of modules m) cs
   sits_in m o e = sits linkage first others m o e (λ j z f. (is_module j z f).spelled)
 
-  -- the numbers that stand behind a link's address
+  -- the numbers behind a link's address
   from_here : (m : ℕ) (o : Object) → slice_get modules m ≡ Some o → (a : ℕ) → a < length o.instrs →
       (n : ℕ) (z : Object) → slice_get modules n ≡ Some z → (c : ℕ) → c < length z.instrs →
       (before_of modules m).instrs + a ≡ (before_of modules n).instrs + c → n ≡ m

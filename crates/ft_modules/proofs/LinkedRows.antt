@@ -64,7 +64,7 @@ memory_after_same : (o x : Object) (p : Replacement) (n m : ℕ) → SameMemory 
 unfolding memory_form_after
 memory_after_same o x p n m h = ap (λ (e : Memory). norm_memory_under e p.integers p.memory) h
 
--- registers of which the same is known are like rows that say the same
+-- registers about which the same is known are like rows that say the same
 like_row : (o x : Object) (p : Replacement) (y : Option Typed) (r q : RegType) → SameRow o x r q → is_like o p y r
     ≡ is_like x p y q
 unfolding is_like
@@ -72,7 +72,7 @@ like_row o x p None r q h = refl
 like_row o x p (Some t) r q h = λ i. same_colour t.colour (h.colour i) && is_seen_as t.basic (h.basic i)
     && same_polynomial t.form (after_same o x p r.expr q.expr h.tree i)
 
--- and registers of which the same is known on both sides
+-- and registers about which the same is known on both sides
 like_same : (o x : Object) (p : Replacement) (y z : Option Typed) (r q : RegType) → y ≡ z → SameRow o x r q →
     is_like o p y r ≡ is_like x p z q
 like_same o x p y z r q e h = ap (λ (u : Option Typed). is_like o p u r) e ∙ like_row o x p z r q h
@@ -160,7 +160,7 @@ run_same : (o x : Object) (first n : ℕ) → x.cells ≡ o.cells → run_type o
 unfolding run_type
 run_same o x first n e = λ i. only_referable (common_type (map basic_of (slice_range (sym e i) first (first + n))))
 
--- constants are equal where their words are
+-- constants are equal if their words are
 constant_word : (w v : ℕ) → IsWord w → IsWord v → constant w ≡ constant v → w ≡ v
 constant_word w v a b e =
     let s : Valuation = record { integers = []; memory = finite.empty } in

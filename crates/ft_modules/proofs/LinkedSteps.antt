@@ -1,4 +1,4 @@
--- The modules' run and the linked object's run: one step from states that stand beside each other.
+-- The modules' run and the linked object's run: one step from states that correspond.
 use Rattle.std.proofs.Common.{◌≡◌, ◌≢◌, ◌⊎◌, inl, inr, ℕ, true, false, List, [], length, slice_get, Option, Some}
 use Rattle.std.proofs.Common.{None, refl, sym, ap, ◌∙◌, subst}
 use Rattle.ft_isa.specs.Words.{IsWord}
@@ -86,7 +86,7 @@ module _ (modules : List Object) (joins : List Link) (x : Object) (spelled : IsS
             go gx;
       }
 
-  -- instructions of which this is known
+  -- instructions about which this is known
   stays_as : (i j : Instr) → here_o.instr ≡ i → here_x.instr ≡ j →
       After (GoesOn o v s [] (execute i s [])) ⊥ (row o c i) → After (GoesOn x u t [] (execute j t [])) ⊥ (row x b j) →
       ((execute i s []).state.status ≡ Running → (execute j t []).state.status ≡ Running → (execute i s []).output

@@ -78,7 +78,7 @@ base_more t u (Code n) le h = omega (arith, le, h)
 pub basic_more : (t u : ℕ) (b : Basic) → t ≤ u → IsBasic t b → IsBasic u b
 basic_more t u b le h = record { refs = h.refs; base = base_more t u b.base le h.base }
 
--- raised rows rise as before
+-- raised rows increase as before
 rows_rise : (k least : ℕ) (rs : List RegType) → AreRising least rs → AreRising least (map (raised_row k) rs)
 rows_rise k least [] h = tt
 rows_rise k least (r ∷ rs) h = (h.0, rows_rise k (suc r.reg.number) rs h.1)
@@ -163,7 +163,7 @@ blocks_laid end k (o ∷ os) s fit =
     (omega arith) (omega arith) (omega (arith, sum, fit))
     (blocks_laid end (after_module k o) os (λ m z e. s (suc m) z e) (omega (arith, sum, fit)))
 
--- blocks of which the first begins at instruction 0
+-- blocks the first of which begins at instruction 0
 pub begin_at_zero : (bs : List Block) (y : Block) → slice_get bs 0 ≡ Some y → y.start ≡ 0 → BeginAtZero bs
 begin_at_zero [] y e z = cc
 begin_at_zero (b ∷ bs) y e z = let same : b ≡ y = cc in ap (λ (k : Block). k.start) same ∙ z

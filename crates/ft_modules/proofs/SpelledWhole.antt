@@ -63,7 +63,7 @@ table_within part offset z grows modules m o e n f =
     let l2 = length-append (part (before_of modules m) o) a.back in
     omega (arith, long, whole, l1, l2, f)
 
--- nothing stands before the first module
+-- before the first module, all totals are 0
 pub none_before_first : (first : Object) (others : List Object) → before_of (first ∷ others) 0 ≡ nothing_before
 unfolding before_module
 none_before_first first others = refl
@@ -87,7 +87,7 @@ module _ (linkage : LinkMap) (first : Object) (others : List Object) (h : AreLin
   spelled_module : (m : ℕ) (o : Object) → slice_get modules m ≡ Some o → IsSpellable o
   spelled_module m o e = (is_module m o e).spelled
 
-  -- where its parts stand
+  -- where its parts are
   place_of : (m : ℕ) (o : Object) → slice_get modules m ≡ Some o → Sits o x (before_of modules m) cs
   place_of m o e = sits linkage first others m o e spelled_module
 

@@ -29,7 +29,7 @@ use Rattle.ft_modules.proofs.ModuleParts.{Sits}
 
 -- TREES
 
--- nodes of which the ones stand among the others, so many further
+-- nodes that are among others, k places further
 abbrev pub StandIn : List Node → List Node → ℕ → Type 0
 StandIn ns ms k = (n : ℕ) (y : Node) → slice_get ns n ≡ Some y → slice_get ms (k + n) ≡ Some (raised_node k y)
 
@@ -85,7 +85,7 @@ range_get xs a b j y e = sym (get-drop xs a j) ∙ get-take (drop a xs) (b - a) 
 
 module _ (o x : Object) (k : Before) (cs : List Change) (spelled : IsSpellable o) (nodes : AreNodes x.nodes)
     (s : Sits o x k cs) where
-  -- a node that is named stands for the same
+  -- a node that is referred to stands for the same
   pub named_tree : (scope : ℕ) (b : Bool) (bound n : ℕ) → MayName o.nodes bound scope b n →
       tree_at x.nodes (k.nodes + n) ≡ tree_at o.nodes n
   named_tree scope b bound n h = tree_raised o.nodes x.nodes k.nodes n h.node spelled.nodes nodes s.nodes h.found

@@ -1,4 +1,5 @@
--- The walk that traces code addresses: which registers hold one that a `mov` put there, and that each is only jumped to.
+-- The walk that traces code addresses: which registers hold a code address from a `mov`, and whether each is used only
+-- as a target.
 use Rattle.std.specs.Prelude.{ℕ, zero, suc, Bool, true, false, ◌&&◌, not, if◌then◌else◌, List, [], ◌∷◌, Option, None, Some, is_some}
 use Rattle.std.specs.List.{list_all}
 use Rattle.std.specs.Ordering.{nat_cmp}
@@ -25,7 +26,7 @@ code_over zero Int = None
 code_over zero (Code t) = Some t
 code_over (suc k) base = None
 
--- the code type that a basic type claims, where it is `code T`
+-- the code type that a basic type claims, if it is `code T`
 abbrev pub code_claimed : Basic → Option ℕ
 code_claimed b = code_over b.refs b.base
 
@@ -63,17 +64,17 @@ both_free e None None = true
 abbrev pub is_entered : Entered → Reg → Bool
 is_entered e r = is_some (finite.get e r.number)
 
--- whether no row types an entered register
+-- whether no row is for an entered register
 abbrev pub are_free : Entered → List RegType → Bool
 are_free e rows = list_all (λ (r : RegType). is_free e r.reg) rows
 
--- whether a target is entered, with a code type that types no entered register
+-- whether a target is entered, with a code type without rows for entered registers
 abbrev pub is_free_target : Object → Entered → Option ℕ → Bool
 is_free_target o e None = false
 is_free_target o e (Some t) = are_free e (reg_rows o t)
 
--- whether the walk passes an instruction: it reads entered registers as targets only, its target is entered, and where
--- it may leave for its target, the target's code type types no entered register
+-- whether the walk passes an instruction: it reads entered registers only as targets, its target is entered, and if it
+-- may go to its target, the target's code type has no row for an entered register
 abbrev pub is_traced : Object → Entered → Instr → Bool
 is_traced o e (JmpG rd) = is_entered e rd
 is_traced o e (JmpB rd subst) = is_free_target o e (finite.get e rd.number)

@@ -260,7 +260,7 @@ memory_reached fs n i l r = go (slice_get fs i) refl r
     go (Some (memory_form u)) e r = e ∙ ap (λ (q : Option Form).
         Some (memory_form (updates_of (unwrap_or q (integer_form nought))))) (sym e)
 
--- or that of one atom alone
+-- or that of a single atom
 pub atom_reached : (fs : List Form) (n i : ℕ) → n ≤ length fs → atom_reach fs (suc i) ≤ n → IsAtomAt fs i
 atom_reached fs n i l r = go (slice_get fs i) refl r
   where
@@ -332,7 +332,7 @@ pub link_value : (es : List Entry) (m : ℕ) (e : Entry) (at value older : ℕ) 
 link_value es m e at value older h l r k = let x = link_sorts es m e at value older h l r k in
     let n = length-forms_of es in integer_reached (forms_of es) m value (omega arith) (omega (arith, x))
 
--- where no update is linked, the memory is unchanged
+-- if no update is linked, the memory is unchanged
 pub no_link : (es : List Entry) (m : ℕ) (e : Entry) → NamesEarlier es → m < length es → e ≡ get_or es m e →
     ((at value older : ℕ) → e ≡ Update at value older → ⊥) → updates_at (forms_of es) m ≡ unchanged
 no_link es m e h l r k = updates_read es m e e h l r refl ∙ go e k

@@ -21,15 +21,15 @@ use std::sync::ledger::Ledger;
 /// How many nodes' memory is kept when they are forgotten.
 const FEW: usize = 64;
 
-/// The forms of the nodes that were made so far, while the same forms are put for the variables. It
-/// serves many calls: a node is made at most once.
+/// The forms of the nodes that were made so far, while the same forms are substituted for the variables. It serves many
+/// calls: a node is made at most once.
 #[derive(Drop)]
 pub struct Memo {
     alloc: Global,
     made: IndexMap<u32, Form>,
 }
 
-/// The form of a variable after `ints[i]` is put for integer variable `i`, and `memory` for the memory
+/// The form of a variable after `ints[i]` is substituted for integer variable `i`, and `memory` for the memory
 /// variable. Any other node, and a variable beyond `ints`, has none here.
 fn leaf(shape: Shape, ints: &[Form], memory: Form) -> Option<Form>
     ensures { (fs gs : List Normal) → AreIntegers fs ints.now → IsMemory fs memory → IfSome result (λ f. held fs f ≡ Some (form_of (polynomials fs ints.now) (updates_held fs memory) gs shape)) }
@@ -103,9 +103,9 @@ impl Memo {
         }
     }
 
-    /// The form of node `n` after `ints[i]` is put for integer variable `i`, and `memory` for the
-    /// memory variable, as `Interner::under` gives it. What was made before is not made again. A
-    /// variable and a node that was made before take no memory. After an error what was made stays.
+    /// The form of node `n` after `ints[i]` is substituted for integer variable `i`, and `memory` for the memory
+    /// variable, as `Interner::under` gives it. What was made before is not made again. A variable and a node that was
+    /// made before take no memory. After an error what was made stays.
     #[inline]
     pub fn form<N: Nodes, L: Ledger>(
         &mut self,

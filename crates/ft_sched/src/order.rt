@@ -2,8 +2,8 @@
 //!
 //! Leading instructions keep their order, and so do trailing ones. So a trailing instruction waits until
 //! it is known that no leading one passes it. A leading instruction stops at the last one that it may not
-//! pass: what waits is laid down up to there, and then the leading instruction itself. Each instruction
-//! waits once at most, so the work grows with their number.
+//! pass: what waits up to there is written, and then the leading instruction itself. Each instruction waits at most
+//! once, so the work grows with their number.
 ghost use Rattle.std.specs.Prelude.{◌≡◌, ◌+◌, ◌-◌, ◌<◌, ◌≤◌, ◌^◌, [], true, not, nat_lt, length, cond, OnOk};
 ghost use Rattle.ft_exchange.specs.Exchange.{is_leading, is_fixed};
 ghost use Rattle.ft_sched.specs.Waiting.{holds_back};
@@ -13,9 +13,8 @@ use crate::waiting::Waiting;
 use ft_isa::Instr;
 use std::alloc::{AllocError, Global};
 
-/// The instructions that are laid down for good, and those that wait behind them. In the block that is
-/// being scheduled so many pairs were queued, those that wait at its start and its green stores, and so
-/// many were committed, its blue stores.
+/// The instructions that have their final place, and those that wait after them. In the block that is being scheduled,
+/// `queued` counts the pairs that waited at its start and its green stores, and `committed` its blue stores.
 #[derive(Drop)]
 pub struct Order {
     laid: Vec<Instr>,
@@ -26,7 +25,7 @@ pub struct Order {
     ghost committed_few: { committed ≤ length laid.items },
 }
 
-/// A count with one more, where it counts.
+/// A count, with one more if it counts.
 fn with(count: usize, counts: bool) -> usize
     requires { count + 1 < 2 ^ 64 }
     ensures { result ≡ count + cond counts 1 0 }
@@ -35,7 +34,7 @@ fn with(count: usize, counts: bool) -> usize
 }
 
 impl Order {
-    /// Nothing is laid down, and nothing waits.
+    /// Nothing is written, and nothing waits.
     pub fn new(alloc: Global) -> Order
         ensures laid { result.laid.items ≡ [] }
         ensures waiting { result.waiting ≡ [] }
@@ -55,7 +54,7 @@ impl Order {
         self.laid
     }
 
-    /// A block begins, at whose start so many pairs are queued.
+    /// A block begins with this many pairs in the queue.
     pub fn begin_block(&mut self, rows: u32)
         requires { rows ≤ 8 }
         ensures laid { self.new.laid.items ≡ self.old.laid.items }
@@ -67,7 +66,7 @@ impl Order {
         self.committed = 0;
     }
 
-    /// Lays an instruction down.
+    /// Writes an instruction.
     fn lay(&mut self, instr: Instr) -> Result<(), AllocError>
         ensures lays { OnOk result (Lays instr self.old.laid.items self.new.laid.items self.old.queued self.new.queued self.old.committed self.new.committed) }
         ensures waiting { OnOk result (self.new.waiting ≡ self.old.waiting) }
@@ -80,7 +79,7 @@ impl Order {
         Ok(())
     }
 
-    /// Lays the oldest instruction that waits down.
+    /// Writes the oldest instruction that waits.
     fn lay_first(&mut self) -> Result<(), AllocError>
         requires { 0 < length self.old.waiting }
         ensures { OnOk result (LaysFirst self.old.laid.items self.new.laid.items self.old.waiting self.new.waiting self.old.queued self.new.queued self.old.committed self.new.committed) }
@@ -89,7 +88,7 @@ impl Order {
         self.lay(first)
     }
 
-    /// Whether the static queue is full behind what is laid down.
+    /// Whether the static queue is full after what is written.
     fn is_full(&self) -> bool
         ensures { result ≡ not (nat_lt (self.now.queued - self.now.committed) 8) }
     {
@@ -106,7 +105,7 @@ impl Order {
         instr.is_green_store() && self.is_full() && self.waiting.has_blue_store()
     }
 
-    /// Lays a leading instruction down, behind the last one that it may not pass.
+    /// Writes a leading instruction, after the last one that it may not pass.
     fn lead(&mut self, instr: Instr) -> Result<(), AllocError>
         requires { is_leading instr ≡ true }
         ensures { OnOk result (GetsPlace instr self.old.laid.items self.old.waiting self.old.queued self.old.committed self.new.laid.items self.new.waiting self.new.queued self.new.committed) }
@@ -117,7 +116,7 @@ impl Order {
         self.lay(instr)
     }
 
-    /// Lays all instructions that wait down.
+    /// Writes all instructions that wait.
     pub fn lay_all(&mut self) -> Result<(), AllocError>
         ensures waiting { OnOk result (self.new.waiting ≡ []) }
         ensures lays { OnOk result (LaysAll self.old.laid.items self.old.waiting self.old.queued self.old.committed self.new.laid.items self.new.queued self.new.committed) }
@@ -128,7 +127,7 @@ impl Order {
         Ok(())
     }
 
-    /// Lays an instruction down that stands fixed, behind all that wait.
+    /// Writes a fixed instruction, after all that wait.
     fn fix(&mut self, instr: Instr) -> Result<(), AllocError>
         requires { is_fixed instr ≡ true }
         ensures { OnOk result (GetsPlace instr self.old.laid.items self.old.waiting self.old.queued self.old.committed self.new.laid.items self.new.waiting self.new.queued self.new.committed) }

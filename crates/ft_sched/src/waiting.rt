@@ -10,9 +10,8 @@ use ft_isa::{Instr, Reg};
 use std::alloc::{AllocError, Global};
 use std::marker::Model;
 
-/// Instructions that wait behind what is laid down, the oldest first. Those that no longer wait stay
-/// in the list, before the front, so that a place once told is the place for good. An instruction waits
-/// where its place, counted from 1, is above the front.
+/// Instructions that wait after what is written, the oldest first. Those that no longer wait stay in the list, before
+/// the front, so that a place never changes. An instruction waits if its place, counted from 1, is above the front.
 #[derive(Drop)]
 pub struct Waiting {
     instrs: Vec<Instr>,
@@ -86,7 +85,7 @@ impl Waiting {
         Ok(())
     }
 
-    /// Takes the oldest instruction, which waits no longer.
+    /// Removes the oldest instruction, which no longer waits.
     pub fn take(&mut self) -> Instr
         requires { 0 < length self.old }
         ensures { self.old ≡ result ∷ self.new }

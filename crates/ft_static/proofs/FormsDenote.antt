@@ -137,7 +137,7 @@ itself : (x : ℕ) → IsWord x → apply Sub x x ≡ 0
 unfolding apply
 itself x w = let g : x + (2 ^ 64 - x) ≡ 2 ^ 64 = omega arith in rw g refl
 
--- where the difference is a nonzero constant, the two denote different words
+-- if the difference is a nonzero constant, the two denote different words
 apart : (p q : Polynomial) (s : Valuation) (lawful : IsLawful s) → is_not_zero (constant_of (norm_sub p q)) ≡ true →
     (value_polynomial p s == value_polynomial q s) ≡ false
 apart p q s lawful = go (constant_of (norm_sub p q)) refl

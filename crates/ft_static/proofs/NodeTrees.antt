@@ -1,4 +1,4 @@
--- Each node of a lawful list stands for one tree, whose numbers are words and whose variables are within the node's
+-- Each node of a valid list stands for one tree, whose numbers are words and whose variables are within the node's
 -- scope.
 use Rattle.std.proofs.Common.{ℕ, suc, zero, ◌≡◌, ◌<◌, ◌≤◌, ◌+◌, true, false, List, [], ◌∷◌, ◌++◌, length, get_or}
 use Rattle.std.proofs.Common.{slice_get, Some, refl, sym, ap, ◌∙◌, arith, subst, Bool, map, ◌==◌}
@@ -76,7 +76,7 @@ by_parts_where C P D M c d f g = by_parts (λ e. C e → P e) (λ m. D m → M m
     stored_met (upd m a v) k h = (h.0 k.0, h.1 k.1, h.2 k.2)
     stored_met m k h = tt
 
--- what stands where no tree does
+-- the default if there is no tree
 abbrev none : Expression
 none = integer (word 0)
 
@@ -183,7 +183,7 @@ memory_named nodes n scope m h k =
     let e = tree_at-row nodes m k.node h k.found in
     subst (λ t. t ≡ memory (memory_part t)) (sym e) (memory_tree (trees nodes) k.node.shape k.sort)
 
--- a node stands for the tree of its shape where its parts stand for theirs
+-- a node stands for the tree of its shape if its parts stand for theirs
 stands_shape : (nodes : List Node) (n scope : ℕ) (x : Shape) → AreNodes nodes → HasShape nodes n x →
     IsShape nodes n scope x → ((k : ℕ) (y : Node) → k < n → slice_get nodes k ≡ Some y →
     StandsFor nodes k (tree_at nodes k)) → StandsFor nodes n (tree_of (trees nodes) x)
@@ -272,7 +272,7 @@ mutual
 abbrev Fits : ℕ → Expression → Type 0
 Fits n t = HasWords t × HasVariablesBelow n t
 
--- the tree of a shape fits where the trees of its parts do
+-- the tree of a shape fits if the trees of its parts do
 fits_shape : (nodes : List Node) (n scope : ℕ) (x : Shape) → AreNodes nodes → IsShape nodes n scope x →
     ((k : ℕ) (y : Node) → k < n → slice_get nodes k ≡ Some y → Fits y.scope (tree_at nodes k)) →
     Fits scope (tree_of (trees nodes) x)

@@ -1,4 +1,4 @@
--- Forms after a substitution: what they denote, of which expressions they are, and of numbered nodes.
+-- Forms after a substitution: what they denote, which expressions they belong to, and those of numbered nodes.
 use Rattle.std.proofs.Common.{ℕ, suc, zero, ◌≡◌, ◌<◌, List, [], ◌∷◌, ◌++◌, get_or, map, slice_index_or, refl, sym, ap}
 use Rattle.std.proofs.Common.{◌∙◌, subst}
 use Rattle.std.proofs.Math.Nat.{mod-eq_of_lt}

@@ -33,7 +33,7 @@ pub data Expression : Type 0 where
 abbrev pub WordMap : Type 0
 WordMap = FinMap nat_cmp ℕ
 
--- the word at an address; 0 where there is none
+-- the word at an address; 0 if there is none
 abbrev pub word_at : WordMap → ℕ → ℕ
 word_at m a = unwrap_or (words.get m a) 0
 
@@ -64,13 +64,13 @@ abbrev mutual
   memory_value memory_variable s = s.memory
   memory_value (upd m a b) s = with_word (memory_value m s) (value a s) (value b s)
 
--- all that is read in the valuation is words
+-- everything in the valuation is a word
 pub record IsLawful (s : Valuation) : Type 0 where
   pub integers : (i : ℕ) → IsWord (integer_of s i)
   pub memory : (a : ℕ) → IsWord (word_at s.memory a)
 
 abbrev mutual
-  -- the numbers in an integer are words, and lengths where they are lengths
+  -- the numbers in an integer are words, or valid lengths
   pub AreWords : Integer → Type 0
   AreWords (word w) = IsWord w
   AreWords (variable i) = Unit {0}
@@ -98,7 +98,7 @@ abbrev mutual
   IsMemoryWithin n (upd m a b) = IsMemoryWithin n m × IsWithin n a × IsWithin n b
 
 abbrev mutual
-  -- an integer with integers in the place of the integer variables and a memory in that of the memory variable
+  -- an integer with integers in place of the integer variables and a memory in place of the memory variable
   pub substitute : Integer → List Integer → Memory → Integer
   substitute (word w) es k = word w
   substitute (variable i) es k = slice_index_or es i (word 0)
@@ -111,7 +111,7 @@ abbrev mutual
   substitute_memory memory_variable es k = k
   substitute_memory (upd m a b) es k = upd (substitute_memory m es k) (substitute a es k) (substitute b es k)
 
--- the valuation in which the variables have the values that what is put for them has in this one
+-- the valuation that gives each variable the value of its substitute
 abbrev pub valuation_after : List Integer → Memory → Valuation → Valuation
 valuation_after es k s = record { integers = map (λ (e : Integer). value e s) es; memory = memory_value k s }
 

@@ -1,4 +1,4 @@
--- The number of a refusal of a source, and what it tells.
+-- The number of a refusal of a source, and its argument.
 use Rattle.std.specs.Prelude.{ℕ}
 use Rattle.ft_syntax.specs.declared.source_error.SourceError.{SourceError}
 use Rattle.ft_syntax.specs.declared.source_error.SourceError.TheVariants as source
@@ -19,7 +19,7 @@ source_number (source.Array at) = 11
 source_number (source.Length at) = 12
 source_number source.NoMemory = 0
 
--- what it tells: a place, or what is above a limit
+-- its argument: a place, or what is above a limit
 abbrev pub source_told : SourceError → ℕ
 source_told source.TooLong = 1048576
 source_told (source.Byte at) = at

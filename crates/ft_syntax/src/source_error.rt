@@ -3,8 +3,8 @@ ghost use Rattle.std.specs.Prelude.{◌≡◌};
 
 use thiserror::Error;
 
-/// The first refusal of a source, in the order of the variants; places count bytes from 0. `NoMemory`,
-/// out of memory, may come in the place of any.
+/// The first refusal of a source, in the order of the variants; places count bytes from 0. `NoMemory`, out of memory,
+/// may come in place of any.
 #[derive(Clone, Copy, Debug, PartialEq, Eq, Error)]
 pub enum SourceError {
     /// The text has more than 1,048,576 bytes.
@@ -16,7 +16,7 @@ pub enum SourceError {
     /// The number whose first digit is at `at` is 2^64 or more.
     #[error("too large a number at byte {at}")]
     Number { at: usize },
-    /// No program is possible after the token at `at`; the text's length where it only lacks something.
+    /// No program is possible after the token at `at`; if the text only lacks something, `at` is its length.
     #[error("no program from byte {at} on")]
     Syntax { at: usize },
     /// The token at `at` opens a 101st bracket or brace, or is the 201st operator of one assignment,
@@ -29,7 +29,7 @@ pub enum SourceError {
     /// The name at `at` in a statement isn't declared.
     #[error("unknown name at byte {at}")]
     Unknown { at: usize },
-    /// The name at `at` in a statement is an array's and has no index, or has one and is no array's.
+    /// The name at `at` in a statement is an array's and has no index, or has one and is not an array's.
     #[error("misused name at byte {at}")]
     Array { at: usize },
     /// The length of an array at `at` is 0 or above 1,024.
@@ -44,7 +44,7 @@ pub enum SourceError {
     /// The program's weight is `weight`, more than 65,536.
     #[error("weight {weight}")]
     Weight { weight: u64 },
-    /// There was no memory left.
+    /// Memory ran out.
     #[error("out of memory")]
     NoMemory,
 }
@@ -73,7 +73,7 @@ impl SourceError {
         }
     }
 
-    /// What the refusal tells: a place in bytes, or what is above a limit; 0 when out of memory.
+    /// The refusal's argument: a place in bytes, or what is above a limit; 0 when out of memory.
     pub fn told(self) -> u64
         ensures { result ≡ source_told self }
     {

@@ -50,7 +50,7 @@ pass_fits o v c s w x h z f = subst (λ (t : Bool).
     GoesOn o v s w (if t then quiet (goes_on s) w else detected s w) (record c { d = x })) (sym (eq-eqb s.d 0 z))
     (d_fits o v c s w x s.d h (subst (FitsD o v x) (sym z) f))
 
--- where d is known to be Zero, it is 0
+-- if d is known to be Zero, it is 0
 d_is_zero : (o : Object) (v : Valuation) (c : Context) (s : State) → FitsContext o v c s → c.d ≡ d_zero → s.d ≡ 0
 d_is_zero o v c s h z = subst (λ (y : StateOfD). FitsD o v y s.d) z h.d
 

@@ -116,7 +116,7 @@ cells_written o v m cells a x fa fx b h ea ex at has = λ q b' at'.
       typed = subst (λ z. HasType o z b') (sym now) g.1;
     }
 
--- a blue store, where the oldest pair of the static queue is what the registers denote
+-- a blue store, if the oldest pair of the static queue is what the registers denote
 commit_fits : (o : Object) (v : Valuation) (c : Context) (s : State) (w : List Wild) (a x : ℕ) (fa fx : Polynomial)
     (b : Basic) (p : FormPair) (ps : List FormPair) (q : Pending) → s.queue ≡ q → FitsContext o v c s → a
     ≡ value_polynomial fa v → x ≡ value_polynomial fx v → cell_type o a ≡ Some b → HasType o x b → value_polynomial fa v

@@ -56,14 +56,14 @@ pub err_ends : {T : Type 0} (r : Result T Ending) (P Q : Answer → Type 0) (old
 err_ends (Ok v) P Q old new L M f g h = tt
 err_ends (Err e) P Q old new L M f g h = Ends-map e P Q old new L M f g h
 
--- of such an answer less is known
+-- less is known of such an answer
 pub known_less : (P Q Early : Type 0) → (P → Q) → P ⊎ Early → Q ⊎ Early
 known_less P Q Early f (inl p) = inl (f p)
 known_less P Q Early f (inr early) = inr early
 
 -- OBJECTS
 
--- a refusal of modules, by the error that tells it
+-- a refusal of modules, by the error that stands for it
 told_refusal : (x : Option LinkRefusal) (e : LinkError) → IsRefusalOf x e → (a : Answer) → IsUnlinkedBy e a →
     (r : LinkRefusal) × ((x ≡ Some r) × (a ≡ unlinked r))
 told_refusal x (links.Cells m) h a is = (Cells m, (h, is))
@@ -232,7 +232,7 @@ failed_module name text shelf shelf' file x =
     let comes = inr (record { text = text; is_file = file; linkage = x.0; is_map = x.1.0; in_turn = x.1.1.1.0 }) in
     (m.0, (m.1.0, record { file = x.1.1.0; comes = comes; fails = x.1.1.1.1 }))
 
--- the same where the files are told, and the text lent, after the load of the map
+-- the same if the files are known, and the text lent, after the load of the map
 pub failed_between : (name : Word) (text lent : List ℕ) (shelf between shelf' : ShelfLog) → between.files ≡ shelf.files
     → lent ≡ text → between.failures ≡ shelf.failures → IsToldFile shelf.files name text
     → (linkage : LinkMap) × (IsMap lent linkage × FailsInTurn linkage between shelf')

@@ -115,7 +115,7 @@ makes_to_end told linkage modules name names asked between asked' early h g made
   ),
 )
 
--- THE NEXT FILE OF A LOOP, by its name, over a shelf that tells what it told
+-- THE NEXT FILE OF A LOOP, by its name, over a shelf with the same record
 
 -- the rest of the files begins with the next one
 at_file : (told : Option Files) (linkage : LinkMap) (modules : List Object) (files : List Word) (i : ℕ) (file : Word)

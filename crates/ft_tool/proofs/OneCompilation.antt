@@ -78,7 +78,7 @@ begins_both : (x y : List ℕ) (xs ys : List (List ℕ)) → x ≡ y → LinesBe
 begins_both x y xs ys e (inl h) = inl (h.0, ap (λ z. z ∷ (xs ++ h.0)) e ∙ ap (λ zs. y ∷ zs) h.1)
 begins_both x y xs ys e (inr h) = inr (h.0, ap (λ z. z ∷ (ys ++ h.0)) (sym e) ∙ ap (λ zs. x ∷ zs) h.1)
 
--- of two lists that begin a third one, one begins the other
+-- of two prefixes of a third list, one is a prefix of the other
 begins_either : (xs ys zs : List (List ℕ)) → LinesBegin xs zs → LinesBegin ys zs → LinesBegin xs ys ⊎ LinesBegin ys xs
 begins_either [] ys zs h g = inl (ys, refl)
 begins_either (x ∷ xs) [] zs h g = inr (x ∷ xs, refl)

@@ -22,7 +22,7 @@ check_line EntryType = codes "check entry\n"
 check_line (CellType k) = codes "check cell " ++ decimal k ++ codes "\n"
 check_line (Refused b i p) = codes "check block " ++ decimal b ++ codes " index " ++ decimal i ++ codes " premise " ++ decimal (number_of p) ++ codes "\n"
 
--- `list`, the number of the refusal, and what it tells: a line's number, 65536, or a product
+-- `list`, the number of the refusal, and its argument: a line's number, 65536, or a product
 abbrev pub list_line : ℕ → ℕ → List ℕ
 list_line n x = codes "list " ++ decimal n ++ codes " " ++ decimal x ++ codes "\n"
 
@@ -30,15 +30,15 @@ list_line n x = codes "list " ++ decimal n ++ codes " " ++ decimal x ++ codes "\
 abbrev pub again_line : ℕ → List ℕ
 again_line n = codes "again " ++ decimal n ++ codes "\n"
 
--- `source`, the refusal's number, and what it tells
+-- `source`, the refusal's number, and its argument
 abbrev pub source_line : SourceError → List ℕ
 source_line e = codes "source " ++ decimal (source_number e) ++ codes " " ++ decimal (source_told e) ++ codes "\n"
 
--- `asm`, the number of the refusal, and what it tells: a line's number, or the most bytes of a text
+-- `asm`, the number of the refusal, and its argument: a line's number, or the maximum bytes of a text
 abbrev pub asm_line : ℕ → ℕ → List ℕ
 asm_line n x = codes "asm " ++ decimal n ++ codes " " ++ decimal x ++ codes "\n"
 
--- `link`, the number of the refusal, and what it tells: a line's number, a module's, or the most bytes of a map
+-- `link`, the number of the refusal, and its argument: a line's number, a module's, or the maximum bytes of a map
 abbrev pub link_line : ℕ → ℕ → List ℕ
 link_line n x = codes "link " ++ decimal n ++ codes " " ++ decimal x ++ codes "\n"
 

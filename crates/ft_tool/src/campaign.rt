@@ -56,7 +56,7 @@ fn campaign_counted<P: Program, K: Sink, L: Ledger>(
     )
 }
 
-/// The verdicts of faults on an object that is accepted, of which none is corrupt.
+/// The verdicts of faults on an object that is accepted, none of which is corrupt.
 fn campaign_faults<P: Program, K: Sink>(
     alloc: Global,
     checked: &Checked<P>,
@@ -131,7 +131,7 @@ fn campaign_checked<P: Program, F: Shelf, K: Sink>(
     over_list(alloc, &CheckedTarget { checked }, bytes, asked, shelf, out)
 }
 
-/// Checks an object, and tries a fault list on it where it is accepted.
+/// Checks an object, and tries a fault list on it if it is accepted.
 fn campaign_object<P: Program, F: Shelf, K: Sink>(
     alloc: Global,
     program: &P,

@@ -30,7 +30,7 @@ pub(crate) fn entry_line() -> Line
     line
 }
 
-/// The line of a cell whose initial word has not its type.
+/// The line of a cell whose initial word does not have its type.
 pub(crate) fn cell_line(cell: u32) -> Line
     ensures { result ≡ check_line (accepted.CellType cell) }
 {

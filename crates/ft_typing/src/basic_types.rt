@@ -38,7 +38,7 @@ pub fn same_basic(a: Basic, b: Basic) -> bool
     a.refs == b.refs && same_base(a.base, b.base)
 }
 
-/// Whether the first basic type is seen as the second: they are equal, or the second is `int`.
+/// Whether the first basic type is accepted as the second: they are equal, or the second is `int`.
 #[tactic(auto, unfolding(crate::specs::TypedWord::is_seen_as))]
 pub fn is_seen_as(a: Basic, b: Basic) -> bool
     ensures { result ≡ is_seen_as a b }
