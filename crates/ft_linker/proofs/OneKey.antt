@@ -2,7 +2,7 @@
 use Rattle.std.proofs.Common.{◌≡◌, true, refl, sym, ◌∙◌}
 use Rattle.std.specs.BTreeMap.{is_at}
 use Rattle.ft_static.specs.declared.node.Shape.{Shape}
-use Rattle.ft_static.proofs.NodeTrees.{shape_decides}
+use Rattle.ft_static.proofs.SameTrees.{shape_decides}
 use Rattle.ft_static.specs.contracts.node.ShapeOrd.TheImpl as key_order
 use Rattle.ft_static.specs.contracts.node.ShapeOrd.TheImpl.Laws as laws
 

@@ -12,7 +12,7 @@ use Rattle.ft_isa.specs.declared.colour.Colour.{Colour}
 use Rattle.ft_isa.specs.declared.instr.Instr.{Instr}
 use Rattle.ft_isa.specs.declared.instr.Instr.TheVariants.{Halt}
 use Rattle.ft_isa.proofs.Lists.{all_there, all_pass}
-use Rattle.ft_static.proofs.NodeTrees.{same_integer_is, same_memory_is, integer_same, memory_same}
+use Rattle.ft_static.proofs.SameTrees.{same_integer_is, same_memory_is, integer_same, memory_same}
 use Rattle.ft_types.specs.declared.object.Object.{Object}
 use Rattle.ft_types.specs.declared.object.Cell.{Cell}
 use Rattle.ft_types.specs.declared.object.Block.{Block}

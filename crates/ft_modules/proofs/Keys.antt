@@ -10,7 +10,8 @@ use Rattle.ft_static.specs.NodeTree.{integer_part, memory_part, integer_at, memo
 use Rattle.ft_static.specs.declared.node.Node.{Node}
 use Rattle.ft_static.specs.declared.node.Shape.{Shape}
 use Rattle.ft_static.proofs.NodeParts.{part_tree, part_with, each_listed, one_tree, one_renamed, of_one_renamed}
-use Rattle.ft_static.proofs.NodeTrees.{each_part, parts_named, tree_at-row, integer_named, memory_named, of_one_tree}
+use Rattle.ft_static.proofs.NodeTrees.{each_part, parts_named, tree_at-row, integer_named, memory_named}
+use Rattle.ft_static.proofs.SameTrees.{of_one_tree}
 use Rattle.ft_modules.specs.TreeKeys.{number_in, key_of, AreTreeNumbers}
 
 module _ (nodes : List Node) (cs : List ℕ) (n : ℕ) (h : AreNodes nodes) (s : AreTreeNumbers nodes cs n) where

@@ -11,5 +11,6 @@ pub mod Coefficients
 pub mod Under
 pub mod NodeParts
 pub mod NodeTrees
+pub mod SameTrees
 pub mod Denote
 pub mod Lawful
