@@ -284,13 +284,34 @@ st_G out r1|6: error: invalid `out`: a register is r0 to r63; put the address of
 mov r1 G r2 int|10: error: invalid `r2`: numbers are decimal digits, as in `42`; to copy a register, add 0 to it, as in `add r1 r2 G 0`
 mov r1 G #5 int|10: error: invalid `#5`: numbers are written without `#`
 add r1 r2 5|11: error: invalid `5`: a register is r0 to r63, and a number comes after its colour, as in `G 5`
-li r1 5|1: error: unknown instruction `li`: `man talft-assembly` lists the instructions
+li r1 5|1: error: unknown instruction `li`: write `mov`, as in `mov r1 G 5 int`
+la r1 out|1: error: unknown instruction `la`: write `mov` with the address of the cell, as in `mov r1 G 1048576 ref:int`
+ret|1: error: unknown instruction `ret`: there are no calls: `jmp_G` and `jmp_B` jump to an address in a register
+CALL main|1: error: unknown instruction `CALL`: there are no calls: `jmp_G` and `jmp_B` jump to an address in a register
+jal main|1: error: unknown instruction `jal`: there are no calls: `jmp_G` and `jmp_B` jump to an address in a register
+nop|1: error: unknown instruction `nop`: leave the line out
+hlt|1: error: unknown instruction `hlt`: write `halt`
+push r1|1: error: unknown instruction `push`: there is no stack: `st_G` and `st_B` store, and `ld_G` and `ld_B` load
+cmp r1 r2|1: error: unknown instruction `cmp`: there are no flags: `eq` and `ltu` write 1 or 0 into a register
+beq r1 r2 4|1: error: unknown instruction `beq`: `eq` and `ltu` compare, and `bz_G` and `bz_B` branch where a register is 0
+lw r1 0(r2)|1: error: unknown instruction `lw`: write `ld_G` for green or `ld_B` for blue
+sw r1 0(r2)|1: error: unknown instruction `sw`: write `st_G` for green or `st_B` for blue
+rem r1 r2 r3|1: error: unknown instruction `rem`: there is no division; `idx` takes a number modulo the length of an array
+not r1|1: error: unknown instruction `not`: write `xor` with 18446744073709551615 (2^64 - 1), as in `xor r1 r1 G 18446744073709551615`
+adc r1 r2 r3|1: error: unknown instruction `adc`; did you mean `add`?
+rep|1: error: unknown instruction `rep`: `man talft-assembly` lists the instructions
 END
 printf 'int main() { return 0; }\n' >program.c
 printf '#include <stdio.h>\nint main() { return 0; }\n' >program
 printf '4:r1:6 detected 11\n' >verdicts.faults
 printf '4: r1:6\n' >blanks.faults
 mkdir -p maps && printf 'module five.obj\nmodule nosuch.obj\n' >maps/two.map
+printf 'module five.obj/x\n' >maps/front.map
+printf 'module\tfive.obj\n' >tab.map
+printf 'module five.obj\nexport  next 1\n' >wide.map
+printf '4:r1:6\tdetected 11\n' >tab.faults
+printf '4:\tr1:6\n' >site.faults
+printf '4\tr1\t6\n' >columns.faults
 while IFS='|' read -r words message; do
   # shellcheck disable=SC2086
   report "what is said of \`$words\`" "$message" "$(habit_in $words)"
@@ -307,6 +328,31 @@ run program|program: error: this is a C program, not an object: `tools/cc FILE -
 campaign five.obj --faults verdicts.faults|verdicts.faults:1:7: error: a verdict follows the fault: a fault list has STEP:SITE:WORD alone
 campaign five.obj --faults blanks.faults|blanks.faults:1:3: error: invalid fault: expected STEP:SITE:WORD; invalid site ` r1`: it contains whitespace
 link maps/two.map|maps/two.map:2:8: error: `nosuch.obj`: no such file; names are relative to the current folder, not to the map's
+run five.obj –fault 4:r1:6|talft: error: `–fault` begins with a typographic dash: write `--fault`
+run five.obj —steps 5|talft: error: `—steps` begins with a typographic dash: write `--steps`
+run five.obj −steps=5|talft: error: `−steps=5` begins with a typographic dash: write `--steps`
+run five.obj --steps 5 ––fault 4:r1:6|talft: error: `––fault` begins with a typographic dash: write `--fault`
+run –fault 4:r1:6|talft: error: `–fault` begins with a typographic dash: write `--fault`
+run –fault|talft: error: `–fault` begins with a typographic dash: write `--fault`
+check –help|talft: error: `–help` begins with a typographic dash: write `--help`
+check five.obj –h|talft: error: `–h` begins with a typographic dash: write `-h`
+—version|talft: error: `—version` begins with a typographic dash: write `--version`
+check –five.obj|–five.obj: error: no such file
+run five.obj --steps –5|talft: error: invalid number `–5` for `--steps`: expected 0 to 1000000000; numbers have no sign
+check five.obj/x|five.obj/x: error: `five.obj` is not a folder
+check five.obj/|five.obj/: error: `five.obj` is not a folder
+check five.obj/x/y|five.obj/x/y: error: `five.obj` is not a folder
+campaign five.obj --faults five.obj/x|five.obj/x: error: `five.obj` is not a folder
+link maps/front.map|maps/front.map:1:8: error: `five.obj/x`: `five.obj` is not a folder; names are relative to the current folder, not to the map's
+check nofolder/x/five.obj|nofolder/x/five.obj: error: there is no folder `nofolder`
+check maps/nofolder/five.obj|maps/nofolder/five.obj: error: there is no folder `maps/nofolder`
+check maps/five.obj|maps/five.obj: error: no such file
+check maps/|maps/: error: is a folder
+link tab.map|tab.map:1:7: error: words are separated by one space, not by a tab
+link wide.map|wide.map:2:8: error: words are separated by one space
+campaign five.obj --faults tab.faults|tab.faults:1:7: error: a verdict follows the fault: a fault list has STEP:SITE:WORD alone
+campaign five.obj --faults site.faults|site.faults:1:3: error: invalid fault: expected STEP:SITE:WORD; invalid site `	r1`: it contains a tab
+campaign five.obj --faults columns.faults|columns.faults:1:2: error: invalid fault: expected STEP:SITE:WORD; invalid step `4	r1	6`: it contains a tab
 END
 # An object with bytes of value 10, copied as a text: each gets a carriage return.
 printf 'cell a = 10;\na = 10;\n' >ten.src
@@ -333,6 +379,29 @@ report 'what is said of a script' "0 $said_of_script" "$? $(cat said)"
 report 'what it writes' "$(printf 'at 1 running\nbad command\nbad command\nbad command')" "$(cat with)"
 cat wrong.script | "$top/talft" debug five.obj >with 2>said
 report 'what is said of a script of a pipe' '0 ' "$? $(cat said)"
+
+# Commands of other debuggers, and words that a tab or two spaces separate.
+while IFS='|' read -r line message; do
+  printf '%b\n' "$line" >habit.script
+  "$top/talft" debug five.obj >with 2>said <habit.script
+  report "what is said of the command \`$line\`" "standard input:1:$message/bad command" "$(head -n 1 said)/$(cat with)"
+done <<'END'
+print r1|1: error: unknown command `print`: `reg R` and `cell NAME` show a word; `tools/debugger` knows `print`
+p r1|1: error: unknown command `p`: `reg R` and `cell NAME` show a word; `tools/debugger` knows `print`
+quit|1: error: unknown command `quit`: a session ends where its commands end
+q|1: error: unknown command `q`: a session ends where its commands end
+info registers|1: error: unknown command `info`: `where`, `reg R`, `cell NAME` and `queue` show the state; `tools/debugger` knows `info`
+list|1: error: unknown command `list`: `talft dis OBJECT` writes the instructions; `tools/debugger` knows `disassemble`
+x/4 out|1: error: unknown command `x/4`: `cell NAME` shows the word of a cell; `tools/debugger` knows `x`
+backtrace|1: error: unknown command `backtrace`: `where` shows the place: there are no calls
+continue|1: error: unknown command `continue`: `go N` takes N steps, up to a breakpoint
+next|1: error: unknown command `next`: `step N` takes N steps, and an instruction takes two
+help|1: error: unknown command `help`: a script has `step`, `go`, `back`, `zap`, `reg`, `queue`, `cell`, `where` and `break`
+undo|1: error: unknown command `undo`: `tools/debugger` knows this command
+regs|1: error: unknown command `regs`; did you mean `reg`?
+step\t1|5: error: words are separated by one space, not by a tab
+zap  r1 6|5: error: words are separated by one space
+END
 
 # A kit that is missing, or is a different one.
 mkdir -p bare/docs bare/.ci another-kit && cp "$top/docs/PROMISES.md" bare/docs

@@ -2,7 +2,7 @@
 use crate::content::{Content, say_other_kind};
 use crate::excerpt::Place;
 use crate::lines::{MARKED, RETURN, is_marked};
-use crate::listing::cell_of;
+use crate::listing::{cell_of, line_with};
 use crate::mnemonics::{form_of, operand_of, say_unknown};
 use crate::operands::{Operand, is_register, meaning_of, say_rule, word_at, word_start};
 use crate::page::Page;
@@ -100,6 +100,14 @@ fn explain_byte(
     place.show(page, 1)
 }
 
+/// Whether the line of a number stands among the instructions of a text.
+fn is_in_code(text: &[u8], number: usize) -> bool {
+    match line_with(text, b"block") {
+        Some(first) => first < number,
+        None => false,
+    }
+}
+
 /// Explains why a line of a text is refused that is none of the forms.
 fn explain_form(
     page: &mut Page,
@@ -125,7 +133,7 @@ fn explain_form(
         return explain_operands(page, name, start, word, forms, text);
     }
     page.head_at(name, &place)?;
-    say_unknown(page, word)?;
+    say_unknown(page, word, is_in_code(text, start.number()))?;
     page.say("\n")?;
     place.show(page, word.len())
 }

@@ -9,7 +9,9 @@
 mod assembly;
 mod checks;
 mod content;
+mod dashes;
 mod detections;
+mod elsewhere;
 mod endless;
 mod excerpt;
 mod expected;

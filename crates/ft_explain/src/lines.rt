@@ -51,3 +51,34 @@ pub(crate) fn wrong_line(line: &[u8]) -> Option<(usize, &'static str)> {
     }
     None
 }
+
+/// What is wrong with a byte between words, after the one before it; nothing where it is right.
+fn wrong_after(before: u8, byte: u8) -> &'static str {
+    match (before, byte) {
+        (_, b'\t') => "words are separated by one space, not by a tab",
+        (b' ', b' ') => "words are separated by one space",
+        _ => "",
+    }
+}
+
+/// What stands wrong between the words of a line, and the place in it.
+fn wrong_gap(line: &[u8]) -> Option<(usize, &'static str)> {
+    let mut wrong = None;
+    let mut before: u8 = 0;
+    for (at, byte) in line.iter().enumerate() {
+        let words = wrong_after(before, *byte);
+        if wrong.is_none() && !words.is_empty() {
+            wrong = Some((at, words));
+        }
+        before = *byte;
+    }
+    wrong
+}
+
+/// What is wrong with a whole line of words, or between them, and the place in it.
+pub(crate) fn wrong_words(line: &[u8]) -> Option<(usize, &'static str)> {
+    match wrong_line(line) {
+        Some(wrong) => Some(wrong),
+        None => wrong_gap(line),
+    }
+}

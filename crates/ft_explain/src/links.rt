@@ -4,7 +4,7 @@ ghost use Rattle.ft_types.specs.Spellable.{IsSpellable};
 use crate::checks::{find, say_instr};
 use crate::content::{Content, say_other_kind};
 use crate::excerpt::Place;
-use crate::lines::wrong_line;
+use crate::lines::wrong_words;
 use crate::near::{is_near, say_near};
 use crate::numbers::{is_number, say_misfit};
 use crate::page::Page;
@@ -141,7 +141,7 @@ fn explain_misplaced(
     place: Place<'_>,
     modules: u64,
 ) -> Result<(), NoMemory> {
-    if let Some((at, words)) = wrong_line(place.line()) {
+    if let Some((at, words)) = wrong_words(place.line()) {
         let place = place.after(at);
         page.head_at(name, &place)?;
         page.say(words)?;

@@ -16,7 +16,7 @@ fn begun(line: &[u8]) -> usize {
 
 /// Whether other words follow a fault on its line, as in what a campaign writes.
 fn has_verdict(line: &[u8]) -> bool {
-    match str::from_utf8(line).unwrap_or("").split_once(' ') {
+    match str::from_utf8(line).unwrap_or("").split_once([' ', '\t']) {
         Some((fault, _)) => read_strike(fault.as_bytes()).is_ok(),
         None => false,
     }

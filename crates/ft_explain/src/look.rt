@@ -7,6 +7,8 @@ pub enum Found {
     Missing,
     /// A folder.
     Folder,
+    /// A file, or a device, that this user may read.
+    File,
     /// A file that this user may not read.
     Forbidden,
     /// Something else, or it is not known.
@@ -20,7 +22,16 @@ impl Found {
             Found::Missing => "no such file",
             Found::Folder => "is a folder",
             Found::Forbidden => "permission denied",
-            Found::Unknown => "cannot be read",
+            Found::File | Found::Unknown => "cannot be read",
+        }
+    }
+
+    /// Why standard input cannot be read.
+    pub(crate) fn words_of_input(self) -> &'static str {
+        match self {
+            Found::Missing => "standard input: error: is closed\n",
+            Found::Folder => "standard input: error: is a folder\n",
+            _ => "standard input: error: cannot be read\n",
         }
     }
 }
@@ -29,6 +40,9 @@ impl Found {
 pub trait Look {
     /// What stands under a name.
     fn look(&self, name: &str) -> Found;
+
+    /// What standard input is.
+    fn input(&self) -> Found;
 
     /// The name under which standard input can be read once more, from its beginning; `None` where it cannot.
     fn script(&self) -> Option<&'static str>;

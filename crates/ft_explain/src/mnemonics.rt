@@ -1,4 +1,5 @@
 //! The first words of the lines of assembly texts.
+use crate::elsewhere::of_machine;
 use crate::lines::begins_comment;
 use crate::near::{is_near, say_near};
 use crate::operands::{Operand, place_of_word, word, wrong_operand, wrong_operation};
@@ -141,10 +142,19 @@ fn habit_of(word: &[u8]) -> &'static str {
     }
 }
 
-/// Says which word was probably meant, of the first ones of a list.
-fn say_near_form(page: &mut Page, word: &str) -> Result<bool, NoMemory> {
+/// Whether a line that begins with this word stands before the blocks.
+fn is_of_tables(first: &str) -> bool {
+    matches!(
+        first.as_bytes(),
+        b"cell" | b"node" | b"type" | b"reg" | b"pend"
+    )
+}
+
+/// Says which word was probably meant, of the first ones of a list: among instructions, one of those.
+fn say_near_form(page: &mut Page, word: &str, is_code: bool) -> Result<bool, NoMemory> {
     for (first, _) in FORMS {
-        if is_near(page.alloc(), word, *first)? {
+        let is_meant = !is_code || !is_of_tables(*first);
+        if is_meant && is_near(page.alloc(), word, *first)? {
             say_near(page, first.as_bytes())?;
             return Ok(true);
         }
@@ -164,7 +174,10 @@ fn say_near_operation(page: &mut Page, word: &str) -> Result<bool, NoMemory> {
 }
 
 /// Says which word was probably meant.
-fn say_meant(page: &mut Page, word: &str) -> Result<(), NoMemory> {
+fn say_meant(page: &mut Page, word: &str, is_code: bool) -> Result<(), NoMemory> {
+    if let Some(said) = of_machine(word) {
+        return page.say(format_args!(": {said}"));
+    }
     for coloured in COLOURED {
         if word.eq_ignore_ascii_case(*coloured) {
             return page.say(format_args!(
@@ -172,14 +185,14 @@ fn say_meant(page: &mut Page, word: &str) -> Result<(), NoMemory> {
             ));
         }
     }
-    if say_near_operation(page, word)? || say_near_form(page, word)? {
+    if say_near_operation(page, word)? || say_near_form(page, word, is_code)? {
         return Ok(());
     }
     page.say(": `man talft-assembly` lists the instructions")
 }
 
-/// Says that a word begins no line of an assembly text, and what to write.
-pub(crate) fn say_unknown(page: &mut Page, word: &[u8]) -> Result<(), NoMemory> {
+/// Says that a word begins no line of an assembly text, and what to write; it may stand among instructions.
+pub(crate) fn say_unknown(page: &mut Page, word: &[u8], is_code: bool) -> Result<(), NoMemory> {
     let habit = habit_of(word);
     if !habit.is_empty() {
         page.say("unexpected ")?;
@@ -188,5 +201,5 @@ pub(crate) fn say_unknown(page: &mut Page, word: &[u8]) -> Result<(), NoMemory> 
     }
     page.say("unknown instruction ")?;
     page.quote(word)?;
-    say_meant(page, str::from_utf8(word).unwrap_or(""))
+    say_meant(page, str::from_utf8(word).unwrap_or(""), is_code)
 }

@@ -1,4 +1,5 @@
 //! Words that are no number.
+use crate::dashes::begins_with_dash;
 use crate::page::Page;
 use ft_isa::{NoMemory, read_number};
 
@@ -21,19 +22,31 @@ fn has(word: &[u8], wanted: u8) -> bool {
     word.iter().any(|byte| *byte == wanted)
 }
 
+/// What is said of the blanks in a word; nothing where it has none.
+pub(crate) fn blank_in(word: &[u8]) -> &'static str {
+    if has(word, b'\t') {
+        "it contains a tab"
+    } else if has(word, b' ') {
+        "it contains whitespace"
+    } else {
+        ""
+    }
+}
+
 /// What is wrong with a word that is not written as a number is.
 fn misspelled(word: &[u8]) -> &'static str {
     if word.starts_with(b"0x") || word.starts_with(b"0X") {
         return "numbers are decimal";
     }
-    if word.starts_with(b"-") || word.starts_with(b"+") {
+    if word.starts_with(b"-") || word.starts_with(b"+") || begins_with_dash(word) {
         return "numbers have no sign";
     }
     if word.ends_with(b",") {
         return "words are separated by spaces, without commas";
     }
-    if has(word, b' ') || has(word, b'\t') {
-        return "it contains whitespace";
+    let blank = blank_in(word);
+    if !blank.is_empty() {
+        return blank;
     }
     if has(word, b'\r') {
         return "it contains a carriage return: save the file with Unix line endings";

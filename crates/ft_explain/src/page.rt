@@ -77,6 +77,13 @@ impl Page {
         self.say("`")
     }
 
+    /// Adds the name of an option between back quotes, after its hyphens. What is long is cut.
+    pub fn quote_option(&mut self, name: &str) -> Result<(), NoMemory> {
+        self.say(if name.len() == 1 { "`-" } else { "`--" })?;
+        self.show_some(name.as_bytes(), QUOTED)?;
+        self.say("`")
+    }
+
     /// Adds how many there are of something.
     pub fn count(&mut self, count: u32, what: &str) -> Result<(), NoMemory> {
         let end = if count == 1 { "" } else { "s" };

@@ -1,6 +1,7 @@
 //! Scripts of the debugger with lines that are no command.
+use crate::elsewhere::of_debugger;
 use crate::excerpt::Place;
-use crate::lines::wrong_line;
+use crate::lines::wrong_words;
 use crate::loads::load;
 use crate::near::{is_near, say_near};
 use crate::page::Page;
@@ -45,8 +46,8 @@ fn say_bad(page: &mut Page, line: &str) -> Result<(), NoMemory> {
     }
     page.say("unknown command ")?;
     page.quote(first.as_bytes())?;
-    if matches!(first.as_bytes(), b"quit" | b"exit" | b"q") {
-        return page.say(": a session ends where its commands end");
+    if let Some(said) = of_debugger(first) {
+        return page.say(format_args!(": {said}"));
     }
     for (word, _) in COMMANDS {
         if is_near(page.alloc(), first, *word)? {
@@ -59,7 +60,7 @@ fn say_bad(page: &mut Page, line: &str) -> Result<(), NoMemory> {
 /// Explains why a line is no command.
 fn explain_bad(page: &mut Page, start: Place<'_>) -> Result<(), NoMemory> {
     let line = start.line();
-    let (at, habit) = match wrong_line(line) {
+    let (at, habit) = match wrong_words(line) {
         Some(wrong) => wrong,
         None => (0, ""),
     };

@@ -1,5 +1,5 @@
 //! Texts that are no fault.
-use crate::numbers::{is_number, say_misfit};
+use crate::numbers::{blank_in, is_number, say_misfit};
 use crate::page::Page;
 use ft_isa::{NoMemory, read_site};
 
@@ -14,6 +14,16 @@ fn say_wrong_number(page: &mut Page, called: &str, word: &str) -> Result<(), NoM
     say_misfit(page, word.as_bytes(), u64::MAX)
 }
 
+/// Why a word is no site.
+fn wrong_site(site: &str) -> &'static str {
+    let blank = blank_in(site.as_bytes());
+    if blank.is_empty() {
+        "a site is r0 to r63, d, pcg, pcb, qa0 to qa7 or qv0 to qv7"
+    } else {
+        blank
+    }
+}
+
 /// Says what is wrong with the site and the word of a fault.
 fn say_site_and_word(page: &mut Page, rest: &str) -> Result<(), NoMemory> {
     let (site, word) = match rest.split_once(':') {
@@ -26,10 +36,8 @@ fn say_site_and_word(page: &mut Page, rest: &str) -> Result<(), NoMemory> {
     if read_site(site.as_bytes()).is_none() {
         page.say("invalid site ")?;
         page.quote(site.as_bytes())?;
-        if site.contains(' ') {
-            return page.say(": it contains whitespace");
-        }
-        return page.say(": a site is r0 to r63, d, pcg, pcb, qa0 to qa7 or qv0 to qv7");
+        page.say(": ")?;
+        return page.say(wrong_site(site));
     }
     match word {
         Some(word) => say_wrong_number(page, "word", word),

@@ -1,6 +1,6 @@
 //! Files that could not be read.
 use crate::excerpt::Place;
-use crate::look::Look;
+use crate::look::{Found, Look};
 use crate::page::Page;
 use ft_edge::{LoadFault, Shelf};
 use ft_isa::NoMemory;
@@ -35,6 +35,41 @@ fn first_unread<'m, S: Shelf>(
     None
 }
 
+/// The first folder in a name that is none, and what stands there.
+fn wrong_folder<'n, L: Look>(name: &'n str, look: &L) -> Option<(&'n str, Found)> {
+    let mut wrong = None;
+    for (at, byte) in name.as_bytes().iter().enumerate() {
+        if wrong.is_none() && at > 0 && *byte == b'/' {
+            wrong = no_folder(name.get(..at).unwrap_or(""), look);
+        }
+    }
+    wrong
+}
+
+/// A name with what stands under it, where this is no folder.
+fn no_folder<'n, L: Look>(name: &'n str, look: &L) -> Option<(&'n str, Found)> {
+    match look.look(name) {
+        Found::Folder => None,
+        found => Some((name, found)),
+    }
+}
+
+/// Says what is wrong with a folder.
+fn say_folder(page: &mut Page, before: &str, folder: &str, after: &str) -> Result<(), NoMemory> {
+    page.say(before)?;
+    page.name(folder)?;
+    page.say(after)
+}
+
+/// Says why a file cannot be read.
+fn say_reason<L: Look>(page: &mut Page, name: &str, look: &L) -> Result<(), NoMemory> {
+    match wrong_folder(name, look) {
+        Some((folder, Found::Missing)) => say_folder(page, "there is no folder `", folder, "`"),
+        Some((folder, Found::File)) => say_folder(page, "`", folder, "` is not a folder"),
+        _ => page.say(look.look(name).words()),
+    }
+}
+
 /// Says why the module of a link map's line cannot be read.
 fn say_why_module<L: Look>(
     page: &mut Page,
@@ -51,7 +86,7 @@ fn say_why_module<L: Look>(
     page.head_at(name, &place)?;
     page.quote(file.as_bytes())?;
     page.say(": ")?;
-    page.say(look.look(file).words())?;
+    say_reason(page, file, look)?;
     if name.contains('/') && !file.starts_with("/") {
         page.say("; names are relative to the current folder, not to the map's")?;
     }
@@ -65,7 +100,7 @@ fn say_why<L: Look>(page: &mut Page, name: &str, look: &L) -> Result<(), NoMemor
         return page.say("talft: error: the name of the file is empty\n");
     }
     page.head(name)?;
-    page.say(look.look(name).words())?;
+    say_reason(page, name, look)?;
     page.say("\n")
 }
 
@@ -102,7 +137,7 @@ pub(crate) fn explain_unread<S: Shelf, L: Look>(
         return Ok(());
     }
     page.say(if takes_script {
-        "standard input: error: cannot be read\n"
+        look.input().words_of_input()
     } else {
         "talft: error: a file cannot be read\n"
     })

@@ -1,4 +1,5 @@
 //! Words that are no command.
+use crate::dashes::{Dashed, dashed_option, first_dashed, say_dashed};
 use crate::forms::{COMMANDS, OPTIONS, command_lines, first_word, most_of, operand_of, value_of};
 use crate::help::{
     asks_for_help, asks_for_version, is_help, say_commands, say_form, say_help, say_help_of,
@@ -180,6 +181,19 @@ fn say_misplaced(page: &mut Page, command: &'static str, word: &str) -> Result<(
     page.quote(word.as_bytes())
 }
 
+/// Explains that a word begins with a typographic dash.
+fn explain_dashed(
+    page: &mut Page,
+    command: Option<&'static str>,
+    dashed: Dashed<'_>,
+) -> Result<(), NoMemory> {
+    say_dashed(page, dashed)?;
+    match command {
+        Some(command) => say_form(page, command),
+        None => Ok(()),
+    }
+}
+
 /// Explains that a file with the name of an option could not be read: probably the operand was forgotten. False
 /// where the words show no such thing.
 pub(crate) fn explain_option_as_file(page: &mut Page, words: &[String]) -> Result<bool, NoMemory> {
@@ -191,6 +205,10 @@ pub(crate) fn explain_option_as_file(page: &mut Page, words: &[String]) -> Resul
     };
     if asks_for_help(operand.as_str()) {
         say_help_of(page, command)?;
+        return Ok(true);
+    }
+    if let Some(dashed) = dashed_option(operand.as_str()) {
+        explain_dashed(page, Some(command), dashed)?;
         return Ok(true);
     }
     if !operand.as_str().starts_with("--") {
@@ -265,6 +283,9 @@ pub(crate) fn explain_usage(page: &mut Page, words: &[String]) -> Result<(), NoM
     }
     if asks_for_version(words) {
         return say_version(page);
+    }
+    if let Some(dashed) = first_dashed(words) {
+        return explain_dashed(page, command_lines(first.as_str()), dashed);
     }
     let Some(command) = command_lines(first.as_str()) else {
         return say_unknown(page, first.as_str());

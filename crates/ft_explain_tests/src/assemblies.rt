@@ -9,6 +9,22 @@ const TEXTS: &[(&str, &str)] = &[
         "file:1:1: error: unknown instruction `cel`; did you mean `cell`?\n cel out int 0\n ^~~\n",
     ),
     (
+        "ret\n",
+        "file:1:1: error: unknown instruction `ret`: there are no calls: `jmp_G` and `jmp_B` jump to an address in a register\n ret\n ^~~\n",
+    ),
+    (
+        "NOP\n",
+        "file:1:1: error: unknown instruction `NOP`: leave the line out\n NOP\n ^~~\n",
+    ),
+    (
+        "rev r1 r2\n",
+        "file:1:1: error: unknown instruction `rev`; did you mean `reg`?\n rev r1 r2\n ^~~\n",
+    ),
+    (
+        "node 0 memory\ntype 0 0\nblock 0\nrev r1 r2\nhalt\nentry 0\n",
+        "file:4:1: error: unknown instruction `rev`: `man talft-assembly` lists the instructions\n rev r1 r2\n ^~~\n",
+    ),
+    (
         "node 0 memory\ntype 0 0\nblock 0\n\tmov r0 G 7\nhalt\nentry 0\n",
         "file:4:12: error: missing BASIC, the type of the word: `int`, `ref:int` for the address of a cell, or `code:T` for that of a block: `mov` is followed by R C W BASIC\n \tmov r0 G 7\n \t          ^\n",
     ),

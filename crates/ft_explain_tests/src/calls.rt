@@ -6,7 +6,7 @@ use std::test::Fail;
 /// A file: its name and its bytes.
 pub(crate) type File<'a> = (&'a str, &'a [u8]);
 
-/// Whoever knows that some names are those of folders, and nothing of others.
+/// Whoever knows what stands under some names, and nothing of others.
 struct Folders;
 
 impl Look for Folders {
@@ -15,8 +15,13 @@ impl Look for Folders {
             b"folder" => Found::Folder,
             b"nowhere" => Found::Missing,
             b"secret" => Found::Forbidden,
+            b"file" => Found::File,
             _ => Found::Unknown,
         }
+    }
+
+    fn input(&self) -> Found {
+        Found::Folder
     }
 
     fn script(&self) -> Option<&'static str> {

@@ -108,6 +108,14 @@ const LINES: &[(&str, &str)] = &[
         "map:2:1: error: comments are not allowed in this file\n # a\n ^\n",
     ),
     (
+        "module m\nexport\tgo 1\n",
+        "map:2:7: error: words are separated by one space, not by a tab\n export\tgo 1\n       ^\n",
+    ),
+    (
+        "module m\nexport go  1\n",
+        "map:2:11: error: words are separated by one space\n export go  1\n           ^\n",
+    ),
+    (
         "module m\nmodule \n",
         "map:2:7: error: the line ends with whitespace\n module \n       ^\n",
     ),

@@ -68,6 +68,14 @@ const LINES: &[(&str, &str)] = &[
         "4:r1\n",
         "list:1:5: error: invalid fault: expected STEP:SITE:WORD; the word is missing\n 4:r1\n     ^\n",
     ),
+    (
+        "4:r1:6\tmasked\n",
+        "list:1:7: error: a verdict follows the fault: a fault list has STEP:SITE:WORD alone\n 4:r1:6\tmasked\n       ^\n",
+    ),
+    (
+        "4:r1 \t:6\n",
+        "list:1:5: error: invalid fault: expected STEP:SITE:WORD; invalid site `r1 \t`: it contains a tab\n 4:r1 \t:6\n     ^\n",
+    ),
 ];
 
 #[test]
@@ -81,9 +89,9 @@ fn lines_that_are_no_fault_are_explained(rt: HostRuntime) -> Result<(), Fail> {
 
 #[test]
 fn lines_that_are_no_command_are_explained(rt: HostRuntime) -> Result<(), Fail> {
-    let script: &[u8] = b"step 1\nstpe 2\nreg r64\n\nwhere\n";
+    let script: &[u8] = b"step 1\nstpe 2\nreg r64\n\nwhere\nback\t1\nP/x r1\nzap r1  6\n";
     let text =
-        "standard input:2:1: error: unknown command `stpe`; did you mean `step`?\n stpe 2\n ^\nstandard input:3:1: error: invalid command: expected `reg R`\n reg r64\n ^\nstandard input:4:1: error: empty lines are not allowed in this file\n \n ^\n";
+        "standard input:2:1: error: unknown command `stpe`; did you mean `step`?\n stpe 2\n ^\nstandard input:3:1: error: invalid command: expected `reg R`\n reg r64\n ^\nstandard input:4:1: error: empty lines are not allowed in this file\n \n ^\nstandard input:6:5: error: words are separated by one space, not by a tab\n back\t1\n     ^\nstandard input:7:1: error: unknown command `P/x`: `reg R` and `cell NAME` show a word; `tools/debugger` knows `print`\n P/x r1\n ^\nstandard input:8:8: error: words are separated by one space\n zap r1  6\n        ^\n";
     check_told(&rt, "debug file", 0, "", &[("script", script)], text)
 }
 
@@ -111,13 +119,22 @@ const TOLD: &[(&str, u8, &str, &str)] = &[
     ("check nowhere", 3, "", "nowhere: error: no such file\n"),
     ("check folder", 3, "", "folder: error: is a folder\n"),
     ("check secret", 3, "", "secret: error: permission denied\n"),
-    ("check file", 3, "", "talft: error: a file cannot be read\n"),
     (
-        "debug file",
+        "check file/x/y",
         3,
         "",
-        "standard input: error: cannot be read\n",
+        "file/x/y: error: `file` is not a folder\n",
     ),
+    (
+        "check nowhere/x/y",
+        3,
+        "",
+        "nowhere/x/y: error: there is no folder `nowhere`\n",
+    ),
+    ("check folder/x", 3, "", "folder/x: error: cannot be read\n"),
+    ("check secret/x", 3, "", "secret/x: error: cannot be read\n"),
+    ("check file", 3, "", "talft: error: a file cannot be read\n"),
+    ("debug file", 3, "", "standard input: error: is a folder\n"),
     (
         "campaign file --steps 5 --faults list",
         3,

@@ -91,6 +91,35 @@ const WORDS: &[(&str, &str)] = &[
     ),
     ("--version", "talft 0.9.0\n"),
     (
+        "run a \u{2013}fault 4:r1:6",
+        "talft: error: `\u{2013}fault` begins with a typographic dash: write `--fault`\nusage: talft run OBJECT [--steps N] [--fault STEP:SITE:WORD] [--wild LIST]\n",
+    ),
+    (
+        "run a \u{2014}steps=5",
+        "talft: error: `\u{2014}steps=5` begins with a typographic dash: write `--steps`\nusage: talft run OBJECT [--steps N] [--fault STEP:SITE:WORD] [--wild LIST]\n",
+    ),
+    (
+        "run \u{2212}\u{2212}fault 4:r1:6",
+        "talft: error: `\u{2212}\u{2212}fault` begins with a typographic dash: write `--fault`\nusage: talft run OBJECT [--steps N] [--fault STEP:SITE:WORD] [--wild LIST]\n",
+    ),
+    (
+        "run -\u{2011}wild",
+        "talft: error: `-\u{2011}wild` begins with a typographic dash: write `--wild`\nusage: talft run OBJECT [--steps N] [--fault STEP:SITE:WORD] [--wild LIST]\n",
+    ),
+    (
+        "check \u{2013}h",
+        "talft: error: `\u{2013}h` begins with a typographic dash: write `-h`\nusage: talft check OBJECT\n",
+    ),
+    (
+        "\u{2014}help",
+        "talft: error: `\u{2014}help` begins with a typographic dash: write `--help`\n",
+    ),
+    ("check \u{2013}a", "\u{2013}a: error: cannot be read\n"),
+    (
+        "run a --steps \u{2212}5",
+        "talft: error: invalid number `\u{2212}5` for `--steps`: expected 0 to 1000000000; numbers have no sign\nusage: talft run OBJECT [--steps N] [--fault STEP:SITE:WORD] [--wild LIST]\n",
+    ),
+    (
         "help exec",
         "talft 0.9.0\nusage: talft exec SOURCE [--steps N]\n  compile a source and run its object\n\noptions:\n  --steps N                 run at most N steps: 0 to 1000000000, for campaign and survey 0 to 1000000 (default 1000000)\n\nexample:\n  talft exec fibonacci.src --steps 5000\n\nmore: `man talft`\n",
     ),

@@ -25,7 +25,7 @@ fn found<R: Files>(rt: &R, name: &str) -> Found {
         Ok(found) if found.is_dir() => Found::Folder,
         // Opening a pipe without a writer would wait for one.
         Ok(found) if found.is_file() && is_forbidden(rt, name) => Found::Forbidden,
-        Ok(_) => Found::Unknown,
+        Ok(_) => Found::File,
         Err(error) => match error.kind() {
             ErrorKind::NotFound => Found::Missing,
             ErrorKind::PermissionDenied => Found::Forbidden,
@@ -40,6 +40,10 @@ const STANDARD_INPUT: &str = "/dev/stdin";
 impl<R: Files> Look for Folders<'_, R> {
     fn look(&self, name: &str) -> Found {
         found(self.rt, name)
+    }
+
+    fn input(&self) -> Found {
+        found(self.rt, STANDARD_INPUT)
     }
 
     fn script(&self) -> Option<&'static str> {
