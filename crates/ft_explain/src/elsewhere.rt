@@ -91,7 +91,7 @@ const MNEMONICS: &[Row] = &[
 
 /// Commands of other debuggers, and those of the prompt that a script lacks.
 const COMMANDS: &[Row] = &[
-    ("quit exit q", "a session ends where its commands end"),
+    ("quit exit q", "a session ends with its input"),
     (
         "print p output display examine inspect",
         "`reg R` and `cell NAME` show a word; `tools/debugger` knows `print`",
