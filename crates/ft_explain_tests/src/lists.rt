@@ -70,7 +70,7 @@ const LINES: &[(&str, &str)] = &[
     ),
     (
         "4:r1:6\tmasked\n",
-        "list:1:7: error: a verdict follows the fault: a fault list has STEP:SITE:WORD alone\n 4:r1:6\tmasked\n       ^\n",
+        "list:1:7: error: this line has a verdict after the fault; a fault list has only STEP:SITE:WORD\n 4:r1:6\tmasked\n       ^\n",
     ),
     (
         "4:r1 \t:6\n",
