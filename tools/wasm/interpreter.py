@@ -159,7 +159,7 @@ class Interpreter:
         entries = self.module.tables[table]
         index = entries[number] if number < len(entries) else None
         if index is None:
-            raise Trap("an indirect call through an empty table entry")
+            raise Trap("an indirect call through an empty or missing table entry")
         function = self.module.functions[index]
         if (function.params, function.results) != self.module.types[kind]:
             raise Trap("an indirect call to a function of another type")

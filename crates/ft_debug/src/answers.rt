@@ -80,7 +80,7 @@ impl<'w> Debugger<'w> {
         put_line(at_line(&self.present).as_bytes(), out)
     }
 
-    /// Takes at most `n` steps, up to the stop.
+    /// Takes at most `count` steps, up to the stop.
     fn answer_step<P: Program, K: Sink>(
         &mut self,
         program: &P,
@@ -98,7 +98,7 @@ impl<'w> Debugger<'w> {
         self.put_at(out)
     }
 
-    /// Takes at most `n` steps, up to the stop or a breakpoint.
+    /// Takes at most `count` steps, up to the stop or a breakpoint.
     fn answer_go<P: Program, K: Sink>(
         &mut self,
         program: &P,
@@ -116,7 +116,7 @@ impl<'w> Debugger<'w> {
         self.put_at(out)
     }
 
-    /// Goes back `n` steps, if they are kept.
+    /// Goes back `count` steps, if they are kept.
     fn answer_back<K: Sink>(&mut self, count: u64, out: &mut K) -> Result<(), Failed>
         requires { IsFull self.old.history }
         ensures ready { (o : Object) → Ready o self.old → Ready o self.new }

@@ -92,7 +92,7 @@ impl<'w> Debugger<'w> {
         put_output(program, stepped, out)
     }
 
-    /// Takes at most `n` steps, up to the stop, and none from a state at which it is to halt.
+    /// Takes at most `count` steps, up to the stop, and none from a state at which it is to halt.
     pub fn walk<P: Program, K: Sink>(
         &mut self,
         program: &P,
@@ -116,7 +116,7 @@ impl<'w> Debugger<'w> {
         Ok(())
     }
 
-    /// Takes at most `n` steps, up to the stop; only the first may be taken at a breakpoint.
+    /// Takes at most `count` steps, up to the stop; only the first may be taken at a breakpoint.
     pub fn go<P: Program, K: Sink>(
         &mut self,
         program: &P,
@@ -139,7 +139,7 @@ impl<'w> Debugger<'w> {
         self.walk(program, true, count - 1, out)
     }
 
-    /// Goes back `n` steps, all of which are kept.
+    /// Goes back `count` steps, all of which are kept.
     pub fn rewind(&mut self, count: u64)
         requires full { IsFull self.old.history }
         requires kept { count ≤ self.old.history.count }

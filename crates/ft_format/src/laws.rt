@@ -22,8 +22,8 @@ pub fn rules_are_exact()
 {}
 
 /// An object obeys the rules of its tables exactly if some bytes of version 2 spell it, which are those that break no
-/// rule and stand for it; and of each version there is one such list of bytes. In `exact` and `one` the bytes are
-/// judged by `broken` and read by `object_of`, without regard to what is written for an object.
+/// rule and stand for it; and of each version there is at most one such list of bytes. In `exact` and `one` the bytes
+/// are judged by `broken` and read by `object_of`, without regard to what is written for an object.
 pub fn spellings_are_one()
     // The objects that obey the rules are those that some bytes of version 2 spell.
     ensures spelled { (o : Object) → IsSpellable o ↔ ((bytes : List ℕ) × Spells bytes Second o) }
@@ -38,7 +38,7 @@ pub fn spellings_are_apart()
     ensures { (bytes rest : List ℕ) (v w : Version) (o other : Object) → Spells bytes v o → Spells (bytes ++ rest) w other → rest ≡ [] }
 {}
 
-/// A version 2 spelling is version 1's with byte 7 as 2.
+/// A version 1 spelling with byte 7 set to 2 is a version 2 spelling of the same object.
 pub fn versions_differ_in_byte_7()
     ensures { (bytes : List ℕ) (o : Object) → Spells bytes First o → Spells (set bytes 7 2) Second o }
 {}

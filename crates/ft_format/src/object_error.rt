@@ -59,7 +59,7 @@ impl ObjectError {
         }
     }
 
-    /// The place of the field that breaks it, in bytes.
+    /// The `at` of the error.
     pub fn place(self) -> usize
         ensures { result ≡ error_place self }
     {

@@ -1,4 +1,4 @@
-//! The instructions, and what each reads and writes.
+//! The instructions, and which registers each reads and writes.
 ghost use Rattle.std.specs.Prelude.{◌≡◌};
 
 use crate::basic::Basic;

@@ -40,7 +40,7 @@ impl<L: Ledger> Steps<L> {
         self.book.add(&mut self.share, 1);
     }
 
-    /// Counts `n` steps.
+    /// Counts `number` steps.
     pub fn count(&mut self, number: u64)
         ensures { self.new ≡ self.old + number }
     {

@@ -31,7 +31,7 @@ pub struct Run {
     pub line: Vec<u8>,
 }
 
-/// The cell of an array that a word selects, out of `count` cells.
+/// The cell of an array that a word selects, out of `cells` cells.
 fn cell_at(array: Slot, word: u64, cells: usize) -> usize
     requires { RunFits cells array }
     ensures within { result < cells }

@@ -2,6 +2,6 @@
 //!
 //! The crate has no code. Its lemmas are the inductions over steps that higher crates share: an invariant
 //! of each step holds after many (`proofs/Sequences.antt`); a run ends at most once; if one machine follows
-//! another step by step, it follows it for any number of steps (`proofs/Steps.antt`). A clause cannot
-//! quantify over types, so no function states them; each crate that uses one states its own result.
+//! each step of another, in any number of its own, it follows all of them (`proofs/Steps.antt`). A clause
+//! cannot quantify over types, so no function states them; each crate that uses one states its own result.
 #![tactic(auto)]

@@ -127,7 +127,7 @@ impl FlowRun {
         Ok(())
     }
 
-    /// Runs at most `steps` steps, up to the end.
+    /// Runs at most `limit` steps, up to the end.
     pub fn run(&mut self, flow: &Flow, limit: usize) -> Result<(), Fail> {
         for _ in 0..limit {
             if self.done {

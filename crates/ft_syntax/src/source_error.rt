@@ -73,7 +73,8 @@ impl SourceError {
         }
     }
 
-    /// The refusal's argument: a place in bytes, or what is above a limit; 0 when out of memory.
+    /// The refusal's argument: a place in bytes, what is above a limit, or for `TooLong` the limit itself; 0 when out of
+    /// memory.
     pub fn told(self) -> u64
         ensures { result ≡ source_told self }
     {

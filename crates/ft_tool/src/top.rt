@@ -145,7 +145,7 @@ pub fn tool<F: Shelf, I: Source, K: Sink>(
     // The counts of failed loads and takes are unchanged if the answer is another. The script is read only in a session
     // over an object, at most 1,048,577 bytes of it, and never again after its end or a failure. Each file is loaded
     // once, in the order of the request and up to its limit, and a fault list or a module exactly if the command gets
-    // to it; with statuses 3 and 5 it may not be, and with status 5 nothing may be.
+    // to it; with statuses 3 and 5 it is perhaps not loaded, and with status 5 perhaps nothing is.
     ensures load_failures { result ≢ 3 → NoLoadFails (F.log shelf.old) (F.log shelf.new) }
     ensures script { TakesFrom (map string_bytes words.now) (F.log shelf.old).files
         (I.log script.old) (I.log script.new) ⊎ (script.new ≡ script.old) }
