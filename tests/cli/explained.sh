@@ -250,7 +250,7 @@ explained 'a label' 12 'asm 1 1\n' \
   asm label.asm
 printf 'cell a[4] = 0;\na[5] = 2;\n' >beyond.src
 explained 'a constant index beyond its array' 0 'a[1] 2\n' \
-  'beyond.src:2:3: note: `a` has 4 cells: the index 5 means cell 1\n a[5] = 2;\n   ^\n' mean beyond.src
+  'beyond.src:2:3: note: `a` has 4 cells: the index 5 selects cell 1\n a[5] = 2;\n   ^\n' mean beyond.src
 
 # More habits, with the first line of the explanation: for a source, an instruction in a text with the cell `out`, and words.
 habit_in() {
@@ -263,7 +263,7 @@ while IFS='|' read -r text message; do
 done <<'END'
 cell out = 0;\nout := 5;|2:5: error: unexpected character `:`: write `=` to assign
 cell out = 0;\nout = 2 ** 3;|2:10: error: unexpected `*`: there are no powers, only products
-cell a[3] = 0;\nvar i;\na[i++] = 3;|3:5: error: unexpected `+`: write a statement of its own, as in `a = a + 1;`
+cell a[3] = 0;\nvar i;\na[i++] = 3;|3:5: error: unexpected `+`: write it as a separate statement, as in `a = a + 1;`
 cell a[3] = {1, 2};|1:15: error: unexpected character `,`: all cells of an array have the same initial value
 cell a = 0, b = 0;|1:11: error: unexpected character `,`: there are no lists: each name has its own declaration, as in `var a; var b;`
 cell out = 0;\nout = out + 1);|2:14: error: unexpected `)`: no matching `(`
@@ -280,7 +280,7 @@ while IFS='|' read -r line message; do
   report "what is said of \`$line\`" "habit.asm:5:$message" "$(habit_in asm habit.asm)"
 done <<'END'
 mov r1 G out ref:int|10: error: invalid `out`: numbers are decimal digits, as in `42`; the address of this cell is 1048576
-st_G out r1|6: error: invalid `out`: a register is r0 to r63; put the address of this cell, 1048576, into a register by `mov`
+st_G out r1|6: error: invalid `out`: a register is r0 to r63; put the address of this cell, 1048576, into a register with `mov`
 mov r1 G r2 int|10: error: invalid `r2`: numbers are decimal digits, as in `42`; to copy a register, add 0 to it, as in `add r1 r2 G 0`
 mov r1 G #5 int|10: error: invalid `#5`: numbers are written without `#`
 add r1 r2 5|11: error: invalid `5`: a register is r0 to r63, and a number comes after its colour, as in `G 5`

@@ -1,6 +1,6 @@
-//! Words of other machines and of other debuggers, and what to write in their place.
+//! Words of other machines and of other debuggers, and what to write instead.
 
-/// Words, separated by spaces, and what is said of each.
+/// Words, separated by spaces, and the advice for each.
 type Row = (&'static str, &'static str);
 
 /// Mnemonics of other machines. Their nearest neighbours among the words of this one often mean something else.
@@ -68,11 +68,11 @@ const MNEMONICS: &[Row] = &[
     ),
     (
         "rol ror rotl rotr",
-        "shift both ways by `shl` and `shr`, and join by `or`",
+        "shift both ways with `shl` and `shr`, and combine with `or`",
     ),
     (
         "slt slti setl setb",
-        "write `ltu`, which compares without a sign",
+        "write `ltu`, which compares unsigned words",
     ),
     (
         "div divu idiv mod modu rem remu",
@@ -89,7 +89,7 @@ const MNEMONICS: &[Row] = &[
     ("clr", "write `mov` with 0, as in `mov r1 G 0 int`"),
 ];
 
-/// Commands of other debuggers, and those of the prompt that a script lacks.
+/// Commands of other debuggers, and commands of the prompt that a script does not have.
 const COMMANDS: &[Row] = &[
     ("quit exit q", "a session ends with its input"),
     (
@@ -136,12 +136,12 @@ const COMMANDS: &[Row] = &[
     ),
 ];
 
-/// Whether a word is one of these, which are separated by spaces. Small and capital letters are alike.
+/// Whether a word is one of these, which are separated by spaces. Case is ignored.
 fn is_among(word: &str, known: &'static str) -> bool {
     known.split(' ').any(|one| one.eq_ignore_ascii_case(word))
 }
 
-/// What a table says of a word.
+/// The advice that a table has for a word.
 fn said_in(rows: &'static [Row], word: &str) -> Option<&'static str> {
     let mut found = None;
     for (known, said) in rows {
@@ -152,7 +152,7 @@ fn said_in(rows: &'static [Row], word: &str) -> Option<&'static str> {
     found
 }
 
-/// What is said of a mnemonic of another machine.
+/// The advice for a mnemonic of another machine.
 pub(crate) fn of_machine(word: &str) -> Option<&'static str> {
     said_in(MNEMONICS, word)
 }
@@ -165,7 +165,7 @@ fn before_format(word: &str) -> &str {
     }
 }
 
-/// What is said of a command of another debugger.
+/// The advice for a command of another debugger.
 pub(crate) fn of_debugger(word: &str) -> Option<&'static str> {
     said_in(COMMANDS, before_format(word))
 }
