@@ -159,9 +159,9 @@ case $status:$lacking in
       cannot "this takes more than $most_seconds seconds"
     fi
     cat "$work/said" >&2
-    cannot 'the sources could not be tried'
+    cannot 'the sources could not be compiled and run'
     ;;
-  3:no) cannot 'a file could not be handed over' ;;
+  3:no) cannot 'a file could not be passed on' ;;
   5:*) cannot 'memory ran out' ;;
 esac
 if [ -s "$work/out" ]; then

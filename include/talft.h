@@ -170,7 +170,7 @@ typedef struct talft_module {
 
 /*
  * Links 1 to 64 modules as a link map says, and writes the object, in version 2 of the format. For each line `module FILE`
- * of the map, it takes the first module of the array named FILE. The object is accepted; it runs as the modules do,
+ * of the map, it takes the first module named FILE in the array. The object is accepted; it runs as the modules do,
  * and one fault is masked or detected. OK or NO_ROOM: *made is the number of its bytes.
  *
  * NOT_LINKED, part 7: the number of the refusal is that of the command `talft link`. MALFORMED or REFUSED: talft_check

@@ -119,7 +119,7 @@ says 'no base' 'print/q r1' 'unknown format `/q`: expected /x, /b, /o or /d'
 says 'a word below 0' 'zap r1 -1' '`-1` is out of range: expected 0 to 18446744073709551615'
 says 'a strike of a cell' 'zap out 3' '`out` is a cell, and no fault strikes a cell (docs/PROMISES.md)'
 says 'no line' 'break 99' \
-  '`99`: no instruction is on this line or after it: instructions are on lines 13 to 21'
+  '`99`: there is no instruction on this line or after it: instructions are on lines 13 to 21'
 says 'no index' 'break 0:9' '`0:9`: unknown index 9: block 0 has 0 to 6'
 says 'no block' 'break 7:0' '`7:0`: unknown block 7: the blocks are 0 to 0'
 says 'a line without an instruction' 'break 15' 'no instruction is on line 15: this is the next one, on line 16'
@@ -271,7 +271,7 @@ report 'a branch that is not taken by both' 'r35 = 1: blue does not jump, so d m
 report 'a fault that is gone' \
   'gone at 702: from there on no word differs|at 4106: no word differs, and no output does: the fault is gone' \
   "$("$top/tools/explain" "$top/examples/sieve.src" --fault 690:r2:3 | tail -n 2 | paste -sd '|')"
-refuses 'a fault that is none' 'explain: invalid fault `4`: expected STEP:SITE:WORD, as 4:r1:6' explain "$five" --fault 4
+refuses 'a fault that is none' 'explain: invalid fault `4`: expected STEP:SITE:WORD, such as 4:r1:6' explain "$five" --fault 4
 # `explain` writes what README shows.
 report 'the path of a fault in README' '' "$(sed -n '/^\$ tools\/explain/,/^```/p' "$top/README.md" | sed '1d; $d' |
   diff - <("$top/tools/explain" "$fibonacci" --fault 296:r32:7))"

@@ -57,7 +57,7 @@ refuses 'a word that is none' \
   faults "$five" --values 18446744073709551616
 refuses 'words and bits' 'faults: --values and --flip cannot be combined' faults "$five" --values 1 --flip 1
 refuses 'steps that are no range' \
-  'faults: --steps: invalid range `3`: expected FIRST:LAST or FIRST:LAST:EVERY, as 4:5 for the step 4 alone' \
+  'faults: --steps: invalid range `3`: expected FIRST:LAST or FIRST:LAST:EVERY, such as 4:5 for step 4 alone' \
   faults "$five" --steps 3
 refuses 'steps after the end' \
   'faults: --steps: `14:` includes no step of the run, which takes 14 steps; LAST is excluded' \

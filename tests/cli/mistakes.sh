@@ -97,7 +97,7 @@ done <<END
 2|explain five.obj|explain: missing \`--fault STEP:SITE:WORD\`
 1|explain folder --fault 4:r1:6|explain: folder: is a folder
 1|explain empty --fault 4:r1:6|explain: empty: is empty; expected an object, an assembly text or a source
-1|explain five.obj --fault 4:r1|explain: invalid fault \`4:r1\`: expected STEP:SITE:WORD, as 4:r1:6
+1|explain five.obj --fault 4:r1|explain: invalid fault \`4:r1\`: expected STEP:SITE:WORD, such as 4:r1:6
 1|explain five.obj --fault 4:r1:6 --steps 3|explain: --fault 4:r1:6: nothing was struck: the run was cut after 3 steps: raise --steps
 1|lines five.asm|lines: five.asm: is an assembly text, not a source; give the source, and the object with --object
 1|debugger nosuch|debugger: nosuch: no such file
@@ -173,12 +173,12 @@ if has clang 'the functions of a C file' && has wasm-ld 'the functions of a C fi
     cc two.c --entry fooo -o x.obj
   refuses 'an entry with a parameter' \
     'cc: two.c: function step: offset 0x38: the entry takes 1 parameter; no arguments can be passed: name a function '\
-'without parameters, as `int main(void)`' \
+'without parameters, such as `int main(void)`' \
     cc two.c --entry step -o x.obj
   printf 'volatile int x;\nint main(int argc, char **argv) { x = argc; return 0; }\n' >main.c
   refuses 'a main with arguments' \
     'cc: main.c: function main: offset 0x46: the entry takes 2 parameters; no arguments can be passed: name a function '\
-'without parameters, as `int main(void)`' cc main.c -o x.obj
+'without parameters, such as `int main(void)`' cc main.c -o x.obj
   printf 'volatile int x;\nvoid run(void) { while (1) x = x + 1; }\n' >endless.c
   tool 'an endless C program' 0 '' cc endless.c --steps 1000 -o endless.obj
   report 'what is said of an endless C program' \
@@ -219,7 +219,7 @@ for row in 'stepp|unknown command `stepp`; did you mean `step`?; `help` lists th
   're|ambiguous command `re`: `reverse-next`, `reverse-line`, `reverse-continue`, `registers` or `record`' \
   'info queues|unknown topic `queues`: expected info registers|queue|cells|breaks|strikes|position|outputs|names; did you mean `queue`?' \
   'print ou|unknown name `ou`: expected a register (r0 to r63, d, pcg, pcb), a part of the queue (qa0 to qv7) or a cell; did you mean `out`?' \
-  'plan 4:r1|invalid fault `4:r1`: expected STEP:SITE:WORD, as 4:r1:6' \
+  'plan 4:r1|invalid fault `4:r1`: expected STEP:SITE:WORD, such as 4:r1:6' \
   'delete 7|no breakpoint or watch has the number 7: `info breaks` lists them' 'source nosuch|nosuch: no such file' \
   'source folder|folder: is a folder' 'zap r1|missing site or word, as in `zap r1 6`'; do
   report "the command ${row%%|*}" "${row#*|}" "$(echo "${row%%|*}" | "$top/tools/debugger" five.obj 2>&1 | tail -n 1)"

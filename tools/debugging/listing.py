@@ -82,7 +82,7 @@ class Listing:
     def why_not(self, text):
         """Why `find` finds nothing."""
         if text.startswith("*"):
-            return f"no instruction has this address: they are 1 to {len(self.code)}"
+            return f"no instruction has this address: addresses are 1 to {len(self.code)}"
         if match := PLACE.fullmatch(text):
             block, most = int(match[1]), len(self.blocks) - 1
             if block > most:

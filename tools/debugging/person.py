@@ -287,7 +287,7 @@ class Session:
         """`STEP:SITE:WORD` as a planned strike."""
         parts = text.split(":")
         if len(parts) != 3 or not all(parts):
-            raise Refused(f"invalid fault {quoted(text)}: expected STEP:SITE:WORD, as 4:r1:6")
+            raise Refused(f"invalid fault {quoted(text)}: expected STEP:SITE:WORD, such as 4:r1:6")
         try:
             strike = Strike(number(parts[:1]), parts[1], word_of(parts[2]), True)
             self.check_strike(strike.site, strike.word)

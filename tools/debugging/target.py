@@ -193,7 +193,7 @@ class Target:
         if named := self.line_named(text):
             found = self.listing.parts_of_line(*named)
             lines = [i.source_line if named[1] else i.line for i in self.code]
-            why = f"no instruction is on this line or after it: instructions are on lines {min(lines)} to {max(lines)}"
+            why = f"there is no instruction on this line or after it: instructions are on lines {min(lines)} to {max(lines)}"
         else:
             found, why = [one for one in [self.listing.find(text)] if one], self.listing.why_not(text)
             if re.fullmatch(r".*[A-Za-z]\w*:\d+", text) and (self.source_file or self.text_file):

@@ -16,7 +16,7 @@ def read_length(stream):
         line = stream.readline(MOST_HEADER)
         if not line:
             if size:
-                raise Broken("the input ends in a header")
+                raise Broken("the input ends within a header")
             return None
         size += len(line)
         if size > MOST_HEADER or not line.endswith(b"\n"):
@@ -40,7 +40,7 @@ def read_message(stream):
         return None
     data = stream.read(length)
     if len(data) < length:
-        raise Broken("the input ends in a message")
+        raise Broken("the input ends within a message")
     try:
         message = json.loads(data.decode("utf-8"))
     except (ValueError, RecursionError) as error:

@@ -265,4 +265,4 @@ def allocate(blocks, first_cell, banned=frozenset(), kept=()):
         place, more = cells_of(colouring, spilled, first_cell + cells)
         Spiller(place, tiny).run(blocks)
         cells += more
-    raise RuntimeError("the spills do not settle")
+    raise RuntimeError("spilling does not converge")

@@ -166,7 +166,7 @@ class Calls:
 
     def inline(self, func, args, at=None):
         if len(self.calls) > MOST_NESTED:
-            self.refuse(at, f"calls nest more than {MOST_NESTED} deep", "write fewer functions")
+            self.refuse(at, f"calls nest more than {MOST_NESTED} deep", "shorten the chain of calls")
         outer = self.func, self.locals, self.stack, self.labels
         self.func = func
         self.calls.append(func.index)

@@ -288,4 +288,4 @@ class Interpreter:
         elif op == 0x00:
             raise Trap("unreachable")
         elif op != 0x01:
-            raise Invalid(f"{self.place[0].name}: offset {at:#x}: instruction {op:#x} is not known here")
+            raise Invalid(f"{self.place[0].name}: offset {at:#x}: instruction {op:#x} is not supported")

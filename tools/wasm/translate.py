@@ -55,7 +55,7 @@ def choose_entry(module, name):
     func = exported[name]
     if func.params:
         raise Refused(f"the entry takes {counted(len(func.params), 'parameter')}",
-                      "no arguments can be passed: name a function without parameters, as `int main(void)`",
+                      "no arguments can be passed: name a function without parameters, such as `int main(void)`",
                       func.name, func.at)
     if len(func.results) > 1:
         raise Refused(f"the entry has {counted(len(func.results), 'result')}",
@@ -209,5 +209,5 @@ def notes_of(text, emitter):
              (counts["code types"], "code type"), (counts["nodes"], "node"), (counts["cells"], "cell")]
     notes = [", ".join(counted(*size) for size in sizes)]
     if emitter.spills:
-        notes.append(f"warning: {emitter.spills} stores of {cells} spill cells, each of which writes a line")
+        notes.append(f"warning: {emitter.spills} stores to {cells} spill cells: each store writes a line")
     return notes
