@@ -293,7 +293,7 @@ nop|1: error: unknown instruction `nop`: leave the line out
 hlt|1: error: unknown instruction `hlt`: write `halt`
 push r1|1: error: unknown instruction `push`: there is no stack: `st_G` and `st_B` store, and `ld_G` and `ld_B` load
 cmp r1 r2|1: error: unknown instruction `cmp`: there are no flags: `eq` and `ltu` write 1 or 0 into a register
-beq r1 r2 4|1: error: unknown instruction `beq`: `eq` and `ltu` compare, and `bz_G` and `bz_B` branch where a register is 0
+beq r1 r2 4|1: error: unknown instruction `beq`: `eq` and `ltu` compare, and `bz_G` and `bz_B` branch if a register is 0
 lw r1 0(r2)|1: error: unknown instruction `lw`: write `ld_G` for green or `ld_B` for blue
 sw r1 0(r2)|1: error: unknown instruction `sw`: write `st_G` for green or `st_B` for blue
 rem r1 r2 r3|1: error: unknown instruction `rem`: there is no division; `idx` takes a number modulo the length of an array
@@ -388,14 +388,14 @@ while IFS='|' read -r line message; do
 done <<'END'
 print r1|1: error: unknown command `print`: `reg R` and `cell NAME` show a word; `tools/debugger` knows `print`
 p r1|1: error: unknown command `p`: `reg R` and `cell NAME` show a word; `tools/debugger` knows `print`
-quit|1: error: unknown command `quit`: a session ends where its commands end
-q|1: error: unknown command `q`: a session ends where its commands end
+quit|1: error: unknown command `quit`: a session ends with its input
+q|1: error: unknown command `q`: a session ends with its input
 info registers|1: error: unknown command `info`: `where`, `reg R`, `cell NAME` and `queue` show the state; `tools/debugger` knows `info`
 list|1: error: unknown command `list`: `talft dis OBJECT` writes the instructions; `tools/debugger` knows `disassemble`
 x/4 out|1: error: unknown command `x/4`: `cell NAME` shows the word of a cell; `tools/debugger` knows `x`
 backtrace|1: error: unknown command `backtrace`: `where` shows the place: there are no calls
-continue|1: error: unknown command `continue`: `go N` takes N steps, up to a breakpoint
-next|1: error: unknown command `next`: `step N` takes N steps, and an instruction takes two
+continue|1: error: unknown command `continue`: `go N` takes at most N steps, to the next breakpoint
+next|1: error: unknown command `next`: `step N` takes N steps; an instruction takes two
 help|1: error: unknown command `help`: a script has `step`, `go`, `back`, `zap`, `reg`, `queue`, `cell`, `where` and `break`
 undo|1: error: unknown command `undo`: `tools/debugger` knows this command
 regs|1: error: unknown command `regs`; did you mean `reg`?

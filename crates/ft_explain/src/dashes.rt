@@ -37,7 +37,7 @@ fn before_value(word: &str) -> &str {
 }
 
 /// A word as one that begins with a typographic dash, before which hyphens may stand; `None` where it is none.
-fn dashed(word: &str) -> Option<Dashed<'_>> {
+fn read_dashed(word: &str) -> Option<Dashed<'_>> {
     let is_dashed = begins_with_dash(word.trim_start_matches('-').as_bytes());
     let name = before_value(word.trim_start_matches(DASHES));
     if is_dashed && begins_with_letter(name) {
@@ -52,7 +52,7 @@ pub(crate) fn first_dashed(words: &[String]) -> Option<Dashed<'_>> {
     let mut first = None;
     for word in words {
         if first.is_none() {
-            first = dashed(word.as_str());
+            first = read_dashed(word.as_str());
         }
     }
     first
@@ -74,7 +74,7 @@ fn is_of_option(name: &str) -> bool {
 
 /// A word as an option that begins with a typographic dash; `None` where it may be the name of a file.
 pub(crate) fn dashed_option(word: &str) -> Option<Dashed<'_>> {
-    let dashed = dashed(word)?;
+    let dashed = read_dashed(word)?;
     if is_of_option(dashed.name) {
         Some(dashed)
     } else {

@@ -18,7 +18,7 @@ const MNEMONICS: &[Row] = &[
     ),
     (
         "beq bne blt bltu bgt bgtu ble bleu bge bgeu beqz bnez bnz cbz cbnz je jne jz jnz jl jg jle jge ja jb jae jbe",
-        "`eq` and `ltu` compare, and `bz_G` and `bz_B` branch where a register is 0",
+        "`eq` and `ltu` compare, and `bz_G` and `bz_B` branch if a register is 0",
     ),
     (
         "cmp cmpl cmpq cmn test tst",
@@ -64,15 +64,15 @@ const MNEMONICS: &[Row] = &[
     ("srl srli lsr", "write `shr`"),
     (
         "sra srai sar asr",
-        "`shr` fills with zeros, and no shift keeps a sign",
+        "`shr` fills with zeros; there is no arithmetic shift",
     ),
     (
         "rol ror rotl rotr",
-        "shift both ways by `shl` and `shr`, and join by `or`",
+        "combine `shl` and `shr` with `or`",
     ),
     (
         "slt slti setl setb",
-        "write `ltu`, which compares without a sign",
+        "write `ltu`: comparisons are unsigned",
     ),
     (
         "div divu idiv mod modu rem remu",
@@ -91,7 +91,7 @@ const MNEMONICS: &[Row] = &[
 
 /// Commands of other debuggers, and those of the prompt that a script lacks.
 const COMMANDS: &[Row] = &[
-    ("quit exit q", "a session ends where its commands end"),
+    ("quit exit q", "a session ends with its input"),
     (
         "print p output display examine inspect",
         "`reg R` and `cell NAME` show a word; `tools/debugger` knows `print`",
@@ -114,11 +114,11 @@ const COMMANDS: &[Row] = &[
     ),
     (
         "run r continue cont c",
-        "`go N` takes N steps, up to a breakpoint",
+        "`go N` takes at most N steps, to the next breakpoint",
     ),
     (
         "next n nexti ni stepi si s",
-        "`step N` takes N steps, and an instruction takes two",
+        "`step N` takes N steps; an instruction takes two",
     ),
     (
         "reverse-step reverse-stepi rs rsi",

@@ -69,10 +69,6 @@ const LINES: &[(&str, &str)] = &[
         "list:1:5: error: invalid fault: expected STEP:SITE:WORD; the word is missing\n 4:r1\n     ^\n",
     ),
     (
-        "4:r1:6\tmasked\n",
-        "list:1:7: error: a verdict follows the fault: a fault list has STEP:SITE:WORD alone\n 4:r1:6\tmasked\n       ^\n",
-    ),
-    (
         "4:r1 \t:6\n",
         "list:1:5: error: invalid fault: expected STEP:SITE:WORD; invalid site `r1 \t`: it contains a tab\n 4:r1 \t:6\n     ^\n",
     ),
